@@ -21,7 +21,7 @@ use Rattle.implib.specs.Worked.Statements.{plain_export}
 use Rattle.implib.specs.declared.flavor.Flavor.TheVariants.{Msvc}
 use Rattle.implib.proofs.Link.LinkedMembers.{among_contains, among_map}
 use Rattle.implib.proofs.Link.Ranges.{Among, all_among, among_back, among_front}
-use Rattle.implib_link.specs.Flavors.Program.{FlavorInput, exports_chosen, objects_taken, symbol_in, thunks_of, all_members, IsProgramOf, OfMember, IsMadeFor, gnu_input}
+use Rattle.implib_link.specs.Flavors.Program.{FlavorInput, ProgramLinks, exports_chosen, objects_taken, symbol_in, thunks_of, all_members, IsProgramOf, OfMember, IsMadeFor, gnu_input}
 use Rattle.implib_link.specs.Gnu.Packed.{group_end, packed_end, sections_end}
 use Rattle.implib_link.specs.Gnu.Program.{ClaimsNone, claimed_names, has_tables, HaveSame}
 use Rattle.implib_link.specs.Search.Archives.{IsArchive, symbols_of_library, IsLibrary}
@@ -29,10 +29,10 @@ use Rattle.implib_link.specs.Search.BothFlavors.{AreClosedForBoth, AreGivenForBo
 use Rattle.implib_link.specs.Search.Closed.{listed_in, unresolved, AreTakenIntoAs}
 use Rattle.implib_link.specs.Search.Msvc.{TakesFor, left_in}
 use Rattle.implib_link.specs.Search.MsvcArchives.{IsMsvcArchive, first_null, symbols_of_all_shorts, symbols_of_shorts, wanted_with_weak, IsMsvcLibrary, short_inputs, weak_in, PullsIntoFor, TakesIntoFor, wanted_for, IsWeakTaken}
-use Rattle.implib_link.specs.Search.Search.{undefined_in, left_as, AreTakenInTurnAs}
-use Rattle.implib_link_instances.specs.Worked.BothFlavors.{NearAreClosedForBoth, NearAreGivenForBoth, NearIsClosedForBoth, NearIsFlavorArchive, NearIsImportedOfBoth, NearIsUsedIn, NearLinksClosedForBoth, NearNamesNoMembers, NearTakesOfBoth, WorkedBoth, WorkedGivenForBoth, foo_and_zed, gnu_zed, mixed_bases, mixed_inputs, mixed_objects, mixed_taken, mixed_without_last, mixed_asking, short_zed, spread_bases, zed_and_foo}
+use Rattle.implib_link.specs.Search.Search.{AreTakenInTurnAs, first_listed, left_as, undefined_in}
+use Rattle.implib_link_instances.specs.Worked.BothFlavors.{NearAreClosedForBoth, NearAreGivenForBoth, NearIsClosedForBoth, NearIsFlavorArchive, NearIsImportedOfBoth, NearIsUsedIn, NearLinksClosedForBoth, NearNamesNoMembers, NearTakesOfBoth, WorkedBoth, WorkedGivenForBoth, foo_and_zed, gnu_zed, memberless, mixed_bases, mixed_inputs, mixed_objects, mixed_taken, mixed_without_last, mixed_asking, naming_both, naming_null, no_bases, one_bases, short_zed, spread_bases, zed_and_foo, zed_objects, zed_taken}
 use Rattle.implib_link_instances.specs.Worked.Closed.{choosing, clashing, foo_alias, foo_linked}
-use Rattle.implib_link_instances.specs.Worked.MsvcArchives.{msvc_zed, null_named, thunk_named}
+use Rattle.implib_link_instances.specs.Worked.MsvcArchives.{descriptor_named, msvc_zed, null_named, short_named, thunk_named}
 use Rattle.implib_link_instances.specs.Worked.MsvcClosed.{zed_members}
 use Rattle.implib_link_instances.specs.Worked.NearSearches.{again}
 use Rattle.implib_link.proofs.Search.Taken.{both_taken}
@@ -43,14 +43,19 @@ use Rattle.implib_link.proofs.Search.Lists.{among_any, among_at, any_among, cont
 use Rattle.implib_link_instances.proofs.Worked.NearMisses.{in_one_alone, none_passes, some_passes}
 use Rattle.implib_link_instances.proofs.Worked.NearPrograms.{no_eights}
 use Rattle.implib_link_instances.proofs.Worked.NearResults.{more_taken, no_length, no_order, none_taken}
-use Rattle.implib_link_instances.proofs.Worked.NearSearches.{none_in, not_address, searched, twice, weak_data, weak_short}
+use Rattle.implib_link_instances.proofs.Worked.NearSearches.{listed_by, none_in, none_made, not_address, searched, twice, weak_data, weak_short}
 use Rattle.implib_link_instances.proofs.Worked.Programs.{admissible_by, claims_none_by, distinct_by, all_differ}
-use Rattle.implib_link_instances.proofs.Worked.RefusedLinks.{differ}
+use Rattle.implib_link_instances.proofs.Worked.RefusedLinks.{are_located, differ}
 use Rattle.implib_link.specs.Flavors.Expansion.{descriptor_symbol_by_name, expanded_in}
 use Rattle.implib.specs.LibraryName.{linked_dll}
 use Rattle.implib.specs.declared.machine.MachineType.{MachineType}
 use Rattle.implib_link_instances.proofs.Worked.Search.{takes_by}
 use Rattle.implib_link_instances.proofs.Worked.Searched.{below_limit}
+use Rattle.implib.specs.Link.Image.{image_of}
+use Rattle.implib.specs.Members.ImportTables.{zeros}
+use Rattle.implib_link.specs.Directory.{DirectoryAt}
+use Rattle.implib_link_instances.proofs.Worked.CommandLines.{ended_by, pulls_by}
+use Rattle.implib_link_instances.proofs.Worked.Following.{used_in}
 use Rattle.implib_link_instances.proofs.Worked.Flavors.{flavor_objects_by}
 use Rattle.implib_link_instances.specs.Worked.Archives.{library_of}
 use Rattle.implib_link_instances.specs.Worked.Search.{aliased}
@@ -232,6 +237,7 @@ near_are_given_for_both = record {
     λ x.
       let kept : List (List ℕ) = kept_of_both AMD64 foo_and_zed (clashing ∷ []) in
       true≢false (all_among (λ name. list_any (bytes_eq name) (claimed_names clashing) ≡ false) (codes "queue") (kept_of_both AMD64 foo_and_zed (clashing ∷ [])) (any_among (codes "queue") kept refl) x.claims.0));
+  names = (record { claims = (claims_none_by (kept_of_both AMD64 foo_and_zed (naming_null ∷ [])) naming_null refl, tt); names = tt }, λ x. true≢false x.names.msvc.0.null_descriptor);
 }
 
 zed_of_gnu : IsArchive AMD64 (gnu_among (gnu_zed ∷ short_zed ∷ []))
@@ -243,7 +249,16 @@ zed_of_gnu = record {
 
 pub near_is_flavor_archive : NearIsFlavorArchive
 unfolding searched
-near_is_flavor_archive = record { apart = (record { gnu = zed_of_gnu; msvc = msvc_archive; apart = tt }, λ x. true≢false x.apart.1.1.0) }
+near_is_flavor_archive = record {
+  gnu = (record {
+    gnu = tt;
+    msvc = record { made = tt; distinct = distinct_by (null_descriptor_symbol ∷ []) refl; found = tt };
+    apart = apart_by [] (flat_map (symbols_of_library AMD64) (gnu_among (memberless gnu_zed ∷ []))) refl;
+  },
+    λ x. none_made x.gnu.made.0.made);
+  msvc = (record { gnu = record { made = tt; distinct = distinct_by [] refl }; msvc = tt; apart = tt }, λ x. none_made x.msvc.made.0.made);
+  apart = (record { gnu = zed_of_gnu; msvc = msvc_archive; apart = tt }, λ x. true≢false x.apart.1.1.0);
+}
 
 pub near_names_no_members : NearNamesNoMembers
 unfolding searched
@@ -295,9 +310,51 @@ clashing_takes = takes_into (expanded_in AMD64) members (clashing ∷ []) mixed_
 own_and_alias : (o : Object) → HaveSame (o ∷ objects_taken AMD64 (foo_alias ∷ [])) (o ∷ objects_taken AMD64 (foo_alias ∷ []))
 own_and_alias o = same_elements (o ∷ objects_taken AMD64 (foo_alias ∷ [])) (o ∷ objects_taken AMD64 (foo_alias ∷ [])) refl
 
+abbrev zed_alone : List MemberView
+zed_alone = archive_of_both (short_zed ∷ [])
+
+-- a name pulls in a member that is listed for another symbol than those before it, by computing
+pulls_listed : (taken : List MemberView) (name : List ℕ) (m : MemberView) → list_any (bytes_eq name) (unresolved (naming_both ∷ objects_taken AMD64 taken)) ≡ true → first_listed zed_alone name ≡ Some m →
+    list_any (bytes_eq (first_symbol m)) (map first_symbol taken) ≡ false → PullsIntoFor AMD64 zed_alone (naming_both ∷ []) taken name m
+pulls_listed taken name m left listed new = record {
+  named = among_contains name (unresolved (naming_both ∷ objects_taken AMD64 taken)) (any_among name (unresolved (naming_both ∷ objects_taken AMD64 taken)) left);
+  listed = listed;
+  new = new_by taken m new;
+}
+
+null_takes : TakesIntoFor AMD64 (archive_of_both (short_zed ∷ [])) (naming_both ∷ []) zed_taken
+unfolding searched AreTakenIntoAs
+null_takes =
+    let short : MemberView = short_named (codes "zed.dll") (codes "queue") in
+    let descriptor : MemberView = descriptor_named (codes "zed.dll") in
+    let null : MemberView = null_named (codes "zed.dll") in
+    record {
+      in_turn = (
+        (0x7F ∷ codes "zed_NULL_THUNK_DATA", pulls_listed (null ∷ descriptor ∷ short ∷ []) (0x7F ∷ codes "zed_NULL_THUNK_DATA") (thunk_named (codes "zed.dll")) refl refl refl),
+        (
+          (codes "__NULL_IMPORT_DESCRIPTOR", pulls_listed (descriptor ∷ short ∷ []) (codes "__NULL_IMPORT_DESCRIPTOR") null refl refl refl),
+          ((codes "__IMPORT_DESCRIPTOR_zed", pulls_listed (short ∷ []) (codes "__IMPORT_DESCRIPTOR_zed") descriptor refl refl refl), ((codes "__imp_queue", pulls_listed [] (codes "__imp_queue") short refl refl refl), tt)),
+        ),
+      );
+      ended = ended_by (expanded_in AMD64) zed_alone (naming_both ∷ []) zed_taken refl;
+    }
+
 pub near_are_closed_for_both : NearAreClosedForBoth
 unfolding searched AreTakenIntoAs
 near_are_closed_for_both = record {
+  takes = (record {
+    takes = tt;
+    some = omega arith;
+    order = turned;
+    others = same_elements (choosing ∷ []) (choosing ∷ []) refl;
+    before = zed_members;
+    behind = [];
+    members = refl;
+    tables = refl;
+    claims = (claims_none_by [] choosing refl, tt);
+    names = record { gnu = (record { head = refl; name = refl }, tt); msvc = (record { descriptor = refl; null_descriptor = refl; null_thunk = refl }, tt) };
+  },
+    λ x. x.takes.ended (codes "bar") foo_alias (pulls_by (expanded_in AMD64) members own [] (codes "bar") foo_alias refl refl refl));
   some = (record {
     takes = record { in_turn = tt; ended = λ name m x. none_in name x.named };
     some = tt;
@@ -321,6 +378,19 @@ near_are_closed_for_both = record {
     λ x. more_taken x.before (first_null AMD64 (msvc_among foo_and_zed)) x.behind _ one_null (ap (λ ms. length (objects_taken AMD64 ms)) x.members) (omega arith) (ap length x.tables));
   claims = (record { takes = clashing_takes; some = omega arith; order = turned; others = own_and_alias clashing; before = zed_members; behind = foo_linked; members = refl; tables = refl; claims = tt; names = names },
     clashes zed_and_foo clashing_objects);
+  names = (record {
+    takes = null_takes;
+    some = omega arith;
+    order = record { moves = []; below = tt; is = refl };
+    others = same_elements (naming_both ∷ []) (naming_both ∷ []) refl;
+    before = zed_members;
+    behind = [];
+    members = refl;
+    tables = refl;
+    claims = (claims_none_by (listed_in zed_taken ++ left_in AMD64 zed_taken) naming_both refl, tt);
+    names = tt;
+  },
+    λ x. true≢false x.names.msvc.0.null_descriptor);
 }
 
 descriptors_end : group_end Descriptors 0x2000 mixed_objects ≡ 0x2028
@@ -328,8 +398,9 @@ unfolding searched group_end sections_end
 descriptors_end = refl
 
 pub near_is_closed_for_both : NearIsClosedForBoth
-unfolding searched
+unfolding searched group_end
 near_is_closed_for_both = record {
+  closed = (record { closed = tt; admissible = admissible_by refl refl; lookups = refl; addresses = refl; follows = refl }, λ x. no_length 0 refl x.closed.some);
   admissible = (record { closed = closed_objects; admissible = tt; lookups = closed.lookups; addresses = closed.addresses; follows = closed.follows }, λ x. no_length 0 refl x.admissible.hint_names.0);
   lookups = (record { closed = closed_objects; admissible = admissible_by refl refl; lookups = tt; addresses = refl; follows = sym descriptors_end }, λ x. no_eights 0x2044 x.lookups refl);
   addresses = (record { closed = closed_objects; admissible = admissible_by refl refl; lookups = refl; addresses = tt; follows = sym descriptors_end }, λ x. no_eights 0x2084 x.addresses refl);
@@ -438,9 +509,117 @@ each_resolved name (inr (inr (inr (inl is)))) listed =
     foo_input = gnu_input (record { definition = aliased; members = (library_of aliased).members; chosen = 1 ∷ [] })
 each_resolved name (inr (inr (inr (inr none)))) listed = absurd none
 
+no_export_of : (i j : ℕ) (p : FlavorInput) (e : ExportView) → slice_get [] i ≡ Some p → slice_get (exports_chosen p) j ≡ Some e → ⊥
+no_export_of i j p e is held = cc
+
+no_input : (i : ℕ) (p : FlavorInput) → slice_get [] i ≡ Some p → ⊥
+no_input i p is = cc
+
+abbrev null_objects : List Object
+null_objects = objects_taken AMD64 (null_named (codes "zed.dll") ∷ [])
+
+null_links : ProgramLinks AMD64 OfMember no_bases [] (objects_taken AMD64 (null_named (codes "zed.dll") ∷ []))
+unfolding searched group_end sections_end DirectoryAt
+null_links = record {
+  linked = tt;
+  imports = λ i p at. absurd (no_input i p at);
+  directory = are_located (image_of AMD64 no_bases (placed_from no_bases null_objects)) (zeros 20) 0x2000 refl;
+  null = refl;
+  ended = refl;
+  targets = ((tt, tt), tt);
+  defined = tt;
+  listed = tt;
+  claimed = same_elements (null_descriptor_symbol ∷ []) (null_descriptor_symbol ∷ []) refl;
+}
+
+-- zed.dll's input, and the same without members
+abbrev zed_memberless : FlavorInput
+zed_memberless = record { flavor = Msvc; input = record { definition = msvc_zed.definition; members = []; chosen = 0 ∷ [] } }
+
+memberless_program : IsProgramOf AMD64 OfMember one_bases (inputs_of_both AMD64 (memberless short_zed ∷ []) (choosing ∷ []) []) zed_objects
+unfolding searched group_end sections_end
+memberless_program = record {
+  held = flavor_objects_by zed_memberless zed_members [] (0, omega arith, refl) (refl, tt) refl refl refl refl refl;
+  admissible = admissible_by refl refl;
+  lookups = refl;
+  addresses = refl;
+  follows = refl;
+}
+
+zed_program : IsProgramOf AMD64 OfMember one_bases (inputs_of_both AMD64 (short_zed ∷ []) (choosing ∷ []) mixed_taken) zed_objects
+unfolding searched group_end sections_end
+zed_program = record {
+  held = flavor_objects_by zed_linked zed_members [] (0, omega arith, refl) (refl, tt) refl refl refl refl refl;
+  admissible = admissible_by refl refl;
+  lookups = refl;
+  addresses = refl;
+  follows = refl;
+}
+
+zed_made : AllByRecursion (IsMadeFor AMD64) (inputs_of_both AMD64 (short_zed ∷ []) (choosing ∷ []) mixed_taken)
+unfolding searched
+zed_made = (record { accepted = refl; made = refl; ordinals = refl }, tt)
+
+no_baz : list_any (has_symbol (codes "baz")) (inputs_of_both AMD64 (short_zed ∷ []) (choosing ∷ []) mixed_taken) ≡ false
+unfolding searched has_symbol
+no_baz = refl
+
+-- the symbol of an export is a name that is linked under its own, unless that is an address's
+symbol_is : (linked : List Placed) (address : ℕ) (name symbol : List ℕ) (is_data : Bool) (letter : ℕ) (rest : List ℕ) → name ≡ letter ∷ rest → 95 < letter →
+    ((name ≡ imp_symbol symbol) × (definitions_of name linked ≡ record { name = name; address = Some address } ∷ []))
+    ⊎ ((name ≡ symbol) × (is_data ≡ false) × IsDefinedOnce linked name) → symbol ≡ name
+symbol_is linked address name symbol is_data letter rest is less (inl by) = absurd (not_address letter rest symbol less (sym is ∙ by.0))
+symbol_is linked address name symbol is_data letter rest is less (inr by) = sym by.0
+
+not_resolved : IsImportedOfBoth AMD64 (placed_from one_bases zed_objects) one_bases (inputs_of_both AMD64 (short_zed ∷ []) (choosing ∷ []) mixed_taken) (codes "baz") ⊎ IsWeakTaken AMD64 mixed_taken (codes "baz") → ⊥
+unfolding searched
+not_resolved (inl x) =
+    no_symbol (inputs_of_both AMD64 (short_zed ∷ []) own mixed_taken) (codes "baz") x.number x.index x.input x.export no_baz refl x.input_is x.export_is
+    (symbol_is (placed_from one_bases zed_objects) (one_bases.addresses + thunk_width AMD64 * thunks_of x.number (inputs_of_both AMD64 (short_zed ∷ []) own mixed_taken) + thunk_width AMD64 * x.index) (codes "baz")
+    (symbol_in x.input.flavor x.export) x.export.is_data 98 (codes "az") refl (omega arith) x.by)
+not_resolved (inr x) = listed_by (codes "baz") (weak_in AMD64 mixed_taken) x.0 refl x.1 x.2
+
 pub near_links_closed_for_both : NearLinksClosedForBoth
 unfolding searched
 near_links_closed_for_both = record {
+  taken_is = (record {
+    taken_is = tt;
+    program = worked_both.links.program;
+    links = worked_both.links.links;
+    used = worked_both.links.used;
+    resolved = λ name wanted listed. absurd (none_in name listed);
+    closed = λ name left listed. none_in name listed;
+  },
+    λ x. none_in _ ((x.taken_is.inputs _).0 (0, omega arith, refl)));
+  program = (record {
+    taken_is = record { inputs = same_elements [] [] refl; weak = tt };
+    program = tt;
+    links = null_links;
+    used = λ i j p e is held. absurd (no_export_of i j p e is held);
+    resolved = λ name wanted listed. absurd (none_in name listed);
+    closed = λ name left listed. none_in name listed;
+  },
+    λ x. none_in x.program.held.ended.null_from x.program.held.ended.null_held);
+  links = (record {
+    taken_is = record { inputs = same_elements [] [] refl; weak = tt };
+    program = memberless_program;
+    links = tt;
+    used = used_in (wanted_for AMD64 (choosing ∷ []) []) (memberless short_zed ∷ []);
+    resolved = λ name wanted listed. absurd (none_in name listed);
+    closed = λ name left listed. none_in name listed;
+  },
+    λ x. none_in _ x.links.linked.0.from_members.0);
+  resolved = (record {
+    taken_is = worked_both.just;
+    program = zed_program;
+    links = program_links AMD64 OfMember one_bases (inputs_of_both AMD64 (short_zed ∷ []) (choosing ∷ []) mixed_taken) zed_objects zed_made zed_program;
+    used = used_in (wanted_for AMD64 (choosing ∷ []) mixed_taken) (short_zed ∷ []);
+    resolved = tt;
+    closed = λ name left listed. none_in name left;
+  },
+    λ x.
+      let listed : List (List ℕ) = listed_in (archive_of_both foo_and_zed) in
+      not_resolved (x.resolved (codes "baz") (3, omega arith, refl) (among_contains (codes "baz") listed (any_among (codes "baz") listed refl))));
   closed = (record {
     taken_is = worked_both.just;
     program = asking_program;

@@ -1,6 +1,11 @@
 -- Fields that follow from the others of their records.
-use Rattle.std.proofs.Common.{◌≡◌, ℕ, List, Some, ap, sym, ◌∙◌, subst}
-use Rattle.std.specs.Prelude.{map, option_map, slice_get}
+use Rattle.std.proofs.Common.{◌≡◌, ℕ, zero, suc, ◌+◌, ◌*◌, ◌-◌, ◌/◌, ◌<◌, ◌≤◌, List, [], ◌∷◌, length, Some, refl, ap, sym, ◌∙◌, subst, inl, inr, arith}
+use Rattle.std.specs.Prelude.{map, nat_lt, option_map, slice_get}
+use Rattle.std.proofs.lemmas.Bool.{cases_Bool, ltb-false, ltb-true}
+use Rattle.implib.specs.declared.machine.MachineType.{MachineType}
+use Rattle.implib.specs.declared.machine.MachineType.TheVariants.{I386, ARMNT, AMD64, ARM64}
+use Rattle.implib.specs.Link.Image.{range_end}
+use Rattle.implib_link.specs.Gnu.Program.{thunks_before}
 use Rattle.std.specs.List.{filter}
 use Rattle.implib.specs.declared.flavor.Flavor.TheVariants.{Gnu}
 use Rattle.implib.specs.Definition.{ExportView}
@@ -23,7 +28,7 @@ use Rattle.implib_link.proofs.Search.GnuAlone.{gnu_libraries}
 use Rattle.std.proofs.lemmas.Option.{slice_get-map}
 
 -- each import of what is linked is used
-used_in : (wanted : List (List ℕ)) (arranged : List FlavorLibrary) (i j : ℕ) (p : FlavorInput) (e : ExportView) → slice_get (flavor_inputs arranged wanted) i ≡ Some p → slice_get (exports_chosen p) j ≡ Some e → IsUsedIn p.flavor wanted e
+pub used_in : (wanted : List (List ℕ)) (arranged : List FlavorLibrary) (i j : ℕ) (p : FlavorInput) (e : ExportView) → slice_get (flavor_inputs arranged wanted) i ≡ Some p → slice_get (exports_chosen p) j ≡ Some e → IsUsedIn p.flavor wanted e
 used_in wanted arranged i j p e at there =
     let l = input_is wanted arranged p (among_at p (flavor_inputs arranged wanted) i at) in
     let chosen : exports_chosen p ≡ filter (is_chosen l.0.flavor wanted) (exports_of l.0.library) = ap exports_chosen l.2 ∙ chosen_are l.0.flavor wanted l.0.library in
@@ -31,10 +36,47 @@ used_in wanted arranged i j p e at there =
     let name = chosen_name l.0.flavor wanted e kept.1 in
     subst (λ (q : FlavorInput). IsUsedIn q.flavor wanted e) (sym l.2) (name.0, among_contains name.0 (symbols_in l.0.flavor e) name.1, among_contains name.0 wanted name.2)
 
-used_of_gnu : (wanted : List (List ℕ)) (arranged : List Library) (i j : ℕ) (p : LinkInput) (e : ExportView) → slice_get (inputs_wanted arranged wanted) i ≡ Some p → slice_get (chosen_exports p.definition p.chosen) j ≡ Some e → IsUsed wanted e
+pub used_of_gnu : (wanted : List (List ℕ)) (arranged : List Library) (i j : ℕ) (p : LinkInput) (e : ExportView) → slice_get (inputs_wanted arranged wanted) i ≡ Some p → slice_get (chosen_exports p.definition p.chosen) j ≡ Some e → IsUsed wanted e
 used_of_gnu wanted arranged i j p e at there =
     used_in wanted (gnu_libraries arranged) i j (gnu_input p) e
     (ap (λ ps. slice_get ps i) (exports_are arranged wanted) ∙ slice_get-map gnu_input (inputs_wanted arranged wanted) i ∙ ap (option_map gnu_input) at) there
+
+-- a thunk of all is one of a DLL
+record ThunkOf (inputs : List LinkInput) (n : ℕ) : Type 0 where
+  pub dll : ℕ
+  pub input : LinkInput
+  pub among : slice_get inputs dll ≡ Some input
+  pub entry : ℕ
+  pub at_most : entry ≤ length (chosen_exports input.definition input.chosen)
+  pub is : thunks_before dll inputs + entry ≡ n
+
+thunk_of : (inputs : List LinkInput) (n : ℕ) → n < thunks_before (length inputs) inputs → ThunkOf inputs n
+thunk_of [] n below = absurd (omega arith)
+thunk_of (p ∷ inputs) n below =
+    let count : ℕ = length (chosen_exports p.definition p.chosen) in
+    elim (cases_Bool (nat_lt n (count + 1))) [
+      | inl within ↦
+          let before = ltb-true n (count + 1) within in
+          record { dll = 0; input = p; among = refl; entry = n; at_most = omega arith; is = omega arith }
+      | inr outside ↦
+          let past = ltb-false n (count + 1) outside in
+          let later = thunk_of inputs (n - (count + 1)) (omega arith) in
+          let sum : thunks_before later.dll inputs + later.entry ≡ n - (count + 1) = later.is in
+          record { dll = suc later.dll; input = later.input; among = later.among; entry = later.entry; at_most = later.at_most; is = omega arith }
+    ]
+
+-- an address is that of a byte of a thunk
+record ThunkAround (machine : MachineType) (first total address : ℕ) : Type 0 where
+  pub n : ℕ
+  pub below : n < total
+  pub from : first + thunk_width machine * n ≤ address
+  pub to : address < first + thunk_width machine * n + thunk_width machine
+
+thunk_around : (machine : MachineType) (first total address : ℕ) → first ≤ address → address < first + thunk_width machine * total → ThunkAround machine first total address
+thunk_around I386 first total address above below = record { n = (address - first) / 4; below = omega arith; from = omega arith; to = omega arith }
+thunk_around ARMNT first total address above below = record { n = (address - first) / 4; below = omega arith; from = omega arith; to = omega arith }
+thunk_around AMD64 first total address above below = record { n = (address - first) / 8; below = omega arith; from = omega arith; to = omega arith }
+thunk_around ARM64 first total address above below = record { n = (address - first) / 8; below = omega arith; from = omega arith; to = omega arith }
 
 pub following_fields : FollowingFields
 following_fields = record {
@@ -56,4 +98,32 @@ following_fields = record {
       record { taken_is = x.taken_is; program = x.program; links = x.links; used = used_of_gnu (wanted_in own taken) arranged; resolved = x.resolved; closed = x.closed };
   used_for_both = λ machine libraries own taken arranged bases objects x.
       record { taken_is = x.taken_is; program = x.program; links = x.links; used = used_in (wanted_for machine own taken) arranged; resolved = x.resolved; closed = x.closed };
+  tiled = λ machine bases inputs objects x.
+      let total : ℕ = thunks_before (length inputs) inputs in
+      let ends_at : range_end x.table ≡ bases.addresses + thunk_width machine * total = ap (λ n. x.table.start + n) x.size ∙ ap (λ n. n + thunk_width machine * total) x.begins in
+      record {
+        table = x.table;
+        held = x.held;
+        begins = x.begins;
+        named = x.named;
+        size = x.size;
+        below = x.below;
+        entries = x.entries;
+        tiled = λ address from below.
+            let around = thunk_around machine bases.addresses total address (subst (λ n. n ≤ address) x.begins from) (subst (λ n. address < n) ends_at below) in
+            let one = thunk_of inputs around.n around.below in
+            record {
+              dll = one.dll;
+              input = one.input;
+              among = one.among;
+              entry = one.entry;
+              at_most = one.at_most;
+              from = subst (λ n. bases.addresses + thunk_width machine * n ≤ address) (sym one.is) around.from;
+              below = subst (λ n. address < bases.addresses + thunk_width machine * n + thunk_width machine) (sym one.is) around.to;
+            };
+        directory = x.directory;
+        directory_held = x.directory_held;
+        directory_begins = x.directory_begins;
+        directory_size = x.directory_size;
+      };
 }

@@ -1,34 +1,44 @@
 -- Near misses of fields, moves, thunks and of where fields lead, by computing.
-use Rattle.std.proofs.Common.{◌≡◌, ℕ, zero, suc, ◌+◌, ◌≤◌, false, List, [], ◌∷◌, codes, length, None, Some, refl, ap, sym, ◌∙◌, subst, arith}
-use Rattle.std.specs.Prelude.{drop, slice_get}
-use Rattle.std.specs.List.{list_any}
+use Rattle.std.proofs.Common.{◌≡◌, ℕ, zero, suc, ◌+◌, ◌<◌, ◌≤◌, ◌⊎◌, true, false, List, [], ◌∷◌, ◌++◌, codes, length, None, Some, refl, ap, sym, ◌∙◌, subst, inl, inr, arith}
+use Rattle.std.specs.Prelude.{◌%◌, ◌^◌, drop, slice_get}
+use Rattle.std.specs.List.{Contains, list_any}
 use Rattle.std.proofs.lemmas.Bool.{true≢false}
-use Rattle.implib.specs.declared.machine.MachineType.TheVariants.{I386, AMD64}
+use Rattle.implib.specs.declared.coff.object.Relocation.{Relocation}
+use Rattle.implib.specs.declared.machine.MachineType.{MachineType}
+use Rattle.implib.specs.declared.machine.MachineType.TheVariants.{I386, AMD64, ARM64}
 use Rattle.implib.specs.Formats.Constants.{i386_dir32}
 use Rattle.implib.specs.Formats.Layout.{encoded_size}
 use Rattle.implib.specs.Formats.Object.{ASymbol, Auxiliary, Entry}
 use Rattle.implib.specs.Link.Image.{Range}
-use Rattle.implib.specs.Link.Load.{BytesAt, NumberAt}
+use Rattle.implib.specs.Link.Load.{BytesAt, NumberAt, number_in}
 use Rattle.implib.specs.Link.Placement.{Placed}
 use Rattle.implib.specs.Link.Resolution.{definitions_of}
 use Rattle.implib.specs.Members.GnuMembers.{alias_specs}
 use Rattle.implib.specs.Members.Members.{refusal, renamed_refusal}
 use Rattle.implib.specs.Members.WeakExternal.{weak_object}
+use Rattle.implib.specs.Members.ImportTables.{zeros}
 use Rattle.implib.proofs.Link.Loading.{number_once}
-use Rattle.implib_link.specs.Gnu.Fields.{meets}
-use Rattle.implib_link.specs.Gnu.Operands.{branch_leads, operand_leads}
+use Rattle.implib.proofs.Link.Ranges.{Among}
+use Rattle.implib_link.specs.Gnu.Calls.{field_width}
+use Rattle.implib_link.specs.Gnu.Fields.{LinkedCode, MeetsAlone, field_at, meets}
+use Rattle.implib_link.specs.Gnu.Operands.{HasInstruction, HasOffsetField, HasOperand, HasPageField, HasPointer, IsOperand, OperandArrives, branch_leads, operand_leads}
 use Rattle.implib_link.specs.Gnu.Program.{has_tables}
+use Rattle.implib_link.specs.Gnu.Rebased.{amd64_addr32}
 use Rattle.implib_link.specs.Stub.{jump_reads}
+use Rattle.implib_link.proofs.Gnu.Fields.{alone_among, alone_same, meets_from}
 use Rattle.implib_link.proofs.Gnu.Stubs.{same_address}
-use Rattle.implib_link_instances.specs.Worked.LldPrograms.{eight_bytes, linked_thunk}
-use Rattle.implib_link_instances.specs.Worked.NearArrivals.{NearAmd64Holds, NearArm64Holds, NearBranchArrives, NearCanBeMoved, NearI386Holds, NearIsRebased, NearIsRelocated, NearIsThunk, NearOperandArrives, NearPointerArrives, NearThunkArrives, thunk_memory}
+use Rattle.implib_link.proofs.Search.Lists.{contains_among}
+use Rattle.implib_link_instances.specs.Worked.LldPrograms.{call_memory, eight_bytes, linked_thunk}
+use Rattle.implib_link_instances.specs.Worked.NearArrivals.{NearAllLeadTo, NearAmd64Holds, NearArm64Holds, NearBranchArrives, NearBranchArrivesByThunk, NearCanBeMoved, NearI386Holds, NearIsRebased, NearIsRelocated, NearIsThunk, NearOperandArrives, NearPointerArrives, NearThunkArrives, calling_open, operand_code, pair_code, pointer_code, thunk_memory}
 use Rattle.implib_link_instances.specs.Worked.Operands.{field, imp_open}
 use Rattle.implib_link_instances.specs.Worked.RefusedFields.{linked_on_amd64, open_address, two_ranges}
 use Rattle.implib_link_instances.specs.Worked.Rules.{other_address}
+use Rattle.implib_link_instances.proofs.Worked.Calls.{one_of}
+use Rattle.implib_link_instances.proofs.Worked.LldPrograms.{refused_calls}
 use Rattle.implib_link_instances.proofs.Worked.NearCode.{missing}
-use Rattle.implib_link_instances.proofs.Worked.NearLinks.{unmoved}
+use Rattle.implib_link_instances.proofs.Worked.NearLinks.{import_named, unmoved}
 use Rattle.implib_link_instances.proofs.Worked.NearSearches.{none_in}
-use Rattle.implib_link_instances.proofs.Worked.Programs.{opened}
+use Rattle.implib_link_instances.proofs.Worked.Programs.{instruction_by, opened}
 use Rattle.implib_link_instances.proofs.Worked.RefusedFields.{absent, other_byte, past_end, value}
 use Rattle.implib_link_instances.proofs.Worked.RefusedLinks.{are_located, differ, number}
 use Rattle.implib_link_instances.proofs.Worked.Rules.{elsewhere, entry_is, same_bytes}
@@ -259,5 +269,204 @@ near_branch_arrives = record {
       let same : x.number ≡ 0x19 = number_once memory 4 0x1027 x.number 0x19 x.there (number memory 4 0x1027 0x19 (0x19 ∷ 0 ∷ 0 ∷ 0 ∷ []) refl refl refl) in
       let led : branch_leads AMD64 0x1_4000_1027 0 0x19 ≡ Some 0x1_4000_1040 = sym (ap (λ n. branch_leads AMD64 0x1_4000_1027 0 n) same) ∙ x.leads in
       differ 0x1_4000_1040 0x1_4000_1044 (sym (value 0x1_4000_1044 0x1_4000_1040 led)) (omega arith),
+  );
+}
+
+pub near_branch_arrives_by_thunk : NearBranchArrivesByThunk
+near_branch_arrives_by_thunk =
+    let field : List ℕ = 0x0E ∷ 0 ∷ 0 ∷ 0 ∷ [] in
+    let memory : List Range = call_memory 0x100F (0x0E ∷ 0 ∷ 0 ∷ 0 ∷ []) (linked_thunk AMD64) in
+    record {
+      leads = (
+        record { thunk = 0x1020; leads = tt; jumps = record { code = linked_thunk AMD64; there = are_located memory (linked_thunk AMD64) 0x1020 refl; whole = refl; entry = 0x2068; reads = refl; located = are_located memory (eight_bytes 0) 0x2068 refl } },
+        refused_calls.there,
+      );
+      jumps = (
+        record { thunk = 0x1020; leads = record { number = 0x0E; there = number (call_memory 0x100E (0x0E ∷ 0 ∷ 0 ∷ 0 ∷ []) (0xFF ∷ 0x15 ∷ 0x42 ∷ 0x10 ∷ 0 ∷ 0 ∷ [])) 4 0x100E 0x0E field refl refl refl; leads = refl }; jumps = tt },
+        refused_calls.jumps,
+      );
+    }
+
+-- All fields of code.
+
+-- what is alone in bytes is one of the relocations: the only one, or one of two
+lone : (machine : MachineType) (own r : Relocation) (offset count : ℕ) → MeetsAlone machine (own ∷ []) offset count r → r ≡ own
+lone machine own r offset count alone = one_of r own (alone_among machine (own ∷ []) offset count r alone)
+
+one_of_two : {X : Type 0} (x k l : X) → Among x (k ∷ l ∷ []) → (x ≡ k) ⊎ (x ≡ l)
+unfolding Among
+one_of_two x k l (inl same) = inl same
+one_of_two x k l (inr (inl same)) = inr same
+one_of_two x k l (inr (inr none)) = absurd none
+
+offset_of : (r s : Relocation) → r ≡ s → r.offset ≡ s.offset
+offset_of r s same = ap (λ (x : Relocation). x.offset) same
+
+kind_of : (r s : Relocation) → r ≡ s → r.kind ≡ s.kind
+kind_of r s same = ap (λ (x : Relocation). x.kind) same
+
+-- a field of a code that is the only one
+in_only : (P : LinkedCode → Type 0) (c d : LinkedCode) → Contains (c ∷ []) d → P d → P c
+in_only P c d held of_it = subst P (one_of d c (contains_among d (c ∷ []) held)) of_it
+
+not_arm64 : AMD64 ≡ ARM64 → ⊥
+not_arm64 is = cc
+
+-- the types of operands are from 4 on
+operand_type : (type kind after number : ℕ) → type ≡ kind → kind < 4 → IsOperand AMD64 type after number → ⊥
+operand_type type kind after number is low counts = let type_is : type ≡ 4 + counts.0 = counts.1.1.0 in omega arith
+
+abbrev after_field : Relocation
+after_field = field 4 2 amd64_addr32
+
+abbrev operand_fields : List Relocation
+operand_fields = field 0 1 8 ∷ after_field ∷ []
+
+second_among : Among after_field operand_fields
+unfolding Among
+second_among = inr (inl refl)
+
+four_zeros : (bytes : List ℕ) → zeros 4 ≡ bytes ++ [] → length bytes ≡ 4 → bytes ≡ zeros 4
+four_zeros [] is four = absurd (omega arith)
+four_zeros (a ∷ []) is four = absurd (omega arith)
+four_zeros (a ∷ b ∷ []) is four = absurd (omega arith)
+four_zeros (a ∷ b ∷ c ∷ []) is four = absurd (omega arith)
+four_zeros (a ∷ b ∷ c ∷ d ∷ []) is four = cc
+four_zeros (a ∷ b ∷ c ∷ d ∷ e ∷ rest) is four = absurd (omega arith)
+
+-- by REL32_4 four bytes follow the operand, which the other relocation changes
+not_at_start : (offset : ℕ) (head tail : List ℕ) (x : HasInstruction AMD64 operand_code offset head tail (imp_open AMD64)) → offset + length head ≡ 0 → x.type ≡ 8 → ⊥
+not_at_start zero [] [] x at type =
+    let field_is : x.field ≡ zeros 4 = four_zeros x.field x.code x.four in
+    let further : x.type ≡ 4 + x.counts.0 = x.counts.1.1.0 in
+    let none : 0 ≡ x.counts.0 = sym (ap (λ f. (number_in f + 0) % 2 ^ 32) field_is) ∙ x.counts.1.1.1 in
+    omega arith
+not_at_start zero [] (b ∷ tail) x at type =
+    let own : Relocation = record { offset = 0; symbol = x.symbol; kind = x.type } in
+    let meets_it : meets AMD64 0 (0 + (4 + suc (length tail))) after_field ≡ true = meets_from AMD64 0 (0 + (4 + suc (length tail))) after_field (omega arith) (omega arith) in
+    let same : after_field ≡ own = alone_same AMD64 operand_fields 0 (0 + (4 + suc (length tail))) own x.alone after_field second_among meets_it in
+    differ 2 8 (kind_of after_field own same ∙ type) (omega arith)
+not_at_start zero (b ∷ head) tail x at type = omega arith
+not_at_start (suc offset) head tail x at type = omega arith
+
+no_instruction : (offset : ℕ) (head tail : List ℕ) → HasInstruction AMD64 operand_code offset head tail (imp_open AMD64) → ⊥
+no_instruction offset head tail x =
+    let own : Relocation = record { offset = offset + length head; symbol = x.symbol; kind = x.type } in
+    elim (one_of_two own (field 0 1 8) after_field (alone_among AMD64 operand_fields offset (length head + (4 + length tail)) own x.alone)) [
+      | inl first ↦ not_at_start offset head tail x (offset_of own (field 0 1 8) first) (kind_of own (field 0 1 8) first)
+      | inr second ↦ operand_type x.type 2 (length tail) (number_in x.field) (kind_of own after_field second) (omega arith) x.counts
+    ]
+
+no_pointer : (offset : ℕ) → HasPointer AMD64 operand_code offset (imp_open AMD64) → ⊥
+no_pointer offset x =
+    let own : Relocation = record { offset = offset; symbol = x.field.symbol; kind = x.type } in
+    elim (one_of_two own (field 0 1 8) after_field (alone_among AMD64 operand_fields offset (field_width AMD64 x.type) own x.field.alone)) [
+      | inl first ↦ differ 1 8 (sym x.stores ∙ kind_of own (field 0 1 8) first) (omega arith)
+      | inr second ↦ differ 1 2 (sym x.stores ∙ kind_of own after_field second) (omega arith)
+    ]
+
+-- the operand of the call alone
+abbrev operand_memory : List Range
+operand_memory = two_ranges 0x1002 (0x7A ∷ 0xF0 ∷ 0xFF ∷ 0xFF ∷ []) open_address
+
+open_arrives : OperandArrives AMD64 0x1_4000_0000 linked_on_amd64 (two_ranges 0x1002 (0x7A ∷ 0xF0 ∷ 0xFF ∷ 0xFF ∷ []) open_address) 0x1002 0 (imp_open AMD64) open_address
+unfolding opened refusal renamed_refusal alias_specs encoded_size weak_object has_tables
+open_arrives = record {
+  number = 0xFFFF_F07A;
+  there = number operand_memory 4 0x1002 0xFFFF_F07A (0x7A ∷ 0xF0 ∷ 0xFF ∷ 0xFF ∷ []) refl refl refl;
+  entry = 0x80;
+  own = refl;
+  leads = refl;
+  located = are_located operand_memory open_address 0x80 refl;
+}
+
+operand_there : (offset after : ℕ) → HasOperand AMD64 calling_open offset after (imp_open AMD64) → OperandArrives AMD64 0x1_4000_0000 linked_on_amd64 (two_ranges 0x1002 (0x7A ∷ 0xF0 ∷ 0xFF ∷ 0xFF ∷ []) open_address) (0x1000 + offset) after (imp_open AMD64) open_address
+operand_there offset after x =
+    let own : Relocation = record { offset = offset; symbol = x.field.symbol; kind = x.type } in
+    let at : offset ≡ 2 = offset_of own (field 2 1 4) (lone AMD64 (field 2 1 4) own offset (field_width AMD64 x.type) x.field.alone) in
+    let within : offset + (4 + after) ≤ 6 = x.within in
+    let last : after ≡ 0 = omega arith in
+    subst (λ o. OperandArrives AMD64 0x1_4000_0000 linked_on_amd64 operand_memory (0x1000 + o) after (imp_open AMD64) open_address) (sym at)
+    (subst (λ n. OperandArrives AMD64 0x1_4000_0000 linked_on_amd64 operand_memory 0x1002 n (imp_open AMD64) open_address) (sym last) open_arrives)
+
+no_stored : (offset : ℕ) → HasPointer AMD64 calling_open offset (imp_open AMD64) → ⊥
+no_stored offset x =
+    let own : Relocation = record { offset = offset; symbol = x.field.symbol; kind = x.type } in
+    differ 1 4 (sym x.stores ∙ kind_of own (field 2 1 4) (lone AMD64 (field 2 1 4) own offset (field_width AMD64 x.type) x.field.alone)) (omega arith)
+
+no_operand_in_pointer : (offset after : ℕ) → HasOperand AMD64 pointer_code offset after (imp_open AMD64) → ⊥
+no_operand_in_pointer offset after x =
+    let own : Relocation = record { offset = offset; symbol = x.field.symbol; kind = x.type } in
+    operand_type x.type 1 after (field_at pointer_code.code.bytes offset 4) (kind_of own (field 0 1 1) (lone AMD64 (field 0 1 1) own offset (field_width AMD64 x.type) x.field.alone)) (omega arith) x.counts
+
+no_instruction_in_pointer : (offset : ℕ) (head tail : List ℕ) → HasInstruction AMD64 pointer_code offset head tail (imp_open AMD64) → ⊥
+no_instruction_in_pointer offset head tail x =
+    let own : Relocation = record { offset = offset + length head; symbol = x.symbol; kind = x.type } in
+    operand_type x.type 1 (length tail) (number_in x.field) (kind_of own (field 0 1 1) (lone AMD64 (field 0 1 1) own offset (length head + (4 + length tail)) x.alone)) (omega arith) x.counts
+
+no_pointer_in_pair : (offset : ℕ) → HasPointer ARM64 pair_code offset (imp_open ARM64) → ⊥
+no_pointer_in_pair offset x =
+    let own : Relocation = record { offset = offset; symbol = x.field.symbol; kind = x.type } in
+    elim (one_of_two own (field 0 1 4) (field 4 1 7) (alone_among ARM64 (field 0 1 4 ∷ field 4 1 7 ∷ []) offset (field_width ARM64 x.type) own x.field.alone)) [
+      | inl first ↦ differ 4 14 (sym (sym x.stores ∙ kind_of own (field 0 1 4) first)) (omega arith)
+      | inr second ↦ differ 7 14 (sym (sym x.stores ∙ kind_of own (field 4 1 7) second)) (omega arith)
+    ]
+
+pub near_all_lead_to : NearAllLeadTo
+near_all_lead_to = record {
+  operands = (
+    record {
+      operands = tt;
+      instructions = λ d offset head tail held x. absurd (no_instruction offset head tail (in_only (λ c. HasInstruction AMD64 c offset head tail (imp_open AMD64)) operand_code d held x));
+      pairs = λ c d first second is held other page place. absurd (not_arm64 is);
+      pointers = λ d offset high held x. absurd (no_pointer offset (in_only (λ c. HasPointer AMD64 c offset (imp_open AMD64)) operand_code d held x));
+    },
+    λ all.
+      let has : HasOperand AMD64 operand_code 0 4 (imp_open AMD64) = record {
+        type = 8;
+        field = record { symbol = 1; alone = refl; inside = omega arith; names = import_named AMD64 };
+        counts = (4, (omega arith, (refl, refl)));
+        within = omega arith;
+      } in
+      let x = all.operands operand_code 0 4 (0, omega arith, refl) has in
+      absent [] 0x1000 4 x.number refl (omega arith) x.there,
+  );
+  instructions = (
+    record {
+      operands = λ d offset after held x.
+          subst (λ (c : LinkedCode). OperandArrives AMD64 0x1_4000_0000 linked_on_amd64 operand_memory (c.position + offset) after (imp_open AMD64) open_address)
+          (sym (one_of d calling_open (contains_among d (calling_open ∷ []) held))) (operand_there offset after (in_only (λ c. HasOperand AMD64 c offset after (imp_open AMD64)) calling_open d held x));
+      instructions = tt;
+      pairs = λ c d first second is held other page place. absurd (not_arm64 is);
+      pointers = λ d offset high held x. absurd (no_stored offset (in_only (λ c. HasPointer AMD64 c offset (imp_open AMD64)) calling_open d held x));
+    },
+    λ all.
+      let x = all.instructions calling_open 0 (0xFF ∷ 0x15 ∷ []) [] (0, omega arith, refl) (instruction_by 4 1 (zeros 4) (import_named AMD64) (0, (omega arith, (refl, refl))) refl refl refl) in
+      missing operand_memory (0xFF ∷ 0x15 ∷ (x.field ++ [])) 0x1000 0x1000 x.there (omega arith) (omega arith) refl,
+  );
+  pairs = (
+    record {
+      operands = λ d offset after held x. absurd x.counts;
+      instructions = λ d offset head tail held x. absurd x.counts;
+      pairs = tt;
+      pointers = λ d offset high held x. absurd (no_pointer_in_pair offset (in_only (λ c. HasPointer ARM64 c offset (imp_open ARM64)) pair_code d held x));
+    },
+    λ all.
+      let page : HasPageField pair_code 0 (imp_open ARM64) = record { field = record { symbol = 1; alone = refl; inside = omega arith; names = import_named ARM64 }; empty = refl } in
+      let place : HasOffsetField pair_code 4 (imp_open ARM64) = record { field = record { symbol = 1; alone = refl; inside = omega arith; names = import_named ARM64 }; eight = refl; empty = refl } in
+      let x = all.pairs pair_code pair_code 0 4 refl (0, omega arith, refl) (0, omega arith, refl) page place in
+      absent [] 0x1000 4 x.adrp refl (omega arith) x.adrp_there,
+  );
+  pointers = (
+    record {
+      operands = λ d offset after held x. absurd (no_operand_in_pointer offset after (in_only (λ c. HasOperand AMD64 c offset after (imp_open AMD64)) pointer_code d held x));
+      instructions = λ d offset head tail held x. absurd (no_instruction_in_pointer offset head tail (in_only (λ c. HasInstruction AMD64 c offset head tail (imp_open AMD64)) pointer_code d held x));
+      pairs = λ c d first second is held other page place. absurd (not_arm64 is);
+      pointers = tt;
+    },
+    λ all.
+      let has : HasPointer AMD64 pointer_code 0 (imp_open AMD64) = record { type = 1; field = record { symbol = 1; alone = refl; inside = omega arith; names = import_named AMD64 }; stores = refl; empty = refl } in
+      let x = all.pointers pointer_code 0 (omega arith) (0, omega arith, refl) has in
+      absent [] 0x1000 8 (0x1_4000_0000 + x.entry) refl (omega arith) x.there,
   );
 }

@@ -367,7 +367,7 @@ symbol_of r s same = let is : r ≡ s = cc in ap (λ (x : Relocation). x.symbol)
 hello_named : Names (passing_at I386).from 2 (codes "hello")
 hello_named = record { symbol = symbol_of_class (codes "hello") 0 class_external; target = refl; undefined = refl; named = refl }
 
-import_named : (machine : MachineType) → Names (passing_at machine).from 1 (imp_open machine)
+pub import_named : (machine : MachineType) → Names (passing_at machine).from 1 (imp_open machine)
 import_named machine = record { symbol = symbol_of_class (imp_open machine) 0 class_external; target = refl; undefined = refl; named = refl }
 
 open_named : Names (passing_at I386).from 3 (open_on I386)

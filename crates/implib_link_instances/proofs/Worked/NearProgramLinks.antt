@@ -1,18 +1,19 @@
 -- Near misses of what the link of a program gives, by computing and by the law.
 use Rattle.std.proofs.Common.{◌≡◌, ℕ, zero, suc, ◌+◌, ◌*◌, ◌<◌, Bool, true, false, List, [], ◌∷◌, ◌++◌, codes, length, map, Option, None, Some, refl, ap, sym, ◌∙◌, subst, inl, inr, arith}
-use Rattle.std.specs.Prelude.{bytes_eq, is_some, slice_get, ◌&&◌}
+use Rattle.std.specs.Prelude.{bytes_eq, is_some, option_and_then, slice_get, ◌&&◌}
 use Rattle.std.specs.List.{AllByRecursion, Contains, list_all, list_any}
 use Rattle.std.proofs.lemmas.Bool.{and_parts, true≢false}
 use Rattle.std.proofs.lemmas.Slice.Eq.{bytes_eq-Decides}
+use Rattle.implib.specs.declared.coff.object.Relocation.{Relocation}
 use Rattle.implib.specs.declared.machine.MachineType.TheVariants.{AMD64}
-use Rattle.implib.specs.Formats.Object.{Object}
-use Rattle.implib.specs.Link.Linked.{IsDefinedAt, IsDefinedOnce, undefined_names}
+use Rattle.implib.specs.Formats.Object.{Object, ObjectSection}
+use Rattle.implib.specs.Link.Linked.{AllFind, FindsTarget, IsDefinedAt, IsDefinedOnce, undefined_names}
 use Rattle.implib.specs.Link.Placement.{Placed, placed_from, Bases}
-use Rattle.implib.specs.Link.Resolution.{SymbolDefinition, definitions_of}
+use Rattle.implib.specs.Link.Resolution.{SymbolDefinition, definitions_of, symbol_address}
 use Rattle.implib_link.specs.Flavors.Program.{FlavorInput, InputImports, OfMember, ProgramLinks, SymbolsAt, all_members, descriptor_in, dll_names_in, imp_symbols, own_names, symbols_listed, thunks_of, objects_taken, gnu_input, OfLinker}
 use Rattle.implib_link.specs.Gnu.Program.{with_tables, HaveSame, thunks_before, linked_symbols}
 use Rattle.implib_link_instances.specs.Worked.Flavors.{both_inputs as flavor_inputs, flavor_bases_8, flavor_image, flavor_objects, flavor_placed, foo_input as foo_flavor, zed_input as zed_flavor}
-use Rattle.implib_link_instances.specs.Worked.NearResults.{NearProgramLinks, claiming_more, leading_nowhere, losing, memberless, naming_null, without_null_name, table_of, four_before, memberless_run, NearLinksBeside}
+use Rattle.implib_link_instances.specs.Worked.NearResults.{NearProgramLinks, claiming_more, leading_nowhere, losing, memberless, naming_null, with_later_open, without_null_name, table_of, four_before, memberless_run, NearLinksBeside}
 use Rattle.implib_link_instances.specs.Worked.NearSearches.{again}
 use Rattle.implib.proofs.Link.Ranges.{all_among}
 use Rattle.implib_link.proofs.Flavors.Program.{program_links, symbols_get}
@@ -151,8 +152,62 @@ zeros_there = are_located (image_of AMD64 flavor_bases_8 (placed_from flavor_bas
 same_names : (first second : List (List ℕ)) → first ≡ second → HaveSame first second
 same_names first second is = subst (HaveSame first) is (λ n. (λ held. held, λ held. held))
 
+-- A name is defined once, by computing.
+
+is_one : List SymbolDefinition → Bool
+is_one [] = false
+is_one (d ∷ []) = true
+is_one (d ∷ e ∷ ds) = false
+
+one_alone : (ds : List SymbolDefinition) → is_one ds ≡ true → (d : SymbolDefinition) × (ds ≡ d ∷ [])
+unfolding is_one
+one_alone [] is = absurd (true≢false (sym is))
+one_alone (d ∷ []) is = (d, refl)
+one_alone (d ∷ e ∷ ds) is = absurd (true≢false (sym is))
+
+all_once : (linked : List Placed) (names : List (List ℕ)) → list_all (λ name. is_one (definitions_of name linked)) names ≡ true → AllByRecursion (IsDefinedOnce linked) names
+all_once linked [] all = tt
+all_once linked (name ∷ names) all =
+    let parts = and_parts (is_one (definitions_of name linked)) (list_all (λ n. is_one (definitions_of n linked)) names) all in
+    (one_alone (definitions_of name linked) parts.0, all_once linked names parts.1)
+
+-- Relocations find their targets, by computing.
+
+abbrev finds_target : List Placed → Placed → Relocation → Bool
+finds_target linked p r = is_some (option_and_then (symbol_address linked p) (slice_get p.object.entries r.symbol))
+
+some_address : (found : Option ℕ) → is_some found ≡ true → (address : ℕ) × (found ≡ Some address)
+some_address None some = absurd (true≢false (sym some))
+some_address (Some n) some = (n, refl)
+
+each_finds : (linked : List Placed) (p : Placed) (rs : List Relocation) → list_all (finds_target linked p) rs ≡ true → AllByRecursion (FindsTarget linked p) rs
+each_finds linked p [] all = tt
+each_finds linked p (r ∷ rs) all =
+    let parts = and_parts (finds_target linked p r) (list_all (finds_target linked p) rs) all in
+    (some_address (option_and_then (symbol_address linked p) (slice_get p.object.entries r.symbol)) parts.0, each_finds linked p rs parts.1)
+
+sections_find : (linked : List Placed) (p : Placed) (sections : List ObjectSection) → list_all (λ (s : ObjectSection). list_all (finds_target linked p) s.relocations) sections ≡ true →
+    AllByRecursion (λ (s : ObjectSection). AllByRecursion (FindsTarget linked p) s.relocations) sections
+sections_find linked p [] all = tt
+sections_find linked p (s ∷ sections) all =
+    let parts = and_parts (list_all (finds_target linked p) s.relocations) (list_all (λ (t : ObjectSection). list_all (finds_target linked p) t.relocations) sections) all in
+    (each_finds linked p s.relocations parts.0, sections_find linked p sections parts.1)
+
+all_find : (linked placed : List Placed) → list_all (λ (p : Placed). list_all (λ (s : ObjectSection). list_all (finds_target linked p) s.relocations) p.object.sections) placed ≡ true → AllByRecursion (AllFind linked) placed
+all_find linked [] all = tt
+all_find linked (p ∷ placed) all =
+    let parts = and_parts (list_all (λ (s : ObjectSection). list_all (finds_target linked p) s.relocations) p.object.sections) (list_all (λ (q : Placed). list_all (λ (s : ObjectSection). list_all (finds_target linked q) s.relocations) q.object.sections) placed) all in
+    (sections_find linked p p.object.sections parts.0, all_find linked placed parts.1)
+
+abbrev later_opened : List Placed
+later_opened = placed_from flavor_bases_8 (map with_later_open (flavor_objects AMD64 0))
+
+open_later : definitions_of (codes "__imp_open") later_opened ≡ record { name = codes "__imp_open"; address = Some 140 } ∷ []
+unfolding searched
+open_later = refl
+
 pub near_program_links : NearProgramLinks
-unfolding searched SymbolsAt is_at DirectoryAt
+unfolding searched SymbolsAt is_at is_one DirectoryAt
 near_program_links = record {
   linked = (record {
     linked = tt;
@@ -166,6 +221,18 @@ near_program_links = record {
     claimed = links.claimed;
   },
     λ x. none_in _ x.linked.0.from_members.0);
+  imports = (record {
+    linked = links.linked;
+    imports = tt;
+    directory = links.directory;
+    null = links.null;
+    ended = links.ended;
+    targets = all_find later_opened (with_tables later_opened) refl;
+    defined = all_at later_opened (undefined_names (with_tables later_opened)) refl;
+    listed = all_once later_opened (symbols_listed (all_members AMD64 (flavor_inputs AMD64))) refl;
+    claimed = links.claimed;
+  },
+    λ x. differ 136 140 (other_address (codes "__imp_open") (definitions_of (codes "__imp_open") later_opened) 136 140 (x.imports 0 (foo_flavor AMD64) refl).entries.1.0 open_later) (omega arith));
   targets = (record {
     linked = links.linked;
     imports = imports_of _ (foo_flavor AMD64) (zed_flavor AMD64) (foo_beside leading_nowhere refl (refl, (refl, (refl, (refl, tt)))) refl (refl, tt)) (zed_beside leading_nowhere refl (refl, (refl, (refl, (refl, tt)))) refl (refl, tt)) refl;
@@ -314,8 +381,15 @@ again_run = record { imports = each; targets = of_run.targets; defined = of_run.
         (beside_it 24 160 (gnu_zed AMD64) (of_run.imports 1 (gnu_zed AMD64) refl) refl (refl, tt))
     each (suc (suc i)) q at = absurd (none_at q at)
 
+abbrev later_placed : List Placed
+later_placed = placed_from touching_8 (map with_later_open (program_objects AMD64))
+
+entry_later : definitions_of (codes "__imp_open") later_placed ≡ record { name = codes "__imp_open"; address = Some 132 } ∷ []
+unfolding searched
+entry_later = refl
+
 pub near_links_beside : NearLinksBeside
-unfolding searched SymbolsAt DirectoryAt members_from ends_behind rows_before
+unfolding searched is_one SymbolsAt DirectoryAt members_from ends_behind rows_before
 near_links_beside = record {
   rows = (record {
     linked = (tt, tt);
@@ -333,6 +407,14 @@ near_links_beside = record {
     listed = beside_none.listed;
   },
     λ x. none_in _ x.linked.0.0.from_members.0);
+  members = (record {
+    linked = beside_none.linked;
+    members = tt;
+    rows = only_rows AMD64 touching_8 (map with_later_open (program_objects AMD64)) plain_run refl;
+    directory = beside_none.directory;
+    listed = all_once later_placed (linked_symbols AMD64 (both_inputs AMD64)) refl;
+  },
+    λ x. differ 128 132 (other_address (codes "__imp_open") (definitions_of (codes "__imp_open") later_placed) 128 132 ((x.members 0 plain_run refl).imports 0 (gnu_foo AMD64) refl).entries.1.0 entry_later) (omega arith));
   directory = (record { linked = tt; members = λ k r at. absurd (none_at r at); rows = λ k r at. absurd (none_at r at); directory = tt; listed = tt },
     λ x. nothing_there (zeros 20) 4 (omega arith) x.directory);
   listed = (record {

@@ -1,12 +1,12 @@
 -- Near misses of what links and loaders give, and of what is linked for given objects, by computing.
 use Rattle.implib_link.specs.Gnu.Program.{null_descriptor, HaveSame, GetsAddress, claimed_names}
-use Rattle.implib.specs.Link.LinkedMembers.{objects_in}
+use Rattle.implib.specs.Link.LinkedMembers.{LinkInput, chosen_exports, objects_in}
 use Rattle.implib_link.specs.Flavors.Expansion.{expanded_in}
 use Rattle.implib.specs.Members.MemberSpec.{MemberView, member_of}
-use Rattle.std.specs.Prelude.{IsPermutation, Option, bytes_eq, nat_eq, not, ◌⊎◌, ◌%◌, ◌^◌, ◌||◌}
+use Rattle.std.specs.Prelude.{IsPermutation, Option, bytes_eq, nat_eq, not, slice_get, ◌⊎◌, ◌%◌, ◌^◌, ◌||◌}
 use Rattle.std.proofs.lemmas.List.Sorted.{sum_by-IsPermutation}
 use Rattle.std.proofs.lemmas.List.Elements.{filter_map-append}
-use Rattle.implib_link.specs.Flavors.Program.{objects_taken, SymbolsAt, InputImports, SymbolsGet, imp_symbols, OfMember}
+use Rattle.implib_link.specs.Flavors.Program.{FlavorInput, IsProgram, LinksAmong, OfLinker, objects_taken, SymbolsAt, InputImports, SymbolsGet, imp_symbols, OfMember}
 use Rattle.implib_link_instances.proofs.Worked.RefusedFields.{absent, value}
 use Rattle.implib_link_instances.proofs.Worked.NearLinks.{five_there, kind_of, lookups_there}
 use Rattle.implib_link.specs.Gnu.OtherLibraries.{ends_behind, members_from, rows_before}
@@ -16,43 +16,47 @@ use Rattle.std.proofs.Common.{◌≡◌, ℕ, ◌+◌, ◌*◌, ◌<◌, List, [
 use Rattle.std.proofs.lemmas.Bool.{true≢false, eqb-true, cases_Bool, or_parts}
 use Rattle.std.proofs.lemmas.List.{length-append}
 use Rattle.implib.specs.declared.machine.MachineType.TheVariants.{AMD64}
+use Rattle.implib.specs.declared.coff.object.Relocation.{Relocation}
 use Rattle.implib.specs.Formats.Bytes.{u32_bytes}
 use Rattle.implib.specs.Formats.Constants.{class_external}
 use Rattle.implib.specs.Formats.Object.{Object, Entry, object_in, ASymbol, Auxiliary, ObjectSymbol}
 use Rattle.implib.specs.Import.{imp_symbol, Ask, Ordinal}
-use Rattle.implib.specs.Link.Image.{Range, byte_at}
+use Rattle.implib.specs.Link.Image.{Range, byte_at, image_of}
 use Rattle.implib.specs.Link.Load.{BytesAt, NumberAt, number_in, ThunkAsksFor, ThunkAt}
 use Rattle.implib.specs.Link.Resolution.{SymbolDefinition, definitions_of, is_undefined_external}
 use Rattle.implib.proofs.Link.LinkedMembers.{among_contains}
 use Rattle.implib.proofs.Link.Loading.{number_once}
-use Rattle.implib_link.specs.Search.Archives.{archive_of}
+use Rattle.implib_link.specs.Search.Archives.{archive_of, weak_among}
 use Rattle.implib_link_instances.specs.Worked.Archives.{two_libraries}
 use Rattle.implib_link.proofs.Search.Lists.{any_among, contains_among, from_not}
-use Rattle.implib_link.specs.Gnu.Calls.{Defines, i386_rel32, PlacedCode}
+use Rattle.implib_link.specs.Gnu.Calls.{Defines, PlacedCode, amd64_addr64, i386_rel32}
 use Rattle.implib_link.specs.Gnu.Operands.{operand_leads}
-use Rattle.implib_link.specs.Search.Closed.{listed_in, AreTakenIntoAs, TakesInto}
+use Rattle.implib_link.specs.Search.Closed.{AreTakenIntoAs, IsAliasTaken, IsImported, TakesInto, inputs_in, listed_in, wanted_in}
 use Rattle.implib_link.specs.Stub.{adrp_immediate, ldr_immediate, page, plus_signed, with_adrp, with_bits, word_at}
 use Rattle.implib_link_instances.specs.Worked.Calls.{calling_at}
 use Rattle.implib_link_instances.specs.Worked.Flavors.{flavor_bases_8, flavor_image, flavor_placed, flavor_objects, foo_input as foo_flavor, both_inputs as flavor_inputs}
 use Rattle.implib_link_instances.specs.Worked.NearCode.{code_of}
-use Rattle.implib_link_instances.specs.Worked.NearResults.{NearAreChosenFor, NearAreLinkedFor, NearDefineOnce, NearFillsBy, NearHasOffsetField, NearHasPageField, NearHasPointer, NearInputImports, NearInstructionArrives, NearIsClosed, NearLinksClosed, NearPageArrives, NearPairArrives, NearIsLinkedWith, NearBranchStays, named_elsewhere, named_at_zero, entries_elsewhere, lookups_elsewhere, written_at, open_again, naming_head, head_and_tail, clashing_objects, own_bar, without_descriptor}
+use Rattle.implib_link_instances.specs.Worked.NearResults.{NearAreChosenFor, NearAreLinkedFor, NearDefineOnce, NearFillsBy, NearHasOffsetField, NearHasPageField, NearHasPointer, NearInputImports, NearInstructionArrives, NearIsClosed, NearLinksClosed, NearPageArrives, NearPairArrives, NearIsLinkedWith, NearBranchStays, named_elsewhere, named_at_zero, entries_elsewhere, lookups_elsewhere, written_at, open_again, naming_head, head_and_tail, clashing_objects, own_bar, queue_objects, without_descriptor, zed_memberless}
 use Rattle.implib_link_instances.specs.Worked.NearSearches.{asking, zed_library}
 use Rattle.implib_link_instances.specs.Worked.Operands.{imp_open, field}
-use Rattle.implib_link_instances.specs.Worked.Programs.{symbol_of_class, symbol_on, code_object}
+use Rattle.implib_link_instances.specs.Worked.Programs.{code_object, symbol_of_class, symbol_on, touching_8}
 use Rattle.implib_link_instances.specs.Worked.RefusedFields.{linked_on_amd64, open_address, two_ranges, adrp_bytes, pair_memory, load_bytes}
 use Rattle.implib_link_instances.specs.Worked.Walks.{without_addresses, without_name}
 use Rattle.implib_link.proofs.Gnu.Stubs.{same_address}
 use Rattle.implib_link_instances.proofs.Worked.NearCode.{missing}
 use Rattle.implib_link_instances.proofs.Worked.NearPrograms.{no_name}
-use Rattle.implib_link_instances.proofs.Worked.NearSearches.{none_in, searched}
+use Rattle.implib_link_instances.proofs.Worked.NearSearches.{listed_by, none_in, searched}
 use Rattle.implib_link_instances.proofs.Worked.RefusedLinks.{are_located, differ, number, zero_4, is_each_located, thunk_8}
 use Rattle.implib_link_instances.proofs.Worked.Rules.{entry_is, same_bytes}
-use Rattle.implib.specs.Link.Placement.{Placed}
-use Rattle.implib_link_instances.proofs.Worked.Programs.{admissible_by, claims_none_by}
+use Rattle.implib.specs.Link.Placement.{Placed, placed_from}
+use Rattle.implib.specs.Definition.{ExportView}
+use Rattle.implib_link.specs.Directory.{DirectoryAt}
+use Rattle.implib_link_instances.proofs.Worked.Programs.{admissible_by, claims_none_by, program_by}
 use Rattle.implib_link_instances.proofs.Worked.Operands.{passing_fields}
 use Rattle.implib_link.specs.Gnu.Packed.{group_end, sections_end, packed}
-use Rattle.implib_link_instances.proofs.Worked.Closed.{asking_closed, asked, clashing_closed, clashes}
-use Rattle.implib_link_instances.specs.Worked.Searched.{by_name, as_taken, bar_member}
+use Rattle.implib_link_instances.proofs.Worked.Closed.{asked, asking_closed, clashes, clashing_closed, worked_closed}
+use Rattle.implib_link_instances.proofs.Worked.Following.{used_of_gnu}
+use Rattle.implib_link_instances.specs.Worked.Searched.{as_taken, bar_member, by_name, head_member}
 use Rattle.implib_link_instances.proofs.Worked.Instances.{code_instances}
 use Rattle.implib_link_instances.proofs.Worked.Flavors.{worked_flavors}
 use Rattle.implib_link_instances.proofs.Worked.Searched.{worked_searched}
@@ -62,7 +66,7 @@ use Rattle.implib_link_instances.proofs.Worked.CommandLines.{pulls_by, ended_by}
 use Rattle.implib.specs.Members.GnuMembers.{head_spec, tail_spec}
 use Rattle.implib.specs.LibraryName.{own_names}
 use Rattle.implib_link.specs.Search.Search.{names_undefined}
-use Rattle.implib_link_instances.specs.Worked.Closed.{zed_first}
+use Rattle.implib_link_instances.specs.Worked.Closed.{closed_taken, zed_first}
 use Rattle.implib_link_instances.specs.Worked.RefusedLinks.{ordinal_8, foo, five_and_six, right_image, named_otherwise}
 use Rattle.implib_link_instances.specs.Worked.Writing.{gives_zeros}
 use Rattle.implib.proofs.Link.Ranges.{among_flat, Among, all_among}
@@ -267,11 +271,92 @@ near_fills_by = record {
 
 -- What is linked for given objects.
 
-pub near_links_closed : NearLinksClosed
-near_links_closed = record { closed = (asking_closed, asked) }
-
-same_members : (first second : List Object) → first ≡ second → HaveSame first second
+same_members : {X : Type 0} (first second : List X) → first ≡ second → HaveSame first second
 same_members first second is = subst (HaveSame first) is (λ o. (λ held. held, λ held. held))
+
+no_export_of : (i j : ℕ) (p : LinkInput) (e : ExportView) → slice_get [] i ≡ Some p → slice_get (chosen_exports p.definition p.chosen) j ≡ Some e → ⊥
+no_export_of i j p e is held = cc
+
+no_input : (i : ℕ) (p : FlavorInput) → slice_get [] i ≡ Some p → ⊥
+no_input i p is = cc
+
+no_link_input : (i : ℕ) (p : LinkInput) → slice_get [] i ≡ Some p → ⊥
+no_link_input i p is = cc
+
+abbrev two_nulls : List Object
+two_nulls = null_descriptor ∷ null_descriptor ∷ []
+
+nulls_link : LinksAmong AMD64 touching_8 [] (null_descriptor ∷ null_descriptor ∷ [])
+unfolding searched DirectoryAt
+nulls_link = record {
+  linked = tt;
+  imports = λ i p at. absurd (no_input i p at);
+  directory = are_located (image_of AMD64 touching_8 (placed_from touching_8 two_nulls)) (zeros 20) 4 refl;
+  null = tt;
+  ended = tt;
+  targets = ((tt, tt), ((tt, tt), tt));
+  defined = tt;
+  listed = tt;
+  claimed = refl;
+}
+
+nothing_program : IsProgram AMD64 touching_8 [] (null_descriptor ∷ [])
+unfolding searched
+nothing_program = program_by [] refl refl refl (admissible_by refl refl)
+
+queue_program : IsProgram AMD64 touching_8 (inputs_in zed_memberless (asking ∷ []) []) queue_objects
+unfolding searched
+queue_program = program_by (inputs_in zed_memberless (asking ∷ []) []) refl refl refl (admissible_by refl refl)
+
+-- the address of `queue` is none that nothing imports, and no alias
+not_resolved : IsImported AMD64 (placed_from touching_8 (null_descriptor ∷ [])) touching_8 [] (codes "__imp_queue") ⊎ IsAliasTaken closed_taken (codes "__imp_queue") → ⊥
+unfolding searched
+not_resolved (inl x) = no_link_input x.number x.input x.input_is
+not_resolved (inr x) = listed_by (codes "__imp_queue") (weak_among closed_taken) x.0 refl x.1 x.2
+
+pub near_links_closed : NearLinksClosed
+unfolding searched
+near_links_closed = record {
+  taken_is = (record {
+    taken_is = tt;
+    program = worked_closed.links.program;
+    links = worked_closed.links.links;
+    used = worked_closed.links.used;
+    resolved = λ name wanted listed. absurd (none_in name listed);
+    closed = λ name left listed. none_in name listed;
+  },
+    λ x. none_in _ ((x.taken_is.inputs _).0 (0, omega arith, refl)));
+  program = (record {
+    taken_is = record { inputs = same_members [] [] refl; weak = tt };
+    program = tt;
+    links = nulls_link;
+    used = λ i j p e is held. absurd (no_export_of i j p e is held);
+    resolved = λ name wanted listed. absurd (none_in name listed);
+    closed = λ name left listed. none_in name listed;
+  },
+    λ x. differ 1 2 (sym (ap length x.program.held.ended.tables)) (omega arith));
+  links = (record {
+    taken_is = record { inputs = same_members [] [] refl; weak = tt };
+    program = queue_program;
+    links = tt;
+    used = used_of_gnu (wanted_in (asking ∷ []) []) zed_memberless;
+    resolved = λ name wanted listed. absurd (none_in name listed);
+    closed = λ name left listed. none_in name listed;
+  },
+    λ x. none_in _ x.links.linked.0.from_members.0);
+  resolved = (record {
+    taken_is = worked_closed.links.taken_is;
+    program = nothing_program;
+    links = program_links AMD64 OfLinker touching_8 [] (null_descriptor ∷ []) tt nothing_program;
+    used = λ i j p e is held. absurd (no_export_of i j p e is held);
+    resolved = tt;
+    closed = λ name left listed. none_in name left;
+  },
+    λ x.
+      let listed : List (List ℕ) = listed_in (archive_of two_libraries) in
+      not_resolved (x.resolved (codes "__imp_queue") (1, omega arith, refl) (among_contains (codes "__imp_queue") listed (any_among (codes "__imp_queue") listed refl))));
+  closed = (asking_closed, asked);
+}
 
 abbrev zed_archive : List MemberView
 zed_archive = archive_of (zed_library ∷ [])
@@ -292,9 +377,20 @@ head_takes = record {
     tail_zed : MemberView
     tail_zed = member_of (tail_spec AMD64 (own_names (codes "zed.dll")))
 
+no_object : (o : Object) → [] ≡ o ∷ [] → ⊥
+no_object o is = cc
+
 pub near_is_closed : NearIsClosed
-unfolding searched
+unfolding searched AreTakenIntoAs
 near_is_closed = record {
+  takes = (record {
+    takes = tt;
+    linked = record { order = record { moves = []; below = tt; is = refl }; others = same_members [] [] refl; tables = refl; admissible = admissible_by refl refl };
+    claims = tt;
+    names = tt;
+  },
+    λ x. none_in x.takes.in_turn.0.0 x.takes.in_turn.0.1.named);
+  linked = (record { takes = record { in_turn = tt; ended = λ name m x. none_in name x.named }; linked = tt; claims = tt; names = tt }, λ x. no_object _ x.linked.tables);
   names = (record {
     takes = head_takes;
     linked = record { order = record { moves = []; below = tt; is = refl }; others = same_members (naming_head ∷ []) (naming_head ∷ []) refl; tables = refl; admissible = admissible_by refl refl };
@@ -304,9 +400,6 @@ near_is_closed = record {
     λ x. true≢false x.names.0.head);
   claims = (clashing_closed, clashes zed_first (packed 0x2000 clashing_objects) clashing_objects);
 }
-
-no_object : (o : Object) → [] ≡ o ∷ [] → ⊥
-no_object o is = cc
 
 -- two in an order of none
 pub no_order : {X : Type 0} (x y : X) → IsPermutation (x ∷ y ∷ []) [] → ⊥
@@ -384,6 +477,8 @@ unfolding searched group_end sections_end
 near_is_linked_with =
     let own : Object = code_object (symbol_of_class (codes "main") 1 class_external ∷ symbol_of_class (codes "bar") 0 class_external ∷ []) in
     record {
+      is_arranged = (record { arranged = by_name; is_arranged = tt; tables = refl; others = (claims_none_by (flat_map (λ (m : MemberView). m.symbols) by_name) own refl, tt); admissible = admissible_by refl refl },
+        λ x. none_in head_member ((x.is_arranged.same head_member).1 (subst (λ ms. Contains ms head_member) (sym x.is_arranged.order) (0, omega arith, refl))));
       tables = (record { arranged = by_name; is_arranged = worked_searched.arranged; tables = tt; others = tt; admissible = admissible_by refl refl },
         λ x. differ 0 (last_entries (objects_in by_name)) (sym null_has_none ∙ sym (ap last_entries x.tables ∙ last_of (objects_in x.arranged) null_descriptor)) tail_has_one);
       others = (record { arranged = by_name; is_arranged = worked_searched.arranged; tables = refl; others = tt; admissible = admissible_by refl refl },
@@ -449,8 +544,12 @@ near_define_once = record {
       (symbol_of_class (codes "__imp_open") 1 class_external) 0x80 (0, omega arith, refl) (1, omega arith, refl) (1, omega arith, refl) refl refl own_pointer refl);
 }
 
+no_relocation : (r : Relocation) → [] ≡ r ∷ [] → ⊥
+no_relocation r is = cc
+
 pub near_has_page_field : NearHasPageField
 near_has_page_field = record {
+  field = (record { field = tt; empty = refl }, λ x. no_relocation _ x.field.alone);
   empty = (
     let p = passing_fields.arm64_page.field in
     record { field = record { symbol = p.symbol; alone = p.alone; inside = omega arith; names = p.names }; empty = tt },
@@ -460,6 +559,7 @@ near_has_page_field = record {
 
 pub near_has_offset_field : NearHasOffsetField
 near_has_offset_field = record {
+  field = (record { field = tt; eight = refl; empty = refl }, λ x. no_relocation _ x.field.alone);
   empty = (
     let p = passing_fields.arm64_offset.field in
     record { field = record { symbol = p.symbol; alone = p.alone; inside = omega arith; names = p.names }; eight = refl; empty = tt },
@@ -474,6 +574,7 @@ near_has_offset_field = record {
 
 pub near_has_pointer : NearHasPointer
 near_has_pointer = record {
+  field = (record { type = amd64_addr64; field = tt; stores = refl; empty = refl }, λ x. no_relocation _ x.field.alone);
   empty = (
     let p = passing_fields.amd64_pointer in
     record { type = p.type; field = record { symbol = p.field.symbol; alone = p.field.alone; inside = omega arith; names = p.field.names }; stores = p.stores; empty = tt },

@@ -165,7 +165,7 @@ near_is_used = record {
 }
 
 -- members of which none is listed for a name
-listed_by : (name : List ℕ) (members : List MemberView) (m : MemberView) → list_any (λ (x : MemberView). list_any (bytes_eq name) x.symbols) members ≡ false → Contains members m → m.symbols ≡ name ∷ [] → ⊥
+pub listed_by : (name : List ℕ) (members : List MemberView) (m : MemberView) → list_any (λ (x : MemberView). list_any (bytes_eq name) x.symbols) members ≡ false → Contains members m → m.symbols ≡ name ∷ [] → ⊥
 listed_by name members m none held is =
     none_passes (λ (x : MemberView). list_any (bytes_eq name) x.symbols) m members none held (among_any name m.symbols (subst (Among name) (sym is) (among_first name [])))
 
@@ -258,7 +258,7 @@ near_is_imported = record {
 
 -- Archives.
 
-none_made : {m : MemberView} {ms : List MemberView} → [] ≡ m ∷ ms → ⊥
+pub none_made : {m : MemberView} {ms : List MemberView} → [] ≡ m ∷ ms → ⊥
 none_made is = cc
 
 zed_archive : IsArchive AMD64 (zed_library ∷ [])

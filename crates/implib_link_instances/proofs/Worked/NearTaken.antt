@@ -206,8 +206,14 @@ few_listed chosen none x =
     let two : 5 ≡ 2 = ap length x.claimed ∙ ap listed none in
     differ 2 5 (sym two) (omega arith)
 
+-- no objects claim no names
+none_claimed : (chosen : List ℕ) → LinksAmong AMD64 touching_8 (record { definition = three; members = members_of three; chosen = chosen } ∷ []) [] → ⊥
+unfolding searched
+none_claimed chosen x = differ 0 (length (linked_symbols AMD64 (record { definition = three; members = members_of three; chosen = chosen } ∷ []))) (ap length x.claimed) (omega arith)
+
 pub near_imports_wanted : NearImportsWanted
 near_imports_wanted = record {
+  links = (record { chosen = worked_searched.imports.chosen; same = worked_searched.imports.same; links = tt }, λ x. none_claimed x.chosen x.links);
   same = (record { chosen = worked_searched.imports.chosen; same = tt; links = worked_searched.imports.links }, λ x. few_listed x.chosen (none_same x.chosen (λ n. (x.same n).0)) x.links);
 }
 

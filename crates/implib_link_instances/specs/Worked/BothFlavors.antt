@@ -106,9 +106,15 @@ pub record WorkedGivenForBoth : Type 0 where
   pub wants : 0 < length (short_inputs (msvc_among foo_and_zed) (unresolved (choosing ∷ [])))
   pub ends : (taken : List MemberView) × TakesIntoFor AMD64 (archive_of_both foo_and_zed) (choosing ∷ []) taken
 
--- an object with a `queue` of its own
+-- an object that leaves the null descriptor's symbol to others
+abbrev pub naming_null : Object
+naming_null = code_object
+    (symbol_of_class (codes "__NULL_IMPORT_DESCRIPTOR") 0 class_external ∷ [])
+
+-- an object with a `queue` of its own; and that object
 pub record NearAreGivenForBoth : Type 0 where
   pub claims : MissesAreGivenForBoth (codes "claims") AMD64 foo_and_zed (clashing ∷ [])
+  pub names : MissesAreGivenForBoth (codes "names") AMD64 foo_and_zed (naming_null ∷ [])
 
 -- zed.dll's members for both linkers
 abbrev pub gnu_zed : FlavorLibrary
@@ -118,7 +124,14 @@ gnu_zed = record {
       (of_dll (codes "zed.dll") (plain_export (codes "queue") ∷ plain_export (codes "stack") ∷ []));
 }
 
+-- a library without its members
+abbrev pub memberless : FlavorLibrary → FlavorLibrary
+memberless l = record l { library = record l.library { members = [] } }
+
+-- zed.dll without its members, for GNU's linker and for Microsoft's; and its members for both
 pub record NearIsFlavorArchive : Type 0 where
+  pub gnu : MissesIsFlavorArchive (codes "gnu") AMD64 (memberless gnu_zed ∷ [])
+  pub msvc : MissesIsFlavorArchive (codes "msvc") AMD64 (memberless short_zed ∷ [])
   pub apart : MissesIsFlavorArchive (codes "apart") AMD64 (gnu_zed ∷ short_zed ∷ [])
 
 -- a head's symbol, and the null descriptor's
@@ -132,9 +145,26 @@ pub record NearTakesOfBoth : Type 0 where
   pub inputs : MissesTakesOfBoth (codes "inputs") AMD64 foo_and_zed (codes "__imp_queue" ∷ []) []
   pub weak : MissesTakesOfBoth (codes "weak") AMD64 foo_and_zed (codes "__imp_queue" ∷ []) mixed_taken
 
--- no short import is wanted; an order of no libraries; without the given object; without import tables; of them the null
--- descriptor alone; and an object with a `queue` of its own
+-- an object that names the null descriptor beside the import of `queue`, and zed.dll's members that are taken for it
+abbrev pub naming_both : Object
+naming_both = code_object
+    (symbol_of_class (codes "__imp_queue") 0 class_external
+    ∷ symbol_of_class (codes "__NULL_IMPORT_DESCRIPTOR") 0 class_external
+    ∷ [])
+
+abbrev pub zed_taken : List MemberView
+zed_taken =
+    thunk_named (codes "zed.dll")
+    ∷ null_named (codes "zed.dll")
+    ∷ descriptor_named (codes "zed.dll")
+    ∷ short_named (codes "zed.dll") (codes "queue")
+    ∷ []
+
+-- Nothing is taken for the object; no short import is wanted; an order of no libraries; without the given object; without import tables; of them the null
+-- descriptor alone; an object with a `queue` of its own; and that object
 pub record NearAreClosedForBoth : Type 0 where
+  pub takes : MissesAreClosedForBoth (codes "takes") AMD64 foo_and_zed (choosing ∷ []) [] zed_and_foo
+      (choosing ∷ objects_taken AMD64 (zed_members ++ null_named (codes "zed.dll") ∷ []))
   pub some : MissesAreClosedForBoth (codes "some") AMD64 (gnu_foo ∷ []) [] [] (gnu_foo ∷ []) []
   pub order : MissesAreClosedForBoth (codes "order") AMD64 foo_and_zed (choosing ∷ []) mixed_taken []
       (choosing ∷ objects_taken AMD64 (foo_alias ∷ null_named (codes "zed.dll") ∷ []))
@@ -150,8 +180,11 @@ pub record NearAreClosedForBoth : Type 0 where
       zed_and_foo
       (clashing
       ∷ objects_taken AMD64 (foo_alias ∷ (zed_members ++ null_named (codes "zed.dll") ∷ foo_linked)))
+  pub names : MissesAreClosedForBoth (codes "names") AMD64 (short_zed ∷ []) (naming_both ∷ [])
+      zed_taken (short_zed ∷ [])
+      (naming_both ∷ objects_taken AMD64 (zed_members ++ null_named (codes "zed.dll") ∷ []))
 
--- hints at 0; lookup tables and address tables at a multiple of 4 that is none of 8, with what is behind them further on;
+-- nothing that imports; hints at 0; lookup tables and address tables at a multiple of 4 that is none of 8, with what is behind them further on;
 -- and the null descriptor 4 bytes on
 abbrev pub spread_bases : Bases
 spread_bases = record {
@@ -164,6 +197,8 @@ spread_bases = record {
 }
 
 pub record NearIsClosedForBoth : Type 0 where
+  pub closed : MissesIsClosedForBoth (codes "closed") AMD64 [] [] [] []
+      (record spread_bases { directory_ends = 0x2000 }) []
   pub admissible : MissesIsClosedForBoth (codes "admissible") AMD64 foo_and_zed (choosing ∷ [])
       mixed_taken zed_and_foo (record mixed_bases { hint_names = 0 }) mixed_objects
   pub lookups : MissesIsClosedForBoth (codes "lookups") AMD64 foo_and_zed (choosing ∷ []) mixed_taken
@@ -191,6 +226,26 @@ pub record NearIsUsedIn : Type 0 where
 abbrev pub mixed_asking : List Object
 mixed_asking = mixed_objects ++ code_object (symbol_of_class (codes "__imp_stack") 0 class_external ∷ []) ∷ []
 
+-- zed.dll's members and its null descriptor alone, with the bases of one descriptor and of none
+abbrev pub zed_objects : List Object
+zed_objects = objects_taken AMD64 (zed_members ++ null_named (codes "zed.dll") ∷ [])
+
+abbrev pub one_bases : Bases
+one_bases = record spread_bases { directory_ends = 0x2014 }
+
+abbrev pub no_bases : Bases
+no_bases = record spread_bases { directory_ends = 0x2000 }
+
+-- Members of no libraries; a null descriptor of no library that is linked; an input without members; zed.dll alone, though
+-- `baz` of foo.dll is wanted; and that program. That each import is used follows from the others.
 pub record NearLinksClosedForBoth : Type 0 where
+  pub taken_is : MissesLinksClosedForBoth (codes "taken_is") AMD64 [] (choosing ∷ []) mixed_taken
+      zed_and_foo mixed_bases mixed_objects
+  pub program : MissesLinksClosedForBoth (codes "program") AMD64 [] [] [] [] no_bases
+      (objects_taken AMD64 (null_named (codes "zed.dll") ∷ []))
+  pub links : MissesLinksClosedForBoth (codes "links") AMD64 [] (choosing ∷ []) []
+      (memberless short_zed ∷ []) one_bases zed_objects
+  pub resolved : MissesLinksClosedForBoth (codes "resolved") AMD64 foo_and_zed (choosing ∷ [])
+      mixed_taken (short_zed ∷ []) one_bases zed_objects
   pub closed : MissesLinksClosedForBoth (codes "closed") AMD64 foo_and_zed (choosing ∷ []) mixed_taken
       zed_and_foo spread_bases mixed_asking

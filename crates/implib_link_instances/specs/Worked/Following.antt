@@ -4,16 +4,18 @@ use Rattle.implib.specs.declared.machine.MachineType.{MachineType}
 use Rattle.implib.specs.Formats.Object.{Object}
 use Rattle.implib.specs.Formats.ShortImport.{ShortImport}
 use Rattle.implib.specs.Link.Image.{Range}
+use Rattle.implib.specs.Link.LinkedMembers.{LinkInput}
 use Rattle.implib.specs.Link.Placement.{Bases, Placed}
 use Rattle.implib.specs.Members.MemberSpec.{MemberView}
 use Rattle.implib_link.specs.Flavors.LldImports.{IsImportedBy}
 use Rattle.implib_link.specs.Flavors.Program.{FlavorInput, InputImports}
+use Rattle.implib_link.specs.Gnu.Bounds.{AreBounded}
 use Rattle.implib_link.specs.Search.Archives.{Library}
 use Rattle.implib_link.specs.Search.BothFlavors.{FlavorLibrary, LinksClosedForBoth}
 use Rattle.implib_link.specs.Search.Closed.{LinksClosed}
-use Rattle.implib_link_instances.specs.But.Links.{InputImportsBut, IsImportedByBut, LinksClosedBut, LinksClosedForBothBut}
+use Rattle.implib_link_instances.specs.But.Links.{AreBoundedBut, InputImportsBut, IsImportedByBut, LinksClosedBut, LinksClosedForBothBut}
 
--- What undefined symbols get follows from where the entries' own symbols are. That each import is
+-- Each address in a table that begins so and is so long is in an entry. What undefined symbols get follows from where the entries' own symbols are. That each import is
 -- used follows from the choice of inputs, which are those of wanted exports.
 pub record FollowingFields : Type 0 where
   pub gets : (machine : MachineType) (image : List Range) (linked : List Placed)
@@ -33,3 +35,6 @@ pub record FollowingFields : Type 0 where
       (objects : List Object) →
       LinksClosedForBothBut (codes "used") machine libraries own taken arranged bases objects →
       LinksClosedForBoth machine libraries own taken arranged bases objects
+  pub tiled : (machine : MachineType) (bases : Bases) (inputs : List LinkInput)
+      (objects : List Object) → AreBoundedBut (codes "tiled") machine bases inputs objects →
+      AreBounded machine bases inputs objects

@@ -2,18 +2,23 @@
 -- fields lead in memory: of all but what is otherwise the rest holds. A record `NearX` has those of
 -- `X`, each by the name of the field that refuses it.
 use Rattle.std.specs.Prelude.{ℕ, List, [], ◌∷◌, codes}
-use Rattle.implib.specs.declared.machine.MachineType.TheVariants.{I386, AMD64}
+use Rattle.implib.specs.declared.coff.object.Relocation.{Relocation}
+use Rattle.implib.specs.declared.machine.MachineType.{MachineType}
+use Rattle.implib.specs.declared.machine.MachineType.TheVariants.{I386, AMD64, ARM64}
 use Rattle.implib.specs.Formats.Constants.{amd64_rel32, arm64_pagebase_rel21, arm64_pageoffset_12l, i386_dir32}
 use Rattle.implib.specs.Formats.Object.{ObjectSection}
 use Rattle.implib.specs.Link.Image.{Range}
 use Rattle.implib.specs.Members.Gnu.{section}
+use Rattle.implib.specs.Members.ImportTables.{zeros}
 use Rattle.implib_link.specs.Flavors.LldThunks.{ThunkArrives}
 use Rattle.implib_link.specs.Gnu.Calls.{amd64_addr64, arm64_addr64, arm64_branch26, i386_rel32}
+use Rattle.implib_link.specs.Gnu.Fields.{LinkedCode}
+use Rattle.implib_link.specs.Gnu.Rebased.{amd64_addr32}
 use Rattle.implib_link.specs.Gnu.Operands.{BranchArrives, OperandArrives, PointerArrives}
-use Rattle.implib_link_instances.specs.But.Links.{MissesAmd64Holds, MissesArm64Holds, MissesBranchArrives, MissesCanBeMoved, MissesI386Holds, MissesIsRebased, MissesIsRelocated, MissesIsThunk, MissesOperandArrives, MissesPointerArrives, MissesThunkArrives}
-use Rattle.implib_link_instances.specs.Worked.LldPrograms.{code_of_thunk, eight_bytes, linked_thunk, mid_on, zeta_on}
+use Rattle.implib_link_instances.specs.But.Links.{MissesAllLeadTo, MissesAmd64Holds, MissesArm64Holds, MissesBranchArrives, MissesBranchArrivesByThunk, MissesCanBeMoved, MissesI386Holds, MissesIsRebased, MissesIsRelocated, MissesIsThunk, MissesOperandArrives, MissesPointerArrives, MissesThunkArrives}
+use Rattle.implib_link_instances.specs.Worked.LldPrograms.{call_memory, code_of_thunk, eight_bytes, linked_thunk, mid_on, zeta_on}
 use Rattle.implib_link_instances.specs.Worked.NearLinks.{leading_out, leading_section, return_section}
-use Rattle.implib_link_instances.specs.Worked.Operands.{amd64_rel32_1, field, imp_open, moved_memory, overlapping_at, passing_memory, passing_places}
+use Rattle.implib_link_instances.specs.Worked.Operands.{amd64_rel32_1, field, imp_open, moved_memory, overlapping_at, passing_at, passing_code, passing_memory, passing_placed, passing_places}
 use Rattle.implib_link_instances.specs.Worked.Programs.{touching_4, touching_8}
 use Rattle.implib_link_instances.specs.Worked.RefusedFields.{linked_on_amd64, open_address, two_ranges}
 use Rattle.implib_link_instances.specs.Worked.Rules.{other_address}
@@ -152,3 +157,44 @@ pub record NearBranchArrives : Type 0 where
       (two_ranges 0x1026 (0x15 ∷ 0 ∷ 0 ∷ 0 ∷ []) []) 0x1027 0 0x1040
   pub leads : MissesBranchArrives (codes "leads") AMD64 0x1_4000_0000
       (two_ranges 0x1027 (0x19 ∷ 0 ∷ 0 ∷ 0 ∷ []) []) 0x1027 0 0x1040
+
+-- a call of the thunk of `mid`, by its field a byte further on; and a call in the place of the thunk's jump
+pub record NearBranchArrivesByThunk : Type 0 where
+  pub leads : MissesBranchArrivesByThunk (codes "leads") AMD64 0x1_4000_0000
+      (call_memory 0x100F (0x0E ∷ 0 ∷ 0 ∷ 0 ∷ []) (linked_thunk AMD64)) 0x100E 0 (eight_bytes 0)
+  pub jumps : MissesBranchArrivesByThunk (codes "jumps") AMD64 0x1_4000_0000
+      (call_memory 0x100E (0x0E ∷ 0 ∷ 0 ∷ 0 ∷ []) (0xFF ∷ 0x15 ∷ 0x42 ∷ 0x10 ∷ 0 ∷ 0 ∷ [])) 0x100E 0
+      (eight_bytes 0)
+
+-- code at 0x1000 of these bytes and relocations, whose symbol 1 is `__imp_open` and 2 is `hello`
+abbrev pub lone_code : MachineType → List ℕ → List Relocation → LinkedCode
+lone_code machine bytes relocations = record (passing_at machine) {
+  code = record (passing_code machine) { bytes = bytes; relocations = relocations };
+}
+
+-- AMD64: an operand by REL32_4 and after it the address of `hello`, so that no instruction has the operand alone; a call
+-- through `__imp_open`; and its address. ARM64: `adrp x8` and `ldr x8, [x8]` of it.
+abbrev pub operand_code : LinkedCode
+operand_code = lone_code AMD64 (zeros 8) (field 0 1 8 ∷ field 4 2 amd64_addr32 ∷ [])
+
+abbrev pub calling_open : LinkedCode
+calling_open = lone_code AMD64 (0xFF ∷ 0x15 ∷ zeros 4) (field 2 1 amd64_rel32 ∷ [])
+
+abbrev pub pointer_code : LinkedCode
+pointer_code = lone_code AMD64 (zeros 8) (field 0 1 amd64_addr64 ∷ [])
+
+abbrev pub pair_code : LinkedCode
+pair_code = lone_code ARM64 (8 ∷ 0 ∷ 0 ∷ 0x90 ∷ 8 ∷ 1 ∷ 0x40 ∷ 0xF9 ∷ [])
+    (field 0 1 arm64_pagebase_rel21 ∷ field 4 1 arm64_pageoffset_12l ∷ [])
+
+-- Each of them, where nothing is in memory; but of the call its operand is, without the bytes before it
+pub record NearAllLeadTo : Type 0 where
+  pub operands : MissesAllLeadTo (codes "operands") AMD64 0x1_4000_0000 linked_on_amd64
+      (operand_code ∷ []) [] (imp_open AMD64) (imp_open AMD64) open_address
+  pub instructions : MissesAllLeadTo (codes "instructions") AMD64 0x1_4000_0000 linked_on_amd64
+      (calling_open ∷ []) (two_ranges 0x1002 (0x7A ∷ 0xF0 ∷ 0xFF ∷ 0xFF ∷ []) open_address)
+      (imp_open AMD64) (imp_open AMD64) open_address
+  pub pairs : MissesAllLeadTo (codes "pairs") ARM64 0x1_4000_0000 (passing_placed ARM64 touching_8)
+      (pair_code ∷ []) [] (imp_open ARM64) (imp_open ARM64) open_address
+  pub pointers : MissesAllLeadTo (codes "pointers") AMD64 0x1_4000_0000 linked_on_amd64
+      (pointer_code ∷ []) [] (imp_open AMD64) (imp_open AMD64) open_address

@@ -4,9 +4,10 @@ use Rattle.implib_link.specs.Gnu.Packed.{packed}
 use Rattle.implib_link_instances.specs.Worked.Searched.{as_taken, by_name, searched_objects}
 use Rattle.std.specs.List.{filter, list_any}
 use Rattle.std.specs.Prelude.{ℕ, ◌+◌, List, [], ◌∷◌, ◌++◌, bytes_eq, codes, drop, if◌then◌else◌, map, not}
+use Rattle.implib.specs.declared.machine.MachineType.{MachineType}
 use Rattle.implib.specs.declared.machine.MachineType.TheVariants.{AMD64, ARM64, I386}
 use Rattle.implib.specs.Formats.Constants.{amd64_rel32, class_external}
-use Rattle.implib.specs.Formats.Object.{ASymbol, Object}
+use Rattle.implib.specs.Formats.Object.{ASymbol, Auxiliary, Entry, Object}
 use Rattle.implib.specs.LibraryName.{own_names}
 use Rattle.implib.specs.Link.Image.{Range}
 use Rattle.implib.specs.Link.LinkedMembers.{objects_in}
@@ -20,6 +21,7 @@ use Rattle.implib_link.specs.Gnu.Fields.{LinkedCode}
 use Rattle.implib_link.specs.Gnu.OtherLibraries.{Run}
 use Rattle.implib_link.specs.Gnu.Program.{claimed_names, null_descriptor}
 use Rattle.implib_link_instances.specs.But.Links.{MissesAreChosenFor, MissesAreLinkedFor, MissesBranchStays, MissesDefineOnce, MissesFillsBy, MissesHasOffsetField, MissesHasPageField, MissesHasPointer, MissesInputImports, MissesInstructionArrives, MissesIsClosed, MissesIsLinkedWith, MissesLinksBeside, MissesLinksClosed, MissesPageArrives, MissesPairArrives, MissesProgramLinks}
+use Rattle.implib_link.specs.Search.Archives.{Library}
 use Rattle.implib_link_instances.specs.Worked.Archives.{two_libraries}
 use Rattle.implib_link_instances.specs.Worked.Calls.{calling_at, calling_placed}
 use Rattle.implib_link_instances.specs.Worked.Closed.{choosing, clashing, closed_bases, closed_objects, closed_taken, foo_alias, foo_linked, zed_first, zed_linked}
@@ -28,7 +30,7 @@ use Rattle.implib_link_instances.specs.Worked.NearCode.{code_of}
 use Rattle.implib_link_instances.specs.Worked.MsvcArchives.{null_named}
 use Rattle.implib_link_instances.specs.Worked.NearLinks.{found_elsewhere, found_there}
 use Rattle.implib_link_instances.specs.Worked.NearPrograms.{run_with, table_object}
-use Rattle.implib_link_instances.specs.Worked.NearSearches.{again, asking, zed_library}
+use Rattle.implib_link_instances.specs.Worked.NearSearches.{again, asking, listing, zed_library}
 use Rattle.implib_link_instances.specs.Worked.Operands.{field, imp_open, passing_at, passing_code, open_on, passing_placed}
 use Rattle.implib_link_instances.specs.Worked.Programs.{code_object, foo_input, program_objects, symbol_of_class, touching_8, zed_input}
 use Rattle.implib_link_instances.specs.Worked.RefusedFields.{adrp_bytes, linked_on_amd64, load_bytes, open_address, pair_memory, two_ranges, with_byte}
@@ -70,13 +72,25 @@ memberless = record (foo_flavor AMD64) { input = record (foo_flavor AMD64).input
 abbrev pub table_of : List ℕ → List ℕ → Object
 table_of name bytes = table_object name bytes []
 
--- The program of both flavours, and what its link gives, but for one thing: the input has no members; a relocation of an
+-- the same objects with the symbol of the entry of `open` four bytes on, in those that define it
+abbrev pub later_open : Entry → Entry
+later_open (Auxiliary bytes) = Auxiliary bytes
+later_open (ASymbol s) = if bytes_eq s.name (codes "__imp_open") then ASymbol (record s { value = s.value + 4 }) else ASymbol s
+
+abbrev pub with_later_open : Object → Object
+with_later_open o =
+    if list_any (bytes_eq (codes "__imp_open")) (claimed_names o) then record o { entries = map later_open o.entries } else o
+
+-- The program of both flavours, and what its link gives, but for one thing: the input has no members; the symbol of an
+-- entry is within it; a relocation of an
 -- object with a table leads nowhere; the null descriptor's symbol is elsewhere; such an object leaves a name that nothing
 -- defines; `queue` is defined again; and an object with a table claims a name more. And links of no DLL: without the zeros
 -- of the directory's end; and with them in another object than the null descriptor, which is elsewhere.
 pub record NearProgramLinks : Type 0 where
   pub linked : MissesProgramLinks (codes "linked") AMD64 OfMember flavor_bases_8
       (memberless ∷ zed_flavor AMD64 ∷ []) (flavor_objects AMD64 0)
+  pub imports : MissesProgramLinks (codes "imports") AMD64 OfMember flavor_bases_8
+      (flavor_inputs AMD64) (map with_later_open (flavor_objects AMD64 0))
   pub targets : MissesProgramLinks (codes "targets") AMD64 OfMember flavor_bases_8
       (flavor_inputs AMD64) (leading_nowhere ∷ flavor_objects AMD64 0)
   pub null : MissesProgramLinks (codes "null") AMD64 OfMember flavor_bases_8 (flavor_inputs AMD64)
@@ -104,13 +118,15 @@ memberless_run = record {
   inputs = record (foo_input AMD64) { members = [] } ∷ zed_input AMD64 ∷ [];
 }
 
--- Four bytes that are no descriptor, where the directory ends otherwise; an input without members; no zeros at the
--- directory's end; and `queue` defined again.
+-- Four bytes that are no descriptor, where the directory ends otherwise; an input without members; the symbol of an entry
+-- within it; no zeros at the directory's end; and `queue` defined again.
 pub record NearLinksBeside : Type 0 where
   pub rows : MissesLinksBeside (codes "rows") AMD64 touching_8 (four_before ∷ [])
       (table_of (codes ".idata$2") (zeros 20) ∷ [])
   pub linked : MissesLinksBeside (codes "linked") AMD64 touching_8 (memberless_run ∷ [])
       (program_objects AMD64)
+  pub members : MissesLinksBeside (codes "members") AMD64 touching_8 (run_with [] [])
+      (map with_later_open (program_objects AMD64))
   pub directory : MissesLinksBeside (codes "directory") AMD64 touching_8 [] []
   pub listed : MissesLinksBeside (codes "listed") AMD64 touching_8 (run_with [] [])
       (again.object ∷ program_objects AMD64)
@@ -179,7 +195,24 @@ pub record NearFillsBy : Type 0 where
 abbrev pub asking_objects : List Object
 asking_objects = closed_objects ++ code_object (symbol_of_class (codes "__imp_stack") 0 class_external ∷ []) ∷ []
 
+-- what zed.dll's library links for `queue`, beside the library without its members
+abbrev pub zed_memberless : List Library
+zed_memberless = record zed_library { members = [] } ∷ []
+
+abbrev pub queue_objects : List Object
+queue_objects = objects_in zed_linked ++ null_descriptor ∷ []
+
+-- Members of no libraries; two null descriptors; inputs without members; no inputs, though `queue` is wanted; and that
+-- program. That each import is used follows from the others.
 pub record NearLinksClosed : Type 0 where
+  pub taken_is : MissesLinksClosed (codes "taken_is") AMD64 [] (choosing ∷ []) closed_taken zed_first
+      closed_bases closed_objects
+  pub program : MissesLinksClosed (codes "program") AMD64 [] [] [] [] touching_8
+      (null_descriptor ∷ null_descriptor ∷ [])
+  pub links : MissesLinksClosed (codes "links") AMD64 [] (asking ∷ []) [] zed_memberless touching_8
+      queue_objects
+  pub resolved : MissesLinksClosed (codes "resolved") AMD64 two_libraries (choosing ∷ [])
+      closed_taken [] touching_8 (null_descriptor ∷ [])
   pub closed : MissesLinksClosed (codes "closed") AMD64 two_libraries (choosing ∷ []) closed_taken
       zed_first (packed 0x2000 asking_objects) asking_objects
 
@@ -199,8 +232,12 @@ abbrev pub clashing_objects : List Object
 clashing_objects =
     objects_in (foo_alias ∷ zed_linked) ++ clashing ∷ (objects_in foo_linked ++ null_descriptor ∷ [])
 
--- it, for which a linker takes the head and for that the tail; and an object with a `queue` of its own
+-- A member is taken, though there is no archive; nothing is linked, not even the null descriptor; that object, for which
+-- a linker takes the head and for that the tail; and an object with a `queue` of its own
 pub record NearIsClosed : Type 0 where
+  pub takes : MissesIsClosed (codes "takes") AMD64 [] [] (listing ∷ []) [] touching_8
+      (null_descriptor ∷ [])
+  pub linked : MissesIsClosed (codes "linked") AMD64 [] [] [] [] touching_8 []
   pub names : MissesIsClosed (codes "names") AMD64 (zed_library ∷ []) (naming_head ∷ []) head_and_tail
       (zed_library ∷ []) touching_8 (naming_head ∷ null_descriptor ∷ [])
   pub claims : MissesIsClosed (codes "claims") AMD64 two_libraries (clashing ∷ []) closed_taken
@@ -226,8 +263,10 @@ pub record NearAreChosenFor : Type 0 where
 abbrev pub own_bar : Object
 own_bar = code_object (symbol_of_class (codes "bar") 1 class_external ∷ [])
 
--- no null descriptor; a `bar` of the program's own; and descriptors at 2
+-- members that are not taken; no null descriptor; a `bar` of the program's own; and descriptors at 2
 pub record NearIsLinkedWith : Type 0 where
+  pub is_arranged : MissesIsLinkedWith (codes "is_arranged") AMD64 (own_names (codes "foo.dll"))
+      (packed 1 searched_objects) [] searched_objects
   pub tables : MissesIsLinkedWith (codes "tables") AMD64 (own_names (codes "foo.dll"))
       (packed 4 (objects_in by_name)) as_taken (objects_in by_name)
   pub others : MissesIsLinkedWith (codes "others") AMD64 (own_names (codes "foo.dll"))
@@ -243,17 +282,24 @@ pub record NearDefineOnce : Type 0 where
       ∷ code_of [] [] (symbol_of_class (codes "__imp_open") 1 class_external)
       ∷ [])
 
--- ARM64's code with a page of 4, and with an offset of 8, in its fields, and a load of 4 bytes; AMD64's with a 1 in the
--- stored address; and the field of I386's jump as a pointer
+-- ARM64's code without relocations; with a page of 4, and with an offset of 8, in its fields, and a load of 4 bytes;
+-- AMD64's without relocations, and with a 1 in the stored address; and the field of I386's jump as a pointer
+abbrev pub unrelocated : MachineType → LinkedCode
+unrelocated machine = record (passing_at machine) {
+  code = record (passing_code machine) { relocations = [] };
+}
+
 abbrev pub other_code : ℕ → ℕ → LinkedCode
 other_code offset byte = record (passing_at ARM64) {
   code = record (passing_code ARM64) { bytes = with_byte (passing_code ARM64).bytes offset byte };
 }
 
 pub record NearHasPageField : Type 0 where
+  pub field : MissesHasPageField (codes "field") (unrelocated ARM64) 12 (imp_open ARM64)
   pub empty : MissesHasPageField (codes "empty") (other_code 12 0x28) 12 (imp_open ARM64)
 
 pub record NearHasOffsetField : Type 0 where
+  pub field : MissesHasOffsetField (codes "field") (unrelocated ARM64) 16 (imp_open ARM64)
   pub empty : MissesHasOffsetField (codes "empty") (other_code 17 5) 16 (imp_open ARM64)
   pub eight : MissesHasOffsetField (codes "eight") (other_code 19 0xB9) 16 (imp_open ARM64)
 
@@ -263,6 +309,7 @@ stored_one = record (passing_at AMD64) {
 }
 
 pub record NearHasPointer : Type 0 where
+  pub field : MissesHasPointer (codes "field") AMD64 (unrelocated AMD64) 52 (imp_open AMD64)
   pub empty : MissesHasPointer (codes "empty") AMD64 stored_one 52 (imp_open AMD64)
   pub stores : MissesHasPointer (codes "stores") I386 (passing_at I386) 37 (open_on I386)
 

@@ -52,10 +52,11 @@ pub record NearIsLinkedOfWanted : Type 0 where
   pub linked : MissesIsLinkedOfWanted (codes "linked") AMD64 three wanted []
   pub same : MissesIsLinkedOfWanted (codes "same") AMD64 three [] by_name
 
--- a program of `bar` and `qux`, though nothing is wanted
+-- a program of `bar` and `qux`, though nothing is wanted; and no objects, though they are
 pub record NearImportsWanted : Type 0 where
   pub same : MissesImportsWanted (codes "same") AMD64 three (members_of three) []
       (packed 1 searched_objects) searched_objects
+  pub links : MissesImportsWanted (codes "links") AMD64 three (members_of three) wanted touching_8 []
 
 -- nothing is taken; and an alias, where there are no libraries
 pub record NearTakesOfLibraries : Type 0 where

@@ -5,8 +5,10 @@ ghost use Rattle.implib_link_instances.specs.Worked.Following.{FollowingFields};
 ghost use Rattle.implib_link_instances.specs.Worked.Instances.{CodeInstances, MachineInstances};
 ghost use Rattle.implib_link_instances.specs.Worked.Instances.{ProgramInstances, SectionInstances};
 ghost use Rattle.implib_link_instances.specs.Worked.Instances.{TypeInstances};
-ghost use Rattle.implib_link_instances.specs.Worked.NearArrivals.{NearAmd64Holds, NearArm64Holds};
+ghost use Rattle.implib_link_instances.specs.Worked.NearArrivals.{NearAllLeadTo, NearAmd64Holds};
+ghost use Rattle.implib_link_instances.specs.Worked.NearArrivals.{NearArm64Holds};
 ghost use Rattle.implib_link_instances.specs.Worked.NearArrivals.{NearBranchArrives};
+ghost use Rattle.implib_link_instances.specs.Worked.NearArrivals.{NearBranchArrivesByThunk};
 ghost use Rattle.implib_link_instances.specs.Worked.NearArrivals.{NearCanBeMoved, NearI386Holds};
 ghost use Rattle.implib_link_instances.specs.Worked.NearArrivals.{NearIsRebased, NearIsRelocated};
 ghost use Rattle.implib_link_instances.specs.Worked.NearArrivals.{NearIsThunk, NearOperandArrives};
@@ -168,6 +170,8 @@ pub fn near_misses_of_arrivals()
     ensures operand_arrives { NearOperandArrives }
     ensures pointer_arrives { NearPointerArrives }
     ensures branch_arrives { NearBranchArrives }
+    ensures branch_arrives_by_thunk { NearBranchArrivesByThunk }
+    ensures all_lead { NearAllLeadTo }
 {}
 
 /// What is not taken or linked of archives, and what is not imported by lld's tables.
