@@ -28,7 +28,7 @@ use Rattle.implib_archive.specs.declared.kind.Kind.TheVariants.{Gnu}
 use Rattle.implib_archive_link.specs.InBytes.{Asks, AreTakenAt, First, Second, TakesAt, asks_for, asks_on, asks_with, asks_with_on, header_by}
 use Rattle.implib_archive_link.specs.LldWay.{IsBuiltByLld, IsWantedBy, short_of_export}
 use Rattle.implib_archive_link.specs.Results.{AreHeadersOf}
-use Rattle.implib_link_instances.specs.Archives.NearMisses.{NearAreMembersAt, NearAreSearched, NearCallsArrive, NearHaveArchive, NearIsBuiltByLld, NearIsHeaderOf, NearIsWantedBy, NearLeadsToFirst, NearLldArrives, NearPullsInAt, NearTakesAt, WorkedIndexes, WorkedReads, asking_stack, f_member, in_two_lines, stack, with_header_in}
+use Rattle.implib_link_instances.specs.Archives.NearMisses.{NearAreMembersAt, NearAreSearched, NearCallsArrive, NearHaveArchive, NearIsBuiltByLld, NearIsHeaderOf, NearIsSearchOf, NearIsWantedBy, NearLeadsToFirst, NearLldArrives, NearPullsInAt, NearTakesAt, WorkedIndexes, WorkedReads, asking_stack, f_member, in_two_lines, stack, with_header_in}
 use Rattle.implib_link.specs.Flavors.LldImports.{IsLldProgram, grouped, imports_of_lld}
 use Rattle.implib_link.specs.Flavors.LldTables.{directory_built, hints_at, lookups_at, names_at}
 use Rattle.implib_link.specs.Tables.{tables_of_lld}
@@ -168,6 +168,22 @@ near_are_members_at = record {
       holds = tt;
     },
     λ x. x.holds,
+  );
+}
+
+-- where nothing is wanted, nothing is taken
+nothing_asked : (headers taken : List ℕ) → AreHeadersOf headers worked_members taken (f_member ∷ []) → TakesAt Gnu First (archive_of Gnu worked_members) (asks_for []) taken → ⊥
+unfolding AreHeadersOf AreTakenAt
+nothing_asked headers [] at takes = at
+nothing_asked headers (t ∷ u ∷ taken) at takes = at.1
+nothing_asked headers (t ∷ []) at takes = none_in takes.in_turn.0.0 takes.in_turn.0.1.asked.0
+
+pub near_is_search_of : NearIsSearchOf
+unfolding AreHeadersOf
+near_is_search_of = record {
+  takes = (
+    record { headers = 182 ∷ 246 ∷ []; located = ap headers_in worked_archives.gnu ∙ worked_headers; taken = 182 ∷ []; at = (record { number = 0; header_is = refl; member_is = refl }, tt); takes = tt },
+    λ x. nothing_asked x.headers x.taken x.at x.takes,
   );
 }
 

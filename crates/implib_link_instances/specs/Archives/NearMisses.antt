@@ -21,7 +21,7 @@ use Rattle.implib_link.specs.Search.Search.{Takes}
 use Rattle.implib_link_instances.specs.But.ArchiveLinks.{MissesAreMembersAt, MissesCallsArrive}
 use Rattle.implib_link_instances.specs.But.ArchiveLinks.{MissesHaveArchive}
 use Rattle.implib_link_instances.specs.But.ArchiveLinks.{MissesIsBuiltByLld, MissesIsHeaderOf}
-use Rattle.implib_link_instances.specs.But.ArchiveLinks.{MissesIsWantedBy, MissesLeadsToFirst}
+use Rattle.implib_link_instances.specs.But.ArchiveLinks.{MissesIsSearchOf, MissesIsWantedBy, MissesLeadsToFirst}
 use Rattle.implib_link_instances.specs.But.ArchiveLinks.{MissesLldArrives, MissesPullsInAt}
 use Rattle.implib_link_instances.specs.But.ArchiveLinks.{MissesTakesAt}
 use Rattle.implib_link_instances.specs.Worked.Archives.{two_libraries}
@@ -103,6 +103,11 @@ pub record NearAreMembersAt : Type 0 where
   pub at : MissesAreMembersAt (codes "at") Gnu with_header_in (68 ∷ []) (λ found. Unit {0})
   pub read : MissesAreMembersAt (codes "read") Gnu in_two_lines (88 ∷ []) (λ found. Unit {0})
   pub holds : MissesAreMembersAt (codes "holds") Gnu worked_members (182 ∷ []) (λ found. ⊥)
+
+-- the first member, though nothing is wanted
+pub record NearIsSearchOf : Type 0 where
+  pub takes : MissesIsSearchOf (codes "takes") Gnu First worked_members (asks_for [])
+      (f_member ∷ [])
 
 -- a member without a name, which is read as a linker member, that is listed for a name
 abbrev pub nameless_for : List ℕ → List MemberView

@@ -6,7 +6,8 @@ ghost use Rattle.implib_link_instances.specs.Archives.FileLines.{WorkedFileLines
 ghost use Rattle.implib_link_instances.specs.Archives.Files.{NearHasMembersAs, WorkedFiles};
 ghost use Rattle.implib_link_instances.specs.Archives.NearMisses.{NearAreSearched, NearCallsArrive};
 ghost use Rattle.implib_link_instances.specs.Archives.NearMisses.{NearIsBuiltByLld};
-ghost use Rattle.implib_link_instances.specs.Archives.NearMisses.{NearIsWantedBy, NearLeadsToFirst};
+ghost use Rattle.implib_link_instances.specs.Archives.NearMisses.{NearIsSearchOf, NearIsWantedBy};
+ghost use Rattle.implib_link_instances.specs.Archives.NearMisses.{NearLeadsToFirst};
 ghost use Rattle.implib_link_instances.specs.Archives.NearMisses.{NearLldArrives};
 ghost use Rattle.implib_link_instances.specs.Archives.NearMisses.{NearAreMembersAt};
 ghost use Rattle.implib_link_instances.specs.Archives.NearMisses.{NearHaveArchive, NearIsHeaderOf};
@@ -65,6 +66,7 @@ pub fn near_misses_in_bytes()
     ensures leads { NearLeadsToFirst }
     ensures members { NearAreMembersAt }
     ensures searched { NearAreSearched }
+    ensures search { NearIsSearchOf }
 {}
 
 /// Near misses of the ways: exports that are not wanted, images that lld did not write, an export
