@@ -13,10 +13,14 @@ use Rattle.implib_link.specs.Gnu.Bounds.{AreBounded}
 use Rattle.implib_link.specs.Search.Archives.{Library}
 use Rattle.implib_link.specs.Search.BothFlavors.{FlavorLibrary, LinksClosedForBoth}
 use Rattle.implib_link.specs.Search.Closed.{LinksClosed}
+use Rattle.implib_archive_link.specs.LldWay.{LldArrives}
+use Rattle.implib_link_instances.specs.But.ArchiveLinks.{LldArrivesBut}
 use Rattle.implib_link_instances.specs.But.Links.{AreBoundedBut, InputImportsBut, IsImportedByBut, LinksClosedBut, LinksClosedForBothBut}
 
--- Each address in a table that begins so and is so long is in an entry. What undefined symbols get follows from where the entries' own symbols are. That each import is
--- used follows from the choice of inputs, which are those of wanted exports.
+-- What undefined symbols get follows from where the entries' own symbols are. That each import is
+-- used follows from the choice of inputs, which are those of wanted exports. In a program of lld
+-- fields and branches of code lead to the entries, by the laws of its programs. Each address in a
+-- table that begins so and is so long is in an entry.
 pub record FollowingFields : Type 0 where
   pub gets : (machine : MachineType) (image : List Range) (linked : List Placed)
       (descriptor table : ℕ) (p : FlavorInput) →
@@ -35,6 +39,12 @@ pub record FollowingFields : Type 0 where
       (objects : List Object) →
       LinksClosedForBothBut (codes "used") machine libraries own taken arranged bases objects →
       LinksClosedForBoth machine libraries own taken arranged bases objects
+  pub leads : (machine : MachineType) (libraries : List Library) (own : List Object)
+      (taken : List MemberView) → LldArrivesBut (codes "leads") machine libraries own taken →
+      LldArrives machine libraries own taken
+  pub calls : (machine : MachineType) (libraries : List Library) (own : List Object)
+      (taken : List MemberView) → LldArrivesBut (codes "calls") machine libraries own taken →
+      LldArrives machine libraries own taken
   pub tiled : (machine : MachineType) (bases : Bases) (inputs : List LinkInput)
       (objects : List Object) → AreBoundedBut (codes "tiled") machine bases inputs objects →
       AreBounded machine bases inputs objects

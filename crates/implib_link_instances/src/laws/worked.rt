@@ -18,6 +18,8 @@ ghost use Rattle.implib_link_instances.specs.Worked.Rules.{ArrivalRules, FieldRu
 ghost use Rattle.implib_link_instances.specs.Worked.Rules.{MovingRules};
 ghost use Rattle.implib_link_instances.specs.Worked.Rules.{SymbolRules};
 ghost use Rattle.implib_link_instances.specs.Worked.Searched.{WorkedLibraries, WorkedSearched};
+ghost use Rattle.implib_link_instances.specs.Worked.Sources.{NearFlavorTextLinks};
+ghost use Rattle.implib_link_instances.specs.Worked.Sources.{NearFlavorTextsLink};
 ghost use Rattle.implib_link_instances.specs.Worked.Sources.{NearIsFlavorSource, WorkedSources};
 ghost use Rattle.implib_link_instances.specs.Worked.Walks.{WorkedWalks};
 
@@ -112,6 +114,8 @@ pub fn refused_texts()
 pub fn worked_sources()
     ensures sources { WorkedSources }
     ensures near { NearIsFlavorSource }
+    ensures text { NearFlavorTextLinks }
+    ensures texts { NearFlavorTextsLink }
 {}
 
 /// An object claims what it defines, in a section, as an absolute value, as a common block or as a
