@@ -1,20 +1,24 @@
 -- Near misses of searches in bytes, by computing and by the laws.
-use Rattle.std.proofs.Common.{◌≡◌, ℕ, zero, suc, [], ◌∷◌, List, Some, None, ap, codes, map, refl, sym, ◌∙◌, arith}
+use Rattle.std.proofs.Common.{◌≡◌, ℕ, zero, suc, [], ◌∷◌, List, Some, None, inl, inr, ap, codes, map, refl, sym, ◌∙◌, arith}
 use Rattle.std.specs.Prelude.{Option, bytes_eq, length, slice_get, unwrap_or}
-use Rattle.std.proofs.lemmas.Bool.{true≢false}
+use Rattle.std.proofs.lemmas.Bool.{cases_Bool, true≢false}
 use Rattle.std.proofs.Common.{subst, ◌^◌}
 use Rattle.std.specs.Prelude.{Bool, false, true}
 use Rattle.std.specs.Fmt.{digits}
-use Rattle.std.specs.List.{Contains}
+use Rattle.std.specs.List.{AllByRecursion, Contains, IsDistinct, filter}
 use Rattle.implib.specs.declared.machine.MachineType.TheVariants.{AMD64, ARMNT}
 use Rattle.implib.specs.Definition.{ExportView}
 use Rattle.implib.specs.Formats.Constants.{class_external}
 use Rattle.implib.specs.Formats.Object.{Object}
+use Rattle.implib.specs.Formats.ShortImport.{ShortImport, ask_of_short_import}
+use Rattle.implib.specs.Import.{Ask}
 use Rattle.implib.specs.Link.Image.{Range}
 use Rattle.implib.specs.Link.Placement.{Placed}
 use Rattle.implib.specs.Link.Resolution.{definitions_of}
 use Rattle.implib.specs.Members.MemberSpec.{MemberView}
-use Rattle.implib.specs.Members.Msvc.{short_import_symbols}
+use Rattle.implib.specs.Members.Msvc.{short_import_of, short_import_symbols}
+use Rattle.implib.specs.Members.ImportTables.{thunk_width}
+use Rattle.implib.specs.Worked.Statements.{plain_export}
 use Rattle.implib_archive.specs.Archive.{archive_of, end_from, entries_from, entries_of, first_linker, first_linker_size, first_place, front, front_of, front_size, is_long, linker_label, linkers, long_names, member_label, member_part, name_end, name_field, names_bytes, names_label, names_part, names_size, offset_of, place_of, places_from, second_linker, second_linker_size, sorted_entries, strings_of, with_first, with_name}
 use Rattle.implib_archive.specs.Leads.{headers_among, headers_in, with_header}
 use Rattle.implib_archive.specs.Parts.{field, header_bytes, padded_part_bytes, padding, part_bytes, signature, u16_le, u32_be, u32_le}
@@ -26,13 +30,16 @@ use Rattle.implib_archive.specs.Worked.{worked_gnu, worked_members}
 use Rattle.implib_archive.proofs.WorkedBytes.{worked_archives}
 use Rattle.implib_archive.specs.declared.kind.Kind.TheVariants.{Gnu}
 use Rattle.implib_archive_link.specs.InBytes.{Asks, AreTakenAt, First, Second, TakesAt, asks_for, asks_on, asks_with, asks_with_on, header_by}
-use Rattle.implib_archive_link.specs.LldWay.{IsBuiltByLld, IsWantedBy, short_of_export}
+use Rattle.implib_archive_link.specs.LldWay.{IsBuiltByLld, IsWantedBy, short_of_export, shorts_in}
 use Rattle.implib_archive_link.specs.Results.{AreHeadersOf}
-use Rattle.implib_link_instances.specs.Archives.NearMisses.{NearAreMembersAt, NearAreSearched, NearCallsArrive, NearHaveArchive, NearIsBuiltByLld, NearIsHeaderOf, NearIsSearchOf, NearIsWantedBy, NearLeadsToFirst, NearLldArrives, NearPullsInAt, NearTakesAt, WorkedIndexes, WorkedReads, asking_stack, f_member, in_two_lines, stack, with_header_in}
-use Rattle.implib_link.specs.Flavors.LldImports.{IsLldProgram, grouped, imports_of_lld}
-use Rattle.implib_link.specs.Flavors.LldTables.{directory_built, hints_at, lookups_at, names_at}
-use Rattle.implib_link.specs.Tables.{tables_of_lld}
-use Rattle.implib_link.specs.Search.Archives.{archive_of as members_of_libraries, exports_of}
+use Rattle.implib_link_instances.specs.Archives.NearMisses.{NearAreMembersAt, NearAreSearched, NearCallsArrive, NearHaveArchive, NearIsBuiltByLld, NearIsHeaderOf, NearIsSearchOf, NearIsWantedBy, NearLeadsToFirst, NearLldArrives, NearPullsInAt, NearTakesAt, WorkedIndexes, WorkedReads, asking_stack, f_member, in_two_lines, stack, ways_taken, with_header_in}
+use Rattle.implib_link.specs.Flavors.LldImports.{IsLldProgram, grouped, imp_symbols_of, imports_of_lld}
+use Rattle.implib_link.specs.Flavors.LldTables.{IsAskable, IsImportable, directory_built, hints_at, lookups_at, names_at}
+use Rattle.implib_link.specs.Gnu.Fields.{LinkedCode}
+use Rattle.implib_link.specs.Gnu.Moves.{AreInMemory}
+use Rattle.implib_link.specs.Gnu.Reading.{ReadsAndWrites}
+use Rattle.implib_link.specs.Tables.{AreSteady, AreTablesLoaded, tables_of_lld}
+use Rattle.implib_link.specs.Search.Archives.{Library, archive_of as members_of_libraries, exports_of}
 use Rattle.implib_link.specs.Search.Closed.{LinksClosed, TakesInto, listed_in, unresolved}
 use Rattle.implib_link.specs.Search.Msvc.{TakesFor}
 use Rattle.implib_link.specs.Search.MsvcArchives.{TakesIntoFor}
@@ -40,18 +47,20 @@ use Rattle.implib_link.specs.Search.Search.{Takes}
 use Rattle.implib_link_instances.specs.Worked.Archives.{two_libraries}
 use Rattle.implib_link_instances.specs.Worked.Closed.{choosing}
 use Rattle.implib_link_instances.specs.Worked.MsvcArchives.{msvc_zed}
-use Rattle.implib_link_instances.specs.Worked.NearPrograms.{defines_mid, lld_addresses, lld_defines, mid_alone}
+use Rattle.implib_link_instances.specs.Worked.NearPrograms.{defines_mid, lld_addresses, lld_defines, lld_range, mid_alone}
 use Rattle.implib_link_instances.specs.Worked.NearSearches.{asking, zed_short}
 use Rattle.implib_link_instances.specs.Worked.Programs.{code_object, symbol_of_class, touching_8}
 use Rattle.implib_link_instances.specs.Worked.Search.{members_of, three, wanted}
 use Rattle.implib.proofs.Link.LinkedMembers.{among_contains}
+use Rattle.implib.proofs.Link.Ranges.{all_among}
 use Rattle.implib_link.proofs.Search.Lists.{any_among, contains_among}
 use Rattle.implib_link.proofs.TablesInMemory.{tables_load_in_memory}
+use Rattle.implib_link.proofs.Flavors.LldPrograms.{lld_count}
 use Rattle.implib_link.proofs.TablesOfPrograms.{lld_tables}
 use Rattle.implib_link_instances.proofs.Worked.Calls.{one_of, wide, worked_reading}
 use Rattle.implib_link_instances.specs.Worked.Calls.{given_on}
 use Rattle.implib_link_instances.proofs.Worked.Lld.{lld_opened}
-use Rattle.implib_link_instances.proofs.Worked.NearPrograms.{directory_long, first_placed, lld_pieces, mid_defined, none_below, nothing_placed, nothing_there, past_2_31, pieces_with, second_placed}
+use Rattle.implib_link_instances.proofs.Worked.NearPrograms.{directory_long, first_placed, lld_pieces, mid_defined, none_below, nothing_placed, nothing_there, past_2_31, pieces_with, second_placed, two_cases}
 use Rattle.implib_link_instances.proofs.Worked.Programs.{distinct_by}
 use Rattle.implib_link_instances.proofs.Worked.NearSearches.{none_in, searched}
 use Rattle.implib_link_instances.proofs.Worked.NearMisses.{none_passes}
@@ -431,9 +440,141 @@ nothing_built descriptors addresses image linked built = record {
   ends = built.ends;
 }
 
+-- Short imports of one DLL that is called in two ways: a loader finds what it finds of the one that is called alike.
+
+abbrev gee : ShortImport
+gee = short_import_of AMD64 (codes "Beta.dll") (plain_export (codes "gee"))
+
+abbrev mid : ShortImport
+mid = short_import_of AMD64 (codes "beta.dll") (plain_export (codes "mid"))
+
+abbrev mid_alike : ShortImport
+mid_alike = short_import_of AMD64 (codes "Beta.dll") (plain_export (codes "mid"))
+
+ways_are : shorts_in AMD64 ways_taken ≡ gee ∷ mid ∷ []
+unfolding searched lld_opened
+ways_are = refl
+
+-- what is loaded of live short imports
+abbrev LoadsOf : List ShortImport → Type 0
+LoadsOf live =
+    (descriptors addresses : ℕ) (image : List Range) (linked : List Placed) → IsBuiltByLld AMD64 descriptors addresses live image linked →
+    (image_base : ℕ) (codes : List LinkedCode) (targets : LinkedCode → ℕ → ℕ) (memory : List Range) (gives : List ℕ → Ask → List ℕ) →
+    AreSteady AMD64 linked → AreInMemory AMD64 image_base image linked codes targets memory → (n : ℕ) (written : List Range) →
+    ((dll : List ℕ) (ask : Ask) → length (gives dll ask) ≡ thunk_width AMD64) → ReadsAndWrites memory (thunk_width AMD64) gives n descriptors written →
+    (n ≡ length (grouped live)) × AreTablesLoaded AMD64 (tables_of_lld AMD64 descriptors addresses live image linked) gives written
+
+-- of those whose DLLs are called alike
+alike_load : (live : List ShortImport) (dll : List ℕ) → AllByRecursion (λ (r : ShortImport). IsImportable (record { dll = r.dll; asks = ask_of_short_import r ∷ [] })) live →
+    IsDistinct bytes_eq (imp_symbols_of live) → AllByRecursion (λ (r : ShortImport). r.dll ≡ dll) live → LoadsOf live
+alike_load live dll writable distinct all descriptors addresses image linked built image_base codes targets memory gives steady at n written wide reads =
+    let called : (r : ShortImport) → Contains live r → r.dll ≡ dll = λ r held. all_among (λ (s : ShortImport). s.dll ≡ dll) r live (contains_among r live held) all in
+    let program : IsLldProgram AMD64 descriptors addresses live image linked =
+    record {
+      writable = writable;
+      distinct = distinct;
+      agree = λ r s first second same. called r first ∙ sym (called s second);
+      before = built.before;
+      behind = built.behind;
+      placed = built.placed;
+      none_before = built.none_before;
+      none_behind = built.none_behind;
+      lookups = built.lookups;
+      hints = built.hints;
+      names = built.names;
+      pieces = built.pieces;
+      starts = built.starts;
+      ends = built.ends;
+    } in
+    let loaded = tables_load_in_memory AMD64 image_base (tables_of_lld AMD64 descriptors addresses live image linked) codes targets memory gives (lld_tables AMD64 descriptors addresses live image linked program) steady at n written wide reads in
+    (loaded.0 ∙ lld_count AMD64 descriptors addresses live image linked program, loaded.1)
+
+gee_writable : IsImportable (record { dll = codes "Beta.dll"; asks = ask_of_short_import gee ∷ [] })
+unfolding IsAskable
+gee_writable = record { name = refl; asks = ((omega arith, refl), tt) }
+
+mid_writable : IsImportable (record { dll = codes "beta.dll"; asks = ask_of_short_import mid ∷ [] })
+unfolding IsAskable
+mid_writable = record { name = refl; asks = ((omega arith, refl), tt) }
+
+alike_writable : IsImportable (record { dll = codes "Beta.dll"; asks = ask_of_short_import mid_alike ∷ [] })
+unfolding IsAskable
+alike_writable = record { name = refl; asks = ((omega arith, refl), tt) }
+
+both_load : LoadsOf (gee ∷ mid ∷ [])
+unfolding lld_opened
+both_load descriptors addresses image linked built image_base codes targets memory gives steady at n written wide reads =
+    alike_load (gee ∷ mid_alike ∷ []) gee.dll (gee_writable, (alike_writable, tt)) (distinct_by (imp_symbols_of (gee ∷ mid_alike ∷ [])) refl) (refl, (refl, tt)) descriptors addresses image linked
+    (record {
+      before = built.before;
+      behind = built.behind;
+      placed = built.placed;
+      none_before = built.none_before;
+      none_behind = built.none_behind;
+      lookups = built.lookups;
+      hints = built.hints;
+      names = built.names;
+      pieces = built.pieces;
+      starts = built.starts;
+      ends = built.ends;
+    })
+    image_base codes targets memory gives steady at n written wide reads
+
+live_load : (is_live : ShortImport → Bool) → LoadsOf (filter is_live (gee ∷ mid ∷ []))
+live_load is_live =
+    elim (cases_Bool (is_live gee)) [
+      | inl first ↦ elim (cases_Bool (is_live mid)) [
+        | inl second ↦ rw (first, second) both_load
+        | inr second ↦ rw (first, second) (alike_load (gee ∷ []) gee.dll (gee_writable, tt) (distinct_by (imp_symbols_of (gee ∷ [])) refl) (refl, tt))
+      ]
+      | inr first ↦ elim (cases_Bool (is_live mid)) [
+        | inl second ↦ rw (first, second) (alike_load (mid ∷ []) mid.dll (mid_writable, tt) (distinct_by (imp_symbols_of (mid ∷ [])) refl) (refl, tt))
+        | inr second ↦ rw (first, second) (alike_load [] [] tt (distinct_by [] refl) tt)
+      ]
+    ]
+
+-- but they are no program
+abbrev MakesPrograms : List ShortImport → Type 0
+MakesPrograms shorts =
+    (is_live : ShortImport → Bool) (descriptors addresses : ℕ) (image : List Range) (linked : List Placed) → IsBuiltByLld AMD64 descriptors addresses (filter is_live shorts) image linked →
+    IsLldProgram AMD64 descriptors addresses (filter is_live shorts) image linked
+
+not_alike : MakesPrograms (gee ∷ mid ∷ []) → ⊥
+unfolding lld_opened
+not_alike makes =
+    let both : List ShortImport = gee ∷ mid ∷ [] in
+    let built : IsBuiltByLld AMD64 0x2000 (lld_addresses (gee ∷ mid ∷ [])) (gee ∷ mid ∷ []) (lld_range (gee ∷ mid ∷ []) ∷ []) (lld_defines (gee ∷ mid ∷ []) ∷ []) =
+    record {
+      before = [];
+      behind = [];
+      placed = refl;
+      none_before = (refl, (refl, tt));
+      none_behind = (refl, (refl, tt));
+      lookups = lookups_at AMD64 0x2000 (imports_of_lld both);
+      hints = hints_at AMD64 0x2000 (imports_of_lld both);
+      names = names_at AMD64 0x2000 (imports_of_lld both);
+      pieces = lld_pieces both;
+      starts = (omega arith, tt);
+      ends = (omega arith, tt);
+    } in
+    two_cases ((makes (λ r. true) 0x2000 (lld_addresses both) (lld_range both ∷ []) (lld_defines both ∷ []) built).agree gee mid (0, omega arith, refl) (1, omega arith, refl) refl)
+
+none_wanted : (l : Library) (e : ExportView) → IsWantedBy [] [] l e → ⊥
+none_wanted l e wanted = none_in l wanted.library
+
 pub near_lld_arrives : NearLldArrives
 unfolding grouped
 near_lld_arrives = record {
+  program = (
+    record {
+      shorts = λ l e wanted. absurd (none_wanted l e wanted);
+      program = tt;
+      loads = λ is_live. subst (λ shorts. LoadsOf (filter is_live shorts)) (sym ways_are) (live_load is_live);
+      leads = λ is_live descriptors addresses image linked built image_base codes targets memory gives steady at n written wide reads l e wanted live can. absurd (none_wanted l e wanted);
+      calls = λ is_live descriptors addresses image linked built image_base codes targets memory gives steady at n written wide reads l e wanted live can c d offset after caller held thunk has near. absurd (none_wanted l e wanted);
+    },
+    λ x. not_alike (subst MakesPrograms ways_are x.program),
+  );
   shorts = (
     record {
       shorts = tt;

@@ -369,7 +369,7 @@ directory_long lookups names addresses = omega arith
 pub nothing_there : (bytes : List ℕ) (a : ℕ) → 0 < length bytes → BytesAt [] a bytes → ⊥
 nothing_there bytes a long located = let first = byte_first [] bytes a located long in let is : None ≡ Some first.0 = first.1 in cc
 
-two_cases : codes "Beta.dll" ≡ codes "beta.dll" → ⊥
+pub two_cases : codes "Beta.dll" ≡ codes "beta.dll" → ⊥
 two_cases is = differ 66 98 (ap (λ (text : List ℕ). slice_index text 0) is) (omega arith)
 
 pub none_below : (n : ℕ) → 0 < n → n ≡ 0 → ⊥

@@ -27,7 +27,7 @@ use Rattle.implib_link_instances.specs.But.ArchiveLinks.{MissesLldArrives, Misse
 use Rattle.implib_link_instances.specs.But.ArchiveLinks.{MissesTakesAt}
 use Rattle.implib_link_instances.specs.Worked.Archives.{two_libraries}
 use Rattle.implib_link_instances.specs.Worked.Closed.{choosing}
-use Rattle.implib_link_instances.specs.Worked.MsvcArchives.{msvc_foo, msvc_zed}
+use Rattle.implib_link_instances.specs.Worked.MsvcArchives.{msvc_foo, msvc_zed, short_named}
 use Rattle.implib_link_instances.specs.Worked.NearPrograms.{defines_mid, lld_addresses, lld_defines}
 use Rattle.implib_link_instances.specs.Worked.NearPrograms.{lld_range, mid_alone}
 use Rattle.implib_link_instances.specs.Worked.NearSearches.{asking, zed_short}
@@ -172,9 +172,16 @@ pub record NearIsBuiltByLld : Type 0 where
       (lld_range mid_alone ∷ record { start = 2 ^ 31; bytes = [] } ∷ [])
       (lld_defines mid_alone ∷ [])
 
+-- short imports of one DLL that is called in two ways
+abbrev pub ways_taken : List MemberView
+ways_taken =
+    short_named (codes "Beta.dll") (codes "gee") ∷ short_named (codes "beta.dll") (codes "mid") ∷ []
+
 -- nothing is taken for an object that leaves `stack` to others: on ARMNT, of whose code nothing is
--- claimed
+-- claimed; and short imports that make no program, for no object. What fields and branches lead to
+-- follows from the others.
 pub record NearLldArrives : Type 0 where
+  pub program : MissesLldArrives (codes "program") AMD64 [] [] ways_taken
   pub shorts : MissesLldArrives (codes "shorts") ARMNT (msvc_zed ∷ []) (asking_stack ∷ []) []
 
 -- Nothing is linked but an object that leaves `bar` to others, so that no loader finds a directory;
