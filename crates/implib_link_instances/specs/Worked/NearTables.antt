@@ -138,8 +138,8 @@ tables_alone tables = record { image = []; linked = []; directory = 0; tables = 
 abbrev pub gives_nothing : List ℕ → Ask → List ℕ
 gives_nothing dll ask = []
 
--- a table whose entries' symbols nothing defines, and an empty range that was written, though there are
--- no tables
+-- a table whose entries' symbols nothing defines, and an empty range that was written, though there
+-- are no tables
 pub record NearAreTablesLoaded : Type 0 where
   pub entries : MissesAreTablesLoaded (codes "entries") AMD64 (tables_alone (beta_table ∷ []))
       gives_nothing []
