@@ -9,7 +9,7 @@ use Rattle.implib.specs.Definition.{ExportView}
 use Rattle.implib.specs.Formats.Object.{Object}
 use Rattle.implib.specs.Import.{imp_symbol}
 use Rattle.implib.specs.Link.Linked.{IsDefinedOnce}
-use Rattle.implib.specs.Link.Placement.{Descriptors, Placed, next_multiple, placed_from}
+use Rattle.implib.specs.Link.Placement.{Descriptors, Placed, placed_from}
 use Rattle.implib.specs.Link.Resolution.{definitions_of}
 use Rattle.implib.specs.Members.Gnu.{archive_symbols}
 use Rattle.implib.specs.Members.ImportTables.{thunk_width}

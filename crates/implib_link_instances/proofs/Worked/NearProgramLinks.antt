@@ -1,7 +1,7 @@
 -- Near misses of what the link of a program gives, by computing and by the law.
-use Rattle.std.proofs.Common.{◌≡◌, ℕ, zero, suc, ◌+◌, ◌*◌, ◌<◌, Bool, true, false, List, [], ◌∷◌, ◌++◌, codes, length, map, Option, None, Some, refl, ap, sym, ◌∙◌, subst, inl, inr, arith}
+use Rattle.std.proofs.Common.{◌≡◌, ℕ, zero, suc, ◌+◌, ◌*◌, Bool, true, false, List, [], ◌∷◌, codes, length, map, Option, None, Some, refl, ap, sym, ◌∙◌, subst, arith}
 use Rattle.std.specs.Prelude.{bytes_eq, is_some, option_and_then, slice_get, ◌&&◌}
-use Rattle.std.specs.List.{AllByRecursion, Contains, list_all, list_any}
+use Rattle.std.specs.List.{AllByRecursion, list_all}
 use Rattle.std.proofs.lemmas.Bool.{and_parts, true≢false}
 use Rattle.std.proofs.lemmas.Slice.Eq.{bytes_eq-Decides}
 use Rattle.implib.specs.declared.coff.object.Relocation.{Relocation}
@@ -10,7 +10,7 @@ use Rattle.implib.specs.Formats.Object.{Object, ObjectSection}
 use Rattle.implib.specs.Link.Linked.{AllFind, FindsTarget, IsDefinedAt, IsDefinedOnce, undefined_names}
 use Rattle.implib.specs.Link.Placement.{Placed, placed_from, Bases}
 use Rattle.implib.specs.Link.Resolution.{SymbolDefinition, definitions_of, symbol_address}
-use Rattle.implib_link.specs.Flavors.Program.{FlavorInput, InputImports, OfMember, ProgramLinks, SymbolsAt, all_members, descriptor_in, dll_names_in, imp_symbols, own_names, symbols_listed, thunks_of, objects_taken, gnu_input, OfLinker}
+use Rattle.implib_link.specs.Flavors.Program.{FlavorInput, InputImports, OfMember, ProgramLinks, SymbolsAt, all_members, descriptor_in, dll_names_in, imp_symbols, own_names, symbols_listed, thunks_of, objects_taken, gnu_input}
 use Rattle.implib_link.specs.Gnu.Program.{with_tables, HaveSame, thunks_before, linked_symbols}
 use Rattle.implib_link_instances.specs.Worked.Flavors.{both_inputs as flavor_inputs, flavor_bases_8, flavor_image, flavor_objects, flavor_placed, foo_input as foo_flavor, zed_input as zed_flavor}
 use Rattle.implib_link_instances.specs.Worked.NearResults.{NearProgramLinks, claiming_more, leading_nowhere, losing, memberless, naming_null, with_later_open, without_null_name, table_of, four_before, memberless_run, NearLinksBeside}

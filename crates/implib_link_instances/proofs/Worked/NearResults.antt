@@ -8,10 +8,8 @@ use Rattle.std.proofs.lemmas.List.Sorted.{sum_by-IsPermutation}
 use Rattle.std.proofs.lemmas.List.Elements.{filter_map-append}
 use Rattle.implib_link.specs.Flavors.Program.{FlavorInput, IsProgram, LinksAmong, OfLinker, objects_taken, SymbolsAt, InputImports, SymbolsGet, imp_symbols, OfMember}
 use Rattle.implib_link_instances.proofs.Worked.RefusedFields.{absent, value}
-use Rattle.implib_link_instances.proofs.Worked.NearLinks.{five_there, kind_of, lookups_there}
-use Rattle.implib_link.specs.Gnu.OtherLibraries.{ends_behind, members_from, rows_before}
+use Rattle.implib_link_instances.proofs.Worked.NearLinks.{kind_of}
 use Rattle.implib_link.specs.Gnu.Writing.{FillsTable}
-use Rattle.implib_link_instances.specs.Worked.NearLinks.{table_elsewhere}
 use Rattle.std.proofs.Common.{◌≡◌, ℕ, ◌+◌, ◌*◌, ◌<◌, List, [], ◌∷◌, ◌++◌, codes, length, Some, None, refl, ap, sym, ◌∙◌, subst, arith, inl, inr, drop, Bool, true, false}
 use Rattle.std.proofs.lemmas.Bool.{true≢false, eqb-true, cases_Bool, or_parts}
 use Rattle.std.proofs.lemmas.List.{length-append}
@@ -28,7 +26,7 @@ use Rattle.implib.proofs.Link.LinkedMembers.{among_contains}
 use Rattle.implib.proofs.Link.Loading.{number_once}
 use Rattle.implib_link.specs.Search.Archives.{archive_of, weak_among}
 use Rattle.implib_link_instances.specs.Worked.Archives.{two_libraries}
-use Rattle.implib_link.proofs.Search.Lists.{any_among, contains_among, from_not}
+use Rattle.implib_link.proofs.Search.Lists.{any_among, contains_among}
 use Rattle.implib_link.specs.Gnu.Calls.{Defines, PlacedCode, amd64_addr64, i386_rel32}
 use Rattle.implib_link.specs.Gnu.Operands.{operand_leads}
 use Rattle.implib_link.specs.Search.Closed.{AreTakenIntoAs, IsAliasTaken, IsImported, TakesInto, inputs_in, listed_in, wanted_in}
@@ -41,7 +39,7 @@ use Rattle.implib_link_instances.specs.Worked.NearSearches.{asking, zed_library}
 use Rattle.implib_link_instances.specs.Worked.Operands.{imp_open, field}
 use Rattle.implib_link_instances.specs.Worked.Programs.{code_object, symbol_of_class, symbol_on, touching_8}
 use Rattle.implib_link_instances.specs.Worked.RefusedFields.{linked_on_amd64, open_address, two_ranges, adrp_bytes, pair_memory, load_bytes}
-use Rattle.implib_link_instances.specs.Worked.Walks.{without_addresses, without_name}
+use Rattle.implib_link_instances.specs.Worked.Walks.{without_addresses}
 use Rattle.implib_link.proofs.Gnu.Stubs.{same_address}
 use Rattle.implib_link_instances.proofs.Worked.NearCode.{missing}
 use Rattle.implib_link_instances.proofs.Worked.NearPrograms.{no_name}

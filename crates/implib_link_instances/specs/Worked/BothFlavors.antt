@@ -145,7 +145,8 @@ pub record NearTakesOfBoth : Type 0 where
   pub inputs : MissesTakesOfBoth (codes "inputs") AMD64 foo_and_zed (codes "__imp_queue" ∷ []) []
   pub weak : MissesTakesOfBoth (codes "weak") AMD64 foo_and_zed (codes "__imp_queue" ∷ []) mixed_taken
 
--- an object that names the null descriptor beside the import of `queue`, and zed.dll's members that are taken for it
+-- an object that names the null descriptor beside the import of `queue`, and zed.dll's members that
+-- are taken for it
 abbrev pub naming_both : Object
 naming_both = code_object
     (symbol_of_class (codes "__imp_queue") 0 class_external
@@ -160,10 +161,12 @@ zed_taken =
     ∷ short_named (codes "zed.dll") (codes "queue")
     ∷ []
 
--- Nothing is taken for the object; no short import is wanted; an order of no libraries; without the given object; without import tables; of them the null
--- descriptor alone; an object with a `queue` of its own; and that object
+-- Nothing is taken for the object; no short import is wanted; an order of no libraries; without the
+-- given object; without import tables; of them the null descriptor alone; an object with a `queue`
+-- of its own; and that object
 pub record NearAreClosedForBoth : Type 0 where
-  pub takes : MissesAreClosedForBoth (codes "takes") AMD64 foo_and_zed (choosing ∷ []) [] zed_and_foo
+  pub takes : MissesAreClosedForBoth (codes "takes") AMD64 foo_and_zed (choosing ∷ []) []
+      zed_and_foo
       (choosing ∷ objects_taken AMD64 (zed_members ++ null_named (codes "zed.dll") ∷ []))
   pub some : MissesAreClosedForBoth (codes "some") AMD64 (gnu_foo ∷ []) [] [] (gnu_foo ∷ []) []
   pub order : MissesAreClosedForBoth (codes "order") AMD64 foo_and_zed (choosing ∷ []) mixed_taken []
@@ -184,8 +187,8 @@ pub record NearAreClosedForBoth : Type 0 where
       zed_taken (short_zed ∷ [])
       (naming_both ∷ objects_taken AMD64 (zed_members ++ null_named (codes "zed.dll") ∷ []))
 
--- nothing that imports; hints at 0; lookup tables and address tables at a multiple of 4 that is none of 8, with what is behind them further on;
--- and the null descriptor 4 bytes on
+-- nothing that imports; hints at 0; lookup tables and address tables at a multiple of 4 that is
+-- none of 8, with what is behind them further on; and the null descriptor 4 bytes on
 abbrev pub spread_bases : Bases
 spread_bases = record {
   descriptors = 0x2000;
@@ -236,8 +239,9 @@ one_bases = record spread_bases { directory_ends = 0x2014 }
 abbrev pub no_bases : Bases
 no_bases = record spread_bases { directory_ends = 0x2000 }
 
--- Members of no libraries; a null descriptor of no library that is linked; an input without members; zed.dll alone, though
--- `baz` of foo.dll is wanted; and that program. That each import is used follows from the others.
+-- Members of no libraries; a null descriptor of no library that is linked; an input without
+-- members; zed.dll alone, though `baz` of foo.dll is wanted; and the closed program beside that
+-- object. That each import is used follows from the others.
 pub record NearLinksClosedForBoth : Type 0 where
   pub taken_is : MissesLinksClosedForBoth (codes "taken_is") AMD64 [] (choosing ∷ []) mixed_taken
       zed_and_foo mixed_bases mixed_objects

@@ -158,7 +158,8 @@ pub record NearBranchArrives : Type 0 where
   pub leads : MissesBranchArrives (codes "leads") AMD64 0x1_4000_0000
       (two_ranges 0x1027 (0x19 ∷ 0 ∷ 0 ∷ 0 ∷ []) []) 0x1027 0 0x1040
 
--- a call of the thunk of `mid`, by its field a byte further on; and a call in the place of the thunk's jump
+-- a call of the thunk of `mid`, by its field a byte further on; and a call in the place of the
+-- thunk's jump
 pub record NearBranchArrivesByThunk : Type 0 where
   pub leads : MissesBranchArrivesByThunk (codes "leads") AMD64 0x1_4000_0000
       (call_memory 0x100F (0x0E ∷ 0 ∷ 0 ∷ 0 ∷ []) (linked_thunk AMD64)) 0x100E 0 (eight_bytes 0)
@@ -172,8 +173,9 @@ lone_code machine bytes relocations = record (passing_at machine) {
   code = record (passing_code machine) { bytes = bytes; relocations = relocations };
 }
 
--- AMD64: an operand by REL32_4 and after it the address of `hello`, so that no instruction has the operand alone; a call
--- through `__imp_open`; and its address. ARM64: `adrp x8` and `ldr x8, [x8]` of it.
+-- AMD64: an operand by REL32_4 and after it the address of `hello`, so that no instruction has the
+-- operand alone; a call through `__imp_open`; and its address. ARM64: `adrp x8` and `ldr x8, [x8]`
+-- of it.
 abbrev pub operand_code : LinkedCode
 operand_code = lone_code AMD64 (zeros 8) (field 0 1 8 ∷ field 4 2 amd64_addr32 ∷ [])
 
@@ -187,7 +189,8 @@ abbrev pub pair_code : LinkedCode
 pair_code = lone_code ARM64 (8 ∷ 0 ∷ 0 ∷ 0x90 ∷ 8 ∷ 1 ∷ 0x40 ∷ 0xF9 ∷ [])
     (field 0 1 arm64_pagebase_rel21 ∷ field 4 1 arm64_pageoffset_12l ∷ [])
 
--- Each of them, where nothing is in memory; but of the call its operand is, without the bytes before it
+-- Each of them, where nothing is in memory; but of the call its operand is, without the bytes
+-- before it
 pub record NearAllLeadTo : Type 0 where
   pub operands : MissesAllLeadTo (codes "operands") AMD64 0x1_4000_0000 linked_on_amd64
       (operand_code ∷ []) [] (imp_open AMD64) (imp_open AMD64) open_address

@@ -75,17 +75,21 @@ table_of name bytes = table_object name bytes []
 -- the same objects with the symbol of the entry of `open` four bytes on, in those that define it
 abbrev pub later_open : Entry → Entry
 later_open (Auxiliary bytes) = Auxiliary bytes
-later_open (ASymbol s) = if bytes_eq s.name (codes "__imp_open") then ASymbol (record s { value = s.value + 4 }) else ASymbol s
+later_open (ASymbol s) =
+    if bytes_eq s.name (codes "__imp_open") then ASymbol (record s { value = s.value + 4 })
+    else ASymbol s
 
 abbrev pub with_later_open : Object → Object
 with_later_open o =
-    if list_any (bytes_eq (codes "__imp_open")) (claimed_names o) then record o { entries = map later_open o.entries } else o
+    if list_any (bytes_eq (codes "__imp_open")) (claimed_names o) then record o { entries = map later_open o.entries }
+    else o
 
--- The program of both flavours, and what its link gives, but for one thing: the input has no members; the symbol of an
--- entry is within it; a relocation of an
--- object with a table leads nowhere; the null descriptor's symbol is elsewhere; such an object leaves a name that nothing
--- defines; `queue` is defined again; and an object with a table claims a name more. And links of no DLL: without the zeros
--- of the directory's end; and with them in another object than the null descriptor, which is elsewhere.
+-- The program of both flavours, and what its link gives, but for one thing: the input has no
+-- members; the symbol of an entry is within it; a relocation of an object with a table leads
+-- nowhere; the null descriptor's symbol is elsewhere; such an object leaves a name that nothing
+-- defines; `queue` is defined again; and an object with a table claims a name more. And links of no
+-- DLL: without the zeros of the directory's end; and with them in another object than the null
+-- descriptor, which is elsewhere.
 pub record NearProgramLinks : Type 0 where
   pub linked : MissesProgramLinks (codes "linked") AMD64 OfMember flavor_bases_8
       (memberless ∷ zed_flavor AMD64 ∷ []) (flavor_objects AMD64 0)
@@ -118,8 +122,8 @@ memberless_run = record {
   inputs = record (foo_input AMD64) { members = [] } ∷ zed_input AMD64 ∷ [];
 }
 
--- Four bytes that are no descriptor, where the directory ends otherwise; an input without members; the symbol of an entry
--- within it; no zeros at the directory's end; and `queue` defined again.
+-- Four bytes that are no descriptor, where the directory ends otherwise; an input without members;
+-- the symbol of an entry within it; no zeros at the directory's end; and `queue` defined again.
 pub record NearLinksBeside : Type 0 where
   pub rows : MissesLinksBeside (codes "rows") AMD64 touching_8 (four_before ∷ [])
       (table_of (codes ".idata$2") (zeros 20) ∷ [])
@@ -202,11 +206,12 @@ zed_memberless = record zed_library { members = [] } ∷ []
 abbrev pub queue_objects : List Object
 queue_objects = objects_in zed_linked ++ null_descriptor ∷ []
 
--- Members of no libraries; two null descriptors; inputs without members; no inputs, though `queue` is wanted; and that
--- program. That each import is used follows from the others.
+-- Members of no libraries; two null descriptors; inputs without members; no inputs, though `queue`
+-- is wanted; and the closed program beside that object. That each import is used follows from the
+-- others.
 pub record NearLinksClosed : Type 0 where
-  pub taken_is : MissesLinksClosed (codes "taken_is") AMD64 [] (choosing ∷ []) closed_taken zed_first
-      closed_bases closed_objects
+  pub taken_is : MissesLinksClosed (codes "taken_is") AMD64 [] (choosing ∷ []) closed_taken
+      zed_first closed_bases closed_objects
   pub program : MissesLinksClosed (codes "program") AMD64 [] [] [] [] touching_8
       (null_descriptor ∷ null_descriptor ∷ [])
   pub links : MissesLinksClosed (codes "links") AMD64 [] (asking ∷ []) [] zed_memberless touching_8
@@ -232,8 +237,9 @@ abbrev pub clashing_objects : List Object
 clashing_objects =
     objects_in (foo_alias ∷ zed_linked) ++ clashing ∷ (objects_in foo_linked ++ null_descriptor ∷ [])
 
--- A member is taken, though there is no archive; nothing is linked, not even the null descriptor; that object, for which
--- a linker takes the head and for that the tail; and an object with a `queue` of its own
+-- A member is taken, though there is no archive; nothing is linked, not even the null descriptor;
+-- the object that names a head, for which a linker takes this and for it the tail; and an object
+-- with a `queue` of its own
 pub record NearIsClosed : Type 0 where
   pub takes : MissesIsClosed (codes "takes") AMD64 [] [] (listing ∷ []) [] touching_8
       (null_descriptor ∷ [])
@@ -263,7 +269,8 @@ pub record NearAreChosenFor : Type 0 where
 abbrev pub own_bar : Object
 own_bar = code_object (symbol_of_class (codes "bar") 1 class_external ∷ [])
 
--- members that are not taken; no null descriptor; a `bar` of the program's own; and descriptors at 2
+-- members that are not taken; no null descriptor; a `bar` of the program's own; and descriptors at
+-- 2
 pub record NearIsLinkedWith : Type 0 where
   pub is_arranged : MissesIsLinkedWith (codes "is_arranged") AMD64 (own_names (codes "foo.dll"))
       (packed 1 searched_objects) [] searched_objects
@@ -282,8 +289,9 @@ pub record NearDefineOnce : Type 0 where
       ∷ code_of [] [] (symbol_of_class (codes "__imp_open") 1 class_external)
       ∷ [])
 
--- ARM64's code without relocations; with a page of 4, and with an offset of 8, in its fields, and a load of 4 bytes;
--- AMD64's without relocations, and with a 1 in the stored address; and the field of I386's jump as a pointer
+-- ARM64's code without relocations; with a page of 4, and with an offset of 8, in its fields, and a
+-- load of 4 bytes; AMD64's without relocations, and with a 1 in the stored address; and the field
+-- of I386's jump as a pointer
 abbrev pub unrelocated : MachineType → LinkedCode
 unrelocated machine = record (passing_at machine) {
   code = record (passing_code machine) { relocations = [] };

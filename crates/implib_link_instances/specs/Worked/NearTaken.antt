@@ -56,7 +56,8 @@ pub record NearIsLinkedOfWanted : Type 0 where
 pub record NearImportsWanted : Type 0 where
   pub same : MissesImportsWanted (codes "same") AMD64 three (members_of three) []
       (packed 1 searched_objects) searched_objects
-  pub links : MissesImportsWanted (codes "links") AMD64 three (members_of three) wanted touching_8 []
+  pub links : MissesImportsWanted (codes "links") AMD64 three (members_of three) wanted
+      touching_8 []
 
 -- nothing is taken; and an alias, where there are no libraries
 pub record NearTakesOfLibraries : Type 0 where
