@@ -2,6 +2,7 @@
 //! otherwise.
 
 ghost use Rattle.implib_link_instances.specs.Worked.Following.{FollowingFields};
+ghost use Rattle.implib_link_instances.specs.Worked.FollowingPrograms.{FollowingOfPrograms};
 ghost use Rattle.implib_link_instances.specs.Worked.Instances.{CodeInstances, MachineInstances};
 ghost use Rattle.implib_link_instances.specs.Worked.Instances.{ProgramInstances, SectionInstances};
 ghost use Rattle.implib_link_instances.specs.Worked.Instances.{TypeInstances};
@@ -18,232 +19,205 @@ ghost use Rattle.implib_link_instances.specs.Worked.NearCode.{NearCallArrives, N
 ghost use Rattle.implib_link_instances.specs.Worked.NearCode.{NearDirectCallArrives};
 ghost use Rattle.implib_link_instances.specs.Worked.NearCode.{NearHasDirectCall};
 ghost use Rattle.implib_link_instances.specs.Worked.NearCode.{NearHasInstructions, NearHasLoad};
-ghost use Rattle.implib_link_instances.specs.Worked.NearCode.{NearHasPage};
-ghost use Rattle.implib_link_instances.specs.Worked.NearCode.{NearLoadArrives, NearStubArrives};
-ghost use Rattle.implib_link_instances.specs.Worked.NearCode.{NearStubAt};
-ghost use Rattle.implib_link_instances.specs.Worked.NearLinks.{NearAreGiven};
-ghost use Rattle.implib_link_instances.specs.Worked.NearLinks.{NearAreLinkedBeside};
+ghost use Rattle.implib_link_instances.specs.Worked.NearCode.{NearHasPage, NearLoadArrives};
+ghost use Rattle.implib_link_instances.specs.Worked.NearCode.{NearStubArrives, NearStubAt};
+ghost use Rattle.implib_link_instances.specs.Worked.NearLinks.{NearAreGiven, NearAreLinkedBeside};
 ghost use Rattle.implib_link_instances.specs.Worked.NearLinks.{NearAreMoved, NearArePiecesAt};
-ghost use Rattle.implib_link_instances.specs.Worked.NearLinks.{NearAreSections};
-ghost use Rattle.implib_link_instances.specs.Worked.NearLinks.{NearDefinesIn};
+ghost use Rattle.implib_link_instances.specs.Worked.NearLinks.{NearAreSections, NearDefinesIn};
 ghost use Rattle.implib_link_instances.specs.Worked.NearLinks.{NearFindsBy, NearHasBranch};
 ghost use Rattle.implib_link_instances.specs.Worked.NearLinks.{NearHasField, NearHasInstruction};
-ghost use Rattle.implib_link_instances.specs.Worked.NearLinks.{NearHasOperand};
-ghost use Rattle.implib_link_instances.specs.Worked.NearLinks.{NearJumpsThrough, NearNames};
-ghost use Rattle.implib_link_instances.specs.Worked.NearLinks.{NearResolves, NearTakesAs};
-ghost use Rattle.implib_link_instances.specs.Worked.NearLinks.{NearTakesIntoAs};
+ghost use Rattle.implib_link_instances.specs.Worked.NearLinks.{NearHasOperand, NearJumpsThrough};
+ghost use Rattle.implib_link_instances.specs.Worked.NearLinks.{NearNames, NearResolves};
+ghost use Rattle.implib_link_instances.specs.Worked.NearLinks.{NearTakesAs, NearTakesIntoAs};
 ghost use Rattle.implib_link_instances.specs.Worked.NearLinks.{NearTakesSymbols};
-ghost use Rattle.implib_link_instances.specs.Worked.FollowingPrograms.{FollowingOfPrograms};
 ghost use Rattle.implib_link_instances.specs.Worked.NearParts.{NearIsEntry, NearIsHead, NearIsPart};
 ghost use Rattle.implib_link_instances.specs.Worked.NearParts.{NearIsProgramOfParts, NearIsTail};
 ghost use Rattle.implib_link_instances.specs.Worked.NearPrograms.{NearAreEndedByLinker};
 ghost use Rattle.implib_link_instances.specs.Worked.NearPrograms.{NearAreEndedByMember};
 ghost use Rattle.implib_link_instances.specs.Worked.NearPrograms.{NearAreProgramObjects};
-ghost use Rattle.implib_link_instances.specs.Worked.NearPrograms.{NearAreWhole};
-ghost use Rattle.implib_link_instances.specs.Worked.NearPrograms.{NearIsProgramOf};
-ghost use Rattle.implib_link_instances.specs.Worked.NearPrograms.{NearIsImportable};
+ghost use Rattle.implib_link_instances.specs.Worked.NearPrograms.{NearAreWhole, NearIsImportable};
 ghost use Rattle.implib_link_instances.specs.Worked.NearPrograms.{NearIsLldProgram};
 ghost use Rattle.implib_link_instances.specs.Worked.NearPrograms.{NearIsProgramBeside};
-ghost use Rattle.implib_link_instances.specs.Worked.NearPrograms.{NearLldLinks};
+ghost use Rattle.implib_link_instances.specs.Worked.NearPrograms.{NearIsProgramOf, NearLldLinks};
 ghost use Rattle.implib_link_instances.specs.Worked.NearResults.{NearAreChosenFor};
-ghost use Rattle.implib_link_instances.specs.Worked.NearResults.{NearAreLinkedFor};
-ghost use Rattle.implib_link_instances.specs.Worked.NearResults.{NearBranchStays, NearDefineOnce};
-ghost use Rattle.implib_link_instances.specs.Worked.NearResults.{NearFillsBy};
+ghost use Rattle.implib_link_instances.specs.Worked.NearResults.{NearAreLinkedFor, NearBranchStays};
+ghost use Rattle.implib_link_instances.specs.Worked.NearResults.{NearDefineOnce, NearFillsBy};
 ghost use Rattle.implib_link_instances.specs.Worked.NearResults.{NearHasOffsetField};
 ghost use Rattle.implib_link_instances.specs.Worked.NearResults.{NearHasPageField, NearHasPointer};
 ghost use Rattle.implib_link_instances.specs.Worked.NearResults.{NearInputImports};
 ghost use Rattle.implib_link_instances.specs.Worked.NearResults.{NearInstructionArrives};
 ghost use Rattle.implib_link_instances.specs.Worked.NearResults.{NearIsClosed, NearIsLinkedWith};
-ghost use Rattle.implib_link_instances.specs.Worked.NearResults.{NearLinksBeside, NearProgramLinks};
-ghost use Rattle.implib_link_instances.specs.Worked.NearResults.{NearLinksClosed};
+ghost use Rattle.implib_link_instances.specs.Worked.NearResults.{NearLinksBeside, NearLinksClosed};
 ghost use Rattle.implib_link_instances.specs.Worked.NearResults.{NearPageArrives, NearPairArrives};
+ghost use Rattle.implib_link_instances.specs.Worked.NearResults.{NearProgramLinks};
 ghost use Rattle.implib_link_instances.specs.Worked.NearSearches.{NearAreNamedApart};
-ghost use Rattle.implib_link_instances.specs.Worked.NearSearches.{NearIsAliasTaken};
-ghost use Rattle.implib_link_instances.specs.Worked.NearSearches.{NearIsArchive, NearIsImported};
-ghost use Rattle.implib_link_instances.specs.Worked.NearSearches.{NearIsMsvcArchive};
-ghost use Rattle.implib_link_instances.specs.Worked.NearSearches.{NearIsUsed};
+ghost use Rattle.implib_link_instances.specs.Worked.NearSearches.{NearIsAliasTaken, NearIsArchive};
+ghost use Rattle.implib_link_instances.specs.Worked.NearSearches.{NearIsImported};
+ghost use Rattle.implib_link_instances.specs.Worked.NearSearches.{NearIsMsvcArchive, NearIsUsed};
+ghost use Rattle.implib_link_instances.specs.Worked.NearSearches.{NearIsWeakData, NearIsWeakShort};
+ghost use Rattle.implib_link_instances.specs.Worked.NearSearches.{NearIsWeakTaken};
 ghost use Rattle.implib_link_instances.specs.Worked.NearSearches.{NearNamesNoHeadOrTail};
-ghost use Rattle.implib_link_instances.specs.Worked.NearSearches.{NearIsWeakData};
-ghost use Rattle.implib_link_instances.specs.Worked.NearSearches.{NearIsWeakShort, NearIsWeakTaken};
 ghost use Rattle.implib_link_instances.specs.Worked.NearSearches.{NearPullsInAs, NearPullsIntoAs};
-ghost use Rattle.implib_link_instances.specs.Worked.NearTaken.{NearAreBounded, NearImportsWanted};
-ghost use Rattle.implib_link_instances.specs.Worked.NearTaken.{NearIsArranged};
-ghost use Rattle.implib_link_instances.specs.Worked.NearTaken.{NearIsImportedBy};
-ghost use Rattle.implib_link_instances.specs.Worked.NearTaken.{NearIsLinkedOfWanted, NearIsTaken};
-ghost use Rattle.implib_link_instances.specs.Worked.NearTaken.{NearRunLinks, NearTakesOfLibraries};
 ghost use Rattle.implib_link_instances.specs.Worked.NearTables.{NearAreAlike, NearAreTables};
 ghost use Rattle.implib_link_instances.specs.Worked.NearTables.{NearAreTablesLoaded};
-ghost use Rattle.implib_link_instances.specs.Worked.NearTables.{NearBeginsWith};
-ghost use Rattle.implib_link_instances.specs.Worked.NearTables.{NearGetsAddress, NearHoldsAt};
-ghost use Rattle.implib_link_instances.specs.Worked.NearTables.{NearIsInEntry, NearIsInTable};
-ghost use Rattle.implib_link_instances.specs.Worked.NearTables.{NearLieWithin};
+ghost use Rattle.implib_link_instances.specs.Worked.NearTables.{NearBeginsWith, NearGetsAddress};
+ghost use Rattle.implib_link_instances.specs.Worked.NearTables.{NearHoldsAt, NearIsInEntry};
+ghost use Rattle.implib_link_instances.specs.Worked.NearTables.{NearIsInTable, NearLieWithin};
+ghost use Rattle.implib_link_instances.specs.Worked.NearTaken.{NearAreBounded, NearImportsWanted};
+ghost use Rattle.implib_link_instances.specs.Worked.NearTaken.{NearIsArranged, NearIsImportedBy};
+ghost use Rattle.implib_link_instances.specs.Worked.NearTaken.{NearIsLinkedOfWanted, NearIsTaken};
+ghost use Rattle.implib_link_instances.specs.Worked.NearTaken.{NearRunLinks, NearTakesOfLibraries};
 ghost use Rattle.implib_link_instances.specs.Worked.RefusedPredicates.{RefusedPredicates};
 
+/// What is no such instruction in code, and what does not arrive.
+///
+/// What is no search at its end, no code beside the tables, and no moved program.
+///
+/// What no linker makes of a field or of a section, what is not moved, what is no thunk, and where
+/// no field leads.
+pub fn near_misses_of_code()
+    ensures near_has_instructions { NearHasInstructions }
+    ensures near_has_direct_call { NearHasDirectCall }
+    ensures near_has_load { NearHasLoad }
+    ensures near_has_page { NearHasPage }
+    ensures near_defines { NearDefines }
+    ensures near_call_arrives { NearCallArrives }
+    ensures near_stub_arrives { NearStubArrives }
+    ensures near_stub_at { NearStubAt }
+    ensures near_load_arrives { NearLoadArrives }
+    ensures near_direct_call_arrives { NearDirectCallArrives }
+    ensures near_are_given { NearAreGiven }
+    ensures near_are_linked_beside { NearAreLinkedBeside }
+    ensures near_are_moved { NearAreMoved }
+    ensures near_are_pieces_at { NearArePiecesAt }
+    ensures near_are_sections { NearAreSections }
+    ensures near_defines_in { NearDefinesIn }
+    ensures near_finds_by { NearFindsBy }
+    ensures near_has_branch { NearHasBranch }
+    ensures near_has_field { NearHasField }
+    ensures near_has_instruction { NearHasInstruction }
+    ensures near_has_operand { NearHasOperand }
+    ensures near_jumps_through { NearJumpsThrough }
+    ensures near_names { NearNames }
+    ensures near_resolves { NearResolves }
+    ensures near_takes { NearTakesAs }
+    ensures near_takes_into { NearTakesIntoAs }
+    ensures near_takes_symbols { NearTakesSymbols }
+    ensures near_i386_holds { NearI386Holds }
+    ensures near_amd64_holds { NearAmd64Holds }
+    ensures near_arm64_holds { NearArm64Holds }
+    ensures near_is_relocated { NearIsRelocated }
+    ensures near_can_be_moved { NearCanBeMoved }
+    ensures near_is_rebased { NearIsRebased }
+    ensures near_is_thunk { NearIsThunk }
+    ensures near_thunk_arrives { NearThunkArrives }
+    ensures near_operand_arrives { NearOperandArrives }
+    ensures near_pointer_arrives { NearPointerArrives }
+    ensures near_branch_arrives { NearBranchArrives }
+    ensures near_branch_arrives_by_thunk { NearBranchArrivesByThunk }
+    ensures near_all_lead_to { NearAllLeadTo }
+{}
+
+/// What is no program: for GNU's linker, of both flavours, beside other libraries, and of lld.
+///
 /// What is not said of linked and loaded import tables: of their bounds, and of what a loader
 /// leaves.
-pub fn near_misses_of_tables()
-    ensures in_entry { NearIsInEntry }
-    ensures begins { NearBeginsWith }
-    ensures lie { NearLieWithin }
-    ensures holds { NearHoldsAt }
-    ensures alike { NearAreAlike }
-    ensures gets { NearGetsAddress }
-    ensures tables { NearAreTables }
-    ensures in_table { NearIsInTable }
-    ensures loaded { NearAreTablesLoaded }
+///
+/// What is no part of import tables, and no program of parts.
+pub fn near_misses_of_programs()
+    ensures near_are_ended_by_linker { NearAreEndedByLinker }
+    ensures near_are_ended_by_member { NearAreEndedByMember }
+    ensures near_are_program_objects { NearAreProgramObjects }
+    ensures near_is_program_of { NearIsProgramOf }
+    ensures near_is_program_beside { NearIsProgramBeside }
+    ensures near_are_whole { NearAreWhole }
+    ensures near_is_importable { NearIsImportable }
+    ensures near_is_lld_program { NearIsLldProgram }
+    ensures near_lld_links { NearLldLinks }
+    ensures near_is_in_entry { NearIsInEntry }
+    ensures near_begins_with { NearBeginsWith }
+    ensures near_lie_within { NearLieWithin }
+    ensures near_holds_at { NearHoldsAt }
+    ensures near_are_alike { NearAreAlike }
+    ensures near_gets_address { NearGetsAddress }
+    ensures near_are_tables { NearAreTables }
+    ensures near_is_in_table { NearIsInTable }
+    ensures near_are_tables_loaded { NearAreTablesLoaded }
+    ensures near_is_entry { NearIsEntry }
+    ensures near_is_tail { NearIsTail }
+    ensures near_is_head { NearIsHead }
+    ensures near_is_part { NearIsPart }
+    ensures near_is_program_of_parts { NearIsProgramOfParts }
 {}
 
 /// What is not said of archive searches: which members a name pulls in, and which weak externals
 /// and imports are used.
-pub fn near_misses_of_searches()
-    ensures pulls { NearPullsInAs }
-    ensures pulls_into { NearPullsIntoAs }
-    ensures weak_data { NearIsWeakData }
-    ensures weak_short { NearIsWeakShort }
-    ensures used { NearIsUsed }
-    ensures aliases { NearIsAliasTaken }
-    ensures weak { NearIsWeakTaken }
-    ensures imports { NearIsImported }
-{}
-
+///
 /// What is no archive of libraries, and which names are not apart.
-pub fn near_misses_of_archives()
-    ensures archive { NearIsArchive }
-    ensures msvc_archive { NearIsMsvcArchive }
-    ensures names { NearNamesNoHeadOrTail }
-    ensures apart { NearAreNamedApart }
-{}
-
-/// What is no part of import tables, and no program of parts.
-pub fn near_misses_of_parts()
-    ensures entry { NearIsEntry }
-    ensures tail { NearIsTail }
-    ensures head { NearIsHead }
-    ensures part { NearIsPart }
-    ensures program { NearIsProgramOfParts }
-{}
-
-/// What is no program: for GNU's linker, of both flavours, beside other libraries, and of lld.
-pub fn near_misses_of_programs()
-    ensures by_linker { NearAreEndedByLinker }
-    ensures by_member { NearAreEndedByMember }
-    ensures objects { NearAreProgramObjects }
-    ensures program { NearIsProgramOf }
-    ensures beside { NearIsProgramBeside }
-    ensures whole { NearAreWhole }
-    ensures importable { NearIsImportable }
-    ensures lld { NearIsLldProgram }
-    ensures lld_links { NearLldLinks }
-{}
-
-/// What no program fails alone: that the imports of a DLL's group are its own, and that each address
-/// of bounded tables is in an entry.
-pub fn following_of_programs()
-    ensures { FollowingOfPrograms }
-{}
-
-/// What is no such instruction in code, and what does not arrive.
-pub fn near_misses_of_code()
-    ensures instructions { NearHasInstructions }
-    ensures direct_calls { NearHasDirectCall }
-    ensures loads { NearHasLoad }
-    ensures pages { NearHasPage }
-    ensures defines { NearDefines }
-    ensures call_arrives { NearCallArrives }
-    ensures stub_arrives { NearStubArrives }
-    ensures stub_at { NearStubAt }
-    ensures load_arrives { NearLoadArrives }
-    ensures direct_call_arrives { NearDirectCallArrives }
-{}
-
-/// What no linker makes of a field or of a section, what is not moved, what is no thunk, and where
-/// no field leads.
-pub fn near_misses_of_arrivals()
-    ensures i386_holds { NearI386Holds }
-    ensures amd64_holds { NearAmd64Holds }
-    ensures arm64_holds { NearArm64Holds }
-    ensures is_relocated { NearIsRelocated }
-    ensures can_be_moved { NearCanBeMoved }
-    ensures is_rebased { NearIsRebased }
-    ensures is_thunk { NearIsThunk }
-    ensures thunk_arrives { NearThunkArrives }
-    ensures operand_arrives { NearOperandArrives }
-    ensures pointer_arrives { NearPointerArrives }
-    ensures branch_arrives { NearBranchArrives }
-    ensures branch_arrives_by_thunk { NearBranchArrivesByThunk }
-    ensures all_lead { NearAllLeadTo }
-{}
-
+///
 /// What is not taken or linked of archives, and what is not imported by lld's tables.
-pub fn near_misses_of_members()
-    ensures arranged { NearIsArranged }
-    ensures linked_of_wanted { NearIsLinkedOfWanted }
-    ensures imports_wanted { NearImportsWanted }
-    ensures takes_of_libraries { NearTakesOfLibraries }
-    ensures taken { NearIsTaken }
-    ensures run_links { NearRunLinks }
-    ensures imported_by { NearIsImportedBy }
-    ensures bounded { NearAreBounded }
+pub fn near_misses_of_searches()
+    ensures near_pulls_in { NearPullsInAs }
+    ensures near_pulls_into { NearPullsIntoAs }
+    ensures near_is_weak_data { NearIsWeakData }
+    ensures near_is_weak_short { NearIsWeakShort }
+    ensures near_is_used { NearIsUsed }
+    ensures near_is_alias_taken { NearIsAliasTaken }
+    ensures near_is_weak_taken { NearIsWeakTaken }
+    ensures near_is_imported { NearIsImported }
+    ensures near_is_archive { NearIsArchive }
+    ensures near_is_msvc_archive { NearIsMsvcArchive }
+    ensures near_names_no_head_or_tail { NearNamesNoHeadOrTail }
+    ensures near_are_named_apart { NearAreNamedApart }
+    ensures near_is_arranged { NearIsArranged }
+    ensures near_is_linked_of_wanted { NearIsLinkedOfWanted }
+    ensures near_imports_wanted { NearImportsWanted }
+    ensures near_takes_of_libraries { NearTakesOfLibraries }
+    ensures near_is_taken { NearIsTaken }
+    ensures near_run_links { NearRunLinks }
+    ensures near_is_imported_by { NearIsImportedBy }
+    ensures near_are_bounded { NearAreBounded }
+{}
+
+/// What no link and no loader gives, and what is not linked for given objects.
+pub fn near_misses_of_results()
+    ensures near_are_chosen_for { NearAreChosenFor }
+    ensures near_are_linked_for { NearAreLinkedFor }
+    ensures near_branch_stays { NearBranchStays }
+    ensures near_define_once { NearDefineOnce }
+    ensures near_fills_by { NearFillsBy }
+    ensures near_has_offset_field { NearHasOffsetField }
+    ensures near_has_page_field { NearHasPageField }
+    ensures near_has_pointer { NearHasPointer }
+    ensures near_input_imports { NearInputImports }
+    ensures near_instruction_arrives { NearInstructionArrives }
+    ensures near_is_closed { NearIsClosed }
+    ensures near_is_linked_with { NearIsLinkedWith }
+    ensures near_program_links { NearProgramLinks }
+    ensures near_links_beside { NearLinksBeside }
+    ensures near_links_closed { NearLinksClosed }
+    ensures near_page_arrives { NearPageArrives }
+    ensures near_pair_arrives { NearPairArrives }
 {}
 
 /// Premises that are met a second time: by sections, types, programs, machines and code that differ
 /// from the first instances in one thing.
 pub fn second_instances()
-    ensures sections { SectionInstances }
-    ensures types { TypeInstances }
-    ensures programs { ProgramInstances }
-    ensures machines { MachineInstances }
-    ensures codes { CodeInstances }
-{}
-
-/// What is no search at its end, no code beside the tables, and no moved program.
-pub fn near_misses_of_links()
-    ensures are_given { NearAreGiven }
-    ensures are_linked_beside { NearAreLinkedBeside }
-    ensures are_moved { NearAreMoved }
-    ensures are_pieces_at { NearArePiecesAt }
-    ensures are_sections { NearAreSections }
-    ensures defines_in { NearDefinesIn }
-    ensures finds_by { NearFindsBy }
-    ensures has_branch { NearHasBranch }
-    ensures has_field { NearHasField }
-    ensures has_instruction { NearHasInstruction }
-    ensures has_operand { NearHasOperand }
-    ensures jumps_through { NearJumpsThrough }
-    ensures names { NearNames }
-    ensures resolves { NearResolves }
-    ensures takes { NearTakesAs }
-    ensures takes_into { NearTakesIntoAs }
-    ensures takes_symbols { NearTakesSymbols }
-{}
-
-/// What no link and no loader gives, and what is not linked for given objects.
-pub fn near_misses_of_results()
-    ensures are_chosen_for { NearAreChosenFor }
-    ensures are_linked_for { NearAreLinkedFor }
-    ensures branch_stays { NearBranchStays }
-    ensures define_once { NearDefineOnce }
-    ensures fills_by { NearFillsBy }
-    ensures has_offset_field { NearHasOffsetField }
-    ensures has_page_field { NearHasPageField }
-    ensures has_pointer { NearHasPointer }
-    ensures input_imports { NearInputImports }
-    ensures instruction_arrives { NearInstructionArrives }
-    ensures is_closed { NearIsClosed }
-    ensures is_linked_with { NearIsLinkedWith }
-    ensures program_links { NearProgramLinks }
-    ensures links_beside { NearLinksBeside }
-    ensures links_closed { NearLinksClosed }
-    ensures page_arrives { NearPageArrives }
-    ensures pair_arrives { NearPairArrives }
+    ensures section_instances { SectionInstances }
+    ensures type_instances { TypeInstances }
+    ensures program_instances { ProgramInstances }
+    ensures machine_instances { MachineInstances }
+    ensures code_instances { CodeInstances }
 {}
 
 /// What predicates that are no records do not hold of.
-pub fn refused_predicates()
-    ensures refused { RefusedPredicates }
-{}
-
+///
 /// Fields that no instance fails alone: where all other fields hold, so do these.
-pub fn following_fields()
-    ensures { FollowingFields }
+///
+/// What no program fails alone: that the imports of a DLL's group are its own, and that each address
+/// of bounded tables is in an entry.
+pub fn refused_predicates()
+    ensures refused_predicates { RefusedPredicates }
+    ensures following_fields { FollowingFields }
+    ensures following_of_programs { FollowingOfPrograms }
 {}

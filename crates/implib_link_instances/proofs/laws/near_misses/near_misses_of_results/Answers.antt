@@ -4,21 +4,21 @@ use Rattle.implib_link_instances.proofs.laws.near_misses.near_misses_of_results.
 
 pub returns : goal.returns
 returns c = record {
-  are_chosen_for = near_are_chosen_for;
-  are_linked_for = near_are_linked_for;
-  branch_stays = near_branch_stays;
-  define_once = near_define_once;
-  fills_by = near_fills_by;
-  has_offset_field = near_has_offset_field;
-  has_page_field = near_has_page_field;
-  has_pointer = near_has_pointer;
-  input_imports = near_input_imports;
-  instruction_arrives = near_instruction_arrives;
-  is_closed = near_is_closed;
-  is_linked_with = near_is_linked_with;
-  program_links = near_program_links;
-  links_beside = near_links_beside;
-  links_closed = near_links_closed;
-  page_arrives = near_page_arrives;
-  pair_arrives = near_pair_arrives;
+  near_are_chosen_for = near_are_chosen_for;
+  near_are_linked_for = near_are_linked_for;
+  near_branch_stays = near_branch_stays;
+  near_define_once = near_define_once;
+  near_fills_by = near_fills_by;
+  near_has_offset_field = near_has_offset_field;
+  near_has_page_field = near_has_page_field;
+  near_has_pointer = near_has_pointer;
+  near_input_imports = near_input_imports;
+  near_instruction_arrives = near_instruction_arrives;
+  near_is_closed = near_is_closed;
+  near_is_linked_with = near_is_linked_with;
+  near_program_links = near_program_links;
+  near_links_beside = near_links_beside;
+  near_links_closed = near_links_closed;
+  near_page_arrives = near_page_arrives;
+  near_pair_arrives = near_pair_arrives;
 }

@@ -2,4 +2,10 @@ use Rattle.implib_link_instances.proofs.Worked.Instances.{code_instances, machin
 use Rattle.implib_link_instances.proofs.laws.near_misses.second_instances.Goals as goal
 
 pub returns : goal.returns
-returns c = record { sections = section_instances; types = type_instances; programs = program_instances; machines = machine_instances; codes = code_instances }
+returns c = record {
+  section_instances = section_instances;
+  type_instances = type_instances;
+  program_instances = program_instances;
+  machine_instances = machine_instances;
+  code_instances = code_instances;
+}

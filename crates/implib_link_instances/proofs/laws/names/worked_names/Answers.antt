@@ -1,0 +1,15 @@
+use Rattle.implib_link_instances.proofs.Worked.Aliases.{overridden_alias, worked_alias, worked_flavor_alias}
+use Rattle.implib_link_instances.proofs.Worked.OtherNames.{near_stands_for, worked_alternate_names, worked_other_names}
+use Rattle.implib_link_instances.proofs.Worked.Wanting.{worked_wanting}
+use Rattle.implib_link_instances.proofs.laws.names.worked_names.Goals as goal
+
+pub returns : goal.returns
+returns c = record {
+  worked_alias = worked_alias;
+  worked_flavor_alias = worked_flavor_alias;
+  overridden_alias = overridden_alias;
+  worked_other_names = worked_other_names;
+  worked_alternate_names = worked_alternate_names;
+  near_stands_for = near_stands_for;
+  worked_wanting = worked_wanting;
+}

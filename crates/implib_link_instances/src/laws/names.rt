@@ -1,0 +1,27 @@
+//! Names that stand for others, and names that are wanted otherwise.
+
+ghost use Rattle.implib_link_instances.specs.Worked.Aliases.{OverriddenAlias, WorkedAlias};
+ghost use Rattle.implib_link_instances.specs.Worked.Aliases.{WorkedFlavorAlias};
+ghost use Rattle.implib_link_instances.specs.Worked.OtherNames.{NearStandsFor};
+ghost use Rattle.implib_link_instances.specs.Worked.OtherNames.{WorkedAlternateNames};
+ghost use Rattle.implib_link_instances.specs.Worked.OtherNames.{WorkedOtherNames};
+ghost use Rattle.implib_link_instances.specs.Worked.Wanting.{WorkedWanting};
+
+/// A call by an alias of a program that was linked by hand, and a pointer, are resolved to the
+/// alias's target; in a program of both flavours, too. A name that is defined is no alias.
+///
+/// Programs whose objects have names that stand for others are what the law asks for: one of GNU
+/// `ld` with `--defsym`, and one of lld with `/alternatename`. Names that stand for others do not.
+///
+/// A list of names in the place of an object that names them: a linker takes the same members, and
+/// programs with a list are programs. What is no such name: one that an object has, and a common
+/// block.
+pub fn worked_names()
+    ensures worked_alias { WorkedAlias }
+    ensures worked_flavor_alias { WorkedFlavorAlias }
+    ensures overridden_alias { OverriddenAlias }
+    ensures worked_other_names { WorkedOtherNames }
+    ensures worked_alternate_names { WorkedAlternateNames }
+    ensures near_stands_for { NearStandsFor }
+    ensures worked_wanting { WorkedWanting }
+{}

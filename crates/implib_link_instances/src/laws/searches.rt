@@ -1,0 +1,28 @@
+//! Archive searches.
+
+ghost use Rattle.implib_link_instances.specs.Worked.Archives.{WorkedArchives};
+ghost use Rattle.implib_link_instances.specs.Worked.Found.{WorkedFound};
+ghost use Rattle.implib_link_instances.specs.Worked.MsvcArchives.{WorkedMsvcArchives};
+ghost use Rattle.implib_link_instances.specs.Worked.NamedApart.{WorkedNamedApart};
+ghost use Rattle.implib_link_instances.specs.Worked.Search.{WorkedSearch};
+ghost use Rattle.implib_link_instances.specs.Worked.Sweeps.{NearSweepsTake, WorkedSweeps};
+
+/// Searches by hand: of the members of three exports, and of two libraries with an alias.
+///
+/// Sweeps by hand, as GNU `ld` searches: in one of them it takes another member than the first that
+/// lists a name.
+///
+/// Libraries whose descriptors are found by the DLL's name, and others.
+///
+/// Libraries that are named apart, and some that are not, by hand.
+///
+/// Searches by hand of two libraries, one of which has an alias.
+pub fn worked_searches()
+    ensures worked_search { WorkedSearch }
+    ensures worked_archives { WorkedArchives }
+    ensures worked_sweeps { WorkedSweeps }
+    ensures near_sweeps_take { NearSweepsTake }
+    ensures worked_found { WorkedFound }
+    ensures worked_named_apart { WorkedNamedApart }
+    ensures worked_msvc_archives { WorkedMsvcArchives }
+{}
