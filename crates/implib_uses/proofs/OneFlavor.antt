@@ -1,8 +1,8 @@
 -- Programs for GNU's linker alone, by the laws of both flavours and of any tables.
-use Rattle.std.proofs.Common.{◌≡◌, ℕ, zero, suc, ◌+◌, ◌*◌, ◌≤◌, List, [], ◌∷◌, ◌++◌, length, map, Some, refl, ap, sym, ◌∙◌, subst, arith, inl, inr}
+use Rattle.std.proofs.Common.{◌≡◌, ℕ, ◌+◌, ◌*◌, ◌≤◌, List, [], ◌∷◌, ◌++◌, length, map, Some, refl, ap, sym, ◌∙◌, subst, arith, inl, inr}
 use Rattle.std.specs.Prelude.{slice_get, bytes_eq, not}
 use Rattle.std.specs.List.{AllByRecursion, IsDistinct, filter}
-use Rattle.std.proofs.lemmas.List.{append-nil, length-map}
+use Rattle.std.proofs.lemmas.List.{length-map}
 use Rattle.implib.specs.declared.flavor.Flavor.TheVariants.{Gnu}
 use Rattle.implib.specs.declared.machine.MachineType.{MachineType}
 use Rattle.implib.specs.Definition.{ExportView}
@@ -19,7 +19,7 @@ use Rattle.implib_link.specs.Directory.{DirectoryAt, imported}
 use Rattle.implib_link.specs.Flavors.Program.{InputImports, IsProgram, LinksAmong, OfLinker, SymbolsAt, SymbolsGet, all_members, gnu_input, imp_symbols, imported_in, symbols_listed}
 use Rattle.implib_link.specs.Gnu.Loaded.{HoldsAt, Writes}
 use Rattle.implib_link.specs.Gnu.OtherLibraries.{LinksBeside, Run, ends_behind, members_from}
-use Rattle.implib_link.specs.Gnu.Program.{linked_symbols, names_claimed_in, thunks_before, with_tables, null_descriptor, ClaimsNone, has_tables}
+use Rattle.implib_link.specs.Gnu.Program.{linked_symbols, thunks_before, null_descriptor, ClaimsNone, has_tables}
 use Rattle.implib_link.specs.Tables.{AreTables, AreTablesLoaded, IsInTable, Tables, block_of_flavor, imported_by_table, tables_at, Table, packed_tables, Block}
 use Rattle.implib_link.proofs.Flavors.GnuPrograms.{gnu_made, gnu_members, gnu_objects, gnu_thunks}
 use Rattle.implib_link.proofs.Flavors.Program.{program_links}

@@ -233,12 +233,12 @@ pub near_a32_jump_reads : NearA32JumpReads
 near_a32_jump_reads = record {
   load_there = (
     let memory : List Range = record { start = 0x1004; bytes = 0 ∷ 0xF0 ∷ 0x9C ∷ 0xE5 ∷ entry_address } ∷ [] in
-    record { load = 0xE59F_C000; load_there = tt; is_load = refl; literal_there = number memory 4 0x1008 0x40_0060 entry_address refl refl refl; jump_there = number memory 4 0x1004 0xE59C_F000 loading_pc refl refl refl },
+        record { load = 0xE59F_C000; load_there = tt; is_load = refl; literal_there = number memory 4 0x1008 0x40_0060 entry_address refl refl refl; jump_there = number memory 4 0x1004 0xE59C_F000 loading_pc refl refl refl },
     λ x.
-      let count : length x.load_there.bytes ≡ 4 = x.load_there.count in
-      let memory : List Range = record { start = 0x1004; bytes = 0 ∷ 0xF0 ∷ 0x9C ∷ 0xE5 ∷ entry_address } ∷ [] in
-      let first = byte_first memory x.load_there.bytes 0x1000 x.load_there.located (omega arith) in
-      no_first (byte_at memory 0x1000) first.0 refl first.1,
+        let count : length x.load_there.bytes ≡ 4 = x.load_there.count in
+        let memory : List Range = record { start = 0x1004; bytes = 0 ∷ 0xF0 ∷ 0x9C ∷ 0xE5 ∷ entry_address } ∷ [] in
+        let first = byte_first memory x.load_there.bytes 0x1000 x.load_there.located (omega arith) in
+        no_first (byte_at memory 0x1000) first.0 refl first.1,
   );
   is_load = misses_load (0 ∷ 0 ∷ 0x9F ∷ 0xE5 ∷ []) 0xE59F_0000 refl refl refl refl (omega arith) refl refl;
   is_load_back = misses_load (0 ∷ 0xC0 ∷ 0x1F ∷ 0xE5 ∷ []) 0xE51F_C000 refl refl refl refl (omega arith) refl refl;
@@ -246,17 +246,17 @@ near_a32_jump_reads = record {
   is_load_of_ip = misses_load (0 ∷ 0xC0 ∷ 0x9C ∷ 0xE5 ∷ []) 0xE59C_C000 refl refl refl refl (omega arith) refl refl;
   literal_there = (
     let memory : List Range = a32_code (two_loads ++ (zeros 4 ++ entry_address)) in
-    record { load = 0xE59F_C000; load_there = number memory 4 0x1000 0xE59F_C000 loading_ip refl refl refl; is_load = refl; literal_there = tt; jump_there = number memory 4 0x1004 0xE59C_F000 loading_pc refl refl refl },
+        record { load = 0xE59F_C000; load_there = number memory 4 0x1000 0xE59F_C000 loading_ip refl refl refl; is_load = refl; literal_there = tt; jump_there = number memory 4 0x1004 0xE59C_F000 loading_pc refl refl refl },
     λ x.
-      let memory : List Range = a32_code (two_loads ++ (zeros 4 ++ entry_address)) in
-      let zero_read : A32JumpReads memory 0x1000 0 = record {
-        load = 0xE59F_C000;
-        load_there = number memory 4 0x1000 0xE59F_C000 loading_ip refl refl refl;
-        is_load = refl;
-        literal_there = number memory 4 0x1008 0 (0 ∷ 0 ∷ 0 ∷ 0 ∷ []) refl refl refl;
-        jump_there = number memory 4 0x1004 0xE59C_F000 loading_pc refl refl refl;
-      } in
-      differ 0 0x40_0060 (jumps_once memory 0x1000 0 0x40_0060 zero_read x) (omega arith),
+        let memory : List Range = a32_code (two_loads ++ (zeros 4 ++ entry_address)) in
+        let zero_read : A32JumpReads memory 0x1000 0 = record {
+          load = 0xE59F_C000;
+          load_there = number memory 4 0x1000 0xE59F_C000 loading_ip refl refl refl;
+          is_load = refl;
+          literal_there = number memory 4 0x1008 0 (0 ∷ 0 ∷ 0 ∷ 0 ∷ []) refl refl refl;
+          jump_there = number memory 4 0x1004 0xE59C_F000 loading_pc refl refl refl;
+        } in
+        differ 0 0x40_0060 (jumps_once memory 0x1000 0 0x40_0060 zero_read x) (omega arith),
   );
   jump_there = misses_jump (0x1C ∷ 0xFF ∷ 0x2F ∷ 0xE1 ∷ []) 0xE12F_FF1C refl refl refl (λ is. differ 0xE12F_FF1C 0xE59C_F000 is (omega arith)) refl refl;
   jump_there_further = misses_jump (4 ∷ 0xF0 ∷ 0x9C ∷ 0xE5 ∷ []) 0xE59C_F004 refl refl refl (λ is. differ 0xE59C_F000 0xE59C_F004 (sym is) (omega arith)) refl refl;

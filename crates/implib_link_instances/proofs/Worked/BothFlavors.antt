@@ -233,10 +233,12 @@ worked_given_for_both = record { given = given; kept = refl; wants = omega arith
 pub near_are_given_for_both : NearAreGivenForBoth
 unfolding searched
 near_are_given_for_both = record {
-  claims = (record { claims = tt; names = given.names },
+  claims = (
+    record { claims = tt; names = given.names },
     λ x.
-      let kept : List (List ℕ) = kept_of_both AMD64 foo_and_zed (clashing ∷ []) in
-      true≢false (all_among (λ name. list_any (bytes_eq name) (claimed_names clashing) ≡ false) (codes "queue") (kept_of_both AMD64 foo_and_zed (clashing ∷ [])) (any_among (codes "queue") kept refl) x.claims.0));
+        let kept : List (List ℕ) = kept_of_both AMD64 foo_and_zed (clashing ∷ []) in
+        true≢false (all_among (λ name. list_any (bytes_eq name) (claimed_names clashing) ≡ false) (codes "queue") (kept_of_both AMD64 foo_and_zed (clashing ∷ [])) (any_among (codes "queue") kept refl) x.claims.0),
+  );
   names = (record { claims = (claims_none_by (kept_of_both AMD64 foo_and_zed (naming_null ∷ [])) naming_null refl, tt); names = tt }, λ x. true≢false x.names.msvc.0.null_descriptor);
 }
 
@@ -250,12 +252,14 @@ zed_of_gnu = record {
 pub near_is_flavor_archive : NearIsFlavorArchive
 unfolding searched
 near_is_flavor_archive = record {
-  gnu = (record {
-    gnu = tt;
-    msvc = record { made = tt; distinct = distinct_by (null_descriptor_symbol ∷ []) refl; found = tt };
-    apart = apart_by [] (flat_map (symbols_of_library AMD64) (gnu_among (memberless gnu_zed ∷ []))) refl;
-  },
-    λ x. none_made x.gnu.made.0.made);
+  gnu = (
+    record {
+      gnu = tt;
+      msvc = record { made = tt; distinct = distinct_by (null_descriptor_symbol ∷ []) refl; found = tt };
+      apart = apart_by [] (flat_map (symbols_of_library AMD64) (gnu_among (memberless gnu_zed ∷ []))) refl;
+    },
+    λ x. none_made x.gnu.made.0.made,
+  );
   msvc = (record { gnu = record { made = tt; distinct = distinct_by [] refl }; msvc = tt; apart = tt }, λ x. none_made x.msvc.made.0.made);
   apart = (record { gnu = zed_of_gnu; msvc = msvc_archive; apart = tt }, λ x. true≢false x.apart.1.1.0);
 }
@@ -271,11 +275,13 @@ pub near_takes_of_both : NearTakesOfBoth
 unfolding searched
 near_takes_of_both = record {
   inputs = (record { inputs = tt; weak = tt }, λ x. none_in _ ((x.inputs _).1 (0, omega arith, refl)));
-  weak = (record { inputs = worked_both.just.inputs; weak = tt },
+  weak = (
+    record { inputs = worked_both.just.inputs; weak = tt },
     λ x. elim x.weak.0 [
       | inl short ↦ weak_short (msvc_among foo_and_zed) (wanted_with_weak AMD64 (codes "__imp_queue" ∷ []) mixed_taken) foo_alias refl short
       | inr data_alias ↦ weak_data (gnu_among foo_and_zed) (wanted_with_weak AMD64 (codes "__imp_queue" ∷ []) mixed_taken) foo_alias refl data_alias
-    ]);
+    ],
+  );
 }
 
 one_null : length (objects_taken AMD64 (first_null AMD64 (msvc_among foo_and_zed))) ≡ 1
@@ -342,55 +348,71 @@ null_takes =
 pub near_are_closed_for_both : NearAreClosedForBoth
 unfolding searched AreTakenIntoAs
 near_are_closed_for_both = record {
-  takes = (record {
-    takes = tt;
-    some = omega arith;
-    order = turned;
-    others = same_elements (choosing ∷ []) (choosing ∷ []) refl;
-    before = zed_members;
-    behind = [];
-    members = refl;
-    tables = refl;
-    claims = (claims_none_by [] choosing refl, tt);
-    names = record { gnu = (record { head = refl; name = refl }, tt); msvc = (record { descriptor = refl; null_descriptor = refl; null_thunk = refl }, tt) };
-  },
-    λ x. x.takes.ended (codes "bar") foo_alias (pulls_by (expanded_in AMD64) members own [] (codes "bar") foo_alias refl refl refl));
-  some = (record {
-    takes = record { in_turn = tt; ended = λ name m x. none_in name x.named };
-    some = tt;
-    order = record { moves = []; below = tt; is = refl };
-    others = same_elements [] [] refl;
-    before = [];
-    behind = [];
-    members = refl;
-    tables = refl;
-    claims = tt;
-    names = record { gnu = (record { head = refl; name = refl }, tt); msvc = tt };
-  },
-    λ x. no_length 0 refl x.some);
-  order = (record { takes = takes; some = omega arith; order = tt; others = own_and_alias choosing; before = []; behind = []; members = refl; tables = refl; claims = claims; names = names },
-    λ x. no_order _ _ x.order);
-  others = (record { takes = takes; some = omega arith; order = turned; others = tt; before = zed_members; behind = foo_linked; members = refl; tables = refl; claims = claims; names = names },
-    λ x. no_main ((x.others choosing).1 (0, omega arith, refl)));
-  tables = (record { takes = takes; some = omega arith; order = turned; others = own_and_alias choosing; before = zed_members; behind = foo_linked; members = refl; tables = tt; claims = claims; names = names },
-    λ x. none_taken x.before (first_null AMD64 (msvc_among foo_and_zed)) x.behind one_null x.tables);
-  members = (record { takes = takes; some = omega arith; order = turned; others = own_and_alias choosing; before = []; behind = []; members = tt; tables = refl; claims = claims; names = names },
-    λ x. more_taken x.before (first_null AMD64 (msvc_among foo_and_zed)) x.behind _ one_null (ap (λ ms. length (objects_taken AMD64 ms)) x.members) (omega arith) (ap length x.tables));
-  claims = (record { takes = clashing_takes; some = omega arith; order = turned; others = own_and_alias clashing; before = zed_members; behind = foo_linked; members = refl; tables = refl; claims = tt; names = names },
-    clashes zed_and_foo clashing_objects);
-  names = (record {
-    takes = null_takes;
-    some = omega arith;
-    order = record { moves = []; below = tt; is = refl };
-    others = same_elements (naming_both ∷ []) (naming_both ∷ []) refl;
-    before = zed_members;
-    behind = [];
-    members = refl;
-    tables = refl;
-    claims = (claims_none_by (listed_in zed_taken ++ left_in AMD64 zed_taken) naming_both refl, tt);
-    names = tt;
-  },
-    λ x. true≢false x.names.msvc.0.null_descriptor);
+  takes = (
+    record {
+      takes = tt;
+      some = omega arith;
+      order = turned;
+      others = same_elements (choosing ∷ []) (choosing ∷ []) refl;
+      before = zed_members;
+      behind = [];
+      members = refl;
+      tables = refl;
+      claims = (claims_none_by [] choosing refl, tt);
+      names = record { gnu = (record { head = refl; name = refl }, tt); msvc = (record { descriptor = refl; null_descriptor = refl; null_thunk = refl }, tt) };
+    },
+    λ x. x.takes.ended (codes "bar") foo_alias (pulls_by (expanded_in AMD64) members own [] (codes "bar") foo_alias refl refl refl),
+  );
+  some = (
+    record {
+      takes = record { in_turn = tt; ended = λ name m x. none_in name x.named };
+      some = tt;
+      order = record { moves = []; below = tt; is = refl };
+      others = same_elements [] [] refl;
+      before = [];
+      behind = [];
+      members = refl;
+      tables = refl;
+      claims = tt;
+      names = record { gnu = (record { head = refl; name = refl }, tt); msvc = tt };
+    },
+    λ x. no_length 0 refl x.some,
+  );
+  order = (
+    record { takes = takes; some = omega arith; order = tt; others = own_and_alias choosing; before = []; behind = []; members = refl; tables = refl; claims = claims; names = names },
+    λ x. no_order _ _ x.order,
+  );
+  others = (
+    record { takes = takes; some = omega arith; order = turned; others = tt; before = zed_members; behind = foo_linked; members = refl; tables = refl; claims = claims; names = names },
+    λ x. no_main ((x.others choosing).1 (0, omega arith, refl)),
+  );
+  tables = (
+    record { takes = takes; some = omega arith; order = turned; others = own_and_alias choosing; before = zed_members; behind = foo_linked; members = refl; tables = tt; claims = claims; names = names },
+    λ x. none_taken x.before (first_null AMD64 (msvc_among foo_and_zed)) x.behind one_null x.tables,
+  );
+  members = (
+    record { takes = takes; some = omega arith; order = turned; others = own_and_alias choosing; before = []; behind = []; members = tt; tables = refl; claims = claims; names = names },
+    λ x. more_taken x.before (first_null AMD64 (msvc_among foo_and_zed)) x.behind _ one_null (ap (λ ms. length (objects_taken AMD64 ms)) x.members) (omega arith) (ap length x.tables),
+  );
+  claims = (
+    record { takes = clashing_takes; some = omega arith; order = turned; others = own_and_alias clashing; before = zed_members; behind = foo_linked; members = refl; tables = refl; claims = tt; names = names },
+    clashes zed_and_foo clashing_objects,
+  );
+  names = (
+    record {
+      takes = null_takes;
+      some = omega arith;
+      order = record { moves = []; below = tt; is = refl };
+      others = same_elements (naming_both ∷ []) (naming_both ∷ []) refl;
+      before = zed_members;
+      behind = [];
+      members = refl;
+      tables = refl;
+      claims = (claims_none_by (listed_in zed_taken ++ left_in AMD64 zed_taken) naming_both refl, tt);
+      names = tt;
+    },
+    λ x. true≢false x.names.msvc.0.null_descriptor,
+  );
 }
 
 descriptors_end : group_end Descriptors 0x2000 mixed_objects ≡ 0x2028
@@ -459,10 +481,12 @@ printf_linked = record { flavor = Msvc; input = record { definition = of_dll (co
 pub near_is_imported_of_both : NearIsImportedOfBoth
 unfolding searched
 near_is_imported_of_both = record {
-  by = (record { number = 0; input = zed_linked; input_is = refl; index = 0; export = plain_export (codes "queue"); export_is = refl; by = tt },
+  by = (
+    record { number = 0; input = zed_linked; input_is = refl; index = 0; export = plain_export (codes "queue"); export_is = refl; by = tt },
     λ x.
-      name_once (again ∷ placed_from mixed_bases mixed_objects) queue_twice (mixed_bases.addresses + thunk_width AMD64 * thunks_of x.number mixed_inputs + thunk_width AMD64 * x.index)
-      (symbol_in x.input.flavor x.export) x.export.is_data x.by);
+        name_once (again ∷ placed_from mixed_bases mixed_objects) queue_twice (mixed_bases.addresses + thunk_width AMD64 * thunks_of x.number mixed_inputs + thunk_width AMD64 * x.index)
+        (symbol_in x.input.flavor x.export) x.export.is_data x.by,
+  );
   input_is = (record { number = 0; input = printf_linked; input_is = tt; index = 0; export = plain_export (codes "printf"); export_is = refl; by = inr (refl, refl, printf_once) }, no_printf_imported);
   export_is = (record { number = 0; input = zed_linked; input_is = refl; index = 0; export = plain_export (codes "printf"); export_is = tt; by = inr (refl, refl, printf_once) }, no_printf_imported);
 }
@@ -582,56 +606,66 @@ not_resolved (inr x) = listed_by (codes "baz") (weak_in AMD64 mixed_taken) x.0 r
 pub near_links_closed_for_both : NearLinksClosedForBoth
 unfolding searched
 near_links_closed_for_both = record {
-  taken_is = (record {
-    taken_is = tt;
-    program = worked_both.links.program;
-    links = worked_both.links.links;
-    used = worked_both.links.used;
-    resolved = λ name wanted listed. absurd (none_in name listed);
-    closed = λ name left listed. none_in name listed;
-  },
-    λ x. none_in _ ((x.taken_is.inputs _).0 (0, omega arith, refl)));
-  program = (record {
-    taken_is = record { inputs = same_elements [] [] refl; weak = tt };
-    program = tt;
-    links = null_links;
-    used = λ i j p e is held. absurd (no_export_of i j p e is held);
-    resolved = λ name wanted listed. absurd (none_in name listed);
-    closed = λ name left listed. none_in name listed;
-  },
-    λ x. none_in x.program.held.ended.null_from x.program.held.ended.null_held);
-  links = (record {
-    taken_is = record { inputs = same_elements [] [] refl; weak = tt };
-    program = memberless_program;
-    links = tt;
-    used = used_in (wanted_for AMD64 (choosing ∷ []) []) (memberless short_zed ∷ []);
-    resolved = λ name wanted listed. absurd (none_in name listed);
-    closed = λ name left listed. none_in name listed;
-  },
-    λ x. none_in _ x.links.linked.0.from_members.0);
-  resolved = (record {
-    taken_is = worked_both.just;
-    program = zed_program;
-    links = program_links AMD64 OfMember one_bases (inputs_of_both AMD64 (short_zed ∷ []) (choosing ∷ []) mixed_taken) zed_objects zed_made zed_program;
-    used = used_in (wanted_for AMD64 (choosing ∷ []) mixed_taken) (short_zed ∷ []);
-    resolved = tt;
-    closed = λ name left listed. none_in name left;
-  },
+  taken_is = (
+    record {
+      taken_is = tt;
+      program = worked_both.links.program;
+      links = worked_both.links.links;
+      used = worked_both.links.used;
+      resolved = λ name wanted listed. absurd (none_in name listed);
+      closed = λ name left listed. none_in name listed;
+    },
+    λ x. none_in _ ((x.taken_is.inputs _).0 (0, omega arith, refl)),
+  );
+  program = (
+    record {
+      taken_is = record { inputs = same_elements [] [] refl; weak = tt };
+      program = tt;
+      links = null_links;
+      used = λ i j p e is held. absurd (no_export_of i j p e is held);
+      resolved = λ name wanted listed. absurd (none_in name listed);
+      closed = λ name left listed. none_in name listed;
+    },
+    λ x. none_in x.program.held.ended.null_from x.program.held.ended.null_held,
+  );
+  links = (
+    record {
+      taken_is = record { inputs = same_elements [] [] refl; weak = tt };
+      program = memberless_program;
+      links = tt;
+      used = used_in (wanted_for AMD64 (choosing ∷ []) []) (memberless short_zed ∷ []);
+      resolved = λ name wanted listed. absurd (none_in name listed);
+      closed = λ name left listed. none_in name listed;
+    },
+    λ x. none_in _ x.links.linked.0.from_members.0,
+  );
+  resolved = (
+    record {
+      taken_is = worked_both.just;
+      program = zed_program;
+      links = program_links AMD64 OfMember one_bases (inputs_of_both AMD64 (short_zed ∷ []) (choosing ∷ []) mixed_taken) zed_objects zed_made zed_program;
+      used = used_in (wanted_for AMD64 (choosing ∷ []) mixed_taken) (short_zed ∷ []);
+      resolved = tt;
+      closed = λ name left listed. none_in name left;
+    },
     λ x.
-      let listed : List (List ℕ) = listed_in (archive_of_both foo_and_zed) in
-      not_resolved (x.resolved (codes "baz") (3, omega arith, refl) (among_contains (codes "baz") listed (any_among (codes "baz") listed refl))));
-  closed = (record {
-    taken_is = worked_both.just;
-    program = asking_program;
-    links = program_links AMD64 OfMember spread_bases mixed_inputs mixed_asking inputs_are_made asking_program;
-    used = worked_both.links.used;
-    resolved = λ name wanted listed. each_resolved name (contains_among name both_wanted wanted) (contains_among name (listed_in (archive_of_both foo_and_zed)) listed);
-    closed = tt;
-  },
+        let listed : List (List ℕ) = listed_in (archive_of_both foo_and_zed) in
+        not_resolved (x.resolved (codes "baz") (3, omega arith, refl) (among_contains (codes "baz") listed (any_among (codes "baz") listed refl))),
+  );
+  closed = (
+    record {
+      taken_is = worked_both.just;
+      program = asking_program;
+      links = program_links AMD64 OfMember spread_bases mixed_inputs mixed_asking inputs_are_made asking_program;
+      used = worked_both.links.used;
+      resolved = λ name wanted listed. each_resolved name (contains_among name both_wanted wanted) (contains_among name (listed_in (archive_of_both foo_and_zed)) listed);
+      closed = tt;
+    },
     λ x.
-      let listed : List (List ℕ) = listed_in (archive_of_both foo_and_zed) in
-      let left : List (List ℕ) = unresolved mixed_asking in
-      x.closed (codes "__imp_stack") (among_contains (codes "__imp_stack") left (any_among (codes "__imp_stack") left refl)) (among_contains (codes "__imp_stack") listed (any_among (codes "__imp_stack") listed refl)));
+        let listed : List (List ℕ) = listed_in (archive_of_both foo_and_zed) in
+        let left : List (List ℕ) = unresolved mixed_asking in
+        x.closed (codes "__imp_stack") (among_contains (codes "__imp_stack") left (any_among (codes "__imp_stack") left refl)) (among_contains (codes "__imp_stack") listed (any_among (codes "__imp_stack") listed refl)),
+  );
 }
 
 -- where the object alone is linked, what it leaves and the libraries list is left

@@ -362,8 +362,10 @@ pub near_is_group_searched : NearIsGroupSearched
 unfolding opened alias_specs encoded_size swept sweeps references_of claims_of undefined_in AreRounds AreSwept
 near_is_group_searched = record {
   taken = (record { rounds = 0; taken = tt; ended = (refl, tt) }, λ is. four_are_none (rounds_of_nothing is.rounds all_taken is.taken));
-  ended = (record { rounds = 1; taken = (of_quit, ([], record { count = 0; taken = refl; ended = refl }, (of_quit, record { count = 1; taken = refl; ended = refl }, refl)), refl); ended = tt },
-    λ is. differ 1 2 (sym (ap length is.ended.0)) (omega arith));
+  ended = (
+    record { rounds = 1; taken = (of_quit, ([], record { count = 0; taken = refl; ended = refl }, (of_quit, record { count = 1; taken = refl; ended = refl }, refl)), refl); ended = tt },
+    λ is. differ 1 2 (sym (ap length is.ended.0)) (omega arith),
+  );
 }
 
 -- the first member that is taken is pulled in by a name that the objects leave
@@ -379,17 +381,23 @@ no_pull = ended_by object_in (kernel_on AMD64 (codes "ExitProcess")).members own
 pub near_is_closed_over : NearIsClosedOver
 unfolding opened alias_specs encoded_size references_of claims_of undefined_in AreTakenBehind
 near_is_closed_over = record {
-  taken = (record { more = []; taken = tt; in_turn = tt; ended = ended_by object_in amd64_members [] [] refl },
-    λ is. differ 0 (length is.more + 4) (sym (ap length is.taken) ∙ length-append is.more amd64_members) (omega arith));
-  in_turn = (record { more = kernel.members; taken = refl; in_turn = tt; ended = ended_by object_in kernel.members own kernel.members refl },
+  taken = (
+    record { more = []; taken = tt; in_turn = tt; ended = ended_by object_in amd64_members [] [] refl },
+    λ is. differ 0 (length is.more + 4) (sym (ap length is.taken) ∙ length-append is.more amd64_members) (omega arith),
+  );
+  in_turn = (
+    record { more = kernel.members; taken = refl; in_turn = tt; ended = ended_by object_in kernel.members own kernel.members refl },
     λ is.
-      let all : is.more ≡ (kernel_on AMD64 (codes "ExitProcess")).members = sym (append-nil is.more) ∙ is.taken in
-      let turn : AreTakenBehind object_in (kernel_on AMD64 (codes "ExitProcess")).members own [] (kernel_on AMD64 (codes "ExitProcess")).members =
-      subst (AreTakenBehind object_in (kernel_on AMD64 (codes "ExitProcess")).members own []) all is.in_turn in
-      let pulled = first_pulled (kernel_on AMD64 (codes "ExitProcess")).members own (take 2 amd64_members) (member_or_none (slice_get amd64_members 2)) turn in
-      no_pull pulled.0 (member_or_none (slice_get amd64_members 2)) pulled.1);
-  ended = (record { more = []; taken = refl; in_turn = tt; ended = tt },
-    λ is. is.ended (codes "quit") (member_or_none (slice_get amd64_members 3)) (pulls_by object_in amd64_members own [] (codes "quit") (member_or_none (slice_get amd64_members 3)) refl refl refl));
+        let all : is.more ≡ (kernel_on AMD64 (codes "ExitProcess")).members = sym (append-nil is.more) ∙ is.taken in
+        let turn : AreTakenBehind object_in (kernel_on AMD64 (codes "ExitProcess")).members own [] (kernel_on AMD64 (codes "ExitProcess")).members =
+        subst (AreTakenBehind object_in (kernel_on AMD64 (codes "ExitProcess")).members own []) all is.in_turn in
+        let pulled = first_pulled (kernel_on AMD64 (codes "ExitProcess")).members own (take 2 amd64_members) (member_or_none (slice_get amd64_members 2)) turn in
+        no_pull pulled.0 (member_or_none (slice_get amd64_members 2)) pulled.1,
+  );
+  ended = (
+    record { more = []; taken = refl; in_turn = tt; ended = tt },
+    λ is. is.ended (codes "quit") (member_or_none (slice_get amd64_members 3)) (pulls_by object_in amd64_members own [] (codes "quit") (member_or_none (slice_get amd64_members 3)) refl refl refl),
+  );
 }
 
 -- what is taken in the end is nothing, so nothing was
@@ -418,51 +426,63 @@ whole_twice = (whole.0, (whole.1.0, (whole.1.1.0, (whole.1.1.1.0, (whole.1.1.1.0
 pub near_searches_libraries : NearSearchesFor
 unfolding opened alias_specs encoded_size IsDistinct claimed_as swept references_of claims_of undefined_in IsOrdered AreUnclaimedBehind SearchesFrom archive_of Among
 near_searches_libraries = record {
-  libraries_are = (record { libraries_are = tt; first = firsts; unclaimed = unclaimed; ordered = inl ordered; whole = whole; searches = searched_last },
-    λ x. differ 0 3 (sym (ap length x.libraries_are)) (omega arith));
-  first = (record { libraries_are = refl; first = tt; unclaimed = ((tt, tt), (tt, (tt, tt))); ordered = inr tt; whole = whole_twice; searches = searched_second },
+  libraries_are = (
+    record { libraries_are = tt; first = firsts; unclaimed = unclaimed; ordered = inl ordered; whole = whole; searches = searched_last },
+    λ x. differ 0 3 (sym (ap length x.libraries_are)) (omega arith),
+  );
+  first = (
+    record { libraries_are = refl; first = tt; unclaimed = ((tt, tt), (tt, (tt, tt))); ordered = inr tt; whole = whole_twice; searches = searched_second },
     λ x. above (x.first (codes "quit") 4 3 (quit_member (codes "quit") quit_bytes) (quit_member (codes "quit") quit_bytes) quit_left
-      (among_contains 4 (0 ∷ 1 ∷ 2 ∷ 4 ∷ []) (inr (inr (inr (inl refl))))) refl (among_contains (codes "quit") (codes "quit" ∷ []) (inl refl)) refl (among_contains (codes "quit") (codes "quit" ∷ []) (inl refl))));
-  unclaimed = (record {
-    libraries_are = refl;
-    first = first_of_distinct amd64_members (names_left object_in (own ++ quitting ∷ []) (members_at amd64_members all_taken)) all_taken distinct;
-    unclaimed = tt;
-    ordered = inr tt;
-    whole = whole;
-    searches = searched_quitting;
-  },
-    λ x. true≢false x.unclaimed.1.1.1.0.0.0);
-  ordered = (record {
-    libraries_are = refl;
-    first = first_of_distinct amd64_members (names_left object_in own (members_at amd64_members of_quit)) of_quit distinct;
-    unclaimed = ((tt, tt), (tt, (tt, tt)));
-    ordered = tt;
-    whole = whole;
-    searches = searched_first;
-  },
-    λ x. elim x.ordered [ inl is ↦ unordered is | inr none ↦ found none.0 ]);
-  whole = (record {
-    libraries_are = refl;
-    first = first_of_distinct with_more (names_left object_in own (members_at with_more all_taken)) all_taken (distinct_by (listed_in with_more) refl);
-    unclaimed = ((tt, tt), (tt, (tt, tt)));
-    ordered = inr tt;
-    whole = tt;
-    searches = searched_more;
-  },
-    λ x. not_quit (contains_among (codes "more") (codes "quit" ∷ []) ((x.whole.1.1.1.0 (codes "more")).1 (among_contains (codes "more") (codes "quit" ∷ codes "more" ∷ []) (inr (inl refl))))));
-  searches = (record {
-    libraries_are = refl;
-    first = first_of_distinct amd64_members (names_left object_in own (members_at amd64_members [])) [] distinct;
-    unclaimed = unclaimed;
-    ordered = inl ordered;
-    whole = whole;
-    searches = tt;
-  },
+        (among_contains 4 (0 ∷ 1 ∷ 2 ∷ 4 ∷ []) (inr (inr (inr (inl refl))))) refl (among_contains (codes "quit") (codes "quit" ∷ []) (inl refl)) refl (among_contains (codes "quit") (codes "quit" ∷ []) (inl refl))),
+  );
+  unclaimed = (
+    record {
+      libraries_are = refl;
+      first = first_of_distinct amd64_members (names_left object_in (own ++ quitting ∷ []) (members_at amd64_members all_taken)) all_taken distinct;
+      unclaimed = tt;
+      ordered = inr tt;
+      whole = whole;
+      searches = searched_quitting;
+    },
+    λ x. true≢false x.unclaimed.1.1.1.0.0.0,
+  );
+  ordered = (
+    record {
+      libraries_are = refl;
+      first = first_of_distinct amd64_members (names_left object_in own (members_at amd64_members of_quit)) of_quit distinct;
+      unclaimed = ((tt, tt), (tt, (tt, tt)));
+      ordered = tt;
+      whole = whole;
+      searches = searched_first;
+    },
+    λ x. elim x.ordered [ inl is ↦ unordered is | inr none ↦ found none.0 ],
+  );
+  whole = (
+    record {
+      libraries_are = refl;
+      first = first_of_distinct with_more (names_left object_in own (members_at with_more all_taken)) all_taken (distinct_by (listed_in with_more) refl);
+      unclaimed = ((tt, tt), (tt, (tt, tt)));
+      ordered = inr tt;
+      whole = tt;
+      searches = searched_more;
+    },
+    λ x. not_quit (contains_among (codes "more") (codes "quit" ∷ []) ((x.whole.1.1.1.0 (codes "more")).1 (among_contains (codes "more") (codes "quit" ∷ codes "more" ∷ []) (inr (inl refl))))),
+  );
+  searches = (
+    record {
+      libraries_are = refl;
+      first = first_of_distinct amd64_members (names_left object_in own (members_at amd64_members [])) [] distinct;
+      unclaimed = unclaimed;
+      ordered = inl ordered;
+      whole = whole;
+      searches = tt;
+    },
     λ x.
-      let s = x.searches in
-      let later = searches_keep object_in amd64_members own (Archives (of_kernel ∷ []) ∷ []) s.0 [] s.2 in
-      let none : s.0 ≡ [] = nothing_before s.0 (λ n. (later n).0) in
-      differ 0 1 (sym (ap length (subst (λ ns. swept object_in amd64_members own (index_at amd64_members of_quit) ns ≡ ns) none s.1.ended.0))) (omega arith));
+        let s = x.searches in
+        let later = searches_keep object_in amd64_members own (Archives (of_kernel ∷ []) ∷ []) s.0 [] s.2 in
+        let none : s.0 ≡ [] = nothing_before s.0 (λ n. (later n).0) in
+        differ 0 1 (sym (ap length (subst (λ ns. swept object_in amd64_members own (index_at amd64_members of_quit) ns ≡ ns) none s.1.ended.0))) (omega arith),
+  );
 }
   where
     firsts : TakesFirst amd64_members (names_left object_in own (members_at amd64_members all_taken)) all_taken

@@ -1,23 +1,19 @@
 -- The command lines with a library for Microsoft's linker, by computing and by the laws.
-use Rattle.std.proofs.Common.{◌≡◌, ◌<◌, ◌⊎◌, ℕ, zero, suc, true, false, List, [], ◌∷◌, ◌++◌, length, map, Option, None, Some, refl, sym, subst, inl, inr, arith}
+use Rattle.std.proofs.Common.{List, [], ◌∷◌, refl, inl, inr, arith}
 use Rattle.std.specs.Prelude.{bytes_eq, slice_get}
-use Rattle.std.specs.List.{Contains, IsDistinct}
+use Rattle.std.specs.List.{IsDistinct}
 use Rattle.implib.specs.declared.machine.MachineType.TheVariants.{AMD64, I386}
 use Rattle.implib.specs.Formats.Object.{Object}
-use Rattle.implib.specs.Members.MemberSpec.{MemberView}
 use Rattle.implib_link.specs.Flavors.Expansion.{expanded_in}
-use Rattle.implib_link.specs.Gnu.Program.{HaveSame}
 use Rattle.implib_link.specs.Search.BothFlavors.{AreGivenForBoth, IsFlavorArchive, archive_of_both, kept_of_both}
-use Rattle.implib_link.specs.Search.Closed.{claims_of, listed_in, references_of}
+use Rattle.implib_link.specs.Search.Closed.{listed_in}
 use Rattle.implib_link.specs.Search.CommandLines.{AreListedWhole, AreRounds, AreSwept, AreUnclaimedBehind, IsOrdered, NoneIsLost, SearchesCommandLine, SearchesFlavors, SearchesFrom, names_left}
-use Rattle.implib_link.specs.Search.Search.{claimed_as, undefined_in}
 use Rattle.implib_link.specs.Search.Sweeps.{members_at, sweeps, swept}
 use Rattle.implib_link.proofs.Search.CommandLines.{first_of_distinct, takes_of_libraries}
 use Rattle.implib_link_instances.specs.Worked.CommandLines.{i386_wants_bytes, is_quit, read_or_none, wants_bytes}
 use Rattle.implib_link_instances.specs.Worked.FlavorLines.{WorkedFlavorLine, WorkedFlavorLines, amd64_kernels, amd64_shorts, i386_kernels, i386_shorts, shorts_grouped, shorts_last, shorts_taken, with_quit}
-use Rattle.implib_link_instances.specs.Worked.Programs.{code_object}
 use Rattle.implib_link_instances.proofs.Worked.BothFlavors.{archive_by}
-use Rattle.implib_link_instances.proofs.Worked.CommandLines.{ended_by, member_or_none, none_there, object_at, pulls_by, whole_at}
+use Rattle.implib_link_instances.proofs.Worked.CommandLines.{member_or_none, object_at, whole_at}
 use Rattle.implib_link_instances.proofs.Worked.NearSearches.{searched}
 use Rattle.implib_link_instances.proofs.Worked.Programs.{claims_none_by, distinct_by}
 

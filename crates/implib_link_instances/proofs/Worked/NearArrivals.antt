@@ -157,43 +157,45 @@ own_memory = thunk_memory 0x1020 (linked_thunk AMD64) (eight_bytes 0)
 pub near_thunk_arrives : NearThunkArrives
 near_thunk_arrives = record {
   arrives = record { code = linked_thunk AMD64; there = are_located own_memory (linked_thunk AMD64) 0x1020 refl; whole = refl; entry = 0x2068; reads = refl; located = are_located own_memory (eight_bytes 0) 0x2068 refl };
-  there = (record { code = linked_thunk AMD64; there = tt; whole = refl; entry = 0x2068; reads = refl; located = are_located (thunk_memory 0x1021 (linked_thunk AMD64) (eight_bytes 0)) (eight_bytes 0) 0x2068 refl },
-    λ x. let long : length x.code ≡ 6 = x.whole in missing (thunk_memory 0x1021 (linked_thunk AMD64) (eight_bytes 0)) x.code 0x1020 0x1020 x.there (omega arith) (omega arith) refl);
+  there = (
+    record { code = linked_thunk AMD64; there = tt; whole = refl; entry = 0x2068; reads = refl; located = are_located (thunk_memory 0x1021 (linked_thunk AMD64) (eight_bytes 0)) (eight_bytes 0) 0x2068 refl },
+    λ x. let long : length x.code ≡ 6 = x.whole in missing (thunk_memory 0x1021 (linked_thunk AMD64) (eight_bytes 0)) x.code 0x1020 0x1020 x.there (omega arith) (omega arith) refl,
+  );
   whole = (
     let code : List ℕ = 0xFF ∷ 0x25 ∷ 0x42 ∷ 0x10 ∷ 0 ∷ [] in
-    let memory : List Range = thunk_memory 0x1020 (0xFF ∷ 0x25 ∷ 0x42 ∷ 0x10 ∷ 0 ∷ []) (eight_bytes 0) in
-    record { code = code; there = are_located memory code 0x1020 refl; whole = tt; entry = 0x2068; reads = refl; located = are_located memory (eight_bytes 0) 0x2068 refl },
+        let memory : List Range = thunk_memory 0x1020 (0xFF ∷ 0x25 ∷ 0x42 ∷ 0x10 ∷ 0 ∷ []) (eight_bytes 0) in
+        record { code = code; there = are_located memory code 0x1020 refl; whole = tt; entry = 0x2068; reads = refl; located = are_located memory (eight_bytes 0) 0x2068 refl },
     λ x. let long : length x.code ≡ 6 = x.whole in missing (thunk_memory 0x1020 (0xFF ∷ 0x25 ∷ 0x42 ∷ 0x10 ∷ 0 ∷ []) (eight_bytes 0)) x.code 0x1020 0x1025 x.there (omega arith) (omega arith) refl,
   );
   reads = (
     let code : List ℕ = 0xFF ∷ 0x15 ∷ 0x42 ∷ 0x10 ∷ 0 ∷ 0 ∷ [] in
-    let memory : List Range = thunk_memory 0x1020 (0xFF ∷ 0x15 ∷ 0x42 ∷ 0x10 ∷ 0 ∷ 0 ∷ []) (eight_bytes 0) in
-    record { code = code; there = are_located memory code 0x1020 refl; whole = refl; entry = 0x2068; reads = tt; located = are_located memory (eight_bytes 0) 0x2068 refl },
+        let memory : List Range = thunk_memory 0x1020 (0xFF ∷ 0x15 ∷ 0x42 ∷ 0x10 ∷ 0 ∷ 0 ∷ []) (eight_bytes 0) in
+        record { code = code; there = are_located memory code 0x1020 refl; whole = refl; entry = 0x2068; reads = tt; located = are_located memory (eight_bytes 0) 0x2068 refl },
     λ x.
-      let code : List ℕ = 0xFF ∷ 0x15 ∷ 0x42 ∷ 0x10 ∷ 0 ∷ 0 ∷ [] in
-      let memory : List Range = thunk_memory 0x1020 (0xFF ∷ 0x15 ∷ 0x42 ∷ 0x10 ∷ 0 ∷ 0 ∷ []) (eight_bytes 0) in
-      let same : x.code ≡ code = same_bytes memory x.code code 0x1020 x.there (are_located memory code 0x1020 refl) x.whole in
-      let none : None ≡ Some (0x1_4000_0000 + x.entry) = sym (ap (jump_reads AMD64 0x1_4000_1020) same) ∙ x.reads in
-      cc,
+        let code : List ℕ = 0xFF ∷ 0x15 ∷ 0x42 ∷ 0x10 ∷ 0 ∷ 0 ∷ [] in
+        let memory : List Range = thunk_memory 0x1020 (0xFF ∷ 0x15 ∷ 0x42 ∷ 0x10 ∷ 0 ∷ 0 ∷ []) (eight_bytes 0) in
+        let same : x.code ≡ code = same_bytes memory x.code code 0x1020 x.there (are_located memory code 0x1020 refl) x.whole in
+        let none : None ≡ Some (0x1_4000_0000 + x.entry) = sym (ap (jump_reads AMD64 0x1_4000_1020) same) ∙ x.reads in
+        cc,
   );
   reads_further = (
     let code : List ℕ = 0xFF ∷ 0x25 ∷ 0x46 ∷ 0x10 ∷ 0 ∷ 0 ∷ [] in
-    let memory : List Range = thunk_memory 0x1020 (0xFF ∷ 0x25 ∷ 0x46 ∷ 0x10 ∷ 0 ∷ 0 ∷ []) (eight_bytes 0) in
-    record { code = code; there = are_located memory code 0x1020 refl; whole = refl; entry = 0x2068; reads = tt; located = are_located memory (eight_bytes 0) 0x2068 refl },
+        let memory : List Range = thunk_memory 0x1020 (0xFF ∷ 0x25 ∷ 0x46 ∷ 0x10 ∷ 0 ∷ 0 ∷ []) (eight_bytes 0) in
+        record { code = code; there = are_located memory code 0x1020 refl; whole = refl; entry = 0x2068; reads = tt; located = are_located memory (eight_bytes 0) 0x2068 refl },
     λ x.
-      let code : List ℕ = 0xFF ∷ 0x25 ∷ 0x46 ∷ 0x10 ∷ 0 ∷ 0 ∷ [] in
-      let memory : List Range = thunk_memory 0x1020 (0xFF ∷ 0x25 ∷ 0x46 ∷ 0x10 ∷ 0 ∷ 0 ∷ []) (eight_bytes 0) in
-      let same : x.code ≡ code = same_bytes memory x.code code 0x1020 x.there (are_located memory code 0x1020 refl) x.whole in
-      let entry : x.entry ≡ 0x206C = entry_is 0x1_4000_0000 x.entry 0x206C (sym (ap (jump_reads AMD64 0x1_4000_1020) same) ∙ x.reads) in
-      missing memory (eight_bytes 0) 0x206C 0x2070 (subst (λ a. BytesAt memory a (eight_bytes 0)) entry x.located) (omega arith) (omega arith) refl,
+        let code : List ℕ = 0xFF ∷ 0x25 ∷ 0x46 ∷ 0x10 ∷ 0 ∷ 0 ∷ [] in
+        let memory : List Range = thunk_memory 0x1020 (0xFF ∷ 0x25 ∷ 0x46 ∷ 0x10 ∷ 0 ∷ 0 ∷ []) (eight_bytes 0) in
+        let same : x.code ≡ code = same_bytes memory x.code code 0x1020 x.there (are_located memory code 0x1020 refl) x.whole in
+        let entry : x.entry ≡ 0x206C = entry_is 0x1_4000_0000 x.entry 0x206C (sym (ap (jump_reads AMD64 0x1_4000_1020) same) ∙ x.reads) in
+        missing memory (eight_bytes 0) 0x206C 0x2070 (subst (λ a. BytesAt memory a (eight_bytes 0)) entry x.located) (omega arith) (omega arith) refl,
   );
   located = (
     record { code = linked_thunk AMD64; there = are_located (thunk_memory 0x1020 (linked_thunk AMD64) (eight_bytes 1)) (linked_thunk AMD64) 0x1020 refl; whole = refl; entry = 0x2068; reads = refl; located = tt },
     λ x.
-      let memory : List Range = thunk_memory 0x1020 (linked_thunk AMD64) (eight_bytes 1) in
-      let same : x.code ≡ linked_thunk AMD64 = same_bytes memory x.code (linked_thunk AMD64) 0x1020 x.there (are_located memory (linked_thunk AMD64) 0x1020 refl) x.whole in
-      let entry : x.entry ≡ 0x2068 = entry_is 0x1_4000_0000 x.entry 0x2068 (sym (ap (jump_reads AMD64 0x1_4000_1020) same) ∙ x.reads) in
-      other_byte memory 0x2068 0 1 (drop 1 (eight_bytes 0)) refl (omega arith) (subst (λ a. BytesAt memory a (eight_bytes 0)) entry x.located),
+        let memory : List Range = thunk_memory 0x1020 (linked_thunk AMD64) (eight_bytes 1) in
+        let same : x.code ≡ linked_thunk AMD64 = same_bytes memory x.code (linked_thunk AMD64) 0x1020 x.there (are_located memory (linked_thunk AMD64) 0x1020 refl) x.whole in
+        let entry : x.entry ≡ 0x2068 = entry_is 0x1_4000_0000 x.entry 0x2068 (sym (ap (jump_reads AMD64 0x1_4000_1020) same) ∙ x.reads) in
+        other_byte memory 0x2068 0 1 (drop 1 (eight_bytes 0)) refl (omega arith) (subst (λ a. BytesAt memory a (eight_bytes 0)) entry x.located),
   );
 }
 
@@ -223,20 +225,26 @@ near_operand_arrives =
     let memory : List Range = two_ranges 0x100D call_field open_address in
     record {
       arrives = record { number = 0xFFFF_F06F; there = number memory 4 0x100D 0xFFFF_F06F call_field refl refl refl; entry = 0x80; own = refl; leads = refl; located = are_located memory open_address 0x80 refl };
-      there = (record { number = 0xFFFF_F06F; there = tt; entry = 0x80; own = refl; leads = refl; located = are_located (two_ranges 0x100E call_field open_address) open_address 0x80 refl },
-        λ x. absent (two_ranges 0x100E call_field open_address) 0x100D 4 x.number refl (omega arith) x.there);
-      own = (record { number = 0xFFFF_F06F; there = number memory 4 0x100D 0xFFFF_F06F call_field refl refl refl; entry = 0x80; own = tt; leads = refl; located = are_located memory open_address 0x80 refl },
-        λ x. let none : [] ≡ record { name = codes "hello"; address = Some x.entry } ∷ [] = x.own in cc);
+      there = (
+        record { number = 0xFFFF_F06F; there = tt; entry = 0x80; own = refl; leads = refl; located = are_located (two_ranges 0x100E call_field open_address) open_address 0x80 refl },
+        λ x. absent (two_ranges 0x100E call_field open_address) 0x100D 4 x.number refl (omega arith) x.there,
+      );
+      own = (
+        record { number = 0xFFFF_F06F; there = number memory 4 0x100D 0xFFFF_F06F call_field refl refl refl; entry = 0x80; own = tt; leads = refl; located = are_located memory open_address 0x80 refl },
+        λ x. let none : [] ≡ record { name = codes "hello"; address = Some x.entry } ∷ [] = x.own in cc,
+      );
       leads = (
         record { number = 0xFFFF_F070; there = number (two_ranges 0x100D next_field open_address) 4 0x100D 0xFFFF_F070 next_field refl refl refl; entry = 0x80; own = refl; leads = tt; located = are_located (two_ranges 0x100D next_field open_address) open_address 0x80 refl },
         λ x.
-          let other : List Range = two_ranges 0x100D next_field open_address in
-          let same : x.number ≡ 0xFFFF_F070 = number_once other 4 0x100D x.number 0xFFFF_F070 x.there (number other 4 0x100D 0xFFFF_F070 next_field refl refl refl) in
-          let led : operand_leads AMD64 0x1_4000_100D 0 0xFFFF_F070 ≡ Some 0x1_4000_0080 = sym (ap (λ n. operand_leads AMD64 0x1_4000_100D 0 n) same) ∙ x.leads ∙ ap (λ e. Some (0x1_4000_0000 + e)) (open_entry x.entry x.own) in
-          differ 0x1_4000_0080 0x1_4000_0081 (sym (value 0x1_4000_0081 0x1_4000_0080 led)) (omega arith),
+            let other : List Range = two_ranges 0x100D next_field open_address in
+            let same : x.number ≡ 0xFFFF_F070 = number_once other 4 0x100D x.number 0xFFFF_F070 x.there (number other 4 0x100D 0xFFFF_F070 next_field refl refl refl) in
+            let led : operand_leads AMD64 0x1_4000_100D 0 0xFFFF_F070 ≡ Some 0x1_4000_0080 = sym (ap (λ n. operand_leads AMD64 0x1_4000_100D 0 n) same) ∙ x.leads ∙ ap (λ e. Some (0x1_4000_0000 + e)) (open_entry x.entry x.own) in
+            differ 0x1_4000_0080 0x1_4000_0081 (sym (value 0x1_4000_0081 0x1_4000_0080 led)) (omega arith),
       );
-      located = (record { number = 0xFFFF_F06F; there = number (two_ranges 0x100D call_field other_address) 4 0x100D 0xFFFF_F06F call_field refl refl refl; entry = 0x80; own = refl; leads = refl; located = tt },
-        λ x. elsewhere (two_ranges 0x100D call_field other_address) x.entry (open_entry x.entry x.own) (are_located (two_ranges 0x100D call_field other_address) other_address 0x80 refl) x.located);
+      located = (
+        record { number = 0xFFFF_F06F; there = number (two_ranges 0x100D call_field other_address) 4 0x100D 0xFFFF_F06F call_field refl refl refl; entry = 0x80; own = refl; leads = refl; located = tt },
+        λ x. elsewhere (two_ranges 0x100D call_field other_address) x.entry (open_entry x.entry x.own) (are_located (two_ranges 0x100D call_field other_address) other_address 0x80 refl) x.located,
+      );
     }
 
 pub near_pointer_arrives : NearPointerArrives
@@ -245,17 +253,21 @@ near_pointer_arrives =
     let memory : List Range = two_ranges 0x1034 pointer_field open_address in
     record {
       arrives = record { entry = 0x80; own = refl; there = number memory 8 0x1034 0x1_4000_0080 pointer_field refl refl refl; located = are_located memory open_address 0x80 refl };
-      own = (record { entry = 0x80; own = tt; there = number memory 8 0x1034 0x1_4000_0080 pointer_field refl refl refl; located = are_located memory open_address 0x80 refl },
-        λ x. let none : [] ≡ record { name = codes "hello"; address = Some x.entry } ∷ [] = x.own in cc);
+      own = (
+        record { entry = 0x80; own = tt; there = number memory 8 0x1034 0x1_4000_0080 pointer_field refl refl refl; located = are_located memory open_address 0x80 refl },
+        λ x. let none : [] ≡ record { name = codes "hello"; address = Some x.entry } ∷ [] = x.own in cc,
+      );
       there = (
         record { entry = 0x80; own = refl; there = tt; located = are_located (two_ranges 0x1034 next_pointer open_address) open_address 0x80 refl },
         λ x.
-          let other : List Range = two_ranges 0x1034 next_pointer open_address in
-          let is : 0x1_4000_0080 ≡ 0x1_4000_0088 = number_once other 8 0x1034 0x1_4000_0080 0x1_4000_0088 (subst (λ e. NumberAt other 8 0x1034 (0x1_4000_0000 + e)) (open_entry x.entry x.own) x.there) (number other 8 0x1034 0x1_4000_0088 next_pointer refl refl refl) in
-          differ 0x1_4000_0080 0x1_4000_0088 is (omega arith),
+            let other : List Range = two_ranges 0x1034 next_pointer open_address in
+            let is : 0x1_4000_0080 ≡ 0x1_4000_0088 = number_once other 8 0x1034 0x1_4000_0080 0x1_4000_0088 (subst (λ e. NumberAt other 8 0x1034 (0x1_4000_0000 + e)) (open_entry x.entry x.own) x.there) (number other 8 0x1034 0x1_4000_0088 next_pointer refl refl refl) in
+            differ 0x1_4000_0080 0x1_4000_0088 is (omega arith),
       );
-      located = (record { entry = 0x80; own = refl; there = number (two_ranges 0x1034 pointer_field other_address) 8 0x1034 0x1_4000_0080 pointer_field refl refl refl; located = tt },
-        λ x. elsewhere (two_ranges 0x1034 pointer_field other_address) x.entry (open_entry x.entry x.own) (are_located (two_ranges 0x1034 pointer_field other_address) other_address 0x80 refl) x.located);
+      located = (
+        record { entry = 0x80; own = refl; there = number (two_ranges 0x1034 pointer_field other_address) 8 0x1034 0x1_4000_0080 pointer_field refl refl refl; located = tt },
+        λ x. elsewhere (two_ranges 0x1034 pointer_field other_address) x.entry (open_entry x.entry x.own) (are_located (two_ranges 0x1034 pointer_field other_address) other_address 0x80 refl) x.located,
+      );
     }
 
 pub near_branch_arrives : NearBranchArrives
@@ -265,10 +277,10 @@ near_branch_arrives = record {
   leads = (
     record { number = 0x19; there = number (two_ranges 0x1027 (0x19 ∷ 0 ∷ 0 ∷ 0 ∷ []) []) 4 0x1027 0x19 (0x19 ∷ 0 ∷ 0 ∷ 0 ∷ []) refl refl refl; leads = tt },
     λ x.
-      let memory : List Range = two_ranges 0x1027 (0x19 ∷ 0 ∷ 0 ∷ 0 ∷ []) [] in
-      let same : x.number ≡ 0x19 = number_once memory 4 0x1027 x.number 0x19 x.there (number memory 4 0x1027 0x19 (0x19 ∷ 0 ∷ 0 ∷ 0 ∷ []) refl refl refl) in
-      let led : branch_leads AMD64 0x1_4000_1027 0 0x19 ≡ Some 0x1_4000_1040 = sym (ap (λ n. branch_leads AMD64 0x1_4000_1027 0 n) same) ∙ x.leads in
-      differ 0x1_4000_1040 0x1_4000_1044 (sym (value 0x1_4000_1044 0x1_4000_1040 led)) (omega arith),
+        let memory : List Range = two_ranges 0x1027 (0x19 ∷ 0 ∷ 0 ∷ 0 ∷ []) [] in
+        let same : x.number ≡ 0x19 = number_once memory 4 0x1027 x.number 0x19 x.there (number memory 4 0x1027 0x19 (0x19 ∷ 0 ∷ 0 ∷ 0 ∷ []) refl refl refl) in
+        let led : branch_leads AMD64 0x1_4000_1027 0 0x19 ≡ Some 0x1_4000_1040 = sym (ap (λ n. branch_leads AMD64 0x1_4000_1027 0 n) same) ∙ x.leads in
+        differ 0x1_4000_1040 0x1_4000_1044 (sym (value 0x1_4000_1044 0x1_4000_1040 led)) (omega arith),
   );
 }
 
@@ -422,14 +434,14 @@ near_all_lead_to = record {
       pointers = λ d offset high held x. absurd (no_pointer offset (in_only (λ c. HasPointer AMD64 c offset (imp_open AMD64)) operand_code d held x));
     },
     λ all.
-      let has : HasOperand AMD64 operand_code 0 4 (imp_open AMD64) = record {
-        type = 8;
-        field = record { symbol = 1; alone = refl; inside = omega arith; names = import_named AMD64 };
-        counts = (4, (omega arith, (refl, refl)));
-        within = omega arith;
-      } in
-      let x = all.operands operand_code 0 4 (0, omega arith, refl) has in
-      absent [] 0x1000 4 x.number refl (omega arith) x.there,
+        let has : HasOperand AMD64 operand_code 0 4 (imp_open AMD64) = record {
+          type = 8;
+          field = record { symbol = 1; alone = refl; inside = omega arith; names = import_named AMD64 };
+          counts = (4, (omega arith, (refl, refl)));
+          within = omega arith;
+        } in
+        let x = all.operands operand_code 0 4 (0, omega arith, refl) has in
+        absent [] 0x1000 4 x.number refl (omega arith) x.there,
   );
   instructions = (
     record {
@@ -441,8 +453,8 @@ near_all_lead_to = record {
       pointers = λ d offset high held x. absurd (no_stored offset (in_only (λ c. HasPointer AMD64 c offset (imp_open AMD64)) calling_open d held x));
     },
     λ all.
-      let x = all.instructions calling_open 0 (0xFF ∷ 0x15 ∷ []) [] (0, omega arith, refl) (instruction_by 4 1 (zeros 4) (import_named AMD64) (0, (omega arith, (refl, refl))) refl refl refl) in
-      missing operand_memory (0xFF ∷ 0x15 ∷ (x.field ++ [])) 0x1000 0x1000 x.there (omega arith) (omega arith) refl,
+        let x = all.instructions calling_open 0 (0xFF ∷ 0x15 ∷ []) [] (0, omega arith, refl) (instruction_by 4 1 (zeros 4) (import_named AMD64) (0, (omega arith, (refl, refl))) refl refl refl) in
+        missing operand_memory (0xFF ∷ 0x15 ∷ (x.field ++ [])) 0x1000 0x1000 x.there (omega arith) (omega arith) refl,
   );
   pairs = (
     record {
@@ -452,10 +464,10 @@ near_all_lead_to = record {
       pointers = λ d offset high held x. absurd (no_pointer_in_pair offset (in_only (λ c. HasPointer ARM64 c offset (imp_open ARM64)) pair_code d held x));
     },
     λ all.
-      let page : HasPageField pair_code 0 (imp_open ARM64) = record { field = record { symbol = 1; alone = refl; inside = omega arith; names = import_named ARM64 }; empty = refl } in
-      let place : HasOffsetField pair_code 4 (imp_open ARM64) = record { field = record { symbol = 1; alone = refl; inside = omega arith; names = import_named ARM64 }; eight = refl; empty = refl } in
-      let x = all.pairs pair_code pair_code 0 4 refl (0, omega arith, refl) (0, omega arith, refl) page place in
-      absent [] 0x1000 4 x.adrp refl (omega arith) x.adrp_there,
+        let page : HasPageField pair_code 0 (imp_open ARM64) = record { field = record { symbol = 1; alone = refl; inside = omega arith; names = import_named ARM64 }; empty = refl } in
+        let place : HasOffsetField pair_code 4 (imp_open ARM64) = record { field = record { symbol = 1; alone = refl; inside = omega arith; names = import_named ARM64 }; eight = refl; empty = refl } in
+        let x = all.pairs pair_code pair_code 0 4 refl (0, omega arith, refl) (0, omega arith, refl) page place in
+        absent [] 0x1000 4 x.adrp refl (omega arith) x.adrp_there,
   );
   pointers = (
     record {
@@ -465,8 +477,8 @@ near_all_lead_to = record {
       pointers = tt;
     },
     λ all.
-      let has : HasPointer AMD64 pointer_code 0 (imp_open AMD64) = record { type = 1; field = record { symbol = 1; alone = refl; inside = omega arith; names = import_named AMD64 }; stores = refl; empty = refl } in
-      let x = all.pointers pointer_code 0 (omega arith) (0, omega arith, refl) has in
-      absent [] 0x1000 8 (0x1_4000_0000 + x.entry) refl (omega arith) x.there,
+        let has : HasPointer AMD64 pointer_code 0 (imp_open AMD64) = record { type = 1; field = record { symbol = 1; alone = refl; inside = omega arith; names = import_named AMD64 }; stores = refl; empty = refl } in
+        let x = all.pointers pointer_code 0 (omega arith) (0, omega arith, refl) has in
+        absent [] 0x1000 8 (0x1_4000_0000 + x.entry) refl (omega arith) x.there,
   );
 }

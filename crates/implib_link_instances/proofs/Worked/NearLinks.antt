@@ -150,8 +150,10 @@ near_jumps_through =
     let own : Placed = jumping_one 1 0 (jump_section ∷ []) in
     let later : Placed = jumping_one 1 8 (jump_section ∷ []) in
     record {
-      once = (record { once = tt; from = own; held = (0, omega arith, refl); symbol = jumping_f 1 0; defined = (0, omega arith, refl); named = refl; shared = refl; first = refl; begins = refl; code = jump_section; here = refl; jumps = λ position below. refl },
-        λ x. twice (codes "f") (jumping 1 0 (jump_section ∷ []) ++ jumping 1 0 (jump_section ∷ [])) two_f x.once);
+      once = (
+        record { once = tt; from = own; held = (0, omega arith, refl); symbol = jumping_f 1 0; defined = (0, omega arith, refl); named = refl; shared = refl; first = refl; begins = refl; code = jump_section; here = refl; jumps = λ position below. refl },
+        λ x. twice (codes "f") (jumping 1 0 (jump_section ∷ []) ++ jumping 1 0 (jump_section ∷ [])) two_f x.once,
+      );
       held = (record { once = (_, refl); from = own; held = tt; symbol = jumping_f 1 0; defined = (0, omega arith, refl); named = refl; shared = refl; first = refl; begins = refl; code = jump_section; here = refl; jumps = λ position below. refl }, late);
       defined = (record { once = (_, refl); from = later; held = (0, omega arith, refl); symbol = jumping_f 1 0; defined = tt; named = refl; shared = refl; first = refl; begins = refl; code = jump_section; here = refl; jumps = λ position below. refl }, late);
       named = (
@@ -171,11 +173,13 @@ near_jumps_through =
         record { once = (_, refl); from = jumping_one 1 0 []; held = (0, omega arith, refl); symbol = jumping_f 1 0; defined = (0, omega arith, refl); named = refl; shared = refl; first = refl; begins = refl; code = jump_section; here = tt; jumps = λ position below. refl },
         λ x. let none : None ≡ Some x.code = section_is 1 0 0x60 [] x in cc,
       );
-      jumps = (record { once = (_, refl); from = own; held = (0, omega arith, refl); symbol = jumping_f 1 0; defined = (0, omega arith, refl); named = refl; shared = refl; first = refl; begins = refl; code = jump_section; here = refl; jumps = tt },
+      jumps = (
+        record { once = (_, refl); from = own; held = (0, omega arith, refl); symbol = jumping_f 1 0; defined = (0, omega arith, refl); named = refl; shared = refl; first = refl; begins = refl; code = jump_section; here = refl; jumps = tt },
         λ x.
-          let code : jump_section ≡ x.code = jump_code x.code (section_is 1 0 0x64 (jump_section ∷ []) x) in
-          other_entry 0x40_0060 0x40_0064 (omega arith) (subst (λ (c : ObjectSection). jump_reads I386 0x40_1000 (code_relocated I386 0x40_0000 (jumping 1 0 (jump_section ∷ [])) x.from 0x1000 c.relocations c.bytes) ≡ Some 0x40_0064) (sym code)
-          (x.jumps 0x1000 (omega arith))));
+            let code : jump_section ≡ x.code = jump_code x.code (section_is 1 0 0x64 (jump_section ∷ []) x) in
+            other_entry 0x40_0060 0x40_0064 (omega arith) (subst (λ (c : ObjectSection). jump_reads I386 0x40_1000 (code_relocated I386 0x40_0000 (jumping 1 0 (jump_section ∷ [])) x.from 0x1000 c.relocations c.bytes) ≡ Some 0x40_0064) (sym code)
+            (x.jumps 0x1000 (omega arith))),
+      );
     }
 
 -- Code beside the tables.
@@ -242,10 +246,14 @@ past_top n is below = omega arith
 
 pub near_are_linked_beside : NearAreLinkedBeside
 near_are_linked_beside = record {
-  held = (record { held = tt; sections = (refl, tt); ends = (omega arith, tt); apart = (tt, tt); relocated = (return_relocated 0x1000, tt); resolved = none_taken [] (plain_return ∷ []) (λ c index. 0) refl },
-    λ x. none_in _ x.held.0);
-  sections = (record { held = ((0, omega arith, refl), tt); sections = tt; ends = (omega arith, tt); apart = (tt, tt); relocated = (return_relocated 0x1000, tt); resolved = none_taken return_linked (record plain_return { number = 2 } ∷ []) (λ c index. 0) refl },
-    λ x. let none : None ≡ Some return_section = x.sections.0 in cc);
+  held = (
+    record { held = tt; sections = (refl, tt); ends = (omega arith, tt); apart = (tt, tt); relocated = (return_relocated 0x1000, tt); resolved = none_taken [] (plain_return ∷ []) (λ c index. 0) refl },
+    λ x. none_in _ x.held.0,
+  );
+  sections = (
+    record { held = ((0, omega arith, refl), tt); sections = tt; ends = (omega arith, tt); apart = (tt, tt); relocated = (return_relocated 0x1000, tt); resolved = none_taken return_linked (record plain_return { number = 2 } ∷ []) (λ c index. 0) refl },
+    λ x. let none : None ≡ Some return_section = x.sections.0 in cc,
+  );
   ends = (
     record { held = ((0, omega arith, refl), tt); sections = (refl, tt); ends = tt; apart = (tt, tt); relocated = (return_relocated 0x7FFF_FFF0, tt); resolved = none_taken return_linked (record plain_return { position = 0x7FFF_FFF0 } ∷ []) (λ c index. 0) refl },
     λ x. past_top (0x7FFF_FFF0 + 1 + 16) refl x.ends.0,
@@ -275,9 +283,9 @@ near_are_linked_beside = record {
       resolved = tt;
     },
     λ x.
-      differ 0 0x1010
-      (x.resolved.code open_left open_defined 0 (symbol_of_class (codes "open") 0 class_external) (symbol_of_class (codes "open") 1 class_external) (0, omega arith, refl) (1, omega arith, refl) refl refl (record { held = (0, omega arith, refl); external = refl; here = refl }) refl)
-      (omega arith),
+        differ 0 0x1010
+        (x.resolved.code open_left open_defined 0 (symbol_of_class (codes "open") 0 class_external) (symbol_of_class (codes "open") 1 class_external) (0, omega arith, refl) (1, omega arith, refl) refl refl (record { held = (0, omega arith, refl); external = refl; here = refl }) refl)
+        (omega arith),
   );
 }
 
@@ -333,15 +341,15 @@ near_names = record {
   undefined = (
     record { symbol = record (symbol_of_class (codes "open") 1 class_external) { value = 8 }; target = refl; undefined = tt; named = refl },
     λ x.
-      let same : record (symbol_of_class (codes "open") 1 class_external) { value = 8 } ≡ x.symbol = only_symbol _ x.symbol x.target in
-      true≢false (sym x.undefined ∙ ap is_undefined_external (sym same)),
+        let same : record (symbol_of_class (codes "open") 1 class_external) { value = 8 } ≡ x.symbol = only_symbol _ x.symbol x.target in
+        true≢false (sym x.undefined ∙ ap is_undefined_external (sym same)),
   );
   named = (
     record { symbol = symbol_of_class (codes "open") 0 class_external; target = refl; undefined = refl; named = tt },
     λ x.
-      let same : symbol_of_class (codes "open") 0 class_external ≡ x.symbol = only_symbol _ x.symbol x.target in
-      let is : codes "open" ≡ codes "opened" = ap (λ (s : ObjectSymbol). s.name) same ∙ x.named in
-      differ 4 6 (ap length is) (omega arith),
+        let same : symbol_of_class (codes "open") 0 class_external ≡ x.symbol = only_symbol _ x.symbol x.target in
+        let is : codes "open" ≡ codes "opened" = ap (λ (s : ObjectSymbol). s.name) same ∙ x.named in
+        differ 4 6 (ap length is) (omega arith),
   );
 }
 
@@ -382,11 +390,15 @@ other_named entries n index own s name is first at named other =
 
 pub near_has_field : NearHasField
 near_has_field = record {
-  alone = (record { symbol = 2; alone = tt; inside = omega arith; names = hello_named },
-    λ x. let two : field 5 2 i386_dir32 ∷ field 7 2 i386_dir32 ∷ [] ≡ field 5 x.symbol i386_dir32 ∷ [] = x.alone in cc);
+  alone = (
+    record { symbol = 2; alone = tt; inside = omega arith; names = hello_named },
+    λ x. let two : field 5 2 i386_dir32 ∷ field 7 2 i386_dir32 ∷ [] ≡ field 5 x.symbol i386_dir32 ∷ [] = x.alone in cc,
+  );
   inside = (record { symbol = 1; alone = refl; inside = tt; names = import_named AMD64 }, λ x. past_60 61 refl x.inside);
-  names = (record { symbol = 1; alone = refl; inside = omega arith; names = tt },
-    λ x. other_named (passing_at AMD64).from.object.entries 1 x.symbol (symbol_of_class (imp_open AMD64) 0 class_external) x.names.symbol (codes "hello") (symbol_of (field 13 1 amd64_rel32) (field 13 x.symbol amd64_rel32) x.alone) refl x.names.target x.names.named (λ same. differ 5 10 (sym same) (omega arith)));
+  names = (
+    record { symbol = 1; alone = refl; inside = omega arith; names = tt },
+    λ x. other_named (passing_at AMD64).from.object.entries 1 x.symbol (symbol_of_class (imp_open AMD64) 0 class_external) x.names.symbol (codes "hello") (symbol_of (field 13 1 amd64_rel32) (field 13 x.symbol amd64_rel32) x.alone) refl x.names.target x.names.named (λ same. differ 5 10 (sym same) (omega arith)),
+  );
 }
 
 -- the operand at 13, whose number does not count the byte behind it
@@ -409,18 +421,24 @@ not_against offset n after number type own name has counts alone first other =
 
 pub near_has_operand : NearHasOperand
 near_has_operand = record {
-  field = (record { type = amd64_rel32; field = tt; counts = (0, (omega arith, (refl, refl))); within = omega arith },
-    λ x. not_against 13 1 0 0 x.type (symbol_of_class (imp_open AMD64) 0 class_external) (codes "hello") x.field x.counts refl refl (λ same. differ 5 10 (sym same) (omega arith)));
+  field = (
+    record { type = amd64_rel32; field = tt; counts = (0, (omega arith, (refl, refl))); within = omega arith },
+    λ x. not_against 13 1 0 0 x.type (symbol_of_class (imp_open AMD64) 0 class_external) (codes "hello") x.field x.counts refl refl (λ same. differ 5 10 (sym same) (omega arith)),
+  );
   counts = (record { type = amd64_rel32; field = record { symbol = 1; alone = refl; inside = omega arith; names = import_named AMD64 }; counts = tt; within = omega arith }, uncounted);
   within = (record { type = 9; field = record { symbol = 1; alone = refl; inside = omega arith; names = import_named AMD64 }; counts = (5, (omega arith, (refl, refl))); within = tt }, λ x. past_60 61 refl x.within);
 }
 
 pub near_has_branch : NearHasBranch
 near_has_branch = record {
-  field = (record { type = amd64_rel32; field = tt; counts = (0, (omega arith, (refl, refl))); within = omega arith },
-    λ x. not_against 39 3 0 0 x.type (symbol_of_class (open_on AMD64) 0 class_external) (codes "hello") x.field x.counts refl refl (λ same. differ 4 5 same (omega arith)));
-  counts = (record { type = i386_dir32; field = record { symbol = 1; alone = refl; inside = omega arith; names = import_named I386 }; counts = tt; within = omega arith },
-    λ x. let type : 6 ≡ x.type = kind_of (field 11 1 i386_dir32) (field 11 x.field.symbol x.type) x.field.alone in differ 6 0x14 (type ∙ x.counts.0) (omega arith));
+  field = (
+    record { type = amd64_rel32; field = tt; counts = (0, (omega arith, (refl, refl))); within = omega arith },
+    λ x. not_against 39 3 0 0 x.type (symbol_of_class (open_on AMD64) 0 class_external) (codes "hello") x.field x.counts refl refl (λ same. differ 4 5 same (omega arith)),
+  );
+  counts = (
+    record { type = i386_dir32; field = record { symbol = 1; alone = refl; inside = omega arith; names = import_named I386 }; counts = tt; within = omega arith },
+    λ x. let type : 6 ≡ x.type = kind_of (field 11 1 i386_dir32) (field 11 x.field.symbol x.type) x.field.alone in differ 6 0x14 (type ∙ x.counts.0) (omega arith),
+  );
   within = (record { type = 9; field = record { symbol = 1; alone = refl; inside = omega arith; names = import_named AMD64 }; counts = (5, (omega arith, (refl, refl))); within = tt }, λ x. past_60 61 refl x.within);
 }
 
@@ -435,16 +453,26 @@ empty = 0 ∷ 0 ∷ 0 ∷ 0 ∷ []
 
 pub near_has_instruction : NearHasInstruction
 near_has_instruction = record {
-  alone = (record { type = i386_dir32; symbol = 2; alone = tt; names = hello_named; field = empty; four = refl; code = refl; counts = (refl, refl) },
-    λ x. let two : field 5 2 i386_dir32 ∷ field 11 1 i386_dir32 ∷ [] ≡ field 5 x.symbol x.type ∷ [] = x.alone in cc);
-  names = (record { type = i386_dir32; symbol = 1; alone = refl; names = tt; field = empty; four = refl; code = refl; counts = (refl, refl) },
-    λ x. other_named (passing_at I386).from.object.entries 1 x.symbol (symbol_of_class (imp_open I386) 0 class_external) x.names.symbol (codes "hello") (symbol_of (field 11 1 i386_dir32) (field 11 x.symbol x.type) x.alone) refl x.names.target x.names.named (λ same. differ 5 11 (sym same) (omega arith)));
-  four = (record { type = i386_dir32; symbol = 1; alone = refl; names = import_named I386; field = 0 ∷ 0 ∷ 0 ∷ []; four = tt; code = refl; counts = (refl, refl) },
-    λ x. three_bytes x.field x.four x.code);
-  code = (record { type = i386_dir32; symbol = 1; alone = refl; names = import_named I386; field = empty; four = refl; code = tt; counts = (refl, refl) },
-    λ x. let other : 0x15 ≡ 0x25 = second_of (0x15 ∷ 0 ∷ 0 ∷ 0 ∷ 0 ∷ []) (0x25 ∷ (x.field ++ [])) x.code in differ 0x15 0x25 other (omega arith));
-  counts = (record { type = i386_rel32; symbol = 3; alone = refl; names = open_named; field = empty; four = refl; code = refl; counts = tt },
-    λ x. let type : 0x14 ≡ x.type = kind_of (field 37 3 i386_rel32) (field 37 x.symbol x.type) x.alone in differ 6 0x14 (sym x.counts.0 ∙ sym type) (omega arith));
+  alone = (
+    record { type = i386_dir32; symbol = 2; alone = tt; names = hello_named; field = empty; four = refl; code = refl; counts = (refl, refl) },
+    λ x. let two : field 5 2 i386_dir32 ∷ field 11 1 i386_dir32 ∷ [] ≡ field 5 x.symbol x.type ∷ [] = x.alone in cc,
+  );
+  names = (
+    record { type = i386_dir32; symbol = 1; alone = refl; names = tt; field = empty; four = refl; code = refl; counts = (refl, refl) },
+    λ x. other_named (passing_at I386).from.object.entries 1 x.symbol (symbol_of_class (imp_open I386) 0 class_external) x.names.symbol (codes "hello") (symbol_of (field 11 1 i386_dir32) (field 11 x.symbol x.type) x.alone) refl x.names.target x.names.named (λ same. differ 5 11 (sym same) (omega arith)),
+  );
+  four = (
+    record { type = i386_dir32; symbol = 1; alone = refl; names = import_named I386; field = 0 ∷ 0 ∷ 0 ∷ []; four = tt; code = refl; counts = (refl, refl) },
+    λ x. three_bytes x.field x.four x.code,
+  );
+  code = (
+    record { type = i386_dir32; symbol = 1; alone = refl; names = import_named I386; field = empty; four = refl; code = tt; counts = (refl, refl) },
+    λ x. let other : 0x15 ≡ 0x25 = second_of (0x15 ∷ 0 ∷ 0 ∷ 0 ∷ 0 ∷ []) (0x25 ∷ (x.field ++ [])) x.code in differ 0x15 0x25 other (omega arith),
+  );
+  counts = (
+    record { type = i386_rel32; symbol = 3; alone = refl; names = open_named; field = empty; four = refl; code = refl; counts = tt },
+    λ x. let type : 0x14 ≡ x.type = kind_of (field 37 3 i386_rel32) (field 37 x.symbol x.type) x.alone in differ 6 0x14 (sym x.counts.0 ∙ sym type) (omega arith),
+  );
 }
 
 -- the five pieces, in bytes
@@ -459,27 +487,27 @@ unfolding lld_opened
 near_are_pieces_at = record {
   directory = (
     let image : List Range = with_other 0x2000 0x41 lld_image in
-    record { directory = tt; lookup_tables = are_located image own_tables 0x2040 refl; address_tables = are_located image own_tables 0x2068 refl; hint_names = are_located image (all_hints two_dlls) 0x2090 refl; dll_names = are_located image (all_names two_dlls) 0x209E refl },
+        record { directory = tt; lookup_tables = are_located image own_tables 0x2040 refl; address_tables = are_located image own_tables 0x2068 refl; hint_names = are_located image (all_hints two_dlls) 0x2090 refl; dll_names = are_located image (all_names two_dlls) 0x209E refl },
     λ x. other_byte (with_other 0x2000 0x41 lld_image) 0x2000 0x40 0x41 (drop 1 own_directory) refl (omega arith) x.directory,
   );
   lookup_tables = (
     let image : List Range = with_other 0x2040 8 lld_image in
-    record { directory = are_located image own_directory 0x2000 refl; lookup_tables = tt; address_tables = are_located image own_tables 0x2068 refl; hint_names = are_located image (all_hints two_dlls) 0x2090 refl; dll_names = are_located image (all_names two_dlls) 0x209E refl },
+        record { directory = are_located image own_directory 0x2000 refl; lookup_tables = tt; address_tables = are_located image own_tables 0x2068 refl; hint_names = are_located image (all_hints two_dlls) 0x2090 refl; dll_names = are_located image (all_names two_dlls) 0x209E refl },
     λ x. other_byte (with_other 0x2040 8 lld_image) 0x2040 7 8 (drop 1 own_tables) refl (omega arith) x.lookup_tables,
   );
   address_tables = (
     let image : List Range = with_other 0x2068 8 lld_image in
-    record { directory = are_located image own_directory 0x2000 refl; lookup_tables = are_located image own_tables 0x2040 refl; address_tables = tt; hint_names = are_located image (all_hints two_dlls) 0x2090 refl; dll_names = are_located image (all_names two_dlls) 0x209E refl },
+        record { directory = are_located image own_directory 0x2000 refl; lookup_tables = are_located image own_tables 0x2040 refl; address_tables = tt; hint_names = are_located image (all_hints two_dlls) 0x2090 refl; dll_names = are_located image (all_names two_dlls) 0x209E refl },
     λ x. other_byte (with_other 0x2068 8 lld_image) 0x2068 7 8 (drop 1 own_tables) refl (omega arith) x.address_tables,
   );
   hint_names = (
     let image : List Range = with_other 0x2090 6 lld_image in
-    record { directory = are_located image own_directory 0x2000 refl; lookup_tables = are_located image own_tables 0x2040 refl; address_tables = are_located image own_tables 0x2068 refl; hint_names = tt; dll_names = are_located image (all_names two_dlls) 0x209E refl },
+        record { directory = are_located image own_directory 0x2000 refl; lookup_tables = are_located image own_tables 0x2040 refl; address_tables = are_located image own_tables 0x2068 refl; hint_names = tt; dll_names = are_located image (all_names two_dlls) 0x209E refl },
     λ x. other_byte (with_other 0x2090 6 lld_image) 0x2090 5 6 (drop 1 (all_hints two_dlls)) refl (omega arith) x.hint_names,
   );
   dll_names = (
     let image : List Range = with_other 0x209E 0x63 lld_image in
-    record { directory = are_located image own_directory 0x2000 refl; lookup_tables = are_located image own_tables 0x2040 refl; address_tables = are_located image own_tables 0x2068 refl; hint_names = are_located image (all_hints two_dlls) 0x2090 refl; dll_names = tt },
+        record { directory = are_located image own_directory 0x2000 refl; lookup_tables = are_located image own_tables 0x2040 refl; address_tables = are_located image own_tables 0x2068 refl; hint_names = are_located image (all_hints two_dlls) 0x2090 refl; dll_names = tt },
     λ x. other_byte (with_other 0x209E 0x63 lld_image) 0x209E 0x62 0x63 (drop 1 (all_names two_dlls)) refl (omega arith) x.dll_names,
   );
 }
@@ -542,48 +570,48 @@ unfolding u32_bytes TableAt
 near_finds_by = record {
   name_field = (
     let image : List Range = with_name_at 0x2000 named_otherwise in
-    record { name = 0x2000; name_field = tt; has_name = omega arith; name_text = is_foo image 0x2000 refl; addresses = 0x1040; addresses_field = addresses_field image refl; has_addresses = omega arith; table = 0x1028; table_field = inl (lookups_field image refl); thunks = five_six image 0x1028 refl refl refl },
+        record { name = 0x2000; name_field = tt; has_name = omega arith; name_text = is_foo image 0x2000 refl; addresses = 0x1040; addresses_field = addresses_field image refl; has_addresses = omega arith; table = 0x1028; table_field = inl (lookups_field image refl); thunks = five_six image 0x1028 refl refl refl },
     λ x. bar_there (with_name_at 0x2000 named_otherwise) x.name (number_once (with_name_at 0x2000 named_otherwise) 4 0x100C x.name 0x1058 x.name_field (name_field (with_name_at 0x2000 named_otherwise) refl)) refl x.name_text,
   );
   has_name = (
     let image : List Range = with_name_at 0 without_name in
-    record { name = 0; name_field = zero_4 image 0x100C refl; has_name = tt; name_text = is_foo image 0 refl; addresses = 0x1040; addresses_field = addresses_field image refl; has_addresses = omega arith; table = 0x1028; table_field = inl (lookups_field image refl); thunks = five_six image 0x1028 refl refl refl },
+        record { name = 0; name_field = zero_4 image 0x100C refl; has_name = tt; name_text = is_foo image 0 refl; addresses = 0x1040; addresses_field = addresses_field image refl; has_addresses = omega arith; table = 0x1028; table_field = inl (lookups_field image refl); thunks = five_six image 0x1028 refl refl refl },
     λ x. no_name x.name x.has_name (number_once (with_name_at 0 without_name) 4 0x100C x.name 0 x.name_field (zero_4 (with_name_at 0 without_name) 0x100C refl)),
   );
   name_text = (
     let image : List Range = named_otherwise in
-    record { name = 0x1058; name_field = name_field image refl; has_name = omega arith; name_text = tt; addresses = 0x1040; addresses_field = addresses_field image refl; has_addresses = omega arith; table = 0x1028; table_field = inl (lookups_field image refl); thunks = five_six image 0x1028 refl refl refl },
+        record { name = 0x1058; name_field = name_field image refl; has_name = omega arith; name_text = tt; addresses = 0x1040; addresses_field = addresses_field image refl; has_addresses = omega arith; table = 0x1028; table_field = inl (lookups_field image refl); thunks = five_six image 0x1028 refl refl refl },
     λ x. bar_there named_otherwise x.name (number_once named_otherwise 4 0x100C x.name 0x1058 x.name_field (name_field named_otherwise refl)) refl x.name_text,
   );
   addresses_field = (
     let image : List Range = cut_descriptor in
-    record { name = 0x1058; name_field = name_field image refl; has_name = omega arith; name_text = is_foo image 0x1058 refl; addresses = 0x1040; addresses_field = tt; has_addresses = omega arith; table = 0x1028; table_field = inl (lookups_field image refl); thunks = five_six image 0x1028 refl refl refl },
+        record { name = 0x1058; name_field = name_field image refl; has_name = omega arith; name_text = is_foo image 0x1058 refl; addresses = 0x1040; addresses_field = tt; has_addresses = omega arith; table = 0x1028; table_field = inl (lookups_field image refl); thunks = five_six image 0x1028 refl refl refl },
     λ x. absent cut_descriptor 0x1010 4 x.addresses refl (omega arith) x.addresses_field,
   );
   has_addresses = (
     let image : List Range = without_addresses in
-    record { name = 0x1058; name_field = name_field image refl; has_name = omega arith; name_text = is_foo image 0x1058 refl; addresses = 0; addresses_field = zero_4 image 0x1010 refl; has_addresses = tt; table = 0x1028; table_field = inl (lookups_field image refl); thunks = five_six image 0x1028 refl refl refl },
+        record { name = 0x1058; name_field = name_field image refl; has_name = omega arith; name_text = is_foo image 0x1058 refl; addresses = 0; addresses_field = zero_4 image 0x1010 refl; has_addresses = tt; table = 0x1028; table_field = inl (lookups_field image refl); thunks = five_six image 0x1028 refl refl refl },
     λ x. no_name x.addresses x.has_addresses (number_once without_addresses 4 0x1010 x.addresses 0 x.addresses_field (zero_4 without_addresses 0x1010 refl)),
   );
   table_field = (
     let image : List Range = table_elsewhere in
-    record {
-      name = 0x1058;
-      name_field = name_field image refl;
-      has_name = omega arith;
-      name_text = is_foo image 0x1058 refl;
-      addresses = 0x1040;
-      addresses_field = addresses_field image refl;
-      has_addresses = omega arith;
-      table = 0x2000;
-      table_field = tt;
-      thunks = (thunk_8 image 0x2000 7 (omega arith) (number image 8 0x2000 0x8000_0000_0000_0007 (ordinal_8 7) refl refl refl), number image 8 0x2008 0 (zeros 8) refl refl refl);
-    },
+        record {
+          name = 0x1058;
+          name_field = name_field image refl;
+          has_name = omega arith;
+          name_text = is_foo image 0x1058 refl;
+          addresses = 0x1040;
+          addresses_field = addresses_field image refl;
+          has_addresses = omega arith;
+          table = 0x2000;
+          table_field = tt;
+          thunks = (thunk_8 image 0x2000 7 (omega arith) (number image 8 0x2000 0x8000_0000_0000_0007 (ordinal_8 7) refl refl refl), number image 8 0x2008 0 (zeros 8) refl refl refl);
+        },
     λ x. five_there x.table (led_to x.table x.table_field) x.thunks.0,
   );
   thunks = (
     let image : List Range = table_elsewhere in
-    record { name = 0x1058; name_field = name_field image refl; has_name = omega arith; name_text = is_foo image 0x1058 refl; addresses = 0x1040; addresses_field = addresses_field image refl; has_addresses = omega arith; table = 0x1028; table_field = inl (lookups_field image refl); thunks = tt },
+        record { name = 0x1058; name_field = name_field image refl; has_name = omega arith; name_text = is_foo image 0x1058 refl; addresses = 0x1040; addresses_field = addresses_field image refl; has_addresses = omega arith; table = 0x1028; table_field = inl (lookups_field image refl); thunks = tt },
     λ x. five_there x.table (led_to x.table x.table_field) x.thunks.0,
   );
 }

@@ -209,106 +209,124 @@ open_later = refl
 pub near_program_links : NearProgramLinks
 unfolding searched SymbolsAt is_at is_one DirectoryAt
 near_program_links = record {
-  linked = (record {
-    linked = tt;
-    imports = imports_of (flavor_placed AMD64 0 flavor_bases_8) memberless (zed_flavor AMD64) (record { top = of_foo.top; loads = of_foo.loads; table_located = of_foo.table_located; entries = of_foo.entries; gets = of_foo.gets }) of_zed refl;
-    directory = links.directory;
-    null = links.null;
-    ended = links.ended;
-    targets = links.targets;
-    defined = links.defined;
-    listed = links.listed;
-    claimed = links.claimed;
-  },
-    λ x. none_in _ x.linked.0.from_members.0);
-  imports = (record {
-    linked = links.linked;
-    imports = tt;
-    directory = links.directory;
-    null = links.null;
-    ended = links.ended;
-    targets = all_find later_opened (with_tables later_opened) refl;
-    defined = all_at later_opened (undefined_names (with_tables later_opened)) refl;
-    listed = all_once later_opened (symbols_listed (all_members AMD64 (flavor_inputs AMD64))) refl;
-    claimed = links.claimed;
-  },
-    λ x. differ 136 140 (other_address (codes "__imp_open") (definitions_of (codes "__imp_open") later_opened) 136 140 (x.imports 0 (foo_flavor AMD64) refl).entries.1.0 open_later) (omega arith));
-  targets = (record {
-    linked = links.linked;
-    imports = imports_of _ (foo_flavor AMD64) (zed_flavor AMD64) (foo_beside leading_nowhere refl (refl, (refl, (refl, (refl, tt)))) refl (refl, tt)) (zed_beside leading_nowhere refl (refl, (refl, (refl, (refl, tt)))) refl (refl, tt)) refl;
-    directory = links.directory;
-    null = links.null;
-    ended = links.ended;
-    targets = tt;
-    defined = links.defined;
-    listed = links.listed;
-    claimed = links.claimed;
-  },
-    λ x. nowhere x.targets.0.0.0.0 x.targets.0.0.0.1);
-  null = (record {
-    linked = links.linked;
-    imports = imports_of unnamed (foo_flavor AMD64) (zed_flavor AMD64) foo_unnamed zed_unnamed refl;
-    directory = links.directory;
-    null = tt;
-    ended = links.ended;
-    targets = ((tt, tt), links.targets);
-    defined = all_at unnamed (undefined_names (with_tables unnamed)) refl;
-    listed = links.listed;
-    claimed = links.claimed;
-  },
-    λ x. differ 48 220 (other_address (codes "__NULL_IMPORT_DESCRIPTOR") (definitions_of (codes "__NULL_IMPORT_DESCRIPTOR") unnamed) 48 220 x.null at_names) (omega arith));
-  defined = (record {
-    linked = links.linked;
-    imports = imports_of _ (foo_flavor AMD64) (zed_flavor AMD64) (foo_beside losing refl (refl, (refl, (refl, (refl, tt)))) refl (refl, tt)) (zed_beside losing refl (refl, (refl, (refl, (refl, tt)))) refl (refl, tt)) refl;
-    directory = links.directory;
-    null = links.null;
-    ended = links.ended;
-    targets = ((tt, tt), links.targets);
-    defined = tt;
-    listed = links.listed;
-    claimed = links.claimed;
-  },
-    λ x. no_definition _ x.defined.0.1);
-  listed = (record {
-    linked = links.linked;
-    imports = imports_of _ (foo_flavor AMD64) (zed_flavor AMD64) (foo_beside again.object refl (refl, (refl, (refl, (refl, tt)))) refl (refl, tt)) (zed_beside again.object refl (refl, (refl, (refl, (refl, tt)))) refl (refl, tt)) refl;
-    directory = links.directory;
-    null = links.null;
-    ended = links.ended;
-    targets = links.targets;
-    defined = links.defined;
-    listed = tt;
-    claimed = links.claimed;
-  },
+  linked = (
+    record {
+      linked = tt;
+      imports = imports_of (flavor_placed AMD64 0 flavor_bases_8) memberless (zed_flavor AMD64) (record { top = of_foo.top; loads = of_foo.loads; table_located = of_foo.table_located; entries = of_foo.entries; gets = of_foo.gets }) of_zed refl;
+      directory = links.directory;
+      null = links.null;
+      ended = links.ended;
+      targets = links.targets;
+      defined = links.defined;
+      listed = links.listed;
+      claimed = links.claimed;
+    },
+    λ x. none_in _ x.linked.0.from_members.0,
+  );
+  imports = (
+    record {
+      linked = links.linked;
+      imports = tt;
+      directory = links.directory;
+      null = links.null;
+      ended = links.ended;
+      targets = all_find later_opened (with_tables later_opened) refl;
+      defined = all_at later_opened (undefined_names (with_tables later_opened)) refl;
+      listed = all_once later_opened (symbols_listed (all_members AMD64 (flavor_inputs AMD64))) refl;
+      claimed = links.claimed;
+    },
+    λ x. differ 136 140 (other_address (codes "__imp_open") (definitions_of (codes "__imp_open") later_opened) 136 140 (x.imports 0 (foo_flavor AMD64) refl).entries.1.0 open_later) (omega arith),
+  );
+  targets = (
+    record {
+      linked = links.linked;
+      imports = imports_of _ (foo_flavor AMD64) (zed_flavor AMD64) (foo_beside leading_nowhere refl (refl, (refl, (refl, (refl, tt)))) refl (refl, tt)) (zed_beside leading_nowhere refl (refl, (refl, (refl, (refl, tt)))) refl (refl, tt)) refl;
+      directory = links.directory;
+      null = links.null;
+      ended = links.ended;
+      targets = tt;
+      defined = links.defined;
+      listed = links.listed;
+      claimed = links.claimed;
+    },
+    λ x. nowhere x.targets.0.0.0.0 x.targets.0.0.0.1,
+  );
+  null = (
+    record {
+      linked = links.linked;
+      imports = imports_of unnamed (foo_flavor AMD64) (zed_flavor AMD64) foo_unnamed zed_unnamed refl;
+      directory = links.directory;
+      null = tt;
+      ended = links.ended;
+      targets = ((tt, tt), links.targets);
+      defined = all_at unnamed (undefined_names (with_tables unnamed)) refl;
+      listed = links.listed;
+      claimed = links.claimed;
+    },
+    λ x. differ 48 220 (other_address (codes "__NULL_IMPORT_DESCRIPTOR") (definitions_of (codes "__NULL_IMPORT_DESCRIPTOR") unnamed) 48 220 x.null at_names) (omega arith),
+  );
+  defined = (
+    record {
+      linked = links.linked;
+      imports = imports_of _ (foo_flavor AMD64) (zed_flavor AMD64) (foo_beside losing refl (refl, (refl, (refl, (refl, tt)))) refl (refl, tt)) (zed_beside losing refl (refl, (refl, (refl, (refl, tt)))) refl (refl, tt)) refl;
+      directory = links.directory;
+      null = links.null;
+      ended = links.ended;
+      targets = ((tt, tt), links.targets);
+      defined = tt;
+      listed = links.listed;
+      claimed = links.claimed;
+    },
+    λ x. no_definition _ x.defined.0.1,
+  );
+  listed = (
+    record {
+      linked = links.linked;
+      imports = imports_of _ (foo_flavor AMD64) (zed_flavor AMD64) (foo_beside again.object refl (refl, (refl, (refl, (refl, tt)))) refl (refl, tt)) (zed_beside again.object refl (refl, (refl, (refl, (refl, tt)))) refl (refl, tt)) refl;
+      directory = links.directory;
+      null = links.null;
+      ended = links.ended;
+      targets = links.targets;
+      defined = links.defined;
+      listed = tt;
+      claimed = links.claimed;
+    },
     λ x. twice (codes "queue") (placed_from flavor_bases_8 (again.object ∷ flavor_objects AMD64 0)) queue_twice
-      (all_among (IsDefinedOnce (placed_from flavor_bases_8 (again.object ∷ flavor_objects AMD64 0))) (codes "queue") (symbols_listed (all_members AMD64 (flavor_inputs AMD64)))
-      (any_among (codes "queue") (symbols_listed (all_members AMD64 (flavor_inputs AMD64))) refl) x.listed));
-  claimed = (record {
-    linked = links.linked;
-    imports = imports_of _ (foo_flavor AMD64) (zed_flavor AMD64) (foo_beside claiming_more refl (refl, (refl, (refl, (refl, tt)))) refl (refl, tt)) (zed_beside claiming_more refl (refl, (refl, (refl, (refl, tt)))) refl (refl, tt)) refl;
-    directory = links.directory;
-    null = links.null;
-    ended = links.ended;
-    targets = ((tt, tt), links.targets);
-    defined = links.defined;
-    listed = links.listed;
-    claimed = tt;
-  },
-    λ x. none_passes (bytes_eq (codes "more")) (codes "more") (own_names OfMember AMD64 (flavor_inputs AMD64)) refl ((x.claimed (codes "more")).0 (0, omega arith, refl)) refl);
-  directory = (record { linked = tt; imports = λ i p at. absurd (none_at p at); directory = tt; null = tt; ended = tt; targets = tt; defined = tt; listed = tt; claimed = refl },
-    λ x. nothing_there (zeros 20) 4 (omega arith) x.directory);
-  ended = (record {
-    linked = tt;
-    imports = λ i p at. absurd (none_at p at);
-    directory = zeros_there;
-    null = refl;
-    ended = tt;
-    targets = ((tt, tt), ((tt, tt), tt));
-    defined = tt;
-    listed = tt;
-    claimed = same_names (null_descriptor_symbol ∷ []) (null_descriptor_symbol ∷ []) refl;
-  },
-    λ x. differ 8 48 (sym x.ended) (omega arith));
+        (all_among (IsDefinedOnce (placed_from flavor_bases_8 (again.object ∷ flavor_objects AMD64 0))) (codes "queue") (symbols_listed (all_members AMD64 (flavor_inputs AMD64)))
+        (any_among (codes "queue") (symbols_listed (all_members AMD64 (flavor_inputs AMD64))) refl) x.listed),
+  );
+  claimed = (
+    record {
+      linked = links.linked;
+      imports = imports_of _ (foo_flavor AMD64) (zed_flavor AMD64) (foo_beside claiming_more refl (refl, (refl, (refl, (refl, tt)))) refl (refl, tt)) (zed_beside claiming_more refl (refl, (refl, (refl, (refl, tt)))) refl (refl, tt)) refl;
+      directory = links.directory;
+      null = links.null;
+      ended = links.ended;
+      targets = ((tt, tt), links.targets);
+      defined = links.defined;
+      listed = links.listed;
+      claimed = tt;
+    },
+    λ x. none_passes (bytes_eq (codes "more")) (codes "more") (own_names OfMember AMD64 (flavor_inputs AMD64)) refl ((x.claimed (codes "more")).0 (0, omega arith, refl)) refl,
+  );
+  directory = (
+    record { linked = tt; imports = λ i p at. absurd (none_at p at); directory = tt; null = tt; ended = tt; targets = tt; defined = tt; listed = tt; claimed = refl },
+    λ x. nothing_there (zeros 20) 4 (omega arith) x.directory,
+  );
+  ended = (
+    record {
+      linked = tt;
+      imports = λ i p at. absurd (none_at p at);
+      directory = zeros_there;
+      null = refl;
+      ended = tt;
+      targets = ((tt, tt), ((tt, tt), tt));
+      defined = tt;
+      listed = tt;
+      claimed = same_names (null_descriptor_symbol ∷ []) (null_descriptor_symbol ∷ []) refl;
+    },
+    λ x. differ 8 48 (sym x.ended) (omega arith),
+  );
 }
 
 -- Beside other libraries.
@@ -391,39 +409,49 @@ entry_later = refl
 pub near_links_beside : NearLinksBeside
 unfolding searched is_one SymbolsAt DirectoryAt members_from ends_behind rows_before
 near_links_beside = record {
-  rows = (record {
-    linked = (tt, tt);
-    members = only_run AMD64 touching_8 (table_of (codes ".idata$2") (zeros 20) ∷ []) four_before (record { imports = λ i p at. absurd (none_at p at); targets = tt; defined = tt });
-    rows = tt;
-    directory = are_located (image_of AMD64 touching_8 (placed_from touching_8 (table_of (codes ".idata$2") (zeros 20) ∷ []))) (zeros 20) 4 refl;
-    listed = tt;
-  },
-    λ x. differ 4 8 (sym (x.rows 0 four_before refl)) (omega arith));
-  linked = (record {
-    linked = tt;
-    members = only_run AMD64 touching_8 (program_objects AMD64) memberless_run (record { imports = run_imports memberless_foo (let x = of_run.imports 0 (gnu_foo AMD64) refl in record { top = x.top; loads = x.loads; table_located = x.table_located; entries = x.entries; gets = x.gets }) refl; targets = of_run.targets; defined = of_run.defined });
-    rows = only_rows AMD64 touching_8 (program_objects AMD64) memberless_run refl;
-    directory = beside_none.directory;
-    listed = beside_none.listed;
-  },
-    λ x. none_in _ x.linked.0.0.from_members.0);
-  members = (record {
-    linked = beside_none.linked;
-    members = tt;
-    rows = only_rows AMD64 touching_8 (map with_later_open (program_objects AMD64)) plain_run refl;
-    directory = beside_none.directory;
-    listed = all_once later_placed (linked_symbols AMD64 (both_inputs AMD64)) refl;
-  },
-    λ x. differ 128 132 (other_address (codes "__imp_open") (definitions_of (codes "__imp_open") later_placed) 128 132 ((x.members 0 plain_run refl).imports 0 (gnu_foo AMD64) refl).entries.1.0 entry_later) (omega arith));
-  directory = (record { linked = tt; members = λ k r at. absurd (none_at r at); rows = λ k r at. absurd (none_at r at); directory = tt; listed = tt },
-    λ x. nothing_there (zeros 20) 4 (omega arith) x.directory);
-  listed = (record {
-    linked = beside_none.linked;
-    members = only_run AMD64 touching_8 again_objects plain_run again_run;
-    rows = only_rows AMD64 touching_8 again_objects plain_run refl;
-    directory = beside_none.directory;
-    listed = tt;
-  },
+  rows = (
+    record {
+      linked = (tt, tt);
+      members = only_run AMD64 touching_8 (table_of (codes ".idata$2") (zeros 20) ∷ []) four_before (record { imports = λ i p at. absurd (none_at p at); targets = tt; defined = tt });
+      rows = tt;
+      directory = are_located (image_of AMD64 touching_8 (placed_from touching_8 (table_of (codes ".idata$2") (zeros 20) ∷ []))) (zeros 20) 4 refl;
+      listed = tt;
+    },
+    λ x. differ 4 8 (sym (x.rows 0 four_before refl)) (omega arith),
+  );
+  linked = (
+    record {
+      linked = tt;
+      members = only_run AMD64 touching_8 (program_objects AMD64) memberless_run (record { imports = run_imports memberless_foo (let x = of_run.imports 0 (gnu_foo AMD64) refl in record { top = x.top; loads = x.loads; table_located = x.table_located; entries = x.entries; gets = x.gets }) refl; targets = of_run.targets; defined = of_run.defined });
+      rows = only_rows AMD64 touching_8 (program_objects AMD64) memberless_run refl;
+      directory = beside_none.directory;
+      listed = beside_none.listed;
+    },
+    λ x. none_in _ x.linked.0.0.from_members.0,
+  );
+  members = (
+    record {
+      linked = beside_none.linked;
+      members = tt;
+      rows = only_rows AMD64 touching_8 (map with_later_open (program_objects AMD64)) plain_run refl;
+      directory = beside_none.directory;
+      listed = all_once later_placed (linked_symbols AMD64 (both_inputs AMD64)) refl;
+    },
+    λ x. differ 128 132 (other_address (codes "__imp_open") (definitions_of (codes "__imp_open") later_placed) 128 132 ((x.members 0 plain_run refl).imports 0 (gnu_foo AMD64) refl).entries.1.0 entry_later) (omega arith),
+  );
+  directory = (
+    record { linked = tt; members = λ k r at. absurd (none_at r at); rows = λ k r at. absurd (none_at r at); directory = tt; listed = tt },
+    λ x. nothing_there (zeros 20) 4 (omega arith) x.directory,
+  );
+  listed = (
+    record {
+      linked = beside_none.linked;
+      members = only_run AMD64 touching_8 again_objects plain_run again_run;
+      rows = only_rows AMD64 touching_8 again_objects plain_run refl;
+      directory = beside_none.directory;
+      listed = tt;
+    },
     λ x. twice (codes "queue") (placed_from touching_8 again_objects) queue_again
-      (all_among (IsDefinedOnce (placed_from touching_8 again_objects)) (codes "queue") (linked_symbols AMD64 (both_inputs AMD64)) (any_among (codes "queue") (linked_symbols AMD64 (both_inputs AMD64)) refl) x.listed));
+        (all_among (IsDefinedOnce (placed_from touching_8 again_objects)) (codes "queue") (linked_symbols AMD64 (both_inputs AMD64)) (any_among (codes "queue") (linked_symbols AMD64 (both_inputs AMD64)) refl) x.listed),
+  );
 }

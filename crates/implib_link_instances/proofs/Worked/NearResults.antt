@@ -119,18 +119,24 @@ gets_f = gets_address placed_again (codes "__imp__f@8") 152 refl
 pub near_input_imports : NearInputImports
 unfolding searched SymbolsAt SymbolsGet
 near_input_imports = record {
-  top = (record { top = tt; loads = foo_loads.loads; table_located = foo_loads.table_located; entries = (refl, (refl, (refl, (refl, tt)))); gets = symbols_get (without_descriptor (flavor_placed AMD64 0 flavor_bases_8)) 8 128 (imp_symbols (foo_flavor AMD64)) (refl, (refl, (refl, (refl, tt)))) },
-    λ x. no_definition _ x.top);
-  entries = (record {
-    top = refl;
-    loads = foo_loads.loads;
-    table_located = foo_loads.table_located;
-    entries = tt;
-    gets = (gets_nine, (gets_open, (gets_stat, (gets_f, tt))));
-  },
-    λ x. twice_defined (definitions_of (codes "__imp_open") (flavor_placed AMD64 0 flavor_bases_8 ++ open_again ∷ [])) _ refl x.entries.1.0);
-  table_located = (record { top = refl; loads = foo_loads.loads; table_located = tt; entries = (refl, (refl, (refl, (refl, tt)))); gets = symbols_get (flavor_placed AMD64 0 (record flavor_bases_8 { addresses = 136 })) 8 136 (imp_symbols (foo_flavor AMD64)) (refl, (refl, (refl, (refl, tt)))) },
-    λ x. differ 128 136 (sym (number_once (flavor_image AMD64 0 flavor_bases_8) 4 24 x.loads.plain.addresses 128 x.loads.plain.addresses_field flavor_table) ∙ x.table_located) (omega arith));
+  top = (
+    record { top = tt; loads = foo_loads.loads; table_located = foo_loads.table_located; entries = (refl, (refl, (refl, (refl, tt)))); gets = symbols_get (without_descriptor (flavor_placed AMD64 0 flavor_bases_8)) 8 128 (imp_symbols (foo_flavor AMD64)) (refl, (refl, (refl, (refl, tt)))) },
+    λ x. no_definition _ x.top,
+  );
+  entries = (
+    record {
+      top = refl;
+      loads = foo_loads.loads;
+      table_located = foo_loads.table_located;
+      entries = tt;
+      gets = (gets_nine, (gets_open, (gets_stat, (gets_f, tt))));
+    },
+    λ x. twice_defined (definitions_of (codes "__imp_open") (flavor_placed AMD64 0 flavor_bases_8 ++ open_again ∷ [])) _ refl x.entries.1.0,
+  );
+  table_located = (
+    record { top = refl; loads = foo_loads.loads; table_located = tt; entries = (refl, (refl, (refl, (refl, tt)))); gets = symbols_get (flavor_placed AMD64 0 (record flavor_bases_8 { addresses = 136 })) 8 136 (imp_symbols (foo_flavor AMD64)) (refl, (refl, (refl, (refl, tt)))) },
+    λ x. differ 128 136 (sym (number_once (flavor_image AMD64 0 flavor_bases_8) 4 24 x.loads.plain.addresses 128 x.loads.plain.addresses_field flavor_table) ∙ x.table_located) (omega arith),
+  );
 }
 
 -- both thunks are read, and zeros are written at a table
@@ -155,7 +161,7 @@ unfolding BytesAt
 begins_with memory a b letter other rest at is located apart =
     let there : BytesAt memory b (letter ∷ rest) = subst (λ n. BytesAt memory n (letter ∷ rest)) at located in
     let same : other ≡ letter = value other letter (sym is ∙ there.0) in
-    elim apart [ | inl less ↦ differ letter other (sym same) less | inr less ↦ differ other letter same less ]
+    elim apart [ inl less ↦ differ letter other (sym same) less | inr less ↦ differ other letter same less ]
 
 no_thunk : (memory : List Range) (a : ℕ) (ask : Ask) → a ≡ 0x1038 → NumberAt memory 8 0x1038 0 → ThunkAt memory 8 a ask → ⊥
 no_thunk memory a ask is none x = x.not_zero (number_once memory 8 a x.thunk 0 x.located (subst (λ n. NumberAt memory 8 n 0) (sym is) none))
@@ -170,101 +176,115 @@ not_seven table is x =
 pub near_fills_by : NearFillsBy
 unfolding u32_bytes FillsTable first_start
 near_fills_by = record {
-  name_field = (record {
-    name = 0x1058;
-    name_field = tt;
-    has_name = omega arith;
-    name_text = record { no_nul = refl; located = are_located named_elsewhere (foo ++ 0 ∷ []) 0x1058 refl };
-    addresses = 0x1040;
-    addresses_field = number named_elsewhere 4 0x1010 0x1040 (0x40 ∷ 0x10 ∷ 0 ∷ 0 ∷ []) refl refl refl;
-    has_addresses = omega arith;
-    lookups = 0x1028;
-    lookups_field = number named_elsewhere 4 0x1000 0x1028 (0x28 ∷ 0x10 ∷ 0 ∷ 0 ∷ []) refl refl refl;
-    fills = fills_both named_elsewhere 0x1040 refl refl refl;
-  },
-    λ x. begins_with named_elsewhere x.name 0x1028 0x66 5 (codes "oo.dll" ++ 0 ∷ []) (number_once named_elsewhere 4 0x100C x.name 0x1028 x.name_field (number named_elsewhere 4 0x100C 0x1028 (0x28 ∷ 0x10 ∷ 0 ∷ 0 ∷ []) refl refl refl)) refl x.name_text.located (inr (omega arith)));
-  has_name = (record {
-    name = 0;
-    name_field = number named_at_zero 4 0x100C 0 (zeros 4) refl refl refl;
-    has_name = tt;
-    name_text = record { no_nul = refl; located = are_located named_at_zero (foo ++ 0 ∷ []) 0 refl };
-    addresses = 0x1040;
-    addresses_field = number named_at_zero 4 0x1010 0x1040 (0x40 ∷ 0x10 ∷ 0 ∷ 0 ∷ []) refl refl refl;
-    has_addresses = omega arith;
-    lookups = 0x1028;
-    lookups_field = number named_at_zero 4 0x1000 0x1028 (0x28 ∷ 0x10 ∷ 0 ∷ 0 ∷ []) refl refl refl;
-    fills = fills_both named_at_zero 0x1040 refl refl refl;
-  },
-    λ x. no_name x.name x.has_name (number_once named_at_zero 4 0x100C x.name 0 x.name_field (zero_4 named_at_zero 0x100C refl)));
-  name_text = (record {
-    name = 0x1058;
-    name_field = number named_otherwise 4 0x100C 0x1058 (0x58 ∷ 0x10 ∷ 0 ∷ 0 ∷ []) refl refl refl;
-    has_name = omega arith;
-    name_text = tt;
-    addresses = 0x1040;
-    addresses_field = number named_otherwise 4 0x1010 0x1040 (0x40 ∷ 0x10 ∷ 0 ∷ 0 ∷ []) refl refl refl;
-    has_addresses = omega arith;
-    lookups = 0x1028;
-    lookups_field = number named_otherwise 4 0x1000 0x1028 (0x28 ∷ 0x10 ∷ 0 ∷ 0 ∷ []) refl refl refl;
-    fills = fills_both named_otherwise 0x1040 refl refl refl;
-  },
-    λ x. begins_with named_otherwise x.name 0x1058 0x66 0x62 (codes "oo.dll" ++ 0 ∷ []) (number_once named_otherwise 4 0x100C x.name 0x1058 x.name_field (number named_otherwise 4 0x100C 0x1058 (0x58 ∷ 0x10 ∷ 0 ∷ 0 ∷ []) refl refl refl)) refl x.name_text.located (inr (omega arith)));
-  addresses_field = (record {
-    name = 0x1058;
-    name_field = number entries_elsewhere 4 0x100C 0x1058 (0x58 ∷ 0x10 ∷ 0 ∷ 0 ∷ []) refl refl refl;
-    has_name = omega arith;
-    name_text = record { no_nul = refl; located = are_located entries_elsewhere (foo ++ 0 ∷ []) 0x1058 refl };
-    addresses = 0x1040;
-    addresses_field = tt;
-    has_addresses = omega arith;
-    lookups = 0x1028;
-    lookups_field = number entries_elsewhere 4 0x1000 0x1028 (0x28 ∷ 0x10 ∷ 0 ∷ 0 ∷ []) refl refl refl;
-    fills = fills_both entries_elsewhere 0x1040 refl refl refl;
-  },
+  name_field = (
+    record {
+      name = 0x1058;
+      name_field = tt;
+      has_name = omega arith;
+      name_text = record { no_nul = refl; located = are_located named_elsewhere (foo ++ 0 ∷ []) 0x1058 refl };
+      addresses = 0x1040;
+      addresses_field = number named_elsewhere 4 0x1010 0x1040 (0x40 ∷ 0x10 ∷ 0 ∷ 0 ∷ []) refl refl refl;
+      has_addresses = omega arith;
+      lookups = 0x1028;
+      lookups_field = number named_elsewhere 4 0x1000 0x1028 (0x28 ∷ 0x10 ∷ 0 ∷ 0 ∷ []) refl refl refl;
+      fills = fills_both named_elsewhere 0x1040 refl refl refl;
+    },
+    λ x. begins_with named_elsewhere x.name 0x1028 0x66 5 (codes "oo.dll" ++ 0 ∷ []) (number_once named_elsewhere 4 0x100C x.name 0x1028 x.name_field (number named_elsewhere 4 0x100C 0x1028 (0x28 ∷ 0x10 ∷ 0 ∷ 0 ∷ []) refl refl refl)) refl x.name_text.located (inr (omega arith)),
+  );
+  has_name = (
+    record {
+      name = 0;
+      name_field = number named_at_zero 4 0x100C 0 (zeros 4) refl refl refl;
+      has_name = tt;
+      name_text = record { no_nul = refl; located = are_located named_at_zero (foo ++ 0 ∷ []) 0 refl };
+      addresses = 0x1040;
+      addresses_field = number named_at_zero 4 0x1010 0x1040 (0x40 ∷ 0x10 ∷ 0 ∷ 0 ∷ []) refl refl refl;
+      has_addresses = omega arith;
+      lookups = 0x1028;
+      lookups_field = number named_at_zero 4 0x1000 0x1028 (0x28 ∷ 0x10 ∷ 0 ∷ 0 ∷ []) refl refl refl;
+      fills = fills_both named_at_zero 0x1040 refl refl refl;
+    },
+    λ x. no_name x.name x.has_name (number_once named_at_zero 4 0x100C x.name 0 x.name_field (zero_4 named_at_zero 0x100C refl)),
+  );
+  name_text = (
+    record {
+      name = 0x1058;
+      name_field = number named_otherwise 4 0x100C 0x1058 (0x58 ∷ 0x10 ∷ 0 ∷ 0 ∷ []) refl refl refl;
+      has_name = omega arith;
+      name_text = tt;
+      addresses = 0x1040;
+      addresses_field = number named_otherwise 4 0x1010 0x1040 (0x40 ∷ 0x10 ∷ 0 ∷ 0 ∷ []) refl refl refl;
+      has_addresses = omega arith;
+      lookups = 0x1028;
+      lookups_field = number named_otherwise 4 0x1000 0x1028 (0x28 ∷ 0x10 ∷ 0 ∷ 0 ∷ []) refl refl refl;
+      fills = fills_both named_otherwise 0x1040 refl refl refl;
+    },
+    λ x. begins_with named_otherwise x.name 0x1058 0x66 0x62 (codes "oo.dll" ++ 0 ∷ []) (number_once named_otherwise 4 0x100C x.name 0x1058 x.name_field (number named_otherwise 4 0x100C 0x1058 (0x58 ∷ 0x10 ∷ 0 ∷ 0 ∷ []) refl refl refl)) refl x.name_text.located (inr (omega arith)),
+  );
+  addresses_field = (
+    record {
+      name = 0x1058;
+      name_field = number entries_elsewhere 4 0x100C 0x1058 (0x58 ∷ 0x10 ∷ 0 ∷ 0 ∷ []) refl refl refl;
+      has_name = omega arith;
+      name_text = record { no_nul = refl; located = are_located entries_elsewhere (foo ++ 0 ∷ []) 0x1058 refl };
+      addresses = 0x1040;
+      addresses_field = tt;
+      has_addresses = omega arith;
+      lookups = 0x1028;
+      lookups_field = number entries_elsewhere 4 0x1000 0x1028 (0x28 ∷ 0x10 ∷ 0 ∷ 0 ∷ []) refl refl refl;
+      fills = fills_both entries_elsewhere 0x1040 refl refl refl;
+    },
     λ x.
-      let at : x.addresses ≡ 0x1070 = number_once entries_elsewhere 4 0x1010 x.addresses 0x1070 x.addresses_field (number entries_elsewhere 4 0x1010 0x1070 (0x70 ∷ 0x10 ∷ 0 ∷ 0 ∷ []) refl refl refl) in
-      let same : 0x1048 ≡ x.addresses + 8 = ap first_start x.fills.1.1.1 in
-      differ 0x1048 0x1078 (same ∙ ap (λ n. n + 8) at) (omega arith));
-  has_addresses = (record {
-    name = 0x1058;
-    name_field = number without_addresses 4 0x100C 0x1058 (0x58 ∷ 0x10 ∷ 0 ∷ 0 ∷ []) refl refl refl;
-    has_name = omega arith;
-    name_text = record { no_nul = refl; located = are_located without_addresses (foo ++ 0 ∷ []) 0x1058 refl };
-    addresses = 0;
-    addresses_field = number without_addresses 4 0x1010 0 (zeros 4) refl refl refl;
-    has_addresses = tt;
-    lookups = 0x1028;
-    lookups_field = number without_addresses 4 0x1000 0x1028 (0x28 ∷ 0x10 ∷ 0 ∷ 0 ∷ []) refl refl refl;
-    fills = fills_both without_addresses 0 refl refl refl;
-  },
-    λ x. no_name x.addresses x.has_addresses (number_once without_addresses 4 0x1010 x.addresses 0 x.addresses_field (zero_4 without_addresses 0x1010 refl)));
-  lookups_field = (record {
-    name = 0x1058;
-    name_field = number lookups_elsewhere 4 0x100C 0x1058 (0x58 ∷ 0x10 ∷ 0 ∷ 0 ∷ []) refl refl refl;
-    has_name = omega arith;
-    name_text = record { no_nul = refl; located = are_located lookups_elsewhere (foo ++ 0 ∷ []) 0x1058 refl };
-    addresses = 0x1040;
-    addresses_field = number lookups_elsewhere 4 0x1010 0x1040 (0x40 ∷ 0x10 ∷ 0 ∷ 0 ∷ []) refl refl refl;
-    has_addresses = omega arith;
-    lookups = 0x1028;
-    lookups_field = tt;
-    fills = fills_both lookups_elsewhere 0x1040 refl refl refl;
-  },
+        let at : x.addresses ≡ 0x1070 = number_once entries_elsewhere 4 0x1010 x.addresses 0x1070 x.addresses_field (number entries_elsewhere 4 0x1010 0x1070 (0x70 ∷ 0x10 ∷ 0 ∷ 0 ∷ []) refl refl refl) in
+        let same : 0x1048 ≡ x.addresses + 8 = ap first_start x.fills.1.1.1 in
+        differ 0x1048 0x1078 (same ∙ ap (λ n. n + 8) at) (omega arith),
+  );
+  has_addresses = (
+    record {
+      name = 0x1058;
+      name_field = number without_addresses 4 0x100C 0x1058 (0x58 ∷ 0x10 ∷ 0 ∷ 0 ∷ []) refl refl refl;
+      has_name = omega arith;
+      name_text = record { no_nul = refl; located = are_located without_addresses (foo ++ 0 ∷ []) 0x1058 refl };
+      addresses = 0;
+      addresses_field = number without_addresses 4 0x1010 0 (zeros 4) refl refl refl;
+      has_addresses = tt;
+      lookups = 0x1028;
+      lookups_field = number without_addresses 4 0x1000 0x1028 (0x28 ∷ 0x10 ∷ 0 ∷ 0 ∷ []) refl refl refl;
+      fills = fills_both without_addresses 0 refl refl refl;
+    },
+    λ x. no_name x.addresses x.has_addresses (number_once without_addresses 4 0x1010 x.addresses 0 x.addresses_field (zero_4 without_addresses 0x1010 refl)),
+  );
+  lookups_field = (
+    record {
+      name = 0x1058;
+      name_field = number lookups_elsewhere 4 0x100C 0x1058 (0x58 ∷ 0x10 ∷ 0 ∷ 0 ∷ []) refl refl refl;
+      has_name = omega arith;
+      name_text = record { no_nul = refl; located = are_located lookups_elsewhere (foo ++ 0 ∷ []) 0x1058 refl };
+      addresses = 0x1040;
+      addresses_field = number lookups_elsewhere 4 0x1010 0x1040 (0x40 ∷ 0x10 ∷ 0 ∷ 0 ∷ []) refl refl refl;
+      has_addresses = omega arith;
+      lookups = 0x1028;
+      lookups_field = tt;
+      fills = fills_both lookups_elsewhere 0x1040 refl refl refl;
+    },
     λ x. no_thunk lookups_elsewhere x.lookups (Ordinal 5) (number_once lookups_elsewhere 4 0x1000 x.lookups 0x1038 x.lookups_field (number lookups_elsewhere 4 0x1000 0x1038 (0x38 ∷ 0x10 ∷ 0 ∷ 0 ∷ []) refl refl refl))
-      (number lookups_elsewhere 8 0x1038 0 (zeros 8) refl refl refl) x.fills.0);
-  fills = (record {
-    name = 0x1058;
-    name_field = number right_image 4 0x100C 0x1058 (0x58 ∷ 0x10 ∷ 0 ∷ 0 ∷ []) refl refl refl;
-    has_name = omega arith;
-    name_text = record { no_nul = refl; located = are_located right_image (foo ++ 0 ∷ []) 0x1058 refl };
-    addresses = 0x1040;
-    addresses_field = number right_image 4 0x1010 0x1040 (0x40 ∷ 0x10 ∷ 0 ∷ 0 ∷ []) refl refl refl;
-    has_addresses = omega arith;
-    lookups = 0x1028;
-    lookups_field = number right_image 4 0x1000 0x1028 (0x28 ∷ 0x10 ∷ 0 ∷ 0 ∷ []) refl refl refl;
-    fills = tt;
-  },
-    λ x. not_seven x.lookups (number_once right_image 4 0x1000 x.lookups 0x1028 x.lookups_field (number right_image 4 0x1000 0x1028 (0x28 ∷ 0x10 ∷ 0 ∷ 0 ∷ []) refl refl refl)) x.fills.0);
+        (number lookups_elsewhere 8 0x1038 0 (zeros 8) refl refl refl) x.fills.0,
+  );
+  fills = (
+    record {
+      name = 0x1058;
+      name_field = number right_image 4 0x100C 0x1058 (0x58 ∷ 0x10 ∷ 0 ∷ 0 ∷ []) refl refl refl;
+      has_name = omega arith;
+      name_text = record { no_nul = refl; located = are_located right_image (foo ++ 0 ∷ []) 0x1058 refl };
+      addresses = 0x1040;
+      addresses_field = number right_image 4 0x1010 0x1040 (0x40 ∷ 0x10 ∷ 0 ∷ 0 ∷ []) refl refl refl;
+      has_addresses = omega arith;
+      lookups = 0x1028;
+      lookups_field = number right_image 4 0x1000 0x1028 (0x28 ∷ 0x10 ∷ 0 ∷ 0 ∷ []) refl refl refl;
+      fills = tt;
+    },
+    λ x. not_seven x.lookups (number_once right_image 4 0x1000 x.lookups 0x1028 x.lookups_field (number right_image 4 0x1000 0x1028 (0x28 ∷ 0x10 ∷ 0 ∷ 0 ∷ []) refl refl refl)) x.fills.0,
+  );
 }
 
 -- What is linked for given objects.
@@ -315,44 +335,52 @@ not_resolved (inr x) = listed_by (codes "__imp_queue") (weak_among closed_taken)
 pub near_links_closed : NearLinksClosed
 unfolding searched
 near_links_closed = record {
-  taken_is = (record {
-    taken_is = tt;
-    program = worked_closed.links.program;
-    links = worked_closed.links.links;
-    used = worked_closed.links.used;
-    resolved = λ name wanted listed. absurd (none_in name listed);
-    closed = λ name left listed. none_in name listed;
-  },
-    λ x. none_in _ ((x.taken_is.inputs _).0 (0, omega arith, refl)));
-  program = (record {
-    taken_is = record { inputs = same_members [] [] refl; weak = tt };
-    program = tt;
-    links = nulls_link;
-    used = λ i j p e is held. absurd (no_export_of i j p e is held);
-    resolved = λ name wanted listed. absurd (none_in name listed);
-    closed = λ name left listed. none_in name listed;
-  },
-    λ x. differ 1 2 (sym (ap length x.program.held.ended.tables)) (omega arith));
-  links = (record {
-    taken_is = record { inputs = same_members [] [] refl; weak = tt };
-    program = queue_program;
-    links = tt;
-    used = used_of_gnu (wanted_in (asking ∷ []) []) zed_memberless;
-    resolved = λ name wanted listed. absurd (none_in name listed);
-    closed = λ name left listed. none_in name listed;
-  },
-    λ x. none_in _ x.links.linked.0.from_members.0);
-  resolved = (record {
-    taken_is = worked_closed.links.taken_is;
-    program = nothing_program;
-    links = program_links AMD64 OfLinker touching_8 [] (null_descriptor ∷ []) tt nothing_program;
-    used = λ i j p e is held. absurd (no_export_of i j p e is held);
-    resolved = tt;
-    closed = λ name left listed. none_in name left;
-  },
+  taken_is = (
+    record {
+      taken_is = tt;
+      program = worked_closed.links.program;
+      links = worked_closed.links.links;
+      used = worked_closed.links.used;
+      resolved = λ name wanted listed. absurd (none_in name listed);
+      closed = λ name left listed. none_in name listed;
+    },
+    λ x. none_in _ ((x.taken_is.inputs _).0 (0, omega arith, refl)),
+  );
+  program = (
+    record {
+      taken_is = record { inputs = same_members [] [] refl; weak = tt };
+      program = tt;
+      links = nulls_link;
+      used = λ i j p e is held. absurd (no_export_of i j p e is held);
+      resolved = λ name wanted listed. absurd (none_in name listed);
+      closed = λ name left listed. none_in name listed;
+    },
+    λ x. differ 1 2 (sym (ap length x.program.held.ended.tables)) (omega arith),
+  );
+  links = (
+    record {
+      taken_is = record { inputs = same_members [] [] refl; weak = tt };
+      program = queue_program;
+      links = tt;
+      used = used_of_gnu (wanted_in (asking ∷ []) []) zed_memberless;
+      resolved = λ name wanted listed. absurd (none_in name listed);
+      closed = λ name left listed. none_in name listed;
+    },
+    λ x. none_in _ x.links.linked.0.from_members.0,
+  );
+  resolved = (
+    record {
+      taken_is = worked_closed.links.taken_is;
+      program = nothing_program;
+      links = program_links AMD64 OfLinker touching_8 [] (null_descriptor ∷ []) tt nothing_program;
+      used = λ i j p e is held. absurd (no_export_of i j p e is held);
+      resolved = tt;
+      closed = λ name left listed. none_in name left;
+    },
     λ x.
-      let listed : List (List ℕ) = listed_in (archive_of two_libraries) in
-      not_resolved (x.resolved (codes "__imp_queue") (1, omega arith, refl) (among_contains (codes "__imp_queue") listed (any_among (codes "__imp_queue") listed refl))));
+        let listed : List (List ℕ) = listed_in (archive_of two_libraries) in
+        not_resolved (x.resolved (codes "__imp_queue") (1, omega arith, refl) (among_contains (codes "__imp_queue") listed (any_among (codes "__imp_queue") listed refl))),
+  );
   closed = (asking_closed, asked);
 }
 
@@ -381,21 +409,25 @@ no_object o is = cc
 pub near_is_closed : NearIsClosed
 unfolding searched AreTakenIntoAs
 near_is_closed = record {
-  takes = (record {
-    takes = tt;
-    linked = record { order = record { moves = []; below = tt; is = refl }; others = same_members [] [] refl; tables = refl; admissible = admissible_by refl refl };
-    claims = tt;
-    names = tt;
-  },
-    λ x. none_in x.takes.in_turn.0.0 x.takes.in_turn.0.1.named);
+  takes = (
+    record {
+      takes = tt;
+      linked = record { order = record { moves = []; below = tt; is = refl }; others = same_members [] [] refl; tables = refl; admissible = admissible_by refl refl };
+      claims = tt;
+      names = tt;
+    },
+    λ x. none_in x.takes.in_turn.0.0 x.takes.in_turn.0.1.named,
+  );
   linked = (record { takes = record { in_turn = tt; ended = λ name m x. none_in name x.named }; linked = tt; claims = tt; names = tt }, λ x. no_object _ x.linked.tables);
-  names = (record {
-    takes = head_takes;
-    linked = record { order = record { moves = []; below = tt; is = refl }; others = same_members (naming_head ∷ []) (naming_head ∷ []) refl; tables = refl; admissible = admissible_by refl refl };
-    claims = (claims_none_by (listed_in head_and_tail ++ names_undefined head_and_tail) naming_head refl, tt);
-    names = tt;
-  },
-    λ x. true≢false x.names.0.head);
+  names = (
+    record {
+      takes = head_takes;
+      linked = record { order = record { moves = []; below = tt; is = refl }; others = same_members (naming_head ∷ []) (naming_head ∷ []) refl; tables = refl; admissible = admissible_by refl refl };
+      claims = (claims_none_by (listed_in head_and_tail ++ names_undefined head_and_tail) naming_head refl, tt);
+      names = tt;
+    },
+    λ x. true≢false x.names.0.head,
+  );
   claims = (clashing_closed, clashes zed_first (packed 0x2000 clashing_objects) clashing_objects);
 }
 
@@ -475,14 +507,22 @@ unfolding searched group_end sections_end
 near_is_linked_with =
     let own : Object = code_object (symbol_of_class (codes "main") 1 class_external ∷ symbol_of_class (codes "bar") 0 class_external ∷ []) in
     record {
-      is_arranged = (record { arranged = by_name; is_arranged = tt; tables = refl; others = (claims_none_by (flat_map (λ (m : MemberView). m.symbols) by_name) own refl, tt); admissible = admissible_by refl refl },
-        λ x. none_in head_member ((x.is_arranged.same head_member).1 (subst (λ ms. Contains ms head_member) (sym x.is_arranged.order) (0, omega arith, refl))));
-      tables = (record { arranged = by_name; is_arranged = worked_searched.arranged; tables = tt; others = tt; admissible = admissible_by refl refl },
-        λ x. differ 0 (last_entries (objects_in by_name)) (sym null_has_none ∙ sym (ap last_entries x.tables ∙ last_of (objects_in x.arranged) null_descriptor)) tail_has_one);
-      others = (record { arranged = by_name; is_arranged = worked_searched.arranged; tables = refl; others = tt; admissible = admissible_by refl refl },
-        λ x. true≢false (all_among (λ n. list_any (bytes_eq n) (claimed_names own_bar) ≡ false) (codes "bar") (flat_map (λ (m : MemberView). m.symbols) x.arranged) (bar_linked x.arranged x.is_arranged.same) x.others.0));
-      admissible = (record { arranged = by_name; is_arranged = worked_searched.arranged; tables = refl; others = (claims_none_by (flat_map (λ (m : MemberView). m.symbols) by_name) own refl, tt); admissible = tt },
-        λ x. differ 0 2 (sym x.admissible.descriptors.1) (omega arith));
+      is_arranged = (
+        record { arranged = by_name; is_arranged = tt; tables = refl; others = (claims_none_by (flat_map (λ (m : MemberView). m.symbols) by_name) own refl, tt); admissible = admissible_by refl refl },
+        λ x. none_in head_member ((x.is_arranged.same head_member).1 (subst (λ ms. Contains ms head_member) (sym x.is_arranged.order) (0, omega arith, refl))),
+      );
+      tables = (
+        record { arranged = by_name; is_arranged = worked_searched.arranged; tables = tt; others = tt; admissible = admissible_by refl refl },
+        λ x. differ 0 (last_entries (objects_in by_name)) (sym null_has_none ∙ sym (ap last_entries x.tables ∙ last_of (objects_in x.arranged) null_descriptor)) tail_has_one,
+      );
+      others = (
+        record { arranged = by_name; is_arranged = worked_searched.arranged; tables = refl; others = tt; admissible = admissible_by refl refl },
+        λ x. true≢false (all_among (λ n. list_any (bytes_eq n) (claimed_names own_bar) ≡ false) (codes "bar") (flat_map (λ (m : MemberView). m.symbols) x.arranged) (bar_linked x.arranged x.is_arranged.same) x.others.0),
+      );
+      admissible = (
+        record { arranged = by_name; is_arranged = worked_searched.arranged; tables = refl; others = (claims_none_by (flat_map (λ (m : MemberView). m.symbols) by_name) own refl, tt); admissible = tt },
+        λ x. differ 0 2 (sym x.admissible.descriptors.1) (omega arith),
+      );
     }
 
 -- Code.
@@ -534,12 +574,16 @@ one_place c d s t first second defines other same = at_1000 c s first defines �
 pub near_define_once : NearDefineOnce
 unfolding searched
 near_define_once = record {
-  once = (record { once = tt; tables = λ c d s t address first second held undefined at defines named. no_undefined c s first held undefined },
-    code_instances.twice);
-  tables = (record { once = one_place; tables = tt },
+  once = (
+    record { once = tt; tables = λ c d s t address first second held undefined at defines named. no_undefined c s first held undefined },
+    code_instances.twice,
+  );
+  tables = (
+    record { once = one_place; tables = tt },
     λ x.
-      x.tables (calling_at AMD64 0x1000) (code_of [] [] (symbol_of_class (codes "__imp_open") 1 class_external)) (symbol_of_class (imp_symbol (symbol_on AMD64 (codes "open"))) 0 class_external)
-      (symbol_of_class (codes "__imp_open") 1 class_external) 0x80 (0, omega arith, refl) (1, omega arith, refl) (1, omega arith, refl) refl refl own_pointer refl);
+        x.tables (calling_at AMD64 0x1000) (code_of [] [] (symbol_of_class (codes "__imp_open") 1 class_external)) (symbol_of_class (imp_symbol (symbol_on AMD64 (codes "open"))) 0 class_external)
+        (symbol_of_class (codes "__imp_open") 1 class_external) 0x80 (0, omega arith, refl) (1, omega arith, refl) (1, omega arith, refl) refl refl own_pointer refl,
+  );
 }
 
 no_relocation : (r : Relocation) → [] ≡ r ∷ [] → ⊥
@@ -550,7 +594,7 @@ near_has_page_field = record {
   field = (record { field = tt; empty = refl }, λ x. no_relocation _ x.field.alone);
   empty = (
     let p = passing_fields.arm64_page.field in
-    record { field = record { symbol = p.symbol; alone = p.alone; inside = omega arith; names = p.names }; empty = tt },
+        record { field = record { symbol = p.symbol; alone = p.alone; inside = omega arith; names = p.names }; empty = tt },
     λ x. differ 0 4 (sym x.empty) (omega arith),
   );
 }
@@ -560,12 +604,12 @@ near_has_offset_field = record {
   field = (record { field = tt; eight = refl; empty = refl }, λ x. no_relocation _ x.field.alone);
   empty = (
     let p = passing_fields.arm64_offset.field in
-    record { field = record { symbol = p.symbol; alone = p.alone; inside = omega arith; names = p.names }; eight = refl; empty = tt },
+        record { field = record { symbol = p.symbol; alone = p.alone; inside = omega arith; names = p.names }; eight = refl; empty = tt },
     λ x. differ 0 8 (sym x.empty) (omega arith),
   );
   eight = (
     let p = passing_fields.arm64_offset.field in
-    record { field = record { symbol = p.symbol; alone = p.alone; inside = omega arith; names = p.names }; eight = tt; empty = refl },
+        record { field = record { symbol = p.symbol; alone = p.alone; inside = omega arith; names = p.names }; eight = tt; empty = refl },
     λ x. differ 2 3 x.eight (omega arith),
   );
 }
@@ -575,11 +619,13 @@ near_has_pointer = record {
   field = (record { type = amd64_addr64; field = tt; stores = refl; empty = refl }, λ x. no_relocation _ x.field.alone);
   empty = (
     let p = passing_fields.amd64_pointer in
-    record { type = p.type; field = record { symbol = p.field.symbol; alone = p.field.alone; inside = omega arith; names = p.field.names }; stores = p.stores; empty = tt },
+        record { type = p.type; field = record { symbol = p.field.symbol; alone = p.field.alone; inside = omega arith; names = p.field.names }; stores = p.stores; empty = tt },
     λ x. differ 0 1 (sym x.empty) (omega arith),
   );
-  stores = (record { type = passing_fields.i386_branch.type; field = passing_fields.i386_branch.field; stores = tt; empty = refl },
-    λ x. let type : 0x14 ≡ x.type = kind_of (field 37 3 i386_rel32) (field 37 x.field.symbol x.type) x.field.alone in differ 6 0x14 (sym x.stores ∙ sym type) (omega arith));
+  stores = (
+    record { type = passing_fields.i386_branch.type; field = passing_fields.i386_branch.field; stores = tt; empty = refl },
+    λ x. let type : 0x14 ≡ x.type = kind_of (field 37 3 i386_rel32) (field 37 x.field.symbol x.type) x.field.alone in differ 6 0x14 (sym x.stores ∙ sym type) (omega arith),
+  );
 }
 
 next_call : List ℕ
@@ -611,22 +657,22 @@ unfolding next_call
 near_instruction_arrives = record {
   leads = (
     let memory : List Range = two_ranges 0x100B (0xFF ∷ 0x15 ∷ 0x70 ∷ 0xF0 ∷ 0xFF ∷ 0xFF ∷ []) open_address in
-    record { field = 0x70 ∷ 0xF0 ∷ 0xFF ∷ 0xFF ∷ []; four = refl; there = are_located memory (0xFF ∷ 0x15 ∷ 0x70 ∷ 0xF0 ∷ 0xFF ∷ 0xFF ∷ []) 0x100B refl; entry = 0x80; own = open_once; leads = tt; located = are_located memory open_address 0x80 refl },
+        record { field = 0x70 ∷ 0xF0 ∷ 0xFF ∷ 0xFF ∷ []; four = refl; there = are_located memory (0xFF ∷ 0x15 ∷ 0x70 ∷ 0xF0 ∷ 0xFF ∷ 0xFF ∷ []) 0x100B refl; entry = 0x80; own = open_once; leads = tt; located = are_located memory open_address 0x80 refl },
     λ x.
-      let memory : List Range = two_ranges 0x100B (0xFF ∷ 0x15 ∷ 0x70 ∷ 0xF0 ∷ 0xFF ∷ 0xFF ∷ []) open_address in
-      let whole : 0xFF ∷ 0x15 ∷ (x.field ++ []) ≡ next_call = same_bytes memory (0xFF ∷ 0x15 ∷ (x.field ++ [])) next_call 0x100B x.there (are_located memory next_call 0x100B refl) (six x.field x.four) in
-      let field : x.field ≡ 0x70 ∷ 0xF0 ∷ 0xFF ∷ 0xFF ∷ [] = same_field x.field whole x.four in
-      let led : Some 0x1_4000_0081 ≡ Some (0x1_4000_0000 + x.entry) = sym (ap (λ f. operand_leads AMD64 0x1_4000_100D 0 (number_in f)) field) ∙ x.leads in
-      let at : x.entry ≡ 0x81 = entry_is 0x1_4000_0000 x.entry 0x81 led in
-      differ 0x80 0x81 (sym (open_entry x.entry x.own) ∙ at) (omega arith),
+        let memory : List Range = two_ranges 0x100B (0xFF ∷ 0x15 ∷ 0x70 ∷ 0xF0 ∷ 0xFF ∷ 0xFF ∷ []) open_address in
+        let whole : 0xFF ∷ 0x15 ∷ (x.field ++ []) ≡ next_call = same_bytes memory (0xFF ∷ 0x15 ∷ (x.field ++ [])) next_call 0x100B x.there (are_located memory next_call 0x100B refl) (six x.field x.four) in
+        let field : x.field ≡ 0x70 ∷ 0xF0 ∷ 0xFF ∷ 0xFF ∷ [] = same_field x.field whole x.four in
+        let led : Some 0x1_4000_0081 ≡ Some (0x1_4000_0000 + x.entry) = sym (ap (λ f. operand_leads AMD64 0x1_4000_100D 0 (number_in f)) field) ∙ x.leads in
+        let at : x.entry ≡ 0x81 = entry_is 0x1_4000_0000 x.entry 0x81 led in
+        differ 0x80 0x81 (sym (open_entry x.entry x.own) ∙ at) (omega arith),
   );
   four = (
     let memory : List Range = two_ranges 0x100B (0xFF ∷ 0x15 ∷ 0x80 ∷ 0 ∷ 1 ∷ []) open_address in
-    record { field = 0x80 ∷ 0 ∷ 1 ∷ []; four = tt; there = are_located memory (0xFF ∷ 0x15 ∷ 0x80 ∷ 0 ∷ 1 ∷ []) 0x100B refl; entry = 0x80; own = open_once; leads = refl; located = are_located memory open_address 0x80 refl },
+        record { field = 0x80 ∷ 0 ∷ 1 ∷ []; four = tt; there = are_located memory (0xFF ∷ 0x15 ∷ 0x80 ∷ 0 ∷ 1 ∷ []) 0x100B refl; entry = 0x80; own = open_once; leads = refl; located = are_located memory open_address 0x80 refl },
     λ x.
-      let four : length x.field ≡ 4 = x.four in
-      let long : length (x.field ++ []) ≡ length x.field + 0 = length-append x.field [] in
-      missing (two_ranges 0x100B (0xFF ∷ 0x15 ∷ 0x80 ∷ 0 ∷ 1 ∷ []) open_address) (0xFF ∷ 0x15 ∷ (x.field ++ [])) 0x100B 0x1010 x.there (omega arith) (omega arith) refl,
+        let four : length x.field ≡ 4 = x.four in
+        let long : length (x.field ++ []) ≡ length x.field + 0 = length-append x.field [] in
+        missing (two_ranges 0x100B (0xFF ∷ 0x15 ∷ 0x80 ∷ 0 ∷ 1 ∷ []) open_address) (0xFF ∷ 0x15 ∷ (x.field ++ [])) 0x100B 0x1010 x.there (omega arith) (omega arith) refl,
   );
 }
 
@@ -640,59 +686,59 @@ pub near_page_arrives : NearPageArrives
 near_page_arrives = record {
   adrp_there = (
     let memory : List Range = two_ranges 0x1010 load_bytes open_address in
-    record { adrp = 0xE8 ∷ 0xFF ∷ 0xFF ∷ 0xF0 ∷ []; adrp_there = tt; adrp_whole = refl; is_adrp = refl; ldr = 8 ∷ 0x41 ∷ 0x40 ∷ 0xF9 ∷ []; ldr_there = are_located memory (8 ∷ 0x41 ∷ 0x40 ∷ 0xF9 ∷ []) 0x1010 refl; ldr_whole = refl; is_ldr = refl; entry = 0x80; leads = refl; located = are_located memory open_address 0x80 refl },
+        record { adrp = 0xE8 ∷ 0xFF ∷ 0xFF ∷ 0xF0 ∷ []; adrp_there = tt; adrp_whole = refl; is_adrp = refl; ldr = 8 ∷ 0x41 ∷ 0x40 ∷ 0xF9 ∷ []; ldr_there = are_located memory (8 ∷ 0x41 ∷ 0x40 ∷ 0xF9 ∷ []) 0x1010 refl; ldr_whole = refl; is_ldr = refl; entry = 0x80; leads = refl; located = are_located memory open_address 0x80 refl },
     λ x. let long : length x.adrp ≡ 4 = x.adrp_whole in missing (two_ranges 0x1010 (8 ∷ 0x41 ∷ 0x40 ∷ 0xF9 ∷ []) open_address) x.adrp 0x100C 0x100C x.adrp_there (omega arith) (omega arith) refl,
   );
   ldr_there = (
     let memory : List Range = two_ranges 0x100C adrp_bytes open_address in
-    record { adrp = 0xE8 ∷ 0xFF ∷ 0xFF ∷ 0xF0 ∷ []; adrp_there = are_located memory (0xE8 ∷ 0xFF ∷ 0xFF ∷ 0xF0 ∷ []) 0x100C refl; adrp_whole = refl; is_adrp = refl; ldr = 8 ∷ 0x41 ∷ 0x40 ∷ 0xF9 ∷ []; ldr_there = tt; ldr_whole = refl; is_ldr = refl; entry = 0x80; leads = refl; located = are_located memory open_address 0x80 refl },
+        record { adrp = 0xE8 ∷ 0xFF ∷ 0xFF ∷ 0xF0 ∷ []; adrp_there = are_located memory (0xE8 ∷ 0xFF ∷ 0xFF ∷ 0xF0 ∷ []) 0x100C refl; adrp_whole = refl; is_adrp = refl; ldr = 8 ∷ 0x41 ∷ 0x40 ∷ 0xF9 ∷ []; ldr_there = tt; ldr_whole = refl; is_ldr = refl; entry = 0x80; leads = refl; located = are_located memory open_address 0x80 refl },
     λ x. let long : length x.ldr ≡ 4 = x.ldr_whole in missing (two_ranges 0x100C (0xE8 ∷ 0xFF ∷ 0xFF ∷ 0xF0 ∷ []) open_address) x.ldr 0x1010 0x1010 x.ldr_there (omega arith) (omega arith) refl,
   );
   is_adrp = (
     let memory : List Range = pair_memory (0xE9 ∷ 0xFF ∷ 0xFF ∷ 0xF0 ∷ []) load_bytes open_address in
-    record { adrp = 0xE9 ∷ 0xFF ∷ 0xFF ∷ 0xF0 ∷ []; adrp_there = are_located memory (0xE9 ∷ 0xFF ∷ 0xFF ∷ 0xF0 ∷ []) 0x100C refl; adrp_whole = refl; is_adrp = tt; ldr = 8 ∷ 0x41 ∷ 0x40 ∷ 0xF9 ∷ []; ldr_there = are_located memory (8 ∷ 0x41 ∷ 0x40 ∷ 0xF9 ∷ []) 0x1010 refl; ldr_whole = refl; is_ldr = refl; entry = 0x80; leads = refl; located = are_located memory open_address 0x80 refl },
+        record { adrp = 0xE9 ∷ 0xFF ∷ 0xFF ∷ 0xF0 ∷ []; adrp_there = are_located memory (0xE9 ∷ 0xFF ∷ 0xFF ∷ 0xF0 ∷ []) 0x100C refl; adrp_whole = refl; is_adrp = tt; ldr = 8 ∷ 0x41 ∷ 0x40 ∷ 0xF9 ∷ []; ldr_there = are_located memory (8 ∷ 0x41 ∷ 0x40 ∷ 0xF9 ∷ []) 0x1010 refl; ldr_whole = refl; is_ldr = refl; entry = 0x80; leads = refl; located = are_located memory open_address 0x80 refl },
     λ x.
-      let adrp : List ℕ = 0xE9 ∷ 0xFF ∷ 0xFF ∷ 0xF0 ∷ [] in
-      let memory : List Range = record { start = 0x100C; bytes = 0xE9 ∷ 0xFF ∷ 0xFF ∷ 0xF0 ∷ [] } ∷ two_ranges 0x1010 (8 ∷ 0x41 ∷ 0x40 ∷ 0xF9 ∷ []) open_address in
-      let same : x.adrp ≡ adrp = same_bytes memory x.adrp adrp 0x100C x.adrp_there (are_located memory adrp 0x100C refl) x.adrp_whole in
-      differ 0x9000_0008 0x9000_0009 (sym (sym (ap (λ xs. with_adrp 0 (word_at xs 0)) same) ∙ x.is_adrp)) (omega arith),
+        let adrp : List ℕ = 0xE9 ∷ 0xFF ∷ 0xFF ∷ 0xF0 ∷ [] in
+        let memory : List Range = record { start = 0x100C; bytes = 0xE9 ∷ 0xFF ∷ 0xFF ∷ 0xF0 ∷ [] } ∷ two_ranges 0x1010 (8 ∷ 0x41 ∷ 0x40 ∷ 0xF9 ∷ []) open_address in
+        let same : x.adrp ≡ adrp = same_bytes memory x.adrp adrp 0x100C x.adrp_there (are_located memory adrp 0x100C refl) x.adrp_whole in
+        differ 0x9000_0008 0x9000_0009 (sym (sym (ap (λ xs. with_adrp 0 (word_at xs 0)) same) ∙ x.is_adrp)) (omega arith),
   );
   is_ldr = (
     let memory : List Range = pair_memory adrp_bytes (9 ∷ 0x41 ∷ 0x40 ∷ 0xF9 ∷ []) open_address in
-    record { adrp = 0xE8 ∷ 0xFF ∷ 0xFF ∷ 0xF0 ∷ []; adrp_there = are_located memory (0xE8 ∷ 0xFF ∷ 0xFF ∷ 0xF0 ∷ []) 0x100C refl; adrp_whole = refl; is_adrp = refl; ldr = 9 ∷ 0x41 ∷ 0x40 ∷ 0xF9 ∷ []; ldr_there = are_located memory (9 ∷ 0x41 ∷ 0x40 ∷ 0xF9 ∷ []) 0x1010 refl; ldr_whole = refl; is_ldr = tt; entry = 0x80; leads = refl; located = are_located memory open_address 0x80 refl },
+        record { adrp = 0xE8 ∷ 0xFF ∷ 0xFF ∷ 0xF0 ∷ []; adrp_there = are_located memory (0xE8 ∷ 0xFF ∷ 0xFF ∷ 0xF0 ∷ []) 0x100C refl; adrp_whole = refl; is_adrp = refl; ldr = 9 ∷ 0x41 ∷ 0x40 ∷ 0xF9 ∷ []; ldr_there = are_located memory (9 ∷ 0x41 ∷ 0x40 ∷ 0xF9 ∷ []) 0x1010 refl; ldr_whole = refl; is_ldr = tt; entry = 0x80; leads = refl; located = are_located memory open_address 0x80 refl },
     λ x.
-      let ldr : List ℕ = 9 ∷ 0x41 ∷ 0x40 ∷ 0xF9 ∷ [] in
-      let memory : List Range = record { start = 0x100C; bytes = 0xE8 ∷ 0xFF ∷ 0xFF ∷ 0xF0 ∷ [] } ∷ two_ranges 0x1010 (9 ∷ 0x41 ∷ 0x40 ∷ 0xF9 ∷ []) open_address in
-      let same : x.ldr ≡ ldr = same_bytes memory x.ldr ldr 0x1010 x.ldr_there (are_located memory ldr 0x1010 refl) x.ldr_whole in
-      differ 0xF940_0108 0xF940_0109 (sym (sym (ap (λ xs. with_bits 10 12 0 (word_at xs 0)) same) ∙ x.is_ldr)) (omega arith),
+        let ldr : List ℕ = 9 ∷ 0x41 ∷ 0x40 ∷ 0xF9 ∷ [] in
+        let memory : List Range = record { start = 0x100C; bytes = 0xE8 ∷ 0xFF ∷ 0xFF ∷ 0xF0 ∷ [] } ∷ two_ranges 0x1010 (9 ∷ 0x41 ∷ 0x40 ∷ 0xF9 ∷ []) open_address in
+        let same : x.ldr ≡ ldr = same_bytes memory x.ldr ldr 0x1010 x.ldr_there (are_located memory ldr 0x1010 refl) x.ldr_whole in
+        differ 0xF940_0108 0xF940_0109 (sym (sym (ap (λ xs. with_bits 10 12 0 (word_at xs 0)) same) ∙ x.is_ldr)) (omega arith),
   );
   leads = (
     let memory : List Range = pair_memory adrp_bytes (8 ∷ 0x45 ∷ 0x40 ∷ 0xF9 ∷ []) open_address in
-    record { adrp = 0xE8 ∷ 0xFF ∷ 0xFF ∷ 0xF0 ∷ []; adrp_there = are_located memory (0xE8 ∷ 0xFF ∷ 0xFF ∷ 0xF0 ∷ []) 0x100C refl; adrp_whole = refl; is_adrp = refl; ldr = 8 ∷ 0x45 ∷ 0x40 ∷ 0xF9 ∷ []; ldr_there = are_located memory (8 ∷ 0x45 ∷ 0x40 ∷ 0xF9 ∷ []) 0x1010 refl; ldr_whole = refl; is_ldr = refl; entry = 0x80; leads = tt; located = are_located memory open_address 0x80 refl },
+        record { adrp = 0xE8 ∷ 0xFF ∷ 0xFF ∷ 0xF0 ∷ []; adrp_there = are_located memory (0xE8 ∷ 0xFF ∷ 0xFF ∷ 0xF0 ∷ []) 0x100C refl; adrp_whole = refl; is_adrp = refl; ldr = 8 ∷ 0x45 ∷ 0x40 ∷ 0xF9 ∷ []; ldr_there = are_located memory (8 ∷ 0x45 ∷ 0x40 ∷ 0xF9 ∷ []) 0x1010 refl; ldr_whole = refl; is_ldr = refl; entry = 0x80; leads = tt; located = are_located memory open_address 0x80 refl },
     λ x.
-      let adrp : List ℕ = 0xE8 ∷ 0xFF ∷ 0xFF ∷ 0xF0 ∷ [] in
-      let ldr : List ℕ = 8 ∷ 0x45 ∷ 0x40 ∷ 0xF9 ∷ [] in
-      let memory : List Range = record { start = 0x100C; bytes = 0xE8 ∷ 0xFF ∷ 0xFF ∷ 0xF0 ∷ [] } ∷ two_ranges 0x1010 (8 ∷ 0x45 ∷ 0x40 ∷ 0xF9 ∷ []) open_address in
-      let first : x.adrp ≡ adrp = same_bytes memory x.adrp adrp 0x100C x.adrp_there (are_located memory adrp 0x100C refl) x.adrp_whole in
-      let second : x.ldr ≡ ldr = same_bytes memory x.ldr ldr 0x1010 x.ldr_there (are_located memory ldr 0x1010 refl) x.ldr_whole in
-      let led : 0x1_4000_0088 ≡ 0x1_4000_0000 + x.entry =
-      sym (ap (λ xs. plus_signed 21 4096 (adrp_immediate (word_at xs 0)) (page 0x1_4000_100C * 4096) + ldr_immediate (word_at ldr 0)) first)
-      ∙ sym (ap (λ xs. plus_signed 21 4096 (adrp_immediate (word_at x.adrp 0)) (page 0x1_4000_100C * 4096) + ldr_immediate (word_at xs 0)) second) ∙ x.leads in
-      next_missing memory x.entry (omega arith) refl x.located,
+        let adrp : List ℕ = 0xE8 ∷ 0xFF ∷ 0xFF ∷ 0xF0 ∷ [] in
+        let ldr : List ℕ = 8 ∷ 0x45 ∷ 0x40 ∷ 0xF9 ∷ [] in
+        let memory : List Range = record { start = 0x100C; bytes = 0xE8 ∷ 0xFF ∷ 0xFF ∷ 0xF0 ∷ [] } ∷ two_ranges 0x1010 (8 ∷ 0x45 ∷ 0x40 ∷ 0xF9 ∷ []) open_address in
+        let first : x.adrp ≡ adrp = same_bytes memory x.adrp adrp 0x100C x.adrp_there (are_located memory adrp 0x100C refl) x.adrp_whole in
+        let second : x.ldr ≡ ldr = same_bytes memory x.ldr ldr 0x1010 x.ldr_there (are_located memory ldr 0x1010 refl) x.ldr_whole in
+        let led : 0x1_4000_0088 ≡ 0x1_4000_0000 + x.entry =
+        sym (ap (λ xs. plus_signed 21 4096 (adrp_immediate (word_at xs 0)) (page 0x1_4000_100C * 4096) + ldr_immediate (word_at ldr 0)) first)
+        ∙ sym (ap (λ xs. plus_signed 21 4096 (adrp_immediate (word_at x.adrp 0)) (page 0x1_4000_100C * 4096) + ldr_immediate (word_at xs 0)) second) ∙ x.leads in
+        next_missing memory x.entry (omega arith) refl x.located,
   );
   located = (
     let memory : List Range = pair_memory adrp_bytes load_bytes (0x41 ∷ drop 1 open_address) in
-    record { adrp = 0xE8 ∷ 0xFF ∷ 0xFF ∷ 0xF0 ∷ []; adrp_there = are_located memory (0xE8 ∷ 0xFF ∷ 0xFF ∷ 0xF0 ∷ []) 0x100C refl; adrp_whole = refl; is_adrp = refl; ldr = 8 ∷ 0x41 ∷ 0x40 ∷ 0xF9 ∷ []; ldr_there = are_located memory (8 ∷ 0x41 ∷ 0x40 ∷ 0xF9 ∷ []) 0x1010 refl; ldr_whole = refl; is_ldr = refl; entry = 0x80; leads = refl; located = tt },
+        record { adrp = 0xE8 ∷ 0xFF ∷ 0xFF ∷ 0xF0 ∷ []; adrp_there = are_located memory (0xE8 ∷ 0xFF ∷ 0xFF ∷ 0xF0 ∷ []) 0x100C refl; adrp_whole = refl; is_adrp = refl; ldr = 8 ∷ 0x41 ∷ 0x40 ∷ 0xF9 ∷ []; ldr_there = are_located memory (8 ∷ 0x41 ∷ 0x40 ∷ 0xF9 ∷ []) 0x1010 refl; ldr_whole = refl; is_ldr = refl; entry = 0x80; leads = refl; located = tt },
     λ x.
-      let adrp : List ℕ = 0xE8 ∷ 0xFF ∷ 0xFF ∷ 0xF0 ∷ [] in
-      let ldr : List ℕ = 8 ∷ 0x41 ∷ 0x40 ∷ 0xF9 ∷ [] in
-      let memory : List Range = pair_memory (0xE8 ∷ 0xFF ∷ 0xFF ∷ 0xF0 ∷ []) (8 ∷ 0x41 ∷ 0x40 ∷ 0xF9 ∷ []) (0x41 ∷ drop 1 open_address) in
-      let first : x.adrp ≡ adrp = same_bytes memory x.adrp adrp 0x100C x.adrp_there (are_located memory adrp 0x100C refl) x.adrp_whole in
-      let second : x.ldr ≡ ldr = same_bytes memory x.ldr ldr 0x1010 x.ldr_there (are_located memory ldr 0x1010 refl) x.ldr_whole in
-      let led : 0x1_4000_0080 ≡ 0x1_4000_0000 + x.entry =
-      sym (ap (λ xs. plus_signed 21 4096 (adrp_immediate (word_at xs 0)) (page 0x1_4000_100C * 4096) + ldr_immediate (word_at ldr 0)) first)
-      ∙ sym (ap (λ xs. plus_signed 21 4096 (adrp_immediate (word_at x.adrp 0)) (page 0x1_4000_100C * 4096) + ldr_immediate (word_at xs 0)) second) ∙ x.leads in
-      begins_with memory x.entry 0x80 0x40 0x41 (drop 1 open_address) (omega arith) refl x.located (inl (omega arith)),
+        let adrp : List ℕ = 0xE8 ∷ 0xFF ∷ 0xFF ∷ 0xF0 ∷ [] in
+        let ldr : List ℕ = 8 ∷ 0x41 ∷ 0x40 ∷ 0xF9 ∷ [] in
+        let memory : List Range = pair_memory (0xE8 ∷ 0xFF ∷ 0xFF ∷ 0xF0 ∷ []) (8 ∷ 0x41 ∷ 0x40 ∷ 0xF9 ∷ []) (0x41 ∷ drop 1 open_address) in
+        let first : x.adrp ≡ adrp = same_bytes memory x.adrp adrp 0x100C x.adrp_there (are_located memory adrp 0x100C refl) x.adrp_whole in
+        let second : x.ldr ≡ ldr = same_bytes memory x.ldr ldr 0x1010 x.ldr_there (are_located memory ldr 0x1010 refl) x.ldr_whole in
+        let led : 0x1_4000_0080 ≡ 0x1_4000_0000 + x.entry =
+        sym (ap (λ xs. plus_signed 21 4096 (adrp_immediate (word_at xs 0)) (page 0x1_4000_100C * 4096) + ldr_immediate (word_at ldr 0)) first)
+        ∙ sym (ap (λ xs. plus_signed 21 4096 (adrp_immediate (word_at x.adrp 0)) (page 0x1_4000_100C * 4096) + ldr_immediate (word_at xs 0)) second) ∙ x.leads in
+        begins_with memory x.entry 0x80 0x40 0x41 (drop 1 open_address) (omega arith) refl x.located (inl (omega arith)),
   );
 }
 
@@ -701,12 +747,12 @@ unfolding searched
 near_pair_arrives = record {
   adrp_there = (
     let memory : List Range = two_ranges 0x1010 load_bytes open_address in
-    record { adrp = 0xF0FF_FFE8; adrp_there = tt; is_adrp = refl; load = 0xF940_4108; load_there = number memory 4 0x1010 0xF940_4108 (8 ∷ 0x41 ∷ 0x40 ∷ 0xF9 ∷ []) refl refl refl; is_load = refl; entry = 0x80; own = refl; leads = refl; located = are_located memory open_address 0x80 refl },
+        record { adrp = 0xF0FF_FFE8; adrp_there = tt; is_adrp = refl; load = 0xF940_4108; load_there = number memory 4 0x1010 0xF940_4108 (8 ∷ 0x41 ∷ 0x40 ∷ 0xF9 ∷ []) refl refl refl; is_load = refl; entry = 0x80; own = refl; leads = refl; located = are_located memory open_address 0x80 refl },
     λ x. absent (two_ranges 0x1010 (8 ∷ 0x41 ∷ 0x40 ∷ 0xF9 ∷ []) open_address) 0x100C 4 x.adrp refl (omega arith) x.adrp_there,
   );
   load_there = (
     let memory : List Range = two_ranges 0x100C adrp_bytes open_address in
-    record { adrp = 0xF0FF_FFE8; adrp_there = number memory 4 0x100C 0xF0FF_FFE8 (0xE8 ∷ 0xFF ∷ 0xFF ∷ 0xF0 ∷ []) refl refl refl; is_adrp = refl; load = 0xF940_4108; load_there = tt; is_load = refl; entry = 0x80; own = refl; leads = refl; located = are_located memory open_address 0x80 refl },
+        record { adrp = 0xF0FF_FFE8; adrp_there = number memory 4 0x100C 0xF0FF_FFE8 (0xE8 ∷ 0xFF ∷ 0xFF ∷ 0xF0 ∷ []) refl refl refl; is_adrp = refl; load = 0xF940_4108; load_there = tt; is_load = refl; entry = 0x80; own = refl; leads = refl; located = are_located memory open_address 0x80 refl },
     λ x. absent (two_ranges 0x100C (0xE8 ∷ 0xFF ∷ 0xFF ∷ 0xF0 ∷ []) open_address) 0x1010 4 x.load refl (omega arith) x.load_there,
   );
 }
@@ -714,9 +760,11 @@ near_pair_arrives = record {
 pub near_branch_stays : NearBranchStays
 near_branch_stays = record {
   there = (record { number = 0x9400_0009; there = tt; same = refl }, λ x. absent (two_ranges 0x1020 (9 ∷ 0 ∷ 0 ∷ 0x94 ∷ []) []) 0x101C 4 x.number refl (omega arith) x.there);
-  same = (record { number = 0x1400_0009; there = number (two_ranges 0x101C (9 ∷ 0 ∷ 0 ∷ 0x14 ∷ []) []) 4 0x101C 0x1400_0009 (9 ∷ 0 ∷ 0 ∷ 0x14 ∷ []) refl refl refl; same = tt },
+  same = (
+    record { number = 0x1400_0009; there = number (two_ranges 0x101C (9 ∷ 0 ∷ 0 ∷ 0x14 ∷ []) []) 4 0x101C 0x1400_0009 (9 ∷ 0 ∷ 0 ∷ 0x14 ∷ []) refl refl refl; same = tt },
     λ x.
-      let memory : List Range = two_ranges 0x101C (9 ∷ 0 ∷ 0 ∷ 0x14 ∷ []) [] in
-      let is : x.number ≡ 0x1400_0009 = number_once memory 4 0x101C x.number 0x1400_0009 x.there (number memory 4 0x101C 0x1400_0009 (9 ∷ 0 ∷ 0 ∷ 0x14 ∷ []) refl refl refl) in
-      differ 0x1400_0000 0x9400_0000 (sym (ap (with_bits 0 26 0) is) ∙ x.same) (omega arith));
+        let memory : List Range = two_ranges 0x101C (9 ∷ 0 ∷ 0 ∷ 0x14 ∷ []) [] in
+        let is : x.number ≡ 0x1400_0009 = number_once memory 4 0x101C x.number 0x1400_0009 x.there (number memory 4 0x101C 0x1400_0009 (9 ∷ 0 ∷ 0 ∷ 0x14 ∷ []) refl refl refl) in
+        differ 0x1400_0000 0x9400_0000 (sym (ap (with_bits 0 26 0) is) ∙ x.same) (omega arith),
+  );
 }

@@ -80,8 +80,10 @@ pub near_pulls_into : NearPullsIntoAs
 unfolding searched
 near_pulls_into = record {
   pulls = record { named = (0, omega arith, refl); listed = refl; new = λ held. none_in listing held };
-  named = (record { named = tt; listed = refl; new = no_listing },
-    λ x. none_passes (bytes_eq (codes "queue")) (codes "queue") (unresolved (asking ∷ objects_in (queue_member ∷ []))) refl x.named refl);
+  named = (
+    record { named = tt; listed = refl; new = no_listing },
+    λ x. none_passes (bytes_eq (codes "queue")) (codes "queue") (unresolved (asking ∷ objects_in (queue_member ∷ []))) refl x.named refl,
+  );
   listed = (record { named = (0, omega arith, refl); listed = tt; new = λ held. none_in later held }, λ x. differ_in_name (other_first listing later x.listed));
   new = (record { named = (0, omega arith, refl); listed = refl; new = tt }, λ x. x.new there);
 }
@@ -108,16 +110,26 @@ zed_two = library_of (of_dll (codes "zed.dll") (plain_export (codes "queue") ∷
 pub near_is_weak_data : NearIsWeakData
 unfolding searched
 near_is_weak_data = record {
-  named = (record { library = library_of aliased; held = (0, omega arith, refl); export = bar; among = (0, omega arith, refl); data_alone = refl; named = tt; listed = refl },
-    weak_data two_libraries [] foo_alias refl);
-  data_alone = (record { library = zed_two; held = (1, omega arith, refl); export = plain_export (codes "queue"); among = (0, omega arith, refl); data_alone = tt; named = (0, omega arith, refl); listed = refl },
-    weak_data two_libraries (codes "queue" ∷ []) listing refl);
-  held = (record { library = library_of aliased; held = tt; export = bar; among = (0, omega arith, refl); data_alone = refl; named = (0, omega arith, refl); listed = refl },
-    weak_data [] (codes "bar" ∷ []) foo_alias refl);
-  among = (record { library = zed_library; held = (0, omega arith, refl); export = bar; among = tt; data_alone = refl; named = (0, omega arith, refl); listed = refl },
-    weak_data (zed_library ∷ []) (codes "bar" ∷ []) foo_alias refl);
-  listed = (record { library = library_of aliased; held = (0, omega arith, refl); export = bar; among = (0, omega arith, refl); data_alone = refl; named = (0, omega arith, refl); listed = tt },
-    weak_data two_libraries (codes "bar" ∷ codes "queue" ∷ []) queue_member refl);
+  named = (
+    record { library = library_of aliased; held = (0, omega arith, refl); export = bar; among = (0, omega arith, refl); data_alone = refl; named = tt; listed = refl },
+    weak_data two_libraries [] foo_alias refl,
+  );
+  data_alone = (
+    record { library = zed_two; held = (1, omega arith, refl); export = plain_export (codes "queue"); among = (0, omega arith, refl); data_alone = tt; named = (0, omega arith, refl); listed = refl },
+    weak_data two_libraries (codes "queue" ∷ []) listing refl,
+  );
+  held = (
+    record { library = library_of aliased; held = tt; export = bar; among = (0, omega arith, refl); data_alone = refl; named = (0, omega arith, refl); listed = refl },
+    weak_data [] (codes "bar" ∷ []) foo_alias refl,
+  );
+  among = (
+    record { library = zed_library; held = (0, omega arith, refl); export = bar; among = tt; data_alone = refl; named = (0, omega arith, refl); listed = refl },
+    weak_data (zed_library ∷ []) (codes "bar" ∷ []) foo_alias refl,
+  );
+  listed = (
+    record { library = library_of aliased; held = (0, omega arith, refl); export = bar; among = (0, omega arith, refl); data_alone = refl; named = (0, omega arith, refl); listed = tt },
+    weak_data two_libraries (codes "bar" ∷ codes "queue" ∷ []) queue_member refl,
+  );
 }
 
 -- whether an export is an alias one of whose two names is among these, and a member is listed for it
@@ -142,18 +154,30 @@ weak_short libraries names m none x =
 pub near_is_weak_short : NearIsWeakShort
 unfolding searched
 near_is_weak_short = record {
-  named = (record { library = msvc_foo; held = (0, omega arith, refl); export = bar; among = (0, omega arith, refl); alias = refl; name = codes "bar"; is = inl refl; named = tt; listed = refl },
-    weak_short two_msvc [] (weak_named (codes "bar") (codes "baz")) refl);
-  alias = (record { library = msvc_zed; held = (1, omega arith, refl); export = plain_export (codes "queue"); among = (0, omega arith, refl); alias = tt; name = codes "queue"; is = inl refl; named = (0, omega arith, refl); listed = refl },
-    weak_short two_msvc (codes "queue" ∷ []) listing refl);
-  held = (record { library = msvc_foo; held = tt; export = bar; among = (0, omega arith, refl); alias = refl; name = codes "bar"; is = inl refl; named = (0, omega arith, refl); listed = refl },
-    weak_short [] (codes "bar" ∷ []) (weak_named (codes "bar") (codes "baz")) refl);
-  among = (record { library = zed_short (codes "queue"); held = (0, omega arith, refl); export = bar; among = tt; alias = refl; name = codes "bar"; is = inl refl; named = (0, omega arith, refl); listed = refl },
-    weak_short (zed_short (codes "queue") ∷ []) (codes "bar" ∷ []) (weak_named (codes "bar") (codes "baz")) refl);
-  listed = (record { library = msvc_foo; held = (0, omega arith, refl); export = bar; among = (0, omega arith, refl); alias = refl; name = codes "bar"; is = inl refl; named = (0, omega arith, refl); listed = tt },
-    weak_short two_msvc (codes "bar" ∷ codes "queue" ∷ []) listing refl);
-  is = (record { library = msvc_foo; held = (0, omega arith, refl); export = bar; among = (0, omega arith, refl); alias = refl; name = codes "bars"; is = tt; named = (0, omega arith, refl); listed = refl },
-    weak_short two_msvc (codes "bars" ∷ []) (weak_named (codes "bars") (codes "baz")) refl);
+  named = (
+    record { library = msvc_foo; held = (0, omega arith, refl); export = bar; among = (0, omega arith, refl); alias = refl; name = codes "bar"; is = inl refl; named = tt; listed = refl },
+    weak_short two_msvc [] (weak_named (codes "bar") (codes "baz")) refl,
+  );
+  alias = (
+    record { library = msvc_zed; held = (1, omega arith, refl); export = plain_export (codes "queue"); among = (0, omega arith, refl); alias = tt; name = codes "queue"; is = inl refl; named = (0, omega arith, refl); listed = refl },
+    weak_short two_msvc (codes "queue" ∷ []) listing refl,
+  );
+  held = (
+    record { library = msvc_foo; held = tt; export = bar; among = (0, omega arith, refl); alias = refl; name = codes "bar"; is = inl refl; named = (0, omega arith, refl); listed = refl },
+    weak_short [] (codes "bar" ∷ []) (weak_named (codes "bar") (codes "baz")) refl,
+  );
+  among = (
+    record { library = zed_short (codes "queue"); held = (0, omega arith, refl); export = bar; among = tt; alias = refl; name = codes "bar"; is = inl refl; named = (0, omega arith, refl); listed = refl },
+    weak_short (zed_short (codes "queue") ∷ []) (codes "bar" ∷ []) (weak_named (codes "bar") (codes "baz")) refl,
+  );
+  listed = (
+    record { library = msvc_foo; held = (0, omega arith, refl); export = bar; among = (0, omega arith, refl); alias = refl; name = codes "bar"; is = inl refl; named = (0, omega arith, refl); listed = tt },
+    weak_short two_msvc (codes "bar" ∷ codes "queue" ∷ []) listing refl,
+  );
+  is = (
+    record { library = msvc_foo; held = (0, omega arith, refl); export = bar; among = (0, omega arith, refl); alias = refl; name = codes "bars"; is = tt; named = (0, omega arith, refl); listed = refl },
+    weak_short two_msvc (codes "bars" ∷ []) (weak_named (codes "bars") (codes "baz")) refl,
+  );
 }
 
 -- What is used, and what is taken.
@@ -250,8 +274,10 @@ printf_input =
 pub near_is_imported : NearIsImported
 unfolding searched
 near_is_imported = record {
-  by = (record { number = 0; input = zed_input; input_is = refl; index = 0; export = plain_export (codes "queue"); export_is = refl; by = tt },
-    λ x. import_once (again ∷ placed_from closed_bases closed_objects) queue_twice (closed_bases.addresses + thunk_width AMD64 * thunks_before x.number closed_inputs + thunk_width AMD64 * x.index) x.export x.by);
+  by = (
+    record { number = 0; input = zed_input; input_is = refl; index = 0; export = plain_export (codes "queue"); export_is = refl; by = tt },
+    λ x. import_once (again ∷ placed_from closed_bases closed_objects) queue_twice (closed_bases.addresses + thunk_width AMD64 * thunks_before x.number closed_inputs + thunk_width AMD64 * x.index) x.export x.by,
+  );
   input_is = (record { number = 0; input = printf_input; input_is = tt; index = 0; export = plain_export (codes "printf"); export_is = refl; by = inr (refl, refl, printf_once) }, no_printf_imported);
   export_is = (record { number = 0; input = zed_input; input_is = refl; index = 0; export = plain_export (codes "printf"); export_is = tt; by = inr (refl, refl, printf_once) }, no_printf_imported);
 }
@@ -273,8 +299,10 @@ unfolding searched
 near_is_archive = record {
   archive = zed_archive;
   made = (record { made = tt; distinct = distinct_by (flat_map (symbols_of_library AMD64) (record zed_library { members = [] } ∷ [])) refl }, λ x. none_made x.made.0.made);
-  distinct = (record { made = (zed_archive.made.0, (zed_archive.made.0, tt)); distinct = tt },
-    λ x. same_twice (flat_map (symbols_of_library AMD64) (zed_library ∷ zed_library ∷ [])) refl x.distinct);
+  distinct = (
+    record { made = (zed_archive.made.0, (zed_archive.made.0, tt)); distinct = tt },
+    λ x. same_twice (flat_map (symbols_of_library AMD64) (zed_library ∷ zed_library ∷ [])) refl x.distinct,
+  );
 }
 
 abbrev drv_library : Library
@@ -284,10 +312,14 @@ pub near_is_msvc_archive : NearIsMsvcArchive
 unfolding searched
 near_is_msvc_archive = record {
   made = (record { made = tt; distinct = distinct_by (null_descriptor_symbol ∷ flat_map symbols_of_shorts (zed_short (codes "queue") ∷ [])) refl; found = (refl, tt) }, λ x. none_made x.made.0.made);
-  distinct = (record { made = (record { accepted = refl; made = refl; ordinals = refl }, (record { accepted = refl; made = refl; ordinals = refl }, tt)); distinct = tt; found = (refl, (refl, tt)) },
-    λ x. same_twice (null_descriptor_symbol ∷ flat_map symbols_of_shorts (zed_short (codes "queue") ∷ zed_short (codes "stack") ∷ [])) refl x.distinct);
-  found = (record { made = (record { accepted = refl; made = refl; ordinals = refl }, tt); distinct = distinct_by (null_descriptor_symbol ∷ flat_map symbols_of_shorts (drv_library ∷ [])) refl; found = tt },
-    λ x. let is : codes "__IMPORT_DESCRIPTOR_zed" ≡ codes "__IMPORT_DESCRIPTOR_zed.drv" = x.found.0 in differ 23 27 (ap length is) (omega arith));
+  distinct = (
+    record { made = (record { accepted = refl; made = refl; ordinals = refl }, (record { accepted = refl; made = refl; ordinals = refl }, tt)); distinct = tt; found = (refl, (refl, tt)) },
+    λ x. same_twice (null_descriptor_symbol ∷ flat_map symbols_of_shorts (zed_short (codes "queue") ∷ zed_short (codes "stack") ∷ [])) refl x.distinct,
+  );
+  found = (
+    record { made = (record { accepted = refl; made = refl; ordinals = refl }, tt); distinct = distinct_by (null_descriptor_symbol ∷ flat_map symbols_of_shorts (drv_library ∷ [])) refl; found = tt },
+    λ x. let is : codes "__IMPORT_DESCRIPTOR_zed" ≡ codes "__IMPORT_DESCRIPTOR_zed.drv" = x.found.0 in differ 23 27 (ap length is) (omega arith),
+  );
 }
 
 pub near_names_no_head_or_tail : NearNamesNoHeadOrTail

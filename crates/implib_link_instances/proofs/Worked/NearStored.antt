@@ -39,19 +39,29 @@ unfolding further_opened
 near_holds_further = record {
   handler = holds_further AMD64 3 0x1_4000_0000 0x1020 (λ w. 0) (λ w. 0x1020) refl;
   more = holds_further AMD64 3 0x1_4000_0000 0x1020 (λ w. 4) (λ w. 0x1024) refl;
-  relative = (record { relative = tt; added = λ is type adds. cc },
-    λ h. let is : 0x4000_1020 ≡ 0x1020 = h.relative refl in differ 0x1020 0x4000_1020 (sym is) (omega arith));
-  relative_more = (record { relative = tt; added = λ is type adds. cc },
-    λ h. let is : 0x1020 ≡ 0x1024 = h.relative refl in differ 0x1020 0x1024 is (omega arith));
+  relative = (
+    record { relative = tt; added = λ is type adds. cc },
+    λ h. let is : 0x4000_1020 ≡ 0x1020 = h.relative refl in differ 0x1020 0x4000_1020 (sym is) (omega arith),
+  );
+  relative_more = (
+    record { relative = tt; added = λ is type adds. cc },
+    λ h. let is : 0x1020 ≡ 0x1024 = h.relative refl in differ 0x1020 0x1024 is (omega arith),
+  );
   add = holds_further ARM64 6 0x1_4000_0000 0x102C (λ w. 0x9100_0000) (λ w. 0x9100_B000) refl;
   add_more = holds_further ARM64 6 0x1_4000_0000 0x102C (λ w. 0x9100_1000) (λ w. 0x9100_C000) refl;
   add_small = holds_further ARM64 6 0x1_4000_0000 0x102C (λ w. 0x1100_0000) (λ w. 0) refl;
-  added = (record { relative = λ is. absurd (differ 2 6 (sym is) (omega arith)); added = tt },
-    λ h. let is : 0x2D ≡ 0x2C = (h.added refl refl refl).1 in differ 0x2C 0x2D (sym is) (omega arith));
-  added_register = (record { relative = λ is. absurd (differ 2 6 (sym is) (omega arith)); added = tt },
-    λ h. let is : 0x9100_0001 ≡ 0x9100_0000 = (h.added refl refl refl).0 in differ 0x9100_0000 0x9100_0001 (sym is) (omega arith));
-  added_more = (record { relative = λ is. absurd (differ 2 6 (sym is) (omega arith)); added = tt },
-    λ h. let is : 0x2C ≡ 0x30 = (h.added refl refl refl).1 in differ 0x2C 0x30 is (omega arith));
+  added = (
+    record { relative = λ is. absurd (differ 2 6 (sym is) (omega arith)); added = tt },
+    λ h. let is : 0x2D ≡ 0x2C = (h.added refl refl refl).1 in differ 0x2C 0x2D (sym is) (omega arith),
+  );
+  added_register = (
+    record { relative = λ is. absurd (differ 2 6 (sym is) (omega arith)); added = tt },
+    λ h. let is : 0x9100_0001 ≡ 0x9100_0000 = (h.added refl refl refl).0 in differ 0x9100_0000 0x9100_0001 (sym is) (omega arith),
+  );
+  added_more = (
+    record { relative = λ is. absurd (differ 2 6 (sym is) (omega arith)); added = tt },
+    λ h. let is : 0x2C ≡ 0x30 = (h.added refl refl refl).1 in differ 0x2C 0x30 is (omega arith),
+  );
   i386 = refl;
   amd64 = refl;
   arm64 = refl;
@@ -60,8 +70,10 @@ near_holds_further = record {
   arm64_whole = λ is. differ 1 2 is (omega arith);
   armnt = λ is. is;
   i386_handler = holds_further I386 7 0x40_0000 0x1012 (λ w. 0) (λ w. 0x1012) refl;
-  i386_relative = (record { relative = tt; added = λ is type adds. cc },
-    λ h. let is : 0x40_1012 ≡ 0x1012 = h.relative refl in differ 0x1012 0x40_1012 (sym is) (omega arith));
+  i386_relative = (
+    record { relative = tt; added = λ is type adds. cc },
+    λ h. let is : 0x40_1012 ≡ 0x1012 = h.relative refl in differ 0x1012 0x40_1012 (sym is) (omega arith),
+  );
 }
 
 -- Of all linked code.
@@ -99,32 +111,44 @@ first_type a b is = let same : a ≡ b = cc in ap (λ (x : Relocation). x.kind) 
 
 pub near_has_relative : NearHasRelative
 near_has_relative = record {
-  field = (record { type = amd64_addr32nb; field = tt; relative = refl; empty = refl },
+  field = (
+    record { type = amd64_addr32nb; field = tt; relative = refl; empty = refl },
     λ has.
-      let type : has.type ≡ amd64_addr32nb = has.relative in
-      let alone = subst (λ n. MeetsAlone AMD64 (unwind_at AMD64).code.relocations 8 (field_width AMD64 n) (record { offset = 8; symbol = has.field.symbol; kind = n })) type has.field.alone in
-      other_named (unwind_at AMD64).from.object.entries 3 has.field.symbol (symbol_of_class (mid_name AMD64) 0 class_external) has.field.names.symbol (codes "zeta") (symbol_of (field 8 3 amd64_addr32nb) (field 8 has.field.symbol amd64_addr32nb) alone) refl
-      has.field.names.target has.field.names.named (λ same. differ 3 4 same (omega arith)));
-  relative = (record { type = amd64_addr64; field = record { symbol = 3; alone = refl; inside = omega arith; names = record { symbol = symbol_of_class (mid_name AMD64) 0 class_external; target = refl; undefined = refl; named = refl } }; relative = tt; empty = refl },
+        let type : has.type ≡ amd64_addr32nb = has.relative in
+        let alone = subst (λ n. MeetsAlone AMD64 (unwind_at AMD64).code.relocations 8 (field_width AMD64 n) (record { offset = 8; symbol = has.field.symbol; kind = n })) type has.field.alone in
+        other_named (unwind_at AMD64).from.object.entries 3 has.field.symbol (symbol_of_class (mid_name AMD64) 0 class_external) has.field.names.symbol (codes "zeta") (symbol_of (field 8 3 amd64_addr32nb) (field 8 has.field.symbol amd64_addr32nb) alone) refl
+        has.field.names.target has.field.names.named (λ same. differ 3 4 same (omega arith)),
+  );
+  relative = (
+    record { type = amd64_addr64; field = record { symbol = 3; alone = refl; inside = omega arith; names = record { symbol = symbol_of_class (mid_name AMD64) 0 class_external; target = refl; undefined = refl; named = refl } }; relative = tt; empty = refl },
     λ has.
-      let type : has.type ≡ amd64_addr32nb = has.relative in
-      let alone = subst (λ n. MeetsAlone AMD64 (held_at AMD64).code.relocations 8 (field_width AMD64 n) (record { offset = 8; symbol = has.field.symbol; kind = n })) type has.field.alone in
-      let own : amd64_addr64 ≡ amd64_addr32nb = first_type (field 8 3 amd64_addr64) (record { offset = 8; symbol = has.field.symbol; kind = amd64_addr32nb }) alone in
-      differ 1 3 own (omega arith));
-  empty = (record { type = amd64_addr32nb; field = record { symbol = 3; alone = refl; inside = omega arith; names = record { symbol = symbol_of_class (mid_name AMD64) 0 class_external; target = refl; undefined = refl; named = refl } }; relative = refl; empty = tt },
-    λ has. differ 0 0x1020 (sym has.empty) (omega arith));
+        let type : has.type ≡ amd64_addr32nb = has.relative in
+        let alone = subst (λ n. MeetsAlone AMD64 (held_at AMD64).code.relocations 8 (field_width AMD64 n) (record { offset = 8; symbol = has.field.symbol; kind = n })) type has.field.alone in
+        let own : amd64_addr64 ≡ amd64_addr32nb = first_type (field 8 3 amd64_addr64) (record { offset = 8; symbol = has.field.symbol; kind = amd64_addr32nb }) alone in
+        differ 1 3 own (omega arith),
+  );
+  empty = (
+    record { type = amd64_addr32nb; field = record { symbol = 3; alone = refl; inside = omega arith; names = record { symbol = symbol_of_class (mid_name AMD64) 0 class_external; target = refl; undefined = refl; named = refl } }; relative = refl; empty = tt },
+    λ has. differ 0 0x1020 (sym has.empty) (omega arith),
+  );
 }
 
 pub near_has_add_field : NearHasAddField
 near_has_add_field = record {
-  field = (record { field = tt; adds = refl; empty = refl },
+  field = (
+    record { field = tt; adds = refl; empty = refl },
     λ has.
-      other_named (picking_at ARM64).from.object.entries 3 has.field.symbol (symbol_of_class (mid_name ARM64) 0 class_external) has.field.names.symbol (codes "zeta") (symbol_of (field 32 3 arm64_pageoffset_12a) (field 32 has.field.symbol arm64_pageoffset_12a) has.field.alone) refl
-      has.field.names.target has.field.names.named (λ same. differ 3 4 same (omega arith)));
-  adds = (record { field = record { symbol = 3; alone = refl; inside = omega arith; names = record { symbol = symbol_of_class (mid_name ARM64) 0 class_external; target = refl; undefined = refl; named = refl } }; adds = tt; empty = refl },
-    λ has. differ 0x44 0x244 has.adds (omega arith));
-  empty = (record { field = record { symbol = 3; alone = refl; inside = omega arith; names = record { symbol = symbol_of_class (mid_name ARM64) 0 class_external; target = refl; undefined = refl; named = refl } }; adds = refl; empty = tt },
-    λ has. differ 0 0x2C (sym has.empty) (omega arith));
+        other_named (picking_at ARM64).from.object.entries 3 has.field.symbol (symbol_of_class (mid_name ARM64) 0 class_external) has.field.names.symbol (codes "zeta") (symbol_of (field 32 3 arm64_pageoffset_12a) (field 32 has.field.symbol arm64_pageoffset_12a) has.field.alone) refl
+        has.field.names.target has.field.names.named (λ same. differ 3 4 same (omega arith)),
+  );
+  adds = (
+    record { field = record { symbol = 3; alone = refl; inside = omega arith; names = record { symbol = symbol_of_class (mid_name ARM64) 0 class_external; target = refl; undefined = refl; named = refl } }; adds = tt; empty = refl },
+    λ has. differ 0x44 0x244 has.adds (omega arith),
+  );
+  empty = (
+    record { field = record { symbol = 3; alone = refl; inside = omega arith; names = record { symbol = symbol_of_class (mid_name ARM64) 0 class_external; target = refl; undefined = refl; named = refl } }; adds = refl; empty = tt },
+    λ has. differ 0 0x2C (sym has.empty) (omega arith),
+  );
 }
 
 -- ARM64's two instructions.
@@ -159,32 +183,44 @@ near_sum_arrives = record {
     is_add = refl;
     leads = refl;
   };
-  adrp_there = (record { adrp = 0x9000_0000; adrp_there = tt; is_adrp = refl; add = 0x9100_B000; add_there = number (sum_memory 0x101B plain 0x1020 adding) 4 0x1020 0x9100_B000 adding refl refl refl; is_add = refl; leads = refl },
-    λ x. past_end (sum_memory 0x101B plain 0x1020 adding) 0x101C x.adrp refl x.adrp_there);
-  is_adrp = (record { adrp = 0x9000_0001; adrp_there = number (sum_memory 0x101C (1 ∷ 0 ∷ 0 ∷ 0x90 ∷ []) 0x1020 adding) 4 0x101C 0x9000_0001 (1 ∷ 0 ∷ 0 ∷ 0x90 ∷ []) refl refl refl; is_adrp = tt; add = 0x9100_B000; add_there = number (sum_memory 0x101C (1 ∷ 0 ∷ 0 ∷ 0x90 ∷ []) 0x1020 adding) 4 0x1020 0x9100_B000 adding refl refl refl; is_add = refl; leads = refl },
+  adrp_there = (
+    record { adrp = 0x9000_0000; adrp_there = tt; is_adrp = refl; add = 0x9100_B000; add_there = number (sum_memory 0x101B plain 0x1020 adding) 4 0x1020 0x9100_B000 adding refl refl refl; is_add = refl; leads = refl },
+    λ x. past_end (sum_memory 0x101B plain 0x1020 adding) 0x101C x.adrp refl x.adrp_there,
+  );
+  is_adrp = (
+    record { adrp = 0x9000_0001; adrp_there = number (sum_memory 0x101C (1 ∷ 0 ∷ 0 ∷ 0x90 ∷ []) 0x1020 adding) 4 0x101C 0x9000_0001 (1 ∷ 0 ∷ 0 ∷ 0x90 ∷ []) refl refl refl; is_adrp = tt; add = 0x9100_B000; add_there = number (sum_memory 0x101C (1 ∷ 0 ∷ 0 ∷ 0x90 ∷ []) 0x1020 adding) 4 0x1020 0x9100_B000 adding refl refl refl; is_add = refl; leads = refl },
     λ x.
-      let same = adrp_is (1 ∷ 0 ∷ 0 ∷ 0x90 ∷ []) adding 0x9000_0001 (number (sum_memory 0x101C (1 ∷ 0 ∷ 0 ∷ 0x90 ∷ []) 0x1020 adding) 4 0x101C 0x9000_0001 (1 ∷ 0 ∷ 0 ∷ 0x90 ∷ []) refl refl refl) x in
-      let is : 0x9000_0001 ≡ 0x9000_0000 = sym (ap (with_adrp 0) same) ∙ x.is_adrp in
-      differ 0x9000_0000 0x9000_0001 (sym is) (omega arith));
-  add_there = (record { adrp = 0x9000_0000; adrp_there = number (sum_memory 0x101C plain 0x1021 adding) 4 0x101C 0x9000_0000 plain refl refl refl; is_adrp = refl; add = 0x9100_B000; add_there = tt; is_add = refl; leads = refl },
-    λ x. absent (sum_memory 0x101C plain 0x1021 adding) 0x1020 4 x.add refl (omega arith) x.add_there);
-  is_add = (record { adrp = 0x9000_0000; adrp_there = number (sum_memory 0x101C plain 0x1020 (1 ∷ 0xB0 ∷ 0 ∷ 0x91 ∷ [])) 4 0x101C 0x9000_0000 plain refl refl refl; is_adrp = refl; add = 0x9100_B001; add_there = number (sum_memory 0x101C plain 0x1020 (1 ∷ 0xB0 ∷ 0 ∷ 0x91 ∷ [])) 4 0x1020 0x9100_B001 (1 ∷ 0xB0 ∷ 0 ∷ 0x91 ∷ []) refl refl refl; is_add = tt; leads = refl },
+        let same = adrp_is (1 ∷ 0 ∷ 0 ∷ 0x90 ∷ []) adding 0x9000_0001 (number (sum_memory 0x101C (1 ∷ 0 ∷ 0 ∷ 0x90 ∷ []) 0x1020 adding) 4 0x101C 0x9000_0001 (1 ∷ 0 ∷ 0 ∷ 0x90 ∷ []) refl refl refl) x in
+        let is : 0x9000_0001 ≡ 0x9000_0000 = sym (ap (with_adrp 0) same) ∙ x.is_adrp in
+        differ 0x9000_0000 0x9000_0001 (sym is) (omega arith),
+  );
+  add_there = (
+    record { adrp = 0x9000_0000; adrp_there = number (sum_memory 0x101C plain 0x1021 adding) 4 0x101C 0x9000_0000 plain refl refl refl; is_adrp = refl; add = 0x9100_B000; add_there = tt; is_add = refl; leads = refl },
+    λ x. absent (sum_memory 0x101C plain 0x1021 adding) 0x1020 4 x.add refl (omega arith) x.add_there,
+  );
+  is_add = (
+    record { adrp = 0x9000_0000; adrp_there = number (sum_memory 0x101C plain 0x1020 (1 ∷ 0xB0 ∷ 0 ∷ 0x91 ∷ [])) 4 0x101C 0x9000_0000 plain refl refl refl; is_adrp = refl; add = 0x9100_B001; add_there = number (sum_memory 0x101C plain 0x1020 (1 ∷ 0xB0 ∷ 0 ∷ 0x91 ∷ [])) 4 0x1020 0x9100_B001 (1 ∷ 0xB0 ∷ 0 ∷ 0x91 ∷ []) refl refl refl; is_add = tt; leads = refl },
     λ x.
-      let same = add_is plain (1 ∷ 0xB0 ∷ 0 ∷ 0x91 ∷ []) 0x9100_B001 (number (sum_memory 0x101C plain 0x1020 (1 ∷ 0xB0 ∷ 0 ∷ 0x91 ∷ [])) 4 0x1020 0x9100_B001 (1 ∷ 0xB0 ∷ 0 ∷ 0x91 ∷ []) refl refl refl) x in
-      let is : 0x9100_0001 ≡ 0x9100_0000 = sym (ap (with_bits 10 12 0) same) ∙ x.is_add in
-      differ 0x9100_0000 0x9100_0001 (sym is) (omega arith));
-  leads = (record { adrp = 0x9000_0000; adrp_there = number (sum_memory 0x101C plain 0x1020 (0 ∷ 0xB4 ∷ 0 ∷ 0x91 ∷ [])) 4 0x101C 0x9000_0000 plain refl refl refl; is_adrp = refl; add = 0x9100_B400; add_there = number (sum_memory 0x101C plain 0x1020 (0 ∷ 0xB4 ∷ 0 ∷ 0x91 ∷ [])) 4 0x1020 0x9100_B400 (0 ∷ 0xB4 ∷ 0 ∷ 0x91 ∷ []) refl refl refl; is_add = refl; leads = tt },
+        let same = add_is plain (1 ∷ 0xB0 ∷ 0 ∷ 0x91 ∷ []) 0x9100_B001 (number (sum_memory 0x101C plain 0x1020 (1 ∷ 0xB0 ∷ 0 ∷ 0x91 ∷ [])) 4 0x1020 0x9100_B001 (1 ∷ 0xB0 ∷ 0 ∷ 0x91 ∷ []) refl refl refl) x in
+        let is : 0x9100_0001 ≡ 0x9100_0000 = sym (ap (with_bits 10 12 0) same) ∙ x.is_add in
+        differ 0x9100_0000 0x9100_0001 (sym is) (omega arith),
+  );
+  leads = (
+    record { adrp = 0x9000_0000; adrp_there = number (sum_memory 0x101C plain 0x1020 (0 ∷ 0xB4 ∷ 0 ∷ 0x91 ∷ [])) 4 0x101C 0x9000_0000 plain refl refl refl; is_adrp = refl; add = 0x9100_B400; add_there = number (sum_memory 0x101C plain 0x1020 (0 ∷ 0xB4 ∷ 0 ∷ 0x91 ∷ [])) 4 0x1020 0x9100_B400 (0 ∷ 0xB4 ∷ 0 ∷ 0x91 ∷ []) refl refl refl; is_add = refl; leads = tt },
     λ x.
-      let memory : List Range = sum_memory 0x101C plain 0x1020 (0 ∷ 0xB4 ∷ 0 ∷ 0x91 ∷ []) in
-      let first = adrp_is plain (0 ∷ 0xB4 ∷ 0 ∷ 0x91 ∷ []) 0x9000_0000 (number memory 4 0x101C 0x9000_0000 plain refl refl refl) x in
-      let second = add_is plain (0 ∷ 0xB4 ∷ 0 ∷ 0x91 ∷ []) 0x9100_B400 (number memory 4 0x1020 0x9100_B400 (0 ∷ 0xB4 ∷ 0 ∷ 0x91 ∷ []) refl refl refl) x in
-      differ 0x1_4000_102C 0x1_4000_102D (sym (led x.adrp x.add 0x9000_0000 0x9100_B400 first second x.leads)) (omega arith));
-  leads_page = (record { adrp = 0xB000_0000; adrp_there = number (sum_memory 0x101C (0 ∷ 0 ∷ 0 ∷ 0xB0 ∷ []) 0x1020 adding) 4 0x101C 0xB000_0000 (0 ∷ 0 ∷ 0 ∷ 0xB0 ∷ []) refl refl refl; is_adrp = refl; add = 0x9100_B000; add_there = number (sum_memory 0x101C (0 ∷ 0 ∷ 0 ∷ 0xB0 ∷ []) 0x1020 adding) 4 0x1020 0x9100_B000 adding refl refl refl; is_add = refl; leads = tt },
+        let memory : List Range = sum_memory 0x101C plain 0x1020 (0 ∷ 0xB4 ∷ 0 ∷ 0x91 ∷ []) in
+        let first = adrp_is plain (0 ∷ 0xB4 ∷ 0 ∷ 0x91 ∷ []) 0x9000_0000 (number memory 4 0x101C 0x9000_0000 plain refl refl refl) x in
+        let second = add_is plain (0 ∷ 0xB4 ∷ 0 ∷ 0x91 ∷ []) 0x9100_B400 (number memory 4 0x1020 0x9100_B400 (0 ∷ 0xB4 ∷ 0 ∷ 0x91 ∷ []) refl refl refl) x in
+        differ 0x1_4000_102C 0x1_4000_102D (sym (led x.adrp x.add 0x9000_0000 0x9100_B400 first second x.leads)) (omega arith),
+  );
+  leads_page = (
+    record { adrp = 0xB000_0000; adrp_there = number (sum_memory 0x101C (0 ∷ 0 ∷ 0 ∷ 0xB0 ∷ []) 0x1020 adding) 4 0x101C 0xB000_0000 (0 ∷ 0 ∷ 0 ∷ 0xB0 ∷ []) refl refl refl; is_adrp = refl; add = 0x9100_B000; add_there = number (sum_memory 0x101C (0 ∷ 0 ∷ 0 ∷ 0xB0 ∷ []) 0x1020 adding) 4 0x1020 0x9100_B000 adding refl refl refl; is_add = refl; leads = tt },
     λ x.
-      let memory : List Range = sum_memory 0x101C (0 ∷ 0 ∷ 0 ∷ 0xB0 ∷ []) 0x1020 adding in
-      let first = adrp_is (0 ∷ 0 ∷ 0 ∷ 0xB0 ∷ []) adding 0xB000_0000 (number memory 4 0x101C 0xB000_0000 (0 ∷ 0 ∷ 0 ∷ 0xB0 ∷ []) refl refl refl) x in
-      let second = add_is (0 ∷ 0 ∷ 0 ∷ 0xB0 ∷ []) adding 0x9100_B000 (number memory 4 0x1020 0x9100_B000 adding refl refl refl) x in
-      differ 0x1_4000_102C 0x1_4000_202C (sym (led x.adrp x.add 0xB000_0000 0x9100_B000 first second x.leads)) (omega arith));
+        let memory : List Range = sum_memory 0x101C (0 ∷ 0 ∷ 0 ∷ 0xB0 ∷ []) 0x1020 adding in
+        let first = adrp_is (0 ∷ 0 ∷ 0 ∷ 0xB0 ∷ []) adding 0xB000_0000 (number memory 4 0x101C 0xB000_0000 (0 ∷ 0 ∷ 0 ∷ 0xB0 ∷ []) refl refl refl) x in
+        let second = add_is (0 ∷ 0 ∷ 0 ∷ 0xB0 ∷ []) adding 0x9100_B000 (number memory 4 0x1020 0x9100_B000 adding refl refl refl) x in
+        differ 0x1_4000_102C 0x1_4000_202C (sym (led x.adrp x.add 0xB000_0000 0x9100_B000 first second x.leads)) (omega arith),
+  );
 }
 
 -- Memory with another byte.
@@ -217,38 +253,44 @@ relative_there machine type place n memory all there c offset held has is = subs
 pub near_hold_address : NearHoldAddress
 unfolding lld_opened of_type_at
 near_hold_address = record {
-  whole = (record {
+  whole = (
+    record {
       whole = tt;
       relative = λ c offset held has. relative_there AMD64 amd64_addr32nb 0x3018 0x1020 (with_other 0x3008 0x21 (holding_memory AMD64)) refl (number (with_other 0x3008 0x21 (holding_memory AMD64)) 4 0x3018 0x1020 (0x20 ∷ 0x10 ∷ 0 ∷ 0 ∷ []) refl refl refl) c offset held has has.relative;
       sums = λ c d first second is. cc;
     },
     λ h.
-      let memory : List Range = with_other 0x3008 0x21 (holding_memory AMD64) in
-      let is : 0x1_4000_1020 ≡ 0x1_4000_1021 =
-      number_once memory 8 0x3008 0x1_4000_1020 0x1_4000_1021 (h.whole (held_at AMD64) 8 (omega arith) (2, omega arith, refl) worked_holdings.amd64.pointer)
-      (number memory 8 0x3008 0x1_4000_1021 (0x21 ∷ 0x10 ∷ 0 ∷ 0x40 ∷ 1 ∷ 0 ∷ 0 ∷ 0 ∷ []) refl refl refl) in
-      differ 0x1_4000_1020 0x1_4000_1021 is (omega arith));
-  relative = (record {
+        let memory : List Range = with_other 0x3008 0x21 (holding_memory AMD64) in
+        let is : 0x1_4000_1020 ≡ 0x1_4000_1021 =
+        number_once memory 8 0x3008 0x1_4000_1020 0x1_4000_1021 (h.whole (held_at AMD64) 8 (omega arith) (2, omega arith, refl) worked_holdings.amd64.pointer)
+        (number memory 8 0x3008 0x1_4000_1021 (0x21 ∷ 0x10 ∷ 0 ∷ 0x40 ∷ 1 ∷ 0 ∷ 0 ∷ 0 ∷ []) refl refl refl) in
+        differ 0x1_4000_1020 0x1_4000_1021 is (omega arith),
+  );
+  relative = (
+    record {
       whole = λ c offset below held has. whole_there AMD64 amd64_addr64 0x3008 0x1_4000_1020 (with_other 0x3018 0x21 (holding_memory AMD64)) refl (number (with_other 0x3018 0x21 (holding_memory AMD64)) 8 0x3008 0x1_4000_1020 (0x20 ∷ 0x10 ∷ 0 ∷ 0x40 ∷ 1 ∷ 0 ∷ 0 ∷ 0 ∷ []) refl refl refl) c offset held has has.stores;
       relative = tt;
       sums = λ c d first second is. cc;
     },
     λ h.
-      let memory : List Range = with_other 0x3018 0x21 (holding_memory AMD64) in
-      let is : 0x1020 ≡ 0x1021 =
-      number_once memory 4 0x3018 0x1020 0x1021 (h.relative (unwind_at AMD64) 8 (3, omega arith, refl) worked_holdings.amd64_handler) (number memory 4 0x3018 0x1021 (0x21 ∷ 0x10 ∷ 0 ∷ 0 ∷ []) refl refl refl) in
-      differ 0x1020 0x1021 is (omega arith));
-  sums = (record {
+        let memory : List Range = with_other 0x3018 0x21 (holding_memory AMD64) in
+        let is : 0x1020 ≡ 0x1021 =
+        number_once memory 4 0x3018 0x1020 0x1021 (h.relative (unwind_at AMD64) 8 (3, omega arith, refl) worked_holdings.amd64_handler) (number memory 4 0x3018 0x1021 (0x21 ∷ 0x10 ∷ 0 ∷ 0 ∷ []) refl refl refl) in
+        differ 0x1020 0x1021 is (omega arith),
+  );
+  sums = (
+    record {
       whole = λ c offset below held has. whole_there ARM64 arm64_addr64 0x3008 0x1_4000_102C (with_other 0x1021 0xB4 (holding_memory ARM64)) refl (number (with_other 0x1021 0xB4 (holding_memory ARM64)) 8 0x3008 0x1_4000_102C (0x2C ∷ 0x10 ∷ 0 ∷ 0x40 ∷ 1 ∷ 0 ∷ 0 ∷ 0 ∷ []) refl refl refl) c offset held has has.stores;
       relative = λ c offset held has. relative_there ARM64 arm64_addr32nb 0x3018 0x102C (with_other 0x1021 0xB4 (holding_memory ARM64)) refl (number (with_other 0x1021 0xB4 (holding_memory ARM64)) 4 0x3018 0x102C (0x2C ∷ 0x10 ∷ 0 ∷ 0 ∷ []) refl refl refl) c offset held has has.relative;
       sums = tt;
     },
     λ h.
-      let memory : List Range = with_other 0x1021 0xB4 (holding_memory ARM64) in
-      let x = h.sums (picking_at ARM64) (picking_at ARM64) 28 32 refl (0, omega arith, refl) (0, omega arith, refl) worked_holdings.arm64_page worked_holdings.arm64_add in
-      let first : x.adrp ≡ 0x9000_0000 = number_once memory 4 0x101C x.adrp 0x9000_0000 x.adrp_there (number memory 4 0x101C 0x9000_0000 plain refl refl refl) in
-      let second : x.add ≡ 0x9100_B400 = number_once memory 4 0x1020 x.add 0x9100_B400 x.add_there (number memory 4 0x1020 0x9100_B400 (0 ∷ 0xB4 ∷ 0 ∷ 0x91 ∷ []) refl refl refl) in
-      differ 0x1_4000_102C 0x1_4000_102D (sym (led x.adrp x.add 0x9000_0000 0x9100_B400 first second x.leads)) (omega arith));
+        let memory : List Range = with_other 0x1021 0xB4 (holding_memory ARM64) in
+        let x = h.sums (picking_at ARM64) (picking_at ARM64) 28 32 refl (0, omega arith, refl) (0, omega arith, refl) worked_holdings.arm64_page worked_holdings.arm64_add in
+        let first : x.adrp ≡ 0x9000_0000 = number_once memory 4 0x101C x.adrp 0x9000_0000 x.adrp_there (number memory 4 0x101C 0x9000_0000 plain refl refl refl) in
+        let second : x.add ≡ 0x9100_B400 = number_once memory 4 0x1020 x.add 0x9100_B400 x.add_there (number memory 4 0x1020 0x9100_B400 (0 ∷ 0xB4 ∷ 0 ∷ 0x91 ∷ []) refl refl refl) in
+        differ 0x1_4000_102C 0x1_4000_102D (sym (led x.adrp x.add 0x9000_0000 0x9100_B400 first second x.leads)) (omega arith),
+  );
 }
 
 base_more : (n : ℕ) → 0x1_4000_0000 + n ≡ 0x1_4000_1021 → n ≡ 0x1020 → ⊥
@@ -261,14 +303,18 @@ pub near_points_to : NearPointsTo
 unfolding lld_opened
 near_points_to = record {
   points = record { target = 0x1020; there = number (holding_memory AMD64) 8 0x3008 0x1_4000_1020 (0x20 ∷ 0x10 ∷ 0 ∷ 0x40 ∷ 1 ∷ 0 ∷ 0 ∷ 0 ∷ []) refl refl refl; reached = refl };
-  there = (record { target = 0x1020; there = tt; reached = refl },
+  there = (
+    record { target = 0x1020; there = tt; reached = refl },
     λ x.
-      let memory : List Range = with_other 0x3008 0x21 (holding_memory AMD64) in
-      base_more x.target
-      (number_once memory 8 0x3008 (0x1_4000_0000 + x.target) 0x1_4000_1021 x.there (number memory 8 0x3008 0x1_4000_1021 (0x21 ∷ 0x10 ∷ 0 ∷ 0x40 ∷ 1 ∷ 0 ∷ 0 ∷ 0 ∷ []) refl refl refl)) x.reached);
-  reached = (record { target = 0x1020; there = number (holding_memory AMD64) 8 0x3008 0x1_4000_1020 (0x20 ∷ 0x10 ∷ 0 ∷ 0x40 ∷ 1 ∷ 0 ∷ 0 ∷ 0 ∷ []) refl refl refl; reached = tt },
+        let memory : List Range = with_other 0x3008 0x21 (holding_memory AMD64) in
+        base_more x.target
+        (number_once memory 8 0x3008 (0x1_4000_0000 + x.target) 0x1_4000_1021 x.there (number memory 8 0x3008 0x1_4000_1021 (0x21 ∷ 0x10 ∷ 0 ∷ 0x40 ∷ 1 ∷ 0 ∷ 0 ∷ 0 ∷ []) refl refl refl)) x.reached,
+  );
+  reached = (
+    record { target = 0x1020; there = number (holding_memory AMD64) 8 0x3008 0x1_4000_1020 (0x20 ∷ 0x10 ∷ 0 ∷ 0x40 ∷ 1 ∷ 0 ∷ 0 ∷ 0 ∷ []) refl refl refl; reached = tt },
     λ x.
-      base_same x.target
-      (number_once (holding_memory AMD64) 8 0x3008 (0x1_4000_0000 + x.target) 0x1_4000_1020 x.there
-      (number (holding_memory AMD64) 8 0x3008 0x1_4000_1020 (0x20 ∷ 0x10 ∷ 0 ∷ 0x40 ∷ 1 ∷ 0 ∷ 0 ∷ 0 ∷ []) refl refl refl)) x.reached);
+        base_same x.target
+        (number_once (holding_memory AMD64) 8 0x3008 (0x1_4000_0000 + x.target) 0x1_4000_1020 x.there
+        (number (holding_memory AMD64) 8 0x3008 0x1_4000_1020 (0x20 ∷ 0x10 ∷ 0 ∷ 0x40 ∷ 1 ∷ 0 ∷ 0 ∷ 0 ∷ []) refl refl refl)) x.reached,
+  );
 }

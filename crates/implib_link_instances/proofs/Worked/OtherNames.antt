@@ -291,15 +291,15 @@ near_stands_for = record {
   tables = (
     record { tables = tt; code = λ c d index t held d_held names defines named. stands_in_code other_address other_linked other_codes (codes "__imp_zoo_oped") (codes "__imp_ExitProcess") refl refl c d index t d_held names defines named },
     λ x.
-      other_number 0x3070 0x3060 refl
-      (x.tables other_start 11 0x3060 (0, omega arith, refl) (record { symbol = symbol_of_class (codes "__imp_zoo_oped") 0 class_external; target = refl; undefined = refl; named = refl }) refl),
+        other_number 0x3070 0x3060 refl
+        (x.tables other_start 11 0x3060 (0, omega arith, refl) (record { symbol = symbol_of_class (codes "__imp_zoo_oped") 0 class_external; target = refl; undefined = refl; named = refl }) refl),
   );
   code = (
     record { tables = λ c index address held names found. stands_in_tables other_address other_linked other_codes (codes "zoo_oped") (codes "start") refl refl c index address names found; code = tt },
     λ x.
-      other_number 0x1030 0x1000 refl
-      (x.code other_start other_start 13 (record { name = codes "start"; value = 0; section = 1; kind = 0x20; class = class_external }) (0, omega arith, refl) (0, omega arith, refl)
-      (record { symbol = record { name = codes "zoo_oped"; value = 0; section = 0; kind = 0x20; class = class_external }; target = refl; undefined = refl; named = refl })
-      (record { held = (2, omega arith, refl); external = refl; here = refl }) refl),
+        other_number 0x1030 0x1000 refl
+        (x.code other_start other_start 13 (record { name = codes "start"; value = 0; section = 1; kind = 0x20; class = class_external }) (0, omega arith, refl) (0, omega arith, refl)
+        (record { symbol = record { name = codes "zoo_oped"; value = 0; section = 0; kind = 0x20; class = class_external }; target = refl; undefined = refl; named = refl })
+        (record { held = (2, omega arith, refl); external = refl; here = refl }) refl),
   );
 }

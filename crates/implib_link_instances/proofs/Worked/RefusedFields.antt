@@ -86,20 +86,22 @@ refused_instructions = record {
   arrives =
       let memory : List Range = two_ranges 0x100B (0xFF ∷ 0x15 ∷ 0x6F ∷ 0xF0 ∷ 0xFF ∷ 0xFF ∷ []) open_address in
       record { field = call_number; four = refl; there = are_located memory (0xFF ∷ 0x15 ∷ 0x6F ∷ 0xF0 ∷ 0xFF ∷ 0xFF ∷ []) 0x100B refl; entry = 0x80; own = refl; leads = refl; located = are_located memory open_address 0x80 refl };
-  there = (record { field = call_number; four = refl; there = tt; entry = 0x80; own = refl; leads = refl; located = are_located (two_ranges 0x100B (0xFF ∷ 0x25 ∷ call_number) open_address) open_address 0x80 refl },
-    λ x. second_byte (two_ranges 0x100B (0xFF ∷ 0x25 ∷ 0x6F ∷ 0xF0 ∷ 0xFF ∷ 0xFF ∷ []) open_address) 0x100B 0xFF 0x15 0x25 (x.field ++ []) refl (omega arith) x.there);
+  there = (
+    record { field = call_number; four = refl; there = tt; entry = 0x80; own = refl; leads = refl; located = are_located (two_ranges 0x100B (0xFF ∷ 0x25 ∷ call_number) open_address) open_address 0x80 refl },
+    λ x. second_byte (two_ranges 0x100B (0xFF ∷ 0x25 ∷ 0x6F ∷ 0xF0 ∷ 0xFF ∷ 0xFF ∷ []) open_address) 0x100B 0xFF 0x15 0x25 (x.field ++ []) refl (omega arith) x.there,
+  );
   own = (
     let memory : List Range = two_ranges 0x100B (0xFF ∷ 0x15 ∷ call_number) open_address in
-    record { field = call_number; four = refl; there = are_located memory (0xFF ∷ 0x15 ∷ call_number) 0x100B refl; entry = 0x80; own = tt; leads = refl; located = are_located memory open_address 0x80 refl },
+        record { field = call_number; four = refl; there = are_located memory (0xFF ∷ 0x15 ∷ call_number) 0x100B refl; entry = 0x80; own = tt; leads = refl; located = are_located memory open_address 0x80 refl },
     λ x. let none : [] ≡ record { name = codes "hello"; address = Some x.entry } ∷ [] = x.own in cc,
   );
   located = (
     let memory : List Range = two_ranges 0x100B (0xFF ∷ 0x15 ∷ call_number) (0x41 ∷ drop 1 open_address) in
-    record { field = call_number; four = refl; there = are_located memory (0xFF ∷ 0x15 ∷ call_number) 0x100B refl; entry = 0x80; own = refl; leads = refl; located = tt },
+        record { field = call_number; four = refl; there = are_located memory (0xFF ∷ 0x15 ∷ call_number) 0x100B refl; entry = 0x80; own = refl; leads = refl; located = tt },
     λ x.
-      let memory : List Range = two_ranges 0x100B (0xFF ∷ 0x15 ∷ 0x6F ∷ 0xF0 ∷ 0xFF ∷ 0xFF ∷ []) (0x41 ∷ drop 1 open_address) in
-      let entry : x.entry ≡ 0x80 = same_address (imp_open AMD64) x.entry 0x80 (definitions_of (imp_open AMD64) linked_on_amd64) x.own refl in
-      other_byte memory 0x80 0x40 0x41 (drop 1 open_address) refl (omega arith) (subst (λ e. BytesAt memory e open_address) entry x.located),
+        let memory : List Range = two_ranges 0x100B (0xFF ∷ 0x15 ∷ 0x6F ∷ 0xF0 ∷ 0xFF ∷ 0xFF ∷ []) (0x41 ∷ drop 1 open_address) in
+        let entry : x.entry ≡ 0x80 = same_address (imp_open AMD64) x.entry 0x80 (definitions_of (imp_open AMD64) linked_on_amd64) x.own refl in
+        other_byte memory 0x80 0x40 0x41 (drop 1 open_address) refl (omega arith) (subst (λ e. BytesAt memory e open_address) entry x.located),
   );
 }
 
@@ -122,47 +124,47 @@ refused_pairs = record {
       };
   is_adrp = (
     let memory : List Range = pair_memory (0xE9 ∷ 0xFF ∷ 0xFF ∷ 0xF0 ∷ []) (8 ∷ 0x41 ∷ 0x40 ∷ 0xF9 ∷ []) open_address in
-    record { adrp = 0xF0FF_FFE9; adrp_there = number memory 4 0x100C 0xF0FF_FFE9 (0xE9 ∷ 0xFF ∷ 0xFF ∷ 0xF0 ∷ []) refl refl refl; is_adrp = tt; load = 0xF940_4108; load_there = number memory 4 0x1010 0xF940_4108 (8 ∷ 0x41 ∷ 0x40 ∷ 0xF9 ∷ []) refl refl refl; is_load = refl; entry = 0x80; own = refl; leads = refl; located = are_located memory open_address 0x80 refl },
+        record { adrp = 0xF0FF_FFE9; adrp_there = number memory 4 0x100C 0xF0FF_FFE9 (0xE9 ∷ 0xFF ∷ 0xFF ∷ 0xF0 ∷ []) refl refl refl; is_adrp = tt; load = 0xF940_4108; load_there = number memory 4 0x1010 0xF940_4108 (8 ∷ 0x41 ∷ 0x40 ∷ 0xF9 ∷ []) refl refl refl; is_load = refl; entry = 0x80; own = refl; leads = refl; located = are_located memory open_address 0x80 refl },
     λ x.
-      let memory : List Range = pair_memory (0xE9 ∷ 0xFF ∷ 0xFF ∷ 0xF0 ∷ []) (8 ∷ 0x41 ∷ 0x40 ∷ 0xF9 ∷ []) open_address in
-      let same : x.adrp ≡ 0xF0FF_FFE9 = number_once memory 4 0x100C x.adrp 0xF0FF_FFE9 x.adrp_there (number memory 4 0x100C 0xF0FF_FFE9 (0xE9 ∷ 0xFF ∷ 0xFF ∷ 0xF0 ∷ []) refl refl refl) in
-      let is : 0x9000_0009 ≡ 0x9000_0008 = sym (ap (λ n. with_adrp 0 n) same) ∙ x.is_adrp in
-      differ 0x9000_0008 0x9000_0009 (sym is) (omega arith),
+        let memory : List Range = pair_memory (0xE9 ∷ 0xFF ∷ 0xFF ∷ 0xF0 ∷ []) (8 ∷ 0x41 ∷ 0x40 ∷ 0xF9 ∷ []) open_address in
+        let same : x.adrp ≡ 0xF0FF_FFE9 = number_once memory 4 0x100C x.adrp 0xF0FF_FFE9 x.adrp_there (number memory 4 0x100C 0xF0FF_FFE9 (0xE9 ∷ 0xFF ∷ 0xFF ∷ 0xF0 ∷ []) refl refl refl) in
+        let is : 0x9000_0009 ≡ 0x9000_0008 = sym (ap (λ n. with_adrp 0 n) same) ∙ x.is_adrp in
+        differ 0x9000_0008 0x9000_0009 (sym is) (omega arith),
   );
   is_load = (
     let memory : List Range = pair_memory (0xE8 ∷ 0xFF ∷ 0xFF ∷ 0xF0 ∷ []) (9 ∷ 0x41 ∷ 0x40 ∷ 0xF9 ∷ []) open_address in
-    record { adrp = 0xF0FF_FFE8; adrp_there = number memory 4 0x100C 0xF0FF_FFE8 (0xE8 ∷ 0xFF ∷ 0xFF ∷ 0xF0 ∷ []) refl refl refl; is_adrp = refl; load = 0xF940_4109; load_there = number memory 4 0x1010 0xF940_4109 (9 ∷ 0x41 ∷ 0x40 ∷ 0xF9 ∷ []) refl refl refl; is_load = tt; entry = 0x80; own = refl; leads = refl; located = are_located memory open_address 0x80 refl },
+        record { adrp = 0xF0FF_FFE8; adrp_there = number memory 4 0x100C 0xF0FF_FFE8 (0xE8 ∷ 0xFF ∷ 0xFF ∷ 0xF0 ∷ []) refl refl refl; is_adrp = refl; load = 0xF940_4109; load_there = number memory 4 0x1010 0xF940_4109 (9 ∷ 0x41 ∷ 0x40 ∷ 0xF9 ∷ []) refl refl refl; is_load = tt; entry = 0x80; own = refl; leads = refl; located = are_located memory open_address 0x80 refl },
     λ x.
-      let memory : List Range = pair_memory (0xE8 ∷ 0xFF ∷ 0xFF ∷ 0xF0 ∷ []) (9 ∷ 0x41 ∷ 0x40 ∷ 0xF9 ∷ []) open_address in
-      let same : x.load ≡ 0xF940_4109 = number_once memory 4 0x1010 x.load 0xF940_4109 x.load_there (number memory 4 0x1010 0xF940_4109 (9 ∷ 0x41 ∷ 0x40 ∷ 0xF9 ∷ []) refl refl refl) in
-      let is : 0xF940_0109 ≡ 0xF940_0108 = sym (ap (λ n. with_bits 10 12 0 n) same) ∙ x.is_load in
-      differ 0xF940_0108 0xF940_0109 (sym is) (omega arith),
+        let memory : List Range = pair_memory (0xE8 ∷ 0xFF ∷ 0xFF ∷ 0xF0 ∷ []) (9 ∷ 0x41 ∷ 0x40 ∷ 0xF9 ∷ []) open_address in
+        let same : x.load ≡ 0xF940_4109 = number_once memory 4 0x1010 x.load 0xF940_4109 x.load_there (number memory 4 0x1010 0xF940_4109 (9 ∷ 0x41 ∷ 0x40 ∷ 0xF9 ∷ []) refl refl refl) in
+        let is : 0xF940_0109 ≡ 0xF940_0108 = sym (ap (λ n. with_bits 10 12 0 n) same) ∙ x.is_load in
+        differ 0xF940_0108 0xF940_0109 (sym is) (omega arith),
   );
   leads = (
     let memory : List Range = pair_memory (0xE8 ∷ 0xFF ∷ 0xFF ∷ 0xF0 ∷ []) (8 ∷ 0x45 ∷ 0x40 ∷ 0xF9 ∷ []) open_address in
-    record { adrp = 0xF0FF_FFE8; adrp_there = number memory 4 0x100C 0xF0FF_FFE8 (0xE8 ∷ 0xFF ∷ 0xFF ∷ 0xF0 ∷ []) refl refl refl; is_adrp = refl; load = 0xF940_4508; load_there = number memory 4 0x1010 0xF940_4508 (8 ∷ 0x45 ∷ 0x40 ∷ 0xF9 ∷ []) refl refl refl; is_load = refl; entry = 0x80; own = refl; leads = tt; located = are_located memory open_address 0x80 refl },
+        record { adrp = 0xF0FF_FFE8; adrp_there = number memory 4 0x100C 0xF0FF_FFE8 (0xE8 ∷ 0xFF ∷ 0xFF ∷ 0xF0 ∷ []) refl refl refl; is_adrp = refl; load = 0xF940_4508; load_there = number memory 4 0x1010 0xF940_4508 (8 ∷ 0x45 ∷ 0x40 ∷ 0xF9 ∷ []) refl refl refl; is_load = refl; entry = 0x80; own = refl; leads = tt; located = are_located memory open_address 0x80 refl },
     λ x.
-      let memory : List Range = pair_memory (0xE8 ∷ 0xFF ∷ 0xFF ∷ 0xF0 ∷ []) (8 ∷ 0x45 ∷ 0x40 ∷ 0xF9 ∷ []) open_address in
-      let first : x.adrp ≡ 0xF0FF_FFE8 = number_once memory 4 0x100C x.adrp 0xF0FF_FFE8 x.adrp_there (number memory 4 0x100C 0xF0FF_FFE8 (0xE8 ∷ 0xFF ∷ 0xFF ∷ 0xF0 ∷ []) refl refl refl) in
-      let second : x.load ≡ 0xF940_4508 = number_once memory 4 0x1010 x.load 0xF940_4508 x.load_there (number memory 4 0x1010 0xF940_4508 (8 ∷ 0x45 ∷ 0x40 ∷ 0xF9 ∷ []) refl refl refl) in
-      let entry : x.entry ≡ 0x80 = same_address (imp_open ARM64) x.entry 0x80 (definitions_of (imp_open ARM64) (passing_placed ARM64 touching_8)) x.own refl in
-      let led : 0x1_4000_0088 ≡ 0x1_4000_0080 =
-      sym (ap (λ n. plus_signed 21 4096 (adrp_immediate n) (page 0x1_4000_100C * 4096) + ldr_immediate 0xF940_4508) first)
-      ∙ sym (ap (λ n. plus_signed 21 4096 (adrp_immediate x.adrp) (page 0x1_4000_100C * 4096) + ldr_immediate n) second) ∙ x.leads ∙ ap (λ e. 0x1_4000_0000 + e) entry in
-      differ 0x1_4000_0080 0x1_4000_0088 (sym led) (omega arith),
+        let memory : List Range = pair_memory (0xE8 ∷ 0xFF ∷ 0xFF ∷ 0xF0 ∷ []) (8 ∷ 0x45 ∷ 0x40 ∷ 0xF9 ∷ []) open_address in
+        let first : x.adrp ≡ 0xF0FF_FFE8 = number_once memory 4 0x100C x.adrp 0xF0FF_FFE8 x.adrp_there (number memory 4 0x100C 0xF0FF_FFE8 (0xE8 ∷ 0xFF ∷ 0xFF ∷ 0xF0 ∷ []) refl refl refl) in
+        let second : x.load ≡ 0xF940_4508 = number_once memory 4 0x1010 x.load 0xF940_4508 x.load_there (number memory 4 0x1010 0xF940_4508 (8 ∷ 0x45 ∷ 0x40 ∷ 0xF9 ∷ []) refl refl refl) in
+        let entry : x.entry ≡ 0x80 = same_address (imp_open ARM64) x.entry 0x80 (definitions_of (imp_open ARM64) (passing_placed ARM64 touching_8)) x.own refl in
+        let led : 0x1_4000_0088 ≡ 0x1_4000_0080 =
+        sym (ap (λ n. plus_signed 21 4096 (adrp_immediate n) (page 0x1_4000_100C * 4096) + ldr_immediate 0xF940_4508) first)
+        ∙ sym (ap (λ n. plus_signed 21 4096 (adrp_immediate x.adrp) (page 0x1_4000_100C * 4096) + ldr_immediate n) second) ∙ x.leads ∙ ap (λ e. 0x1_4000_0000 + e) entry in
+        differ 0x1_4000_0080 0x1_4000_0088 (sym led) (omega arith),
   );
   own = (
     let memory : List Range = pair_memory (0xE8 ∷ 0xFF ∷ 0xFF ∷ 0xF0 ∷ []) (8 ∷ 0x41 ∷ 0x40 ∷ 0xF9 ∷ []) open_address in
-    record { adrp = 0xF0FF_FFE8; adrp_there = number memory 4 0x100C 0xF0FF_FFE8 (0xE8 ∷ 0xFF ∷ 0xFF ∷ 0xF0 ∷ []) refl refl refl; is_adrp = refl; load = 0xF940_4108; load_there = number memory 4 0x1010 0xF940_4108 (8 ∷ 0x41 ∷ 0x40 ∷ 0xF9 ∷ []) refl refl refl; is_load = refl; entry = 0x80; own = tt; leads = refl; located = are_located memory open_address 0x80 refl },
+        record { adrp = 0xF0FF_FFE8; adrp_there = number memory 4 0x100C 0xF0FF_FFE8 (0xE8 ∷ 0xFF ∷ 0xFF ∷ 0xF0 ∷ []) refl refl refl; is_adrp = refl; load = 0xF940_4108; load_there = number memory 4 0x1010 0xF940_4108 (8 ∷ 0x41 ∷ 0x40 ∷ 0xF9 ∷ []) refl refl refl; is_load = refl; entry = 0x80; own = tt; leads = refl; located = are_located memory open_address 0x80 refl },
     λ x. let none : [] ≡ record { name = codes "hello"; address = Some x.entry } ∷ [] = x.own in cc,
   );
   located = (
     let memory : List Range = pair_memory (0xE8 ∷ 0xFF ∷ 0xFF ∷ 0xF0 ∷ []) (8 ∷ 0x41 ∷ 0x40 ∷ 0xF9 ∷ []) (0x41 ∷ drop 1 open_address) in
-    record { adrp = 0xF0FF_FFE8; adrp_there = number memory 4 0x100C 0xF0FF_FFE8 (0xE8 ∷ 0xFF ∷ 0xFF ∷ 0xF0 ∷ []) refl refl refl; is_adrp = refl; load = 0xF940_4108; load_there = number memory 4 0x1010 0xF940_4108 (8 ∷ 0x41 ∷ 0x40 ∷ 0xF9 ∷ []) refl refl refl; is_load = refl; entry = 0x80; own = refl; leads = refl; located = tt },
+        record { adrp = 0xF0FF_FFE8; adrp_there = number memory 4 0x100C 0xF0FF_FFE8 (0xE8 ∷ 0xFF ∷ 0xFF ∷ 0xF0 ∷ []) refl refl refl; is_adrp = refl; load = 0xF940_4108; load_there = number memory 4 0x1010 0xF940_4108 (8 ∷ 0x41 ∷ 0x40 ∷ 0xF9 ∷ []) refl refl refl; is_load = refl; entry = 0x80; own = refl; leads = refl; located = tt },
     λ x.
-      let memory : List Range = pair_memory (0xE8 ∷ 0xFF ∷ 0xFF ∷ 0xF0 ∷ []) (8 ∷ 0x41 ∷ 0x40 ∷ 0xF9 ∷ []) (0x41 ∷ drop 1 open_address) in
-      let entry : x.entry ≡ 0x80 = same_address (imp_open ARM64) x.entry 0x80 (definitions_of (imp_open ARM64) (passing_placed ARM64 touching_8)) x.own refl in
-      other_byte memory 0x80 0x40 0x41 (drop 1 open_address) refl (omega arith) (subst (λ e. BytesAt memory e open_address) entry x.located),
+        let memory : List Range = pair_memory (0xE8 ∷ 0xFF ∷ 0xFF ∷ 0xF0 ∷ []) (8 ∷ 0x41 ∷ 0x40 ∷ 0xF9 ∷ []) (0x41 ∷ drop 1 open_address) in
+        let entry : x.entry ≡ 0x80 = same_address (imp_open ARM64) x.entry 0x80 (definitions_of (imp_open ARM64) (passing_placed ARM64 touching_8)) x.own refl in
+        other_byte memory 0x80 0x40 0x41 (drop 1 open_address) refl (omega arith) (subst (λ e. BytesAt memory e open_address) entry x.located),
   );
 }
 

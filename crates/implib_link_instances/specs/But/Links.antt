@@ -93,8 +93,11 @@ MissesFindsBy without image width address i = FindsByBut without image width add
 
 pub record IsLldProgramBut (without : List ℕ) (machine : MachineType) (descriptors addresses : ℕ)
     (taken : List ShortImport) (image : List Range) (linked : List Placed) : Type 0 where
-  pub writable : But without (letters "writable") (AllByRecursion (λ r. IsImportable (record { dll =
-      r.dll; asks = ask_of_short_import r ∷ [] })) taken)
+  pub writable : But without (letters "writable") (AllByRecursion (λ r. IsImportable (record {
+    dll =
+        r.dll;
+    asks = ask_of_short_import r ∷ [];
+  })) taken)
   pub distinct : But without (letters "distinct") (IsDistinct bytes_eq (imp_symbols_of taken))
   pub agree : But without (letters "agree") ((r s : ShortImport) → Contains taken r → Contains taken
       s → in_small r.dll ≡ in_small s.dll → r.dll ≡ s.dll)
@@ -133,8 +136,9 @@ pub record IsImportedByBut (without : List ℕ) (machine : MachineType) (descrip
   pub its_table : But without (letters "its_table") (loads.plain.addresses ≡ addresses + thunk_width
       machine * thunks_until i (imports_of_lld taken))
   pub once : But without (letters "once") (definitions_of (imp_symbol r.symbol) linked ≡ record {
-      name = imp_symbol r.symbol; address = Some (loads.plain.addresses + thunk_width machine * j);
-      } ∷ [])
+    name = imp_symbol r.symbol;
+    address = Some (loads.plain.addresses + thunk_width machine * j);
+  } ∷ [])
   pub gets : But without (letters "gets") (GetsAddress linked (imp_symbol r.symbol)
       (loads.plain.addresses + thunk_width machine * j))
 
@@ -277,8 +281,10 @@ MissesIsProgramOf without machine ending bases inputs objects = IsProgramOfBut w
 pub record InputImportsBut (without : List ℕ) (machine : MachineType) (image : List Range) (linked :
     List Placed) (descriptor table : ℕ) (p : FlavorInput) : Type 0 where
   pub top : But without (letters "top") (definitions_of (descriptor_in p.flavor machine
-      (dll_names_in p)) linked ≡ record { name = descriptor_in p.flavor machine (dll_names_in p);
-      address = Some descriptor } ∷ [])
+      (dll_names_in p)) linked ≡ record {
+        name = descriptor_in p.flavor machine (dll_names_in p);
+        address = Some descriptor;
+      } ∷ [])
   pub loads : LoadsStrictly image (thunk_width machine) descriptor (dll_of p) (map (ask_in p.flavor
       machine) (exports_chosen p))
   pub table_located : But without (letters "table_located") (loads.plain.addresses ≡ table)
@@ -314,8 +320,11 @@ pub record ProgramLinksBut (without : List ℕ) (machine : MachineType) (ending 
       (placed_from bases objects)) (thunk_width machine) bases.descriptors (map (imported_in
       machine) inputs))
   pub null : But without (letters "null") (WhereMember ending (definitions_of null_descriptor_symbol
-      (placed_from bases objects) ≡ record { name = null_descriptor_symbol; address = Some
-      bases.directory_ends } ∷ []))
+      (placed_from bases objects) ≡ record {
+        name = null_descriptor_symbol;
+        address = Some
+            bases.directory_ends;
+      } ∷ []))
   pub ended : But without (letters "ended") (WhereMember ending (bases.directory_ends ≡
       bases.descriptors + 20 * length inputs))
   pub targets : But without (letters "targets") (AllByRecursion (AllFind (placed_from bases
@@ -333,11 +342,11 @@ MissesProgramLinks without machine ending bases inputs objects = ProgramLinksBut
     ending bases inputs objects × (ProgramLinks machine ending bases inputs objects → ⊥)
 
 pub record IsFlavorSourceBut (without : List ℕ) (machine : MachineType) (s : FlavorSource) : Type 0
-    where
-  pub of_text : But without (letters "of_text") (LibraryOf s.source.text machine s.flavor
-      s.source.library)
-  pub made : But without (letters "made") (AreMembersOf s.source.library.definition
-      s.source.library.machine s.source.library.flavor s.source.members)
+  where
+    pub of_text : But without (letters "of_text") (LibraryOf s.source.text machine s.flavor
+        s.source.library)
+    pub made : But without (letters "made") (AreMembersOf s.source.library.definition
+        s.source.library.machine s.source.library.flavor s.source.members)
 
 abbrev pub MissesIsFlavorSource : List ℕ → MachineType → FlavorSource → Type 0
 MissesIsFlavorSource without machine s = IsFlavorSourceBut without machine s × (IsFlavorSource
@@ -379,13 +388,13 @@ MissesFlavorTextsLink without machine ending bases sources objects = FlavorTexts
     ⊥)
 
 pub record A32JumpReadsBut (without : List ℕ) (memory : List Range) (address reads : ℕ) : Type 0
-    where
-  pub load : ℕ
-  pub load_there : But without (letters "load_there") (NumberAt memory 4 address load)
-  pub is_load : But without (letters "is_load") (with_bits 0 12 0 load ≡ 0xE59F_C000)
-  pub literal_there : But without (letters "literal_there") (NumberAt memory 4 (address + 8 +
-      bits_of 0 12 load) reads)
-  pub jump_there : But without (letters "jump_there") (NumberAt memory 4 (address + 4) 0xE59C_F000)
+  where
+    pub load : ℕ
+    pub load_there : But without (letters "load_there") (NumberAt memory 4 address load)
+    pub is_load : But without (letters "is_load") (with_bits 0 12 0 load ≡ 0xE59F_C000)
+    pub literal_there : But without (letters "literal_there") (NumberAt memory 4 (address + 8 +
+        bits_of 0 12 load) reads)
+    pub jump_there : But without (letters "jump_there") (NumberAt memory 4 (address + 4) 0xE59C_F000)
 
 abbrev pub MissesA32JumpReads : List ℕ → List Range → ℕ → ℕ → Type 0
 MissesA32JumpReads without memory address reads = A32JumpReadsBut without memory address reads ×
@@ -450,7 +459,9 @@ pub record AreBoundedBut (without : List ℕ) (machine : MachineType) (bases : B
   pub entries : But without (letters "entries") ((i j : ℕ) (p : LinkInput) (e : ExportView) →
       slice_get inputs i ≡ Some p → slice_get (chosen_exports p.definition p.chosen) j ≡ Some e →
       (address : ℕ) × ((definitions_of (imp_symbol e.name) (placed_from bases objects) ≡ record {
-      name = imp_symbol e.name; address = Some address } ∷ []) × ((table.start ≤ address) × (address
+        name = imp_symbol e.name;
+        address = Some address;
+      } ∷ []) × ((table.start ≤ address) × (address
       + thunk_width machine ≤ range_end table))))
   pub tiled : But without (letters "tiled") ((address : ℕ) → table.start ≤ address → address <
       range_end table → IsInEntry machine bases inputs address)
@@ -696,8 +707,10 @@ MissesAreLinkedBeside without machine image_base image linked codes targets = Ar
 pub record HoldsAtBut (without : List ℕ) (image : List Range) (linked : List Placed) (name : List ℕ)
     (bytes : List ℕ) : Type 0 where
   pub address : ℕ
-  pub once : But without (letters "once") (definitions_of name linked ≡ record { name = name;
-      address = Some address } ∷ [])
+  pub once : But without (letters "once") (definitions_of name linked ≡ record {
+    name = name;
+    address = Some address;
+  } ∷ [])
   pub located : But without (letters "located") (BytesAt image address bytes)
 
 abbrev pub MissesHoldsAt : List ℕ → List Range → List Placed → List ℕ → List ℕ → Type 0
@@ -714,8 +727,11 @@ pub record AreMovedBut (without : List ℕ) (machine : MachineType) (from to : �
   pub needed : But without (letters "needed") ((c : LinkedCode) (r : Relocation) (width address : ℕ)
       (entry : Entry) → Contains codes c → Contains c.code.relocations r → absolute_width machine
       r.kind ≡ Some width → slice_get c.from.object.entries r.symbol ≡ Some entry → symbol_address
-      linked c.from entry ≡ Some address → Contains places (record { address = c.position +
-      r.offset; width = width }))
+      linked c.from entry ≡ Some address → Contains places (record {
+        address = c.position +
+            r.offset;
+        width = width;
+      }))
   pub only : But without (letters "only") ((address byte : ℕ) → byte_at (image ++ ranges_of_codes
       codes) address ≡ Some byte → list_any (covers address) places ≡ true → list_any (covers
       address) (absolute_places machine linked codes) ≡ true)
@@ -779,8 +795,11 @@ pub record OperandArrivesBut (without : List ℕ) (machine : MachineType) (image
   pub number : ℕ
   pub there : But without (letters "there") (NumberAt memory 4 address number)
   pub entry : ℕ
-  pub own : But without (letters "own") (definitions_of name linked ≡ record { name = name; address
-      = Some entry } ∷ [])
+  pub own : But without (letters "own") (definitions_of name linked ≡ record {
+    name = name;
+    address
+        = Some entry;
+  } ∷ [])
   pub leads : But without (letters "leads") (operand_leads machine (image_base + address) after
       number ≡ Some (image_base + entry))
   pub located : But without (letters "located") (BytesAt memory entry bytes)
@@ -796,8 +815,12 @@ pub record HasInstructionBut (without : List ℕ) (machine : MachineType) (c : L
   pub type : ℕ
   pub symbol : ℕ
   pub alone : But without (letters "alone") (MeetsAlone machine c.code.relocations offset (length
-      head + (4 + length tail)) (record { offset = offset + length head; symbol = symbol; kind =
-      type }))
+      head + (4 + length tail)) (record {
+        offset = offset + length head;
+        symbol = symbol;
+        kind =
+            type;
+      }))
   pub names : But without (letters "names") (Names c.from symbol name)
   pub field : List ℕ
   pub four : But without (letters "four") (length field ≡ 4)
@@ -813,16 +836,19 @@ MissesHasInstruction without machine c offset head tail name = HasInstructionBut
 
 pub record InstructionArrivesBut (without : List ℕ) (machine : MachineType) (image_base : ℕ) (linked
     : List Placed) (memory : List Range) (address : ℕ) (head tail name bytes : List ℕ) : Type 0
-    where
-  pub field : List ℕ
-  pub four : But without (letters "four") (length field ≡ 4)
-  pub there : But without (letters "there") (BytesAt memory address (head ++ (field ++ tail)))
-  pub entry : ℕ
-  pub own : But without (letters "own") (definitions_of name linked ≡ record { name = name; address
-      = Some entry } ∷ [])
-  pub leads : But without (letters "leads") (operand_leads machine (image_base + (address + length
-      head)) (length tail) (number_in field) ≡ Some (image_base + entry))
-  pub located : But without (letters "located") (BytesAt memory entry bytes)
+  where
+    pub field : List ℕ
+    pub four : But without (letters "four") (length field ≡ 4)
+    pub there : But without (letters "there") (BytesAt memory address (head ++ (field ++ tail)))
+    pub entry : ℕ
+    pub own : But without (letters "own") (definitions_of name linked ≡ record {
+      name = name;
+      address
+          = Some entry;
+    } ∷ [])
+    pub leads : But without (letters "leads") (operand_leads machine (image_base + (address + length
+        head)) (length tail) (number_in field) ≡ Some (image_base + entry))
+    pub located : But without (letters "located") (BytesAt memory entry bytes)
 
 abbrev pub MissesInstructionArrives : List ℕ → MachineType → ℕ → List Placed → List Range → ℕ → List
     ℕ → List ℕ → List ℕ → List ℕ → Type 0
@@ -831,9 +857,9 @@ MissesInstructionArrives without machine image_base linked memory address head t
     (InstructionArrives machine image_base linked memory address head tail name bytes → ⊥)
 
 pub record HasPageFieldBut (without : List ℕ) (c : LinkedCode) (offset : ℕ) (name : List ℕ) : Type 0
-    where
-  pub field : But without (letters "field") (HasField ARM64 c offset arm64_pagebase_rel21 name)
-  pub empty : But without (letters "empty") (adrp_immediate (field_at c.code.bytes offset 4) ≡ 0)
+  where
+    pub field : But without (letters "field") (HasField ARM64 c offset arm64_pagebase_rel21 name)
+    pub empty : But without (letters "empty") (adrp_immediate (field_at c.code.bytes offset 4) ≡ 0)
 
 abbrev pub MissesHasPageField : List ℕ → LinkedCode → ℕ → List ℕ → Type 0
 MissesHasPageField without c offset name = HasPageFieldBut without c offset name × (HasPageField c
@@ -859,8 +885,11 @@ pub record PairArrivesBut (without : List ℕ) (image_base : ℕ) (linked : List
   pub is_load : But without (letters "is_load") (with_bits 10 12 0 load ≡ with_bits 10 12 0
       old_load)
   pub entry : ℕ
-  pub own : But without (letters "own") (definitions_of name linked ≡ record { name = name; address
-      = Some entry } ∷ [])
+  pub own : But without (letters "own") (definitions_of name linked ≡ record {
+    name = name;
+    address
+        = Some entry;
+  } ∷ [])
   pub leads : But without (letters "leads") (plus_signed 21 4096 (adrp_immediate adrp) (page
       (image_base + first) * 4096) + ldr_immediate load ≡ image_base + entry)
   pub located : But without (letters "located") (BytesAt memory entry bytes)
@@ -885,8 +914,11 @@ MissesHasPointer without machine c offset name = HasPointerBut without machine c
 pub record PointerArrivesBut (without : List ℕ) (machine : MachineType) (image_base : ℕ) (linked :
     List Placed) (memory : List Range) (address : ℕ) (name bytes : List ℕ) : Type 0 where
   pub entry : ℕ
-  pub own : But without (letters "own") (definitions_of name linked ≡ record { name = name; address
-      = Some entry } ∷ [])
+  pub own : But without (letters "own") (definitions_of name linked ≡ record {
+    name = name;
+    address
+        = Some entry;
+  } ∷ [])
   pub there : But without (letters "there") (NumberAt memory (thunk_width machine) address
       (image_base + entry))
   pub located : But without (letters "located") (BytesAt memory entry bytes)
@@ -899,21 +931,21 @@ MissesPointerArrives without machine image_base linked memory address name bytes
 
 pub record AllLeadToBut (without : List ℕ) (machine : MachineType) (image_base : ℕ) (linked : List
     Placed) (codes : List LinkedCode) (memory : List Range) (called name bytes : List ℕ) : Type 0
-    where
-  pub operands : But without (letters "operands") ((c : LinkedCode) (offset after : ℕ) → Contains
-      codes c → HasOperand machine c offset after called → OperandArrives machine image_base linked
-      memory (c.position + offset) after name bytes)
-  pub instructions : But without (letters "instructions") ((c : LinkedCode) (offset : ℕ) (head tail
-      : List ℕ) → Contains codes c → HasInstruction machine c offset head tail called →
-      InstructionArrives machine image_base linked memory (c.position + offset) head tail name
-      bytes)
-  pub pairs : But without (letters "pairs") ((c d : LinkedCode) (first second : ℕ) → machine ≡ ARM64
-      → Contains codes c → Contains codes d → HasPageField c first called → HasOffsetField d second
-      called → PairArrives image_base linked memory (c.position + first) (d.position + second)
-      (field_at c.code.bytes first 4) (field_at d.code.bytes second 4) name bytes)
-  pub pointers : But without (letters "pointers") ((c : LinkedCode) (offset : ℕ) → image_base + 2 ^
-      31 ≤ 2 ^ 64 → Contains codes c → HasPointer machine c offset called → PointerArrives machine
-      image_base linked memory (c.position + offset) name bytes)
+  where
+    pub operands : But without (letters "operands") ((c : LinkedCode) (offset after : ℕ) → Contains
+        codes c → HasOperand machine c offset after called → OperandArrives machine image_base linked
+        memory (c.position + offset) after name bytes)
+    pub instructions : But without (letters "instructions") ((c : LinkedCode) (offset : ℕ) (head tail
+        : List ℕ) → Contains codes c → HasInstruction machine c offset head tail called →
+        InstructionArrives machine image_base linked memory (c.position + offset) head tail name
+        bytes)
+    pub pairs : But without (letters "pairs") ((c d : LinkedCode) (first second : ℕ) → machine ≡ ARM64
+        → Contains codes c → Contains codes d → HasPageField c first called → HasOffsetField d second
+        called → PairArrives image_base linked memory (c.position + first) (d.position + second)
+        (field_at c.code.bytes first 4) (field_at d.code.bytes second 4) name bytes)
+    pub pointers : But without (letters "pointers") ((c : LinkedCode) (offset : ℕ) → image_base + 2 ^
+        31 ≤ 2 ^ 64 → Contains codes c → HasPointer machine c offset called → PointerArrives machine
+        image_base linked memory (c.position + offset) name bytes)
 
 abbrev pub MissesAllLeadTo : List ℕ → MachineType → ℕ → List Placed → List LinkedCode → List Range →
     List ℕ → List ℕ → List ℕ → Type 0
@@ -956,11 +988,11 @@ MissesBranchStays without machine memory address old = BranchStaysBut without ma
     old × (BranchStays machine memory address old → ⊥)
 
 pub record AreWholeBut (without : List ℕ) (objects : List Object) (imports : List Imported) : Type 0
-    where
-  pub sized : But without (letters "sized") (AllByRecursion HoldsFields objects)
-  pub fours : But without (letters "fours") (list_all (λ o. list_all (λ s. keeps_fours s
-      (group_named s.name)) o.sections) objects ≡ true)
-  pub rows : But without (letters "rows") (rows_of_objects objects ≡ 20 * length imports)
+  where
+    pub sized : But without (letters "sized") (AllByRecursion HoldsFields objects)
+    pub fours : But without (letters "fours") (list_all (λ o. list_all (λ s. keeps_fours s
+        (group_named s.name)) o.sections) objects ≡ true)
+    pub rows : But without (letters "rows") (rows_of_objects objects ≡ 20 * length imports)
 
 abbrev pub MissesAreWhole : List ℕ → List Object → List Imported → Type 0
 MissesAreWhole without objects imports = AreWholeBut without objects imports × (AreWhole objects
@@ -1108,11 +1140,11 @@ MissesHasRelative without machine c offset name = HasRelativeBut without machine
     (HasRelative machine c offset name → ⊥)
 
 pub record HasAddFieldBut (without : List ℕ) (c : LinkedCode) (offset : ℕ) (name : List ℕ) : Type 0
-    where
-  pub field : But without (letters "field") (HasField ARM64 c offset arm64_pageoffset_12a name)
-  pub adds : But without (letters "adds") (bits_of 22 10 (field_at c.code.bytes offset 4) ≡
-      arm64_add)
-  pub empty : But without (letters "empty") (bits_of 10 12 (field_at c.code.bytes offset 4) ≡ 0)
+  where
+    pub field : But without (letters "field") (HasField ARM64 c offset arm64_pageoffset_12a name)
+    pub adds : But without (letters "adds") (bits_of 22 10 (field_at c.code.bytes offset 4) ≡
+        arm64_add)
+    pub empty : But without (letters "empty") (bits_of 10 12 (field_at c.code.bytes offset 4) ≡ 0)
 
 abbrev pub MissesHasAddField : List ℕ → LinkedCode → ℕ → List ℕ → Type 0
 MissesHasAddField without c offset name = HasAddFieldBut without c offset name × (HasAddField c
@@ -1377,8 +1409,11 @@ pub record IsImportedOfBothBut (without : List ℕ) (machine : MachineType) (lin
   pub export_is : But without (letters "export_is") (slice_get (exports_chosen input) index ≡ Some
       export)
   pub by : But without (letters "by") (((name ≡ imp_symbol (symbol_in input.flavor export)) ×
-      (definitions_of name linked ≡ record { name = name; address = Some (bases.addresses +
-      thunk_width machine * thunks_of number inputs + thunk_width machine * index); } ∷ [])) ⊎
+      (definitions_of name linked ≡ record {
+        name = name;
+        address = Some (bases.addresses +
+            thunk_width machine * thunks_of number inputs + thunk_width machine * index);
+      } ∷ [])) ⊎
       ((name ≡ symbol_in input.flavor export) × (export.is_data ≡ false) × IsDefinedOnce linked
       name))
 
@@ -1490,8 +1525,11 @@ pub record IsImportedBut (without : List ℕ) (machine : MachineType) (linked : 
   pub export_is : But without (letters "export_is") (slice_get (chosen_exports input.definition
       input.chosen) index ≡ Some export)
   pub by : But without (letters "by") (((name ≡ imp_symbol export.name) × (definitions_of name
-      linked ≡ record { name = name; address = Some (bases.addresses + thunk_width machine *
-      thunks_before number inputs + thunk_width machine * index); } ∷ [])) ⊎ ((name ≡ export.name) ×
+      linked ≡ record {
+        name = name;
+        address = Some (bases.addresses + thunk_width machine *
+            thunks_before number inputs + thunk_width machine * index);
+      } ∷ [])) ⊎ ((name ≡ export.name) ×
       (export.is_data ≡ false) × IsDefinedOnce linked name))
 
 abbrev pub MissesIsImported : List ℕ → MachineType → List Placed → Bases → List LinkInput → List ℕ →
@@ -1538,12 +1576,12 @@ MissesIsSwept without reads members own archive before after = IsSweptBut withou
 
 pub record IsGroupSearchedBut (without : List ℕ) (reads : List ℕ → Option Object) (members : List
     MemberView) (own : List Object) (archives : List (List ℕ)) (before after : List ℕ) : Type 0
-    where
-  pub rounds : ℕ
-  pub taken : But without (letters "taken") (AreRounds reads members own archives rounds before
-      after)
-  pub ended : But without (letters "ended") (AllByRecursion (λ archive. swept reads members own
-      (index_at members archive) after ≡ after) archives)
+  where
+    pub rounds : ℕ
+    pub taken : But without (letters "taken") (AreRounds reads members own archives rounds before
+        after)
+    pub ended : But without (letters "ended") (AllByRecursion (λ archive. swept reads members own
+        (index_at members archive) after ≡ after) archives)
 
 abbrev pub MissesIsGroupSearched : List ℕ → (List ℕ → Option Object) → List MemberView → List Object
     → List (List ℕ) → List ℕ → List ℕ → Type 0
@@ -1628,13 +1666,13 @@ MissesAreGiven without machine libraries own = AreGivenBut without machine libra
     machine libraries own → ⊥)
 
 pub record NamesNoHeaderBut (without : List ℕ) (dll : List ℕ) (wanted : List (List ℕ)) : Type 0
-    where
-  pub descriptor : But without (letters "descriptor") (list_any (bytes_eq (descriptor_symbol dll))
-      wanted ≡ false)
-  pub null_descriptor : But without (letters "null_descriptor") (list_any (bytes_eq
-      null_descriptor_symbol) wanted ≡ false)
-  pub null_thunk : But without (letters "null_thunk") (list_any (bytes_eq (null_thunk_symbol dll))
-      wanted ≡ false)
+  where
+    pub descriptor : But without (letters "descriptor") (list_any (bytes_eq (descriptor_symbol dll))
+        wanted ≡ false)
+    pub null_descriptor : But without (letters "null_descriptor") (list_any (bytes_eq
+        null_descriptor_symbol) wanted ≡ false)
+    pub null_thunk : But without (letters "null_thunk") (list_any (bytes_eq (null_thunk_symbol dll))
+        wanted ≡ false)
 
 abbrev pub MissesNamesNoHeader : List ℕ → List ℕ → List (List ℕ) → Type 0
 MissesNamesNoHeader without dll wanted = NamesNoHeaderBut without dll wanted × (NamesNoHeader dll
@@ -1759,11 +1797,14 @@ MissesIsLinkedWith without machine dll bases taken objects = IsLinkedWithBut wit
 
 pub record ImportsWantedBut (without : List ℕ) (machine : MachineType) (d : DefinitionView) (members
     : List MemberView) (wanted : List (List ℕ)) (bases : Bases) (objects : List Object) : Type 0
-    where
-  pub chosen : List ℕ
-  pub same : But without (letters "same") (HaveSame chosen (exports_wanted d wanted))
-  pub links : But without (letters "links") (LinksAmong machine bases (record { definition = d;
-      members = members; chosen = chosen } ∷ []) objects)
+  where
+    pub chosen : List ℕ
+    pub same : But without (letters "same") (HaveSame chosen (exports_wanted d wanted))
+    pub links : But without (letters "links") (LinksAmong machine bases (record {
+      definition = d;
+      members = members;
+      chosen = chosen;
+    } ∷ []) objects)
 
 abbrev pub MissesImportsWanted : List ℕ → MachineType → DefinitionView → List MemberView → List
     (List ℕ) → Bases → List Object → Type 0
@@ -1818,11 +1859,11 @@ abbrev pub MissesAreTables : List ℕ → MachineType → Tables → Type 0
 MissesAreTables without machine t = AreTablesBut without machine t × (AreTables machine t → ⊥)
 
 pub record IsInTableBut (without : List ℕ) (width : ℕ) (tables : List Table) (r : Range) : Type 0
-    where
-  pub table : Table
-  pub held : But without (letters "held") (Contains tables table)
-  pub from : But without (letters "from") (table.address ≤ r.start)
-  pub to : But without (letters "to") (range_end r ≤ table.address + width * length table.entries)
+  where
+    pub table : Table
+    pub held : But without (letters "held") (Contains tables table)
+    pub from : But without (letters "from") (table.address ≤ r.start)
+    pub to : But without (letters "to") (range_end r ≤ table.address + width * length table.entries)
 
 abbrev pub MissesIsInTable : List ℕ → ℕ → List Table → Range → Type 0
 MissesIsInTable without width tables r = IsInTableBut without width tables r × (IsInTable width
