@@ -76,4 +76,5 @@ pub mod OtherNames
 pub mod ThirdTexts
 pub mod NearParts
 pub mod RefusedPredicates
+pub mod ThunksOf
 pub mod Following

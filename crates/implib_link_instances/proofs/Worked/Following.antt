@@ -1,9 +1,7 @@
 -- Fields that follow from the others of their records.
-use Rattle.std.proofs.Common.{◌≡◌, ℕ, suc, ◌+◌, ◌*◌, ◌-◌, ◌/◌, ◌<◌, ◌≤◌, List, [], ◌∷◌, ◌++◌, length, true, Some, refl, ap, sym, ◌∙◌, subst, inl, inr, arith}
-use Rattle.std.specs.Prelude.{Bool, nat_lt, option_map, slice_get}
-use Rattle.std.proofs.lemmas.Bool.{cases_Bool, ltb-false, ltb-true}
+use Rattle.std.proofs.Common.{◌≡◌, ℕ, ◌+◌, ◌*◌, ◌<◌, ◌≤◌, List, ◌++◌, length, true, Some, refl, ap, sym, ◌∙◌, subst}
+use Rattle.std.specs.Prelude.{Bool, option_map, slice_get}
 use Rattle.implib.specs.declared.machine.MachineType.{MachineType}
-use Rattle.implib.specs.declared.machine.MachineType.TheVariants.{I386, ARMNT, AMD64, ARM64}
 use Rattle.implib.specs.Link.Image.{range_end}
 use Rattle.implib_link.specs.Gnu.Program.{thunks_before}
 use Rattle.std.specs.List.{Contains, filter}
@@ -35,6 +33,7 @@ use Rattle.implib_link.proofs.Search.Chosen.{input_is, is_chosen, chosen_name, e
 use Rattle.implib_link.proofs.Search.Lists.{among_at, contains_among, passes, passing}
 use Rattle.implib_link.proofs.Search.GnuAlone.{gnu_libraries}
 use Rattle.std.proofs.lemmas.Option.{slice_get-map}
+use Rattle.implib_link_instances.proofs.Worked.ThunksOf.{in_entry}
 
 -- each import of what is linked is used
 pub used_in : (wanted : List (List ℕ)) (arranged : List FlavorLibrary) (i j : ℕ) (p : FlavorInput) (e : ExportView) → slice_get (flavor_inputs arranged wanted) i ≡ Some p → slice_get (exports_chosen p) j ≡ Some e → IsUsedIn p.flavor wanted e
@@ -49,43 +48,6 @@ pub used_of_gnu : (wanted : List (List ℕ)) (arranged : List Library) (i j : �
 used_of_gnu wanted arranged i j p e at there =
     used_in wanted (gnu_libraries arranged) i j (gnu_input p) e
     (ap (λ ps. slice_get ps i) (exports_are arranged wanted) ∙ slice_get-map gnu_input (inputs_wanted arranged wanted) i ∙ ap (option_map gnu_input) at) there
-
--- a thunk of all is one of a DLL
-record ThunkOf (inputs : List LinkInput) (n : ℕ) : Type 0 where
-  pub dll : ℕ
-  pub input : LinkInput
-  pub among : slice_get inputs dll ≡ Some input
-  pub entry : ℕ
-  pub at_most : entry ≤ length (chosen_exports input.definition input.chosen)
-  pub is : thunks_before dll inputs + entry ≡ n
-
-thunk_of : (inputs : List LinkInput) (n : ℕ) → n < thunks_before (length inputs) inputs → ThunkOf inputs n
-thunk_of [] n below = absurd (omega arith)
-thunk_of (p ∷ inputs) n below =
-    let count : ℕ = length (chosen_exports p.definition p.chosen) in
-    elim (cases_Bool (nat_lt n (count + 1))) [
-      | inl within ↦
-          let before = ltb-true n (count + 1) within in
-          record { dll = 0; input = p; among = refl; entry = n; at_most = omega arith; is = omega arith }
-      | inr outside ↦
-          let past = ltb-false n (count + 1) outside in
-          let later = thunk_of inputs (n - (count + 1)) (omega arith) in
-          let sum : thunks_before later.dll inputs + later.entry ≡ n - (count + 1) = later.is in
-          record { dll = suc later.dll; input = later.input; among = later.among; entry = later.entry; at_most = later.at_most; is = omega arith }
-    ]
-
--- an address is that of a byte of a thunk
-record ThunkAround (machine : MachineType) (first total address : ℕ) : Type 0 where
-  pub n : ℕ
-  pub below : n < total
-  pub from : first + thunk_width machine * n ≤ address
-  pub to : address < first + thunk_width machine * n + thunk_width machine
-
-thunk_around : (machine : MachineType) (first total address : ℕ) → first ≤ address → address < first + thunk_width machine * total → ThunkAround machine first total address
-thunk_around I386 first total address above below = record { n = (address - first) / 4; below = omega arith; from = omega arith; to = omega arith }
-thunk_around ARMNT first total address above below = record { n = (address - first) / 4; below = omega arith; from = omega arith; to = omega arith }
-thunk_around AMD64 first total address above below = record { n = (address - first) / 8; below = omega arith; from = omega arith; to = omega arith }
-thunk_around ARM64 first total address above below = record { n = (address - first) / 8; below = omega arith; from = omega arith; to = omega arith }
 
 -- What lld takes for given objects.
 
@@ -152,18 +114,8 @@ following_fields = record {
         size = x.size;
         below = x.below;
         entries = x.entries;
-        tiled = λ address from below.
-            let around = thunk_around machine bases.addresses total address (subst (λ n. n ≤ address) x.begins from) (subst (λ n. address < n) ends_at below) in
-            let one = thunk_of inputs around.n around.below in
-            record {
-              dll = one.dll;
-              input = one.input;
-              among = one.among;
-              entry = one.entry;
-              at_most = one.at_most;
-              from = subst (λ n. bases.addresses + thunk_width machine * n ≤ address) (sym one.is) around.from;
-              below = subst (λ n. address < bases.addresses + thunk_width machine * n + thunk_width machine) (sym one.is) around.to;
-            };
+        tiled = λ address from below. in_entry machine bases inputs address
+            (subst (λ n. n ≤ address) x.begins from) (subst (λ n. address < n) ends_at below);
         directory = x.directory;
         directory_held = x.directory_held;
         directory_begins = x.directory_begins;

@@ -1,29 +1,26 @@
 -- Fields of records of programs that follow from the others.
-use Rattle.std.proofs.Common.{◌≡◌, ℕ, zero, suc, ◌+◌, ◌*◌, ◌-◌, ◌/◌, ◌<◌, ◌≤◌, List, [], ◌∷◌, codes, length, map, Some, refl, ap, sym, ◌∙◌, subst, inl, inr, arith}
-use Rattle.std.specs.Prelude.{false, nat_lt, slice_get}
+use Rattle.std.proofs.Common.{◌≡◌, ℕ, zero, suc, ◌+◌, ◌*◌, ◌<◌, ◌≤◌, List, [], ◌∷◌, codes, length, map, Some, refl, ap, sym, ◌∙◌, subst, inl, inr, arith}
+use Rattle.std.specs.Prelude.{false, slice_get}
 use Rattle.std.specs.List.{AllByRecursion, Contains}
-use Rattle.std.proofs.lemmas.Bool.{cases_Bool, ltb-false, ltb-true, true≢false}
+use Rattle.std.proofs.lemmas.Bool.{cases_Bool, true≢false}
 use Rattle.std.proofs.lemmas.Slice.Eq.{bytes_eq-Decides}
 use Rattle.implib.specs.declared.machine.MachineType.{MachineType}
-use Rattle.implib.specs.declared.machine.MachineType.TheVariants.{I386, ARMNT, AMD64, ARM64}
 use Rattle.implib.specs.Formats.ShortImport.{ShortImport, ask_of_short_import}
 use Rattle.implib.specs.Link.Image.{Range}
-use Rattle.implib.specs.Link.LinkedMembers.{LinkInput, chosen_exports}
 use Rattle.implib.specs.Link.Load.{LoadsStrictly}
-use Rattle.implib.specs.Link.Placement.{Bases, Placed}
+use Rattle.implib.specs.Link.Placement.{Placed}
 use Rattle.implib.specs.Members.ImportTables.{thunk_width}
 use Rattle.implib.proofs.Link.LinkedMembers.{all_at, among_contains}
 use Rattle.implib.proofs.Link.Loading.{dll_once}
 use Rattle.implib.proofs.Link.Ranges.{Among, all_among}
 use Rattle.implib_link.specs.Directory.{DirectoryAt, Imported}
 use Rattle.implib_link.specs.Flavors.LldImports.{comes_first, dll_of_group, grouped, imported_by, imports_of_lld, in_small, is_of_group, put_in, put_into}
-use Rattle.implib_link.specs.Gnu.Bounds.{IsInEntry}
-use Rattle.implib_link.specs.Gnu.Program.{thunks_before}
 use Rattle.implib_link.proofs.Flavors.LldGroups.{OneDll, grouped_all, grouped_one, key}
 use Rattle.implib_link.proofs.Flavors.LldImports.{get_map}
 use Rattle.implib_link.proofs.Search.Lists.{all_from, at_index}
 use Rattle.implib_link_instances.specs.But.Links.{LldLinksBut}
 use Rattle.implib_link_instances.specs.Worked.FollowingPrograms.{FollowingOfPrograms}
+use Rattle.implib_link_instances.proofs.Worked.ThunksOf.{in_entry}
 
 -- Groups of short imports are of different DLLs.
 
@@ -118,56 +115,6 @@ module _ (machine : MachineType) (descriptors addresses : ℕ) (taken : List Sho
       (own, its_dll group r m n own)))
 
 -- Addresses in tables.
-
-record ThunkOf (inputs : List LinkInput) (n : ℕ) : Type 0 where
-  pub dll : ℕ
-  pub input : LinkInput
-  pub among : slice_get inputs dll ≡ Some input
-  pub entry : ℕ
-  pub at_most : entry ≤ length (chosen_exports input.definition input.chosen)
-  pub is : thunks_before dll inputs + entry ≡ n
-
-thunk_of : (inputs : List LinkInput) (n : ℕ) → n < thunks_before (length inputs) inputs → ThunkOf inputs n
-thunk_of [] n below = absurd (omega arith)
-thunk_of (p ∷ inputs) n below =
-    let count : ℕ = length (chosen_exports p.definition p.chosen) in
-    elim (cases_Bool (nat_lt n (count + 1))) [
-      | inl within ↦
-          let before = ltb-true n (count + 1) within in
-          record { dll = 0; input = p; among = refl; entry = n; at_most = omega arith; is = omega arith }
-      | inr outside ↦
-          let past = ltb-false n (count + 1) outside in
-          let later = thunk_of inputs (n - (count + 1)) (omega arith) in
-          let sum : thunks_before later.dll inputs + later.entry ≡ n - (count + 1) = later.is in
-          record { dll = suc later.dll; input = later.input; among = later.among; entry = later.entry; at_most = later.at_most; is = omega arith }
-    ]
-
-record ThunkAround (machine : MachineType) (first total address : ℕ) : Type 0 where
-  pub n : ℕ
-  pub below : n < total
-  pub from : first + thunk_width machine * n ≤ address
-  pub to : address < first + thunk_width machine * n + thunk_width machine
-
-thunk_around : (machine : MachineType) (first total address : ℕ) → first ≤ address → address < first + thunk_width machine * total → ThunkAround machine first total address
-thunk_around I386 first total address above below = record { n = (address - first) / 4; below = omega arith; from = omega arith; to = omega arith }
-thunk_around ARMNT first total address above below = record { n = (address - first) / 4; below = omega arith; from = omega arith; to = omega arith }
-thunk_around AMD64 first total address above below = record { n = (address - first) / 8; below = omega arith; from = omega arith; to = omega arith }
-thunk_around ARM64 first total address above below = record { n = (address - first) / 8; below = omega arith; from = omega arith; to = omega arith }
-
-in_entry : (machine : MachineType) (bases : Bases) (inputs : List LinkInput) (address : ℕ) → bases.addresses ≤ address → address < bases.addresses + thunk_width machine * thunks_before (length inputs) inputs →
-    IsInEntry machine bases inputs address
-in_entry machine bases inputs address from below =
-    let around = thunk_around machine bases.addresses (thunks_before (length inputs) inputs) address from below in
-    let one = thunk_of inputs around.n around.below in
-    record {
-      dll = one.dll;
-      input = one.input;
-      among = one.among;
-      entry = one.entry;
-      at_most = one.at_most;
-      from = subst (λ n. bases.addresses + thunk_width machine * n ≤ address) (sym one.is) around.from;
-      below = subst (λ n. address < bases.addresses + thunk_width machine * n + thunk_width machine) (sym one.is) around.to;
-    }
 
 pub following_of_programs : FollowingOfPrograms
 following_of_programs = record {
