@@ -1,4 +1,5 @@
--- Characters of names, as their codes in ASCII, whether a text holds one, and whether it begins with one.
+-- Characters of names, as their codes in ASCII, whether a text holds one, and whether it begins
+-- with one.
 use Rattle.std.specs.Prelude.{ℕ, Bool, false, ◌==◌, List, [], ◌∷◌}
 use Rattle.std.specs.List.{list_any}
 

@@ -1,4 +1,5 @@
--- What a writer has after an error. This crate writes no file; those above it do, and say it of theirs.
+-- What a writer has after an error. This crate writes no file; those above it do, and say it of
+-- theirs.
 use Rattle.std.specs.Prelude.{◌≡◌, ℕ, List, ◌++◌, Option}
 use Rattle.std.specs.Io.KnownBytes.{Appends}
 

@@ -1,5 +1,6 @@
 -- Names and numbers of machines and flavours, and what converting from them gives.
-use Rattle.std.specs.Prelude.{◌≡◌, ℕ, ◌==◌, List, Option, None, Some, MatchOption, Result, Ok, IsErr, codes, if◌then◌else◌}
+use Rattle.std.specs.Prelude.{◌≡◌, ℕ, ◌==◌, List, Option, None, Some, MatchOption, Result, Ok}
+use Rattle.std.specs.Prelude.{IsErr, codes, if◌then◌else◌}
 use Rattle.std.specs.Str.{bytes_eq}
 use Rattle.implib.specs.declared.flavor.Flavor.{Flavor}
 use Rattle.implib.specs.declared.flavor.Flavor.TheVariants.{Msvc, Gnu}
@@ -50,6 +51,8 @@ IsConverted found result = MatchOption found (IsErr result) (λ x. result ≡ Ok
 
 -- each name and each number leads back to its machine or flavour
 pub record ConversionsReturn : Type 0 where
-  pub machine_by_name : (machine : MachineType) → machine_named (machine_name machine) ≡ Some machine
-  pub machine_by_number : (machine : MachineType) → machine_numbered (machine_number machine) ≡ Some machine
+  pub machine_by_name : (machine : MachineType) →
+      machine_named (machine_name machine) ≡ Some machine
+  pub machine_by_number : (machine : MachineType) →
+      machine_numbered (machine_number machine) ≡ Some machine
   pub flavor_by_name : (flavor : Flavor) → flavor_named (flavor_name flavor) ≡ Some flavor

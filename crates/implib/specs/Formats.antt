@@ -1,5 +1,5 @@
--- The formats: numbers of the PE/COFF specification, readers of objects and short imports, layouts and
--- their encoding.
+-- The formats: numbers of the PE/COFF specification, readers of objects and short imports, layouts
+-- and their encoding.
 pub mod Constants
 pub mod Bytes
 pub mod ShortImport

@@ -1,7 +1,7 @@
 -- What a program imports by a definition: of which DLL, under which symbols, asking for what.
 -- Nothing here knows a byte of a file, nor for whose linker the files are.
-use Rattle.std.specs.Prelude.{ℕ, Bool, true, false, ◌&&◌, not, List, [], ◌∷◌, ◌++◌, map, if◌then◌else◌}
-use Rattle.std.specs.Prelude.{codes, bytes_eq, unwrap_or}
+use Rattle.std.specs.Prelude.{ℕ, Bool, true, false, ◌&&◌, not, List, [], ◌∷◌, ◌++◌, map}
+use Rattle.std.specs.Prelude.{if◌then◌else◌, codes, bytes_eq, unwrap_or}
 use Rattle.std.specs.List.{filter, flat_map}
 use Rattle.implib.specs.declared.machine.MachineType.{MachineType}
 pub use Rattle.implib.specs.Ascii.{at_sign, holds, underscore}
@@ -29,17 +29,18 @@ imp_symbol name = codes "__imp_" ++ name
 abbrev pub import_symbols : Bool → List ℕ → List (List ℕ)
 import_symbols is_data name = imp_symbol name ∷ (if is_data then [] else name ∷ [])
 
--- The name that an export asks for: the one that it gives, whole, or else its own without the underscore of
--- I386. For example, on I386 `_bar` asks for bar, and for baz where it gives that.
+-- The name that an export asks for: the one that it gives, whole, or else its own without the
+-- underscore of I386. For example, on I386 `_bar` asks for bar, and for baz where it gives that.
 abbrev pub name_asked : MachineType → ExportView → List ℕ
 name_asked machine e = unwrap_or e.asked_name (asked_name machine e.name)
 
 -- what an export asks for
 abbrev pub expected_ask : MachineType → ExportView → Ask
-expected_ask machine e = if e.no_name then Ordinal e.ordinal else Name (name_asked machine e) e.ordinal
+expected_ask machine e =
+    if e.no_name then Ordinal e.ordinal else Name (name_asked machine e) e.ordinal
 
--- The import that an export means. For example, `bar` of foo.dll on AMD64 declares `__imp_bar` and `bar`, and
--- asks foo.dll for the name bar with the hint 0.
+-- The import that an export means. For example, `bar` of foo.dll on AMD64 declares `__imp_bar` and
+-- `bar`, and asks foo.dll for the name bar with the hint 0.
 abbrev pub expected_import : MachineType → List ℕ → ExportView → Import
 expected_import machine dll e = record {
   dll = dll;
@@ -47,8 +48,8 @@ expected_import machine dll e = record {
   ask = expected_ask machine e;
 }
 
--- a weak external: a symbol that another one replaces where nothing defines it (PE/COFF specification,
--- "Auxiliary Format 3: Weak Externals")
+-- a weak external: a symbol that another one replaces where nothing defines it (PE/COFF
+-- specification, "Auxiliary Format 3: Weak Externals")
 pub record Alias : Type 0 where
   pub weak : List ℕ
   pub target : List ℕ
@@ -62,7 +63,8 @@ is_empty_text (first ∷ rest) = false
 abbrev pub is_alias : List ℕ → List ℕ → Bool
 is_alias target symbol = not (is_empty_text target) && not (bytes_eq target symbol)
 
--- The aliases of a symbol for a target: of the name, and of its address. For example, foo for the target baz:
+-- The aliases of a symbol for a target: of the name, and of its address. For example, foo for the
+-- target baz:
 -- `foo` is weak for `baz`, and `__imp_foo` for `__imp_baz`.
 abbrev pub aliases_for : List ℕ → List ℕ → List Alias
 aliases_for symbol target =

@@ -32,9 +32,10 @@ member_view m = record {
   symbols = map string_bytes m.symbols.items;
 }
 
--- The library holds what the text means, renamed. For example, of `foo = bar` an export of the name foo.
-pub record LibraryOf (text : List ℕ) (machine : MachineType) (flavor : Flavor) (library : LibraryView)
-    : Type 0 where
+-- The library holds what the text means, renamed. For example, of `foo = bar` an export of the name
+-- foo.
+pub record LibraryOf (text : List ℕ) (machine : MachineType) (flavor : Flavor)
+    (library : LibraryView) : Type 0 where
   pub parsed : DefinitionView
   pub parses : Parses text machine parsed
   pub held : library ≡ record { definition = renamed parsed; machine = machine; flavor = flavor }

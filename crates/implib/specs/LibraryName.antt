@@ -1,18 +1,18 @@
--- The names of an import library: the one by which a linker holds its members together, and the DLL's, which
--- the loader reads (docs/FORMATS.md, "The name of a library").
+-- The names of an import library: the one by which a linker holds its members together, and the
+-- DLL's, which the loader reads (docs/FORMATS.md, "The name of a library").
 use Rattle.std.specs.Prelude.{ℕ, List, ◌++◌, codes, unwrap_or}
 use Rattle.std.specs.Option.{option_map}
 use Rattle.implib.specs.declared.flavor.Flavor.{Flavor}
 use Rattle.implib.specs.declared.flavor.Flavor.TheVariants.{Msvc, Gnu}
 use Rattle.implib.specs.Definition.{DefinitionView}
 
--- What the members for GNU's linker and their symbols are named after: the library's name where there is one,
--- else the DLL's.
+-- What the members for GNU's linker and their symbols are named after: the library's name where
+-- there is one, else the DLL's.
 abbrev pub linked_name : DefinitionView → List ℕ
 linked_name d = unwrap_or d.library_name d.import_name
 
--- What the members for Microsoft's linker are named, and their symbols after: the library's name with `.dll`
--- where there is one, else the DLL's name.
+-- What the members for Microsoft's linker are named, and their symbols after: the library's name
+-- with `.dll` where there is one, else the DLL's name.
 abbrev pub linked_dll : DefinitionView → List ℕ
 linked_dll d = unwrap_or (option_map (λ name. name ++ codes ".dll") d.library_name) d.import_name
 

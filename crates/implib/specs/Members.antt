@@ -1,4 +1,5 @@
--- Members: the tables of both flavours, which definitions have none, and what their bytes are read as.
+-- Members: the tables of both flavours, which definitions have none, and what their bytes are read
+-- as.
 pub mod GnuReader
 pub mod ImportTables
 pub mod WeakExternal

@@ -8,7 +8,8 @@ ghost use Rattle.implib.specs.Members.ListsReadBack.{ListsReadBack};
 ghost use Rattle.implib.specs.Members.MemberLists.{AreListsOf, lists_view};
 ghost use Rattle.implib.specs.Members.Members.{AreMembersOf, refusal};
 ghost use Rattle.implib.specs.Members.NameRules.{RefusesAlways};
-ghost use Rattle.implib.specs.Members.OlderSymbols.{AreOlderMembersOf, OlderReadBack, older_refusal};
+ghost use Rattle.implib.specs.Members.OlderSymbols.{AreOlderMembersOf, OlderReadBack};
+ghost use Rattle.implib.specs.Members.OlderSymbols.{older_refusal};
 ghost use Rattle.implib.specs.Text.Parses.{Refuses};
 ghost use Rattle.implib.specs.Members.ReadBack.{ReadBack};
 ghost use Rattle.implib.specs.Renaming.{is_renamed, renamed};
@@ -183,7 +184,8 @@ impl ImportLibrary {
         into_gnu_members(self.def, self.machine)
     }
 
-    /// The members for GNU's linker with older symbols of addresses, whatever the library's flavour.
+    /// The members for GNU's linker with older symbols of addresses, whatever the library's
+    /// flavour.
     ///
     /// # Errors
     ///

@@ -89,9 +89,10 @@ impl MsvcImportLibrary {
         self.library.members()
     }
 
-    /// The members in three lists. An alias, an export whose symbol is weak for another, has its weak
-    /// externals alone, and no short import; [`MsvcImportLibrary::members`] makes that too. The short
-    /// imports are kept as what they say, and each export is freed when that is taken from it.
+    /// The members in three lists. An alias, an export whose symbol is weak for another, has its
+    /// weak externals alone, and no short import; [`MsvcImportLibrary::members`] makes that too.
+    /// The short imports are kept as what they say, and each export is freed when that is taken
+    /// from it.
     ///
     /// # Errors
     ///

@@ -1,5 +1,8 @@
--- Where the indexes of an archive lead: a reader looks a symbol up, and finds the header of a member.
-use Rattle.std.specs.Prelude.{◌≡◌, ℕ, zero, suc, ◌+◌, ◌%◌, Bool, List, [], ◌∷◌, Option, None, Some, bytes_eq, if◌then◌else◌, is_some, length, map, option_and_then, slice_get}
+-- Where the indexes of an archive lead: a reader looks a symbol up, and finds the header of a
+-- member.
+use Rattle.std.specs.Prelude.{◌≡◌, ℕ, zero, suc, ◌+◌, ◌%◌, Bool, List, [], ◌∷◌, Option, None, Some}
+use Rattle.std.specs.Prelude.{bytes_eq, if◌then◌else◌, is_some, length, map, option_and_then}
+use Rattle.std.specs.Prelude.{slice_get}
 use Rattle.std.specs.Cmp.Lexicographic.{slice_cmp}
 use Rattle.std.specs.List.{list_any}
 use Rattle.std.specs.List.Sorted.{IsStrictlySortedBy}
@@ -9,7 +12,8 @@ use Rattle.std.specs.Ordering.{nat_cmp}
 use Rattle.implib.specs.Members.MemberSpec.{MemberView}
 use Rattle.implib_archive.specs.Archive.{archive_of}
 use Rattle.implib_archive.specs.ReadBack.{read_view}
-use Rattle.implib_archive.specs.Reader.{Name, Linker, LongNames, Stored, first_in, member_at, name_in, second_in, stored_in}
+use Rattle.implib_archive.specs.Reader.{Name, Linker, LongNames, Stored, first_in, member_at}
+use Rattle.implib_archive.specs.Reader.{name_in, second_in, stored_in}
 use Rattle.implib_archive.specs.Refusal.{refusal_of}
 use Rattle.implib_archive.specs.declared.kind.Kind.{Kind}
 use Rattle.implib_archive.specs.declared.kind.Kind.TheVariants.{Coff}
@@ -26,7 +30,8 @@ with_header name place headers = place ∷ headers
 unfoldable pub headers_among : ℕ → List Stored → List ℕ
 headers_among place [] = []
 headers_among place (s ∷ parts) =
-    with_header (name_in s.field) place (headers_among (place + (60 + length s.contents + length s.contents % 2)) parts)
+    with_header (name_in s.field) place
+    (headers_among (place + (60 + length s.contents + length s.contents % 2)) parts)
 
 -- the offsets of the members' headers in an archive, in order
 unfoldable pub headers_in : List ℕ → Option (List ℕ)
@@ -46,7 +51,8 @@ numbered offsets (suc n) = slice_get offsets n
 -- the offset that the second linker member has for a symbol
 unfoldable pub second_header_for : List ℕ → List ℕ → Option ℕ
 second_header_for bytes symbol =
-    option_and_then (λ second. option_and_then (numbered second.0) (lookup (bytes_eq symbol) second.1)) (second_in bytes)
+    option_and_then (λ second. option_and_then (numbered second.0)
+    (lookup (bytes_eq symbol) second.1)) (second_in bytes)
 
 -- What is to be found.
 
@@ -54,8 +60,8 @@ second_header_for bytes symbol =
 abbrev pub lists : List ℕ → MemberView → Bool
 lists symbol m = list_any (bytes_eq symbol) m.symbols
 
--- the first member that lists a symbol, with the offset of its header, where the members' headers are at
--- these offsets
+-- the first member that lists a symbol, with the offset of its header, where the members' headers
+-- are at these offsets
 abbrev pub first_lister : List ℕ → List MemberView → List ℕ → Option (ℕ × MemberView)
 first_lister [] members symbol = None
 first_lister (place ∷ headers) [] symbol = None
@@ -65,14 +71,17 @@ first_lister (place ∷ headers) (m ∷ members) symbol =
 -- Where the index of an archive leads:
 -- `headers`, `found`: the members' headers are at these offsets;
 -- `read`: the members are after them, in order;
--- `leads`: each symbol leads to the header of the first member that lists it, and any other text nowhere;
+-- `leads`: each symbol leads to the header of the first member that lists it, and any other text
+-- nowhere;
 -- `listed`: a text leads somewhere exactly if a member lists it.
 pub record IndexLeads (kind : Kind) (members : List MemberView) (bytes : List ℕ) : Type 0 where
   pub headers : List ℕ
   pub found : headers_in bytes ≡ Some headers
   pub read : map (member_at kind bytes) headers ≡ map (λ m. Some (read_view m)) members
-  pub leads : (symbol : List ℕ) → header_for bytes symbol ≡ option_map (λ f. f.0) (first_lister headers members symbol)
-  pub listed : (symbol : List ℕ) → is_some (header_for bytes symbol) ≡ list_any (lists symbol) members
+  pub leads : (symbol : List ℕ) →
+      header_for bytes symbol ≡ option_map (λ f. f.0) (first_lister headers members symbol)
+  pub listed : (symbol : List ℕ) →
+      is_some (header_for bytes symbol) ≡ list_any (lists symbol) members
 
 -- What the second linker member says:
 -- `second`: its offsets, and its symbols with numbers;
@@ -92,4 +101,5 @@ EachIndexLeads = (kind : Kind) (members : List MemberView) → refusal_of kind m
     → IndexLeads kind members (archive_of kind members)
 
 abbrev pub EachSecondLeads : Type 0
-EachSecondLeads = (members : List MemberView) → refusal_of Coff members ≡ None → SecondLeads (archive_of Coff members)
+EachSecondLeads = (members : List MemberView) → refusal_of Coff members ≡ None →
+    SecondLeads (archive_of Coff members)

@@ -1,6 +1,7 @@
--- The parts of an archive as bytes: headers, data and padding (the common archive format; the PE/COFF
--- specification, "Archive (Library) File Format").
-use Rattle.std.specs.Prelude.{ℕ, ◌+◌, ◌-◌, ◌%◌, List, [], ◌∷◌, ◌++◌, codes, decimal, length, replicate}
+-- The parts of an archive as bytes: headers, data and padding (the common archive format; the
+-- PE/COFF specification, "Archive (Library) File Format").
+use Rattle.std.specs.Prelude.{ℕ, ◌+◌, ◌-◌, ◌%◌, List, [], ◌∷◌, ◌++◌, codes, decimal, length}
+use Rattle.std.specs.Prelude.{replicate}
 use Rattle.std.specs.Int.{w16, w32, to_be_bytes, to_le_bytes}
 
 -- the signature of an archive
@@ -21,14 +22,15 @@ pub record Label : Type 0 where
 -- a header: the texts, the size of the data in decimal, and the two bytes that end it
 unfoldable pub header_bytes : Label → ℕ → List ℕ
 header_bytes l size =
-    field 16 l.name ++ field 12 l.date ++ field 6 l.owner ++ field 6 l.owner ++ field 8 l.mode ++ field 10 (decimal size) ++ (96 ∷ 10 ∷ [])
+    field 16 l.name ++ field 12 l.date ++ field 6 l.owner ++ field 6 l.owner ++ field 8 l.mode
+    ++ field 10 (decimal size) ++ (96 ∷ 10 ∷ [])
 
 -- the padding byte after data of an odd size, or nothing
 unfoldable pub padding : ℕ → ℕ → List ℕ
 padding byte size = replicate (size % 2) byte
 
--- a part: header, data, and a line end after data of an odd size, which the size in the header does not
--- count
+-- a part: header, data, and a line end after data of an odd size, which the size in the header does
+-- not count
 unfoldable pub part_bytes : Label → List ℕ → List ℕ
 part_bytes l contents = header_bytes l (length contents) ++ contents ++ padding 10 (length contents)
 

@@ -1,11 +1,14 @@
 -- View: what the code's functions have appended and measured.
-use Rattle.std.specs.Prelude.{◌≡◌, ℕ, ◌+◌, ◌-◌, ◌*◌, ◌^◌, ◌<◌, ◌≤◌, List, [], ◌++◌, Option, None, Some, bytes_eq, codes, length, map}
+use Rattle.std.specs.Prelude.{◌≡◌, ℕ, ◌+◌, ◌-◌, ◌*◌, ◌^◌, ◌<◌, ◌≤◌, List, [], ◌++◌, Option, None}
+use Rattle.std.specs.Prelude.{Some, bytes_eq, codes, length, map}
 use Rattle.std.specs.Borrow.{Bor}
 use Rattle.std.specs.List.{All, IsDistinct}
 use Rattle.std.specs.Cmp.Lexicographic.{slice_cmp}
 use Rattle.std.specs.Ordering.{nat_cmp, ordering_then}
 use Rattle.std.specs.declared.cmp.Ordering.{Ordering}
-use Rattle.implib_archive.specs.Archive.{end_from, entries_of, first_place, long_names, member_label, names_bytes, places_of, sorted_entries, strings_of}
+use Rattle.implib_archive.specs.Archive.{end_from, entries_of, first_place, long_names}
+use Rattle.implib_archive.specs.Archive.{member_label, names_bytes, places_of, sorted_entries}
+use Rattle.implib_archive.specs.Archive.{strings_of}
 use Rattle.implib_archive.specs.Refusal.{refusal_of}
 use Rattle.implib_archive.specs.Sources.{member_at}
 use Rattle.implib_archive.specs.declared.error.Error.{Error}
@@ -49,7 +52,8 @@ mode_of texts.Member = codes "644"
 
 -- the fields of date, user, group and mode
 abbrev pub middle_of : Texts → List ℕ
-middle_of t = field 12 (owner_of t) ++ field 6 (owner_of t) ++ field 6 (owner_of t) ++ field 8 (mode_of t)
+middle_of t =
+    field 12 (owner_of t) ++ field 6 (owner_of t) ++ field 6 (owner_of t) ++ field 8 (mode_of t)
 
 -- the texts of a header
 abbrev pub label_view : Label → LabelSpec
@@ -77,14 +81,16 @@ pub record FrontFits (kind : Kind) (places : List ℕ) (entries : List (List ℕ
   pub short : 4 + 4 * length entries + length (strings_of entries) < 2 ^ 32
   pub numbers : kind ≡ Coff → All (λ e. e.1 < 2 ^ 16) (sorted_entries entries)
   pub second_short : kind ≡ Coff
-      → 8 + 4 * length places + 2 * length (sorted_entries entries) + length (strings_of (sorted_entries entries)) < 2 ^ 32
+      → 8 + 4 * length places + 2 * length (sorted_entries entries)
+      + length (strings_of (sorted_entries entries)) < 2 ^ 32
 
 -- entries of members in the order of their symbols, of the COFF kind
 abbrev pub AreInOrder : Kind → List MemberView → List (List ℕ × ℕ) → Type 0
 AreInOrder kind members sorted = kind ≡ Coff → sorted ≡ sorted_entries (entries_of kind members)
 
 -- members that have an archive, with what is kept of them to write it
-pub record IsMade (kind : Kind) (members : List MemberView) (entries sorted offsets : List (List ℕ × ℕ)) (size : ℕ) (places : List ℕ)
+pub record IsMade (kind : Kind) (members : List MemberView)
+    (entries sorted offsets : List (List ℕ × ℕ)) (size : ℕ) (places : List ℕ)
     (end' : ℕ) : Type 0 where
   pub accepted : refusal_of kind members ≡ None
   pub listed : entries ≡ entries_of kind members
@@ -100,4 +106,5 @@ header_of names m = header_bytes (member_label names m.name) (length m.bytes)
 
 -- the bytes are the header of the member before the one at an index, where there is one
 abbrev pub IsHeaderBefore : List (List ℕ × ℕ) → List MemberView → ℕ → List ℕ → Type 0
-IsHeaderBefore names members index bytes = 0 < index → bytes ≡ header_of names (member_at members (index - 1))
+IsHeaderBefore names members index bytes =
+    0 < index → bytes ≡ header_of names (member_at members (index - 1))

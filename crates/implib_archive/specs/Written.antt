@@ -5,8 +5,10 @@ use Rattle.std.specs.Io.KnownBytes.{Appends}
 use Rattle.implib.specs.Beginning.{AppendsBeginning}
 
 -- the writer took the bytes, or at an error a beginning of them
-abbrev pub Writes : {T E : Type 0} → Option (List ℕ) → Option (List ℕ) → List ℕ → Result T E → Type 0
-Writes before after bytes result = MatchResult result (λ _. Appends before after bytes) (λ _. AppendsBeginning before after bytes)
+abbrev pub Writes : {T E : Type 0} → Option (List ℕ) → Option (List ℕ) → List ℕ → Result T E →
+    Type 0
+Writes before after bytes result =
+    MatchResult result (λ _. Appends before after bytes) (λ _. AppendsBeginning before after bytes)
 
 -- the writer took the bytes up to these that are left
 pub record AppendsUpTo (before after : Option (List ℕ)) (bytes rest : List ℕ) : Type 0 where
@@ -21,6 +23,8 @@ pub record AppendsBehind (before after : Option (List ℕ)) (old new bytes : Lis
   pub written : Appends before after taken
 
 -- the same, or at an error the writer took a beginning of them
-abbrev pub WritesBehind : {T E : Type 0} → Option (List ℕ) → Option (List ℕ) → List ℕ → List ℕ → List ℕ → Result T E → Type 0
+abbrev pub WritesBehind : {T E : Type 0} → Option (List ℕ) → Option (List ℕ) → List ℕ → List ℕ →
+    List ℕ → Result T E → Type 0
 WritesBehind before after old new bytes result =
-    MatchResult result (λ _. AppendsBehind before after old new bytes) (λ _. AppendsBeginning before after (old ++ bytes))
+    MatchResult result (λ _. AppendsBehind before after old new bytes)
+    (λ _. AppendsBeginning before after (old ++ bytes))

@@ -161,7 +161,8 @@ fn in_order<'a>(
 // Whether no symbol of sorted entries is repeated.
 fn are_distinct(sorted: &[(&str, usize)]) -> bool
     requires { IsSorted entry_cmp sorted.now }
-    ensures { MatchBool result (AreDistinct (shown sorted.now)) (AreDistinct (shown sorted.now) → ⊥) }
+    ensures { MatchBool result (AreDistinct (shown sorted.now))
+        (AreDistinct (shown sorted.now) → ⊥) }
 {
     for i in 1..sorted.len() {
         if sorted[i - 1].0 == sorted[i].0 {

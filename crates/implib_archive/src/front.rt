@@ -202,7 +202,8 @@ fn write_entry_places<W: io::Write>(
 ) -> Result<(), WriteError>
     requires { All (λ e. (0 < e.1) × (e.1 ≤ length places.now)) (shown entries.now) }
     ensures { WritesBehind (W.contents writer.old) (W.contents writer.new) piece.old.items
-        piece.new.items (flat_map (λ e. u32_be (place_of places.now e.1)) (shown entries.now)) result }
+        piece.new.items (flat_map (λ e. u32_be (place_of places.now e.1)) (shown entries.now))
+        result }
 {
     let mut done = 0;
     while done < entries.len() {
@@ -272,8 +273,8 @@ pub fn write_strings<W: io::Write>(
     Ok(())
 }
 
-// The end of the entries from an index on, at least one, whose symbols go into a piece. A symbol that
-// is longer makes the buffer grow.
+// The end of the entries from an index on, at least one, whose symbols go into a piece. A symbol
+// that is longer makes the buffer grow.
 fn end_of_piece(entries: &[(&str, usize)], start: usize) -> usize
     requires { start < length entries.now }
     ensures some { start < result }

@@ -44,7 +44,8 @@ impl<'a, S: Members> Model for Archive<'a, S> {
     ghost view = { λ a. record { kind = a.kind; members = S.members a.source } };
 
     ghost invariant = { λ a. IsMade a.kind (S.members a.source)
-        (shown a.entries.listed.items) (shown a.entries.sorted.items) (shown a.names.offsets.entries)
+        (shown a.entries.listed.items) (shown a.entries.sorted.items)
+        (shown a.names.offsets.entries)
         a.names.size a.places.offsets.items a.places.end };
 }
 
@@ -104,11 +105,12 @@ impl<'a, S: Source<'a>> Archive<'a, S> {
         }
     }
 
-    /// Writes the archive. The linker members are made in a buffer of 128 KiB, and the members one at
-    /// a time in another.
+    /// Writes the archive. The linker members are made in a buffer of 128 KiB, and the members one
+    /// at a time in another.
     ///
-    /// It calls `write` for each piece of a linker member, of 128 KiB or less, and two or three times for
-    /// each member, so a writer to a file wants a `BufWriter` before it. It does not flush.
+    /// It calls `write` for each piece of a linker member, of 128 KiB or less, and two or three
+    /// times for each member, so a writer to a file wants a `BufWriter` before it. It does not
+    /// flush.
     ///
     /// # Errors
     ///

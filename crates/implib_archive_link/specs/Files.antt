@@ -1,5 +1,6 @@
--- The members of an archive of a kind, as a linker finds them in its bytes: after each header a name and bytes, and the
--- symbols that the first linker member leads there. By them the laws of searches and of command lines hold of archives' bytes.
+-- The members of an archive of a kind, as a linker finds them in its bytes: after each header a
+-- name and bytes, and the symbols that the first linker member leads there. By them the laws of
+-- searches and of command lines hold of archives' bytes.
 use Rattle.std.specs.Prelude.{◌≡◌, ℕ, ◌==◌, List, [], ◌∷◌, ◌++◌, Option, Some, map, unwrap_or}
 use Rattle.std.specs.List.{filter, filter_map, flat_map}
 use Rattle.std.specs.Option.{option_map}

@@ -1,6 +1,6 @@
--- Archive search in the bytes of an archive. A linker looks a name up in a linker member, which leads it to
--- a header; it takes the member after that header, and reads in its bytes what it leaves to others and
--- what it claims. It knows nothing of who wrote the archive.
+-- Archive search in the bytes of an archive. A linker looks a name up in a linker member, which
+-- leads it to a header; it takes the member after that header, and reads in its bytes what it
+-- leaves to others and what it claims. It knows nothing of who wrote the archive.
 use Rattle.std.specs.Prelude.{◌≡◌, ℕ, false, List, [], ◌∷◌, ◌++◌, Option, Some, bytes_eq}
 use Rattle.std.specs.List.{Contains, filter_map, flat_map, list_any}
 use Rattle.std.specs.Option.{option_map}
@@ -32,31 +32,34 @@ Has kind linker = Unit {0}
 
 -- the bytes of the members after headers
 abbrev pub contents_at : Kind → List ℕ → List ℕ → List (List ℕ)
-contents_at kind bytes headers = filter_map (λ h. option_map (λ r. r.bytes) (member_at kind bytes h)) headers
+contents_at kind bytes headers =
+    filter_map (λ h. option_map (λ r. r.bytes) (member_at kind bytes h)) headers
 
 -- whether a name asks for a member still, given the bytes of the members that are taken
 abbrev pub Asks : Type 1
 Asks = List (List ℕ) → List ℕ → Type 0
 
--- A name asks for a member after a header: it does so after the members that are taken, it leads to this
--- header, and the member after it is not taken.
-pub record PullsInAt (kind : Kind) (linker : LinkerMember) (bytes : List ℕ) (asks : Asks) (taken : List ℕ)
+-- A name asks for a member after a header: it does so after the members that are taken, it leads to
+-- this header, and the member after it is not taken.
+pub record PullsInAt (kind : Kind) (linker : LinkerMember) (bytes : List ℕ) (asks : Asks)
+    (taken : List ℕ)
     (name : List ℕ) (header : ℕ) : Type 0 where
   pub asked : asks (contents_at kind bytes taken) name
   pub found : header_by linker bytes name ≡ Some header
   pub new : Contains taken header → ⊥
 
--- Members are taken one after another, the last one first: the headers are those that some names lead to,
--- each after those before it. The linker may take up the names in any order.
+-- Members are taken one after another, the last one first: the headers are those that some names
+-- lead to, each after those before it. The linker may take up the names in any order.
 unfoldable pub AreTakenAt : Kind → LinkerMember → List ℕ → Asks → List ℕ → Type 0
 AreTakenAt kind linker bytes asks [] = Unit {0}
 AreTakenAt kind linker bytes asks (header ∷ earlier) =
     ((name : List ℕ) × PullsInAt kind linker bytes asks earlier name header)
     × AreTakenAt kind linker bytes asks earlier
 
--- What a linker takes of the archive: the members after these headers, until no name asks for another.
-pub record TakesAt (kind : Kind) (linker : LinkerMember) (bytes : List ℕ) (asks : Asks) (taken : List ℕ)
-    : Type 0 where
+-- What a linker takes of the archive: the members after these headers, until no name asks for
+-- another.
+pub record TakesAt (kind : Kind) (linker : LinkerMember) (bytes : List ℕ) (asks : Asks)
+    (taken : List ℕ) : Type 0 where
   pub in_turn : AreTakenAt kind linker bytes asks taken
   pub ended : (name : List ℕ) (header : ℕ) → PullsInAt kind linker bytes asks taken name header → ⊥
 

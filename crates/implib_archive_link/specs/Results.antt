@@ -1,5 +1,6 @@
 -- What searches in the bytes of archives find, against searches of the members.
-use Rattle.std.specs.Prelude.{◌≡◌, ℕ, List, [], ◌∷◌, None, Some, is_some, map, option_and_then, slice_get}
+use Rattle.std.specs.Prelude.{◌≡◌, ℕ, List, [], ◌∷◌, None, Some, is_some, map, option_and_then}
+use Rattle.std.specs.Prelude.{slice_get}
 use Rattle.std.specs.Option.{option_map}
 use Rattle.implib.specs.declared.machine.MachineType.{MachineType}
 use Rattle.implib.specs.Formats.Object.{Object}
@@ -10,7 +11,8 @@ use Rattle.implib_archive.specs.ReadBack.{read_view}
 use Rattle.implib_archive.specs.Reader.{member_at}
 use Rattle.implib_archive.specs.Refusal.{refusal_of}
 use Rattle.implib_archive.specs.declared.kind.Kind.{Kind}
-use Rattle.implib_archive_link.specs.InBytes.{Asks, Has, LinkerMember, TakesAt, asks_for, asks_on, asks_with, asks_with_on, header_by}
+use Rattle.implib_archive_link.specs.InBytes.{Asks, Has, LinkerMember, TakesAt, asks_for, asks_on}
+use Rattle.implib_archive_link.specs.InBytes.{asks_with, asks_with_on, header_by}
 use Rattle.implib_link.specs.Search.Closed.{TakesInto}
 use Rattle.implib_link.specs.Search.Msvc.{TakesFor}
 use Rattle.implib_link.specs.Search.MsvcArchives.{TakesIntoFor}
@@ -19,7 +21,8 @@ use Rattle.implib_link.specs.Search.Search.{Takes, first_listed}
 -- Members of a list, by the headers that a linker takes.
 
 -- a header is that of a member: both have one number, among all headers and among all members
-pub record IsHeaderOf (headers : List ℕ) (members : List MemberView) (header : ℕ) (m : MemberView) : Type 0 where
+pub record IsHeaderOf (headers : List ℕ) (members : List MemberView) (header : ℕ)
+    (m : MemberView) : Type 0 where
   pub number : ℕ
   pub header_is : slice_get headers number ≡ Some header
   pub member_is : slice_get members number ≡ Some m
@@ -32,7 +35,8 @@ AreHeadersOf headers members (h ∷ taken) (m ∷ found) =
 AreHeadersOf headers members [] (m ∷ found) = ⊥
 AreHeadersOf headers members (h ∷ taken) [] = ⊥
 
--- What is taken by headers, in the bytes of the archive of members, are members of which something holds:
+-- What is taken by headers, in the bytes of the archive of members, are members of which something
+-- holds:
 -- `headers`, `located`: the members' headers in the bytes;
 -- `found`, `at`: the headers that are taken are those of these members;
 -- `read`: after them a reader finds these members' names and bytes;
@@ -43,44 +47,53 @@ pub record AreMembersAt (kind : Kind) (members : List MemberView) (taken : List 
   pub located : headers_in (archive_of kind members) ≡ Some headers
   pub found : List MemberView
   pub at : AreHeadersOf headers members taken found
-  pub read : map (member_at kind (archive_of kind members)) taken ≡ map (λ m. Some (read_view m)) found
+  pub read : map (member_at kind (archive_of kind members)) taken
+      ≡ map (λ m. Some (read_view m)) found
   pub holds : P found
 
 -- members have an archive of a kind, which has a linker member
-pub record HaveArchive (kind : Kind) (linker : LinkerMember) (members : List MemberView) : Type 0 where
+pub record HaveArchive (kind : Kind) (linker : LinkerMember)
+    (members : List MemberView) : Type 0 where
   pub accepted : refusal_of kind members ≡ None
   pub has : Has kind linker
 
 -- a search in the bytes of the archive of members takes members of which something holds
-abbrev pub TakesJust : Kind → LinkerMember → List MemberView → Asks → (List MemberView → Type 0) → Type 0
+abbrev pub TakesJust : Kind → LinkerMember → List MemberView → Asks → (List MemberView → Type 0) →
+    Type 0
 TakesJust kind linker members asks P = (taken : List ℕ) →
     TakesAt kind linker (archive_of kind members) asks taken → AreMembersAt kind members taken P
 
--- A name leads to the header of the first member that it is listed for, after which a reader finds this
--- member's name and bytes; and nowhere, where it is listed for none.
-pub record LeadsToFirst (kind : Kind) (linker : LinkerMember) (members : List MemberView) (name : List ℕ)
-    : Type 0 where
-  pub somewhere : is_some (header_by linker (archive_of kind members) name) ≡ is_some (first_listed members name)
+-- A name leads to the header of the first member that it is listed for, after which a reader finds
+-- this member's name and bytes; and nowhere, where it is listed for none.
+pub record LeadsToFirst (kind : Kind) (linker : LinkerMember) (members : List MemberView)
+    (name : List ℕ) : Type 0 where
+  pub somewhere : is_some (header_by linker (archive_of kind members) name)
+      ≡ is_some (first_listed members name)
   pub read : option_and_then (member_at kind (archive_of kind members))
       (header_by linker (archive_of kind members) name)
       ≡ option_map read_view (first_listed members name)
 
 -- The bytes are an archive in the sense of searches:
 -- `leads`: a name leads to the header of exactly the first member that it is listed for;
--- `wanted`, `given`, `short`, `given_short`: what a linker takes in the bytes, for wanted names or for given
--- objects, and the same with short imports, are members that it takes of the list of members.
-pub record AreSearched (kind : Kind) (linker : LinkerMember) (members : List MemberView) : Type 0 where
+-- `wanted`, `given`, `short`, `given_short`: what a linker takes in the bytes, for wanted names or
+-- for given objects, and the same with short imports, are members that it takes of the list of
+-- members.
+pub record AreSearched (kind : Kind) (linker : LinkerMember)
+    (members : List MemberView) : Type 0 where
   pub leads : (name : List ℕ) → LeadsToFirst kind linker members name
-  pub wanted : (wanted : List (List ℕ)) → TakesJust kind linker members (asks_for wanted) (Takes members wanted)
-  pub given : (own : List Object) → TakesJust kind linker members (asks_with own) (TakesInto members own)
+  pub wanted : (wanted : List (List ℕ)) →
+      TakesJust kind linker members (asks_for wanted) (Takes members wanted)
+  pub given : (own : List Object) →
+      TakesJust kind linker members (asks_with own) (TakesInto members own)
   pub short : (machine : MachineType) (wanted : List (List ℕ)) →
       TakesJust kind linker members (asks_on machine wanted) (TakesFor machine members wanted)
   pub given_short : (machine : MachineType) (own : List Object) →
       TakesJust kind linker members (asks_with_on machine own) (TakesIntoFor machine members own)
 
--- A search of members is one in the bytes of their archive: the headers of the members that are found are
--- taken.
-pub record IsSearchOf (kind : Kind) (linker : LinkerMember) (members : List MemberView) (asks : Asks)
+-- A search of members is one in the bytes of their archive: the headers of the members that are
+-- found are taken.
+pub record IsSearchOf (kind : Kind) (linker : LinkerMember) (members : List MemberView)
+    (asks : Asks)
     (found : List MemberView) : Type 0 where
   pub headers : List ℕ
   pub located : headers_in (archive_of kind members) ≡ Some headers
@@ -88,17 +101,22 @@ pub record IsSearchOf (kind : Kind) (linker : LinkerMember) (members : List Memb
   pub at : AreHeadersOf headers members taken found
   pub takes : TakesAt kind linker (archive_of kind members) asks taken
 
--- Each search of the members is one in the bytes, for wanted names or for given objects, and with short imports.
-pub record AreFoundInBytes (kind : Kind) (linker : LinkerMember) (members : List MemberView) : Type 0 where
+-- Each search of the members is one in the bytes, for wanted names or for given objects, and with
+-- short imports.
+pub record AreFoundInBytes (kind : Kind) (linker : LinkerMember)
+    (members : List MemberView) : Type 0 where
   pub wanted : (wanted : List (List ℕ)) (found : List MemberView) → Takes members wanted found →
       IsSearchOf kind linker members (asks_for wanted) found
   pub given : (own : List Object) (found : List MemberView) → TakesInto members own found →
       IsSearchOf kind linker members (asks_with own) found
   pub short : (machine : MachineType) (wanted : List (List ℕ)) (found : List MemberView) →
-      TakesFor machine members wanted found → IsSearchOf kind linker members (asks_on machine wanted) found
+      TakesFor machine members wanted found →
+      IsSearchOf kind linker members (asks_on machine wanted) found
   pub given_short : (machine : MachineType) (own : List Object) (found : List MemberView) →
-      TakesIntoFor machine members own found → IsSearchOf kind linker members (asks_with_on machine own) found
+      TakesIntoFor machine members own found →
+      IsSearchOf kind linker members (asks_with_on machine own) found
 
 -- a search in the bytes comes to an end
 abbrev pub IsEnding : Kind → LinkerMember → List MemberView → Asks → Type 0
-IsEnding kind linker members asks = (taken : List ℕ) × TakesAt kind linker (archive_of kind members) asks taken
+IsEnding kind linker members asks =
+    (taken : List ℕ) × TakesAt kind linker (archive_of kind members) asks taken

@@ -23,12 +23,18 @@ ec_entries l = sorted_entries (entries_of Coff (for_arm64ec l))
 
 -- the texts in the header of the EC index
 unfoldable pub ec_label : Label
-ec_label = record { name = codes "/<ECSYMBOLS>/"; date = codes "0"; owner = codes "0"; mode = codes "0" }
+ec_label = record {
+  name = codes "/<ECSYMBOLS>/";
+  date = codes "0";
+  owner = codes "0";
+  mode = codes "0";
+}
 
 -- the data of the EC index, but for its padding: how many entries, the number of each one's member
 -- from 1, and the symbols
 unfoldable pub ec_index : List (List ℕ × ℕ) → List ℕ
-ec_index entries = u32_le (length entries) ++ flat_map (λ e. u16_le e.1) entries ++ strings_of entries
+ec_index entries =
+    u32_le (length entries) ++ flat_map (λ e. u16_le e.1) entries ++ strings_of entries
 
 -- the EC index as a part of the archive
 unfoldable pub ec_part : List (List ℕ × ℕ) → List ℕ
@@ -48,7 +54,8 @@ library_names l = long_names Coff (for_arm64 l)
 
 -- what is before the members: signature, linker members, long names and the EC index
 unfoldable pub ec_front : LibraryView → List ℕ
-ec_front l = front Coff (member_places l) (arm64_entries l) (library_names l) ++ ec_part (ec_entries l)
+ec_front l =
+    front Coff (member_places l) (arm64_entries l) (library_names l) ++ ec_part (ec_entries l)
 
 -- the members
 unfoldable pub ec_members : LibraryView → List ℕ

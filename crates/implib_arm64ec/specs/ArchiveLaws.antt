@@ -22,7 +22,8 @@ unfoldable pub ec_parts : LibraryView → List Stored
 ec_parts l =
     stored_linkers Coff (member_places l) (arm64_entries l)
     ++ (stored_names (names_bytes Coff (library_names l))
-    ++ (stored (codes "/<ECSYMBOLS>/") (padded 0 (ec_index (ec_entries l))) ∷ map (stored_member (library_names l)) (for_arm64 l)))
+    ++ (stored (codes "/<ECSYMBOLS>/") (padded 0 (ec_index (ec_entries l)))
+    ∷ map (stored_member (library_names l)) (for_arm64 l)))
 
 -- What a reader finds in the bytes of an archive: `signed`: they begin with the signature; `parts`,
 -- `laid_out`: from there to the end stand the linker members, the long names, the EC index and the
@@ -44,10 +45,14 @@ pub record IndexesLead (l : LibraryView) (bytes : List ℕ) : Type 0 where
   pub headers : List ℕ
   pub found : ec_headers_in bytes ≡ Some headers
   pub read : map (member_at Coff bytes) headers ≡ map (λ m. Some (read_view m)) (members_of l)
-  pub arm64 : (symbol : List ℕ) → header_for bytes symbol ≡ option_map (λ f. f.0) (first_lister headers (for_arm64 l) symbol)
+  pub arm64 : (symbol : List ℕ) →
+      header_for bytes symbol ≡ option_map (λ f. f.0) (first_lister headers (for_arm64 l) symbol)
   pub second : (symbol : List ℕ) → second_header_for bytes symbol ≡ header_for bytes symbol
-  pub arm64ec : (symbol : List ℕ) → ec_header_for bytes symbol ≡ option_map (λ f. f.0) (first_lister headers (for_arm64ec l) symbol)
-  pub listed : (symbol : List ℕ) → is_some (ec_header_for bytes symbol) ≡ list_any (lists symbol) (for_arm64ec l)
+  pub arm64ec : (symbol : List ℕ) →
+      ec_header_for bytes symbol
+      ≡ option_map (λ f. f.0) (first_lister headers (for_arm64ec l) symbol)
+  pub listed : (symbol : List ℕ) →
+      is_some (ec_header_for bytes symbol) ≡ list_any (lists symbol) (for_arm64ec l)
   pub symbols : List (List ℕ × ℕ)
   pub symbols_found : ec_symbols_in bytes ≡ Some symbols
   pub rises : IsStrictlySortedBy (slice_cmp nat_cmp) (map (λ e. e.0) symbols)

@@ -17,18 +17,21 @@ is_ec_index s = bytes_eq s.field (codes "/<ECSYMBOLS>/   ")
 -- the parts without the EC index
 unfoldable pub without_ec_index : List Stored → List Stored
 without_ec_index [] = []
-without_ec_index (s ∷ parts) = if is_ec_index s then without_ec_index parts else s ∷ without_ec_index parts
+without_ec_index (s ∷ parts) =
+    if is_ec_index s then without_ec_index parts else s ∷ without_ec_index parts
 
 -- the members of an archive, in order
 unfoldable pub ec_members_in : List ℕ → Option (List Read)
 ec_members_in bytes =
-    option_and_then (λ parts. members_among Coff (long_names_in parts) (without_ec_index parts)) (stored_in bytes)
+    option_and_then (λ parts. members_among Coff (long_names_in parts) (without_ec_index parts))
+    (stored_in bytes)
 
 -- the offsets of the members' headers among parts, the first of which is at this offset
 unfoldable pub ec_headers_among : ℕ → List Stored → List ℕ
 ec_headers_among place [] = []
 ec_headers_among place (s ∷ parts) =
-    let others = ec_headers_among (place + (60 + length s.contents + length s.contents % 2)) parts in
+    let others =
+    ec_headers_among (place + (60 + length s.contents + length s.contents % 2)) parts in
     if is_ec_index s then others else with_header (name_in s.field) place others
 
 -- the offsets of the members' headers in an archive, in order
@@ -44,7 +47,8 @@ ec_data_in (s ∷ parts) = if is_ec_index s then Some s.contents else ec_data_in
 unfoldable pub numbered_symbols : List ℕ → List (List ℕ × ℕ)
 numbered_symbols data' =
     let count = from_le_bytes w32 (take 4 data') in
-    paired (texts_in count (drop (4 + 2 * count) data')) (numbers_in (from_le_bytes w16) 2 count (drop 4 data'))
+    paired (texts_in count (drop (4 + 2 * count) data'))
+    (numbers_in (from_le_bytes w16) 2 count (drop 4 data'))
 
 -- those of an archive
 unfoldable pub ec_symbols_in : List ℕ → Option (List (List ℕ × ℕ))
@@ -54,5 +58,7 @@ ec_symbols_in bytes = option_map numbered_symbols (option_and_then ec_data_in (s
 -- linker member
 unfoldable pub ec_header_for : List ℕ → List ℕ → Option ℕ
 ec_header_for bytes symbol = option_and_then
-    (λ second. option_and_then (λ entries. option_and_then (numbered second.0) (lookup (bytes_eq symbol) entries)) (ec_symbols_in bytes))
+    (λ second. option_and_then
+    (λ entries. option_and_then (numbered second.0) (lookup (bytes_eq symbol) entries))
+    (ec_symbols_in bytes))
     (second_in bytes)

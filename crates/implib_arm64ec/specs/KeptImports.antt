@@ -70,7 +70,8 @@ kept_import dll k = record {
 abbrev pub kept_symbols : KeptImport → List (List ℕ)
 kept_symbols k =
     if k.import_type == import_data then kept_address k ∷ []
-    else kept_address k ∷ kept_plain k ∷ kept_auxiliary k ∷ symbol_apart (kept_symbol k) (kept_plain k)
+    else kept_address k ∷ kept_plain k ∷ kept_auxiliary k
+    ∷ symbol_apart (kept_symbol k) (kept_plain k)
 
 -- the member
 abbrev pub kept_view : NamesOfDll → KeptImport → MemberView
@@ -81,7 +82,8 @@ kept_view dll k = record {
 }
 
 -- the parts of the text, and where they end
-pub record HasTexts (texts : List ℕ) (address_end symbol_end : ℕ) (plain symbol other : List ℕ) : Type 0 where
+pub record HasTexts (texts : List ℕ) (address_end symbol_end : ℕ)
+    (plain symbol other : List ℕ) : Type 0 where
   pub whole : texts ≡ kept_texts plain symbol other
   pub address : address_end ≡ 6 + length plain
   pub own : symbol_end ≡ 16 + (length plain + length plain) + length symbol
@@ -91,7 +93,8 @@ pub record HasTexts (texts : List ℕ) (address_end symbol_end : ℕ) (plain sym
   pub below : length texts < 2 ^ 64
 
 -- the texts of one that is kept are these
-pub record IsKeptWith (plain symbol : List ℕ) (third : Option (List ℕ)) (k : KeptImport) : Type 0 where
+pub record IsKeptWith (plain symbol : List ℕ) (third : Option (List ℕ))
+    (k : KeptImport) : Type 0 where
   pub other : List ℕ
   pub texts : HasTexts (string_bytes k.texts) k.address_end k.symbol_end plain symbol other
   pub third_is : third_with k.third plain other ≡ third
@@ -121,13 +124,20 @@ symbol_fault index (Err place) = Some (Unreadable index place)
 -- an export without a short import, whatever the library's name: this is why
 abbrev pub HasNoImport : List ℕ → ℕ → ExportView → ImportsError → Type 0
 HasNoImport dll index e error =
-    (linked : List ℕ) → IsFault (spec_fault index (spec_of (record { linked = linked; text = dll }) e)) error
+    (linked : List ℕ) →
+    IsFault (spec_fault index (spec_of (record { linked = linked; text = dll }) e)) error
 
 -- The short import of the export at an index is kept behind others, unless the export is private,
 -- whatever the library's name.
-pub record Keeps (dll : List ℕ) (index : ℕ) (e : ExportView) (old new : List KeptImport) (result : Result (Unit {0}) ImportsError) : Type 0 where
-  pub made : OnOk result ((linked : List ℕ) → map (kept_view (record { linked = linked; text = dll })) new
-      ≡ map (kept_view (record { linked = linked; text = dll })) old ++ import_of_export (record { linked = linked; text = dll }) e)
+pub record Keeps (dll : List ℕ) (index : ℕ) (e : ExportView) (old new : List KeptImport)
+    (result : Result (Unit {0}) ImportsError) : Type 0 where
+  pub made : OnOk result
+      ((linked : List ℕ) → map (kept_view (record { linked = linked; text = dll })) new
+      ≡ map (kept_view (record { linked = linked; text = dll })) old
+      ++ import_of_export (record { linked = linked; text = dll }) e)
   pub kept : OnOk result (AllByRecursion (IsKept dll) old → AllByRecursion (IsKept dll) new)
-  pub accepted : OnOk result ((linked : List ℕ) → export_fault (record { linked = linked; text = dll }) index e ≡ None)
-  pub refused : IfErr result (λ error. (linked : List ℕ) → IsFault (export_fault (record { linked = linked; text = dll }) index e) error)
+  pub accepted : OnOk result
+      ((linked : List ℕ) → export_fault (record { linked = linked; text = dll }) index e ≡ None)
+  pub refused : IfErr result
+      (λ error. (linked : List ℕ) →
+      IsFault (export_fault (record { linked = linked; text = dll }) index e) error)

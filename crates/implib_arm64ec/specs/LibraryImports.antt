@@ -31,13 +31,15 @@ imports_of dll (e ∷ exports) = import_of_export dll e ++ imports_of dll export
 -- what is wrong with a specification of the export at an index: its name has no reading, or its
 -- member has more bytes than a 32-bit number can hold
 abbrev pub spec_fault : ℕ → Result MemberSpec ℕ → Option ImportsFault
-spec_fault index (Ok spec) = if nat_le (file_size spec.contents) 0xFFFF_FFFF then None else Some (MemberTooLong index)
+spec_fault index (Ok spec) =
+    if nat_le (file_size spec.contents) 0xFFFF_FFFF then None else Some (MemberTooLong index)
 spec_fault index (Err place) = Some (Unreadable index place)
 
 -- what is wrong with the export at an index; a private one is passed over
 abbrev pub export_fault : NamesOfDll → ℕ → ExportView → Option ImportsFault
 export_fault dll index e =
-    if e.private then None else if holds_nul e then Some (NulInExport index) else spec_fault index (spec_of dll e)
+    if e.private then None else if holds_nul e then Some (NulInExport index)
+    else spec_fault index (spec_of dll e)
 
 -- the first of two answers
 abbrev pub first_of_both : Option ImportsFault → Option ImportsFault → Option ImportsFault
@@ -47,12 +49,14 @@ first_of_both None later = later
 -- what is wrong with the first export that is refused, the exports numbered from this index
 unfoldable pub exports_fault : NamesOfDll → ℕ → List ExportView → Option ImportsFault
 exports_fault dll index [] = None
-exports_fault dll index (e ∷ exports) = first_of_both (export_fault dll index e) (exports_fault dll (index + 1) exports)
+exports_fault dll index (e ∷ exports) =
+    first_of_both (export_fault dll index e) (exports_fault dll (index + 1) exports)
 
 -- what is wrong with the names of a DLL, or with the first export that is refused
 abbrev pub imports_fault : NamesOfDll → List ExportView → Option ImportsFault
 imports_fault dll exports =
-    if holds 0 dll.linked || holds 0 dll.text then Some NulInDllName else exports_fault dll 0 exports
+    if holds 0 dll.linked || holds 0 dll.text then Some NulInDllName
+    else exports_fault dll 0 exports
 
 -- an error is a failed allocation, or this fault
 abbrev pub IsFault : Option ImportsFault → ImportsError → Type 0

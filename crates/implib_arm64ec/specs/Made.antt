@@ -8,7 +8,9 @@ use Rattle.implib_arm64ec.specs.Library.{LibraryView, for_arm64}
 use Rattle.implib_arm64ec.specs.declared.listing.Listed.{Listed}
 use Rattle.implib_arm64ec.specs.declared.listing.Listed.TheVariants.{Arm64}
 
-pub record IsMade (l : LibraryView) (listed : Listed) (entries sorted marked offsets : List (List ℕ × ℕ)) (size : ℕ) (places : List ℕ) (end' : ℕ) : Type 0 where
+pub record IsMade (l : LibraryView) (listed : Listed)
+    (entries sorted marked offsets : List (List ℕ × ℕ)) (size : ℕ) (places : List ℕ)
+    (end' : ℕ) : Type 0 where
   pub accepted : library_refusal l ≡ None
   pub for_linkers : listed ≡ Arm64
   pub listed_first : entries ≡ arm64_entries l

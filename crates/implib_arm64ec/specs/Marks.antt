@@ -51,7 +51,8 @@ mark name =
 abbrev pub without_mark_at : List ℕ → Option ℕ → Option (List ℕ)
 without_mark_at name None = None
 without_mark_at name (Some place) =
-    if is_empty_text (drop (place + 3) name) then None else Some (take place name ++ drop (place + 3) name)
+    if is_empty_text (drop (place + 3) name) then None
+    else Some (take place name ++ drop (place + 3) name)
 
 -- A name without its mark, if it has one. For example, func of `#func`, and none of func.
 abbrev pub unmark : List ℕ → Option (List ℕ)

@@ -8,7 +8,8 @@ use Rattle.implib_arm64ec.specs.ShortImports.{import_of, third_text}
 
 -- what an export with this symbol asks for
 abbrev pub ask_of : ExportView → List ℕ → Ask
-ask_of e symbol = if e.no_name then Ordinal e.ordinal else Name (unwrap_or (third_text e symbol) symbol) e.ordinal
+ask_of e symbol =
+    if e.no_name then Ordinal e.ordinal else Name (unwrap_or (third_text e symbol) symbol) e.ordinal
 
 -- texts without a NUL, which would end them, and numbers that their fields can hold
 pub record CanBeRead (dll : List ℕ) (e : ExportView) (symbol : List ℕ) : Type 0 where
@@ -21,4 +22,9 @@ pub record CanBeRead (dll : List ℕ) (e : ExportView) (symbol : List ℕ) : Typ
 -- it is read as this
 abbrev pub ReadsBack : List ℕ → ExportView → List ℕ → Type 0
 ReadsBack dll e symbol = import_in (short_import_bytes (import_of dll e symbol))
-    ≡ Some (record { symbol = symbol; dll = dll; import_type = import_type_of e; ask = ask_of e symbol })
+    ≡ Some (record {
+      symbol = symbol;
+      dll = dll;
+      import_type = import_type_of e;
+      ask = ask_of e symbol;
+    })

@@ -16,13 +16,15 @@ pub record ReadImport : Type 0 where
 
 -- an import of the fields of a header
 abbrev pub read_with : List ℕ → List ℕ → List ℕ → Ask → ReadImport
-read_with bytes symbol dll ask = record { symbol = symbol; dll = dll; import_type = u16_at bytes 18 % 4; ask = ask }
+read_with bytes symbol dll ask =
+    record { symbol = symbol; dll = dll; import_type = u16_at bytes 18 % 4; ask = ask }
 
 -- where nothing follows the second text: by ordinal, or by the symbol
 abbrev pub read_two : List ℕ → List ℕ → List ℕ → Option ReadImport
 read_two bytes symbol dll =
     if u16_at bytes 18 / 4 == 0 then Some (read_with bytes symbol dll (Ordinal (u16_at bytes 16)))
-    else if u16_at bytes 18 / 4 == 1 then Some (read_with bytes symbol dll (Name symbol (u16_at bytes 16)))
+    else if u16_at bytes 18 / 4 == 1
+    then Some (read_with bytes symbol dll (Name symbol (u16_at bytes 16)))
     else None
 
 -- with a third text, by that, where nothing follows it
@@ -30,12 +32,14 @@ abbrev pub read_three : List ℕ → List ℕ → List ℕ → Option (List ℕ 
 read_three bytes symbol dll None = None
 read_three bytes symbol dll (Some (name, byte ∷ rest)) = None
 read_three bytes symbol dll (Some (name, [])) =
-    if u16_at bytes 18 / 4 == 4 then Some (read_with bytes symbol dll (Name name (u16_at bytes 16))) else None
+    if u16_at bytes 18 / 4 == 4 then Some (read_with bytes symbol dll (Name name (u16_at bytes 16)))
+    else None
 
 abbrev pub read_after_dll : List ℕ → List ℕ → Option (List ℕ × List ℕ) → Option ReadImport
 read_after_dll bytes symbol None = None
 read_after_dll bytes symbol (Some (dll, [])) = read_two bytes symbol dll
-read_after_dll bytes symbol (Some (dll, byte ∷ rest)) = read_three bytes symbol dll (text_in (byte ∷ rest))
+read_after_dll bytes symbol (Some (dll, byte ∷ rest)) =
+    read_three bytes symbol dll (text_in (byte ∷ rest))
 
 abbrev pub read_after_symbol : List ℕ → Option (List ℕ × List ℕ) → Option ReadImport
 read_after_symbol bytes None = None

@@ -22,7 +22,8 @@ is_function e = not e.is_data && not e.constant
 -- the name that an export gives to ask its DLL for: its own asked name or, for an alias, its target
 abbrev pub name_given : ExportView → Option (List ℕ) → Option (List ℕ)
 name_given e (Some name) = Some name
-name_given e None = if is_alias e.alias_target (short_import_symbol e) then Some e.alias_target else None
+name_given e None =
+    if is_alias e.alias_target (short_import_symbol e) then Some e.alias_target else None
 
 -- a symbol without its mark, if it has one
 abbrev pub plain_symbol : List ℕ → List ℕ

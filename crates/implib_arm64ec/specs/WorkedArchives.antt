@@ -78,13 +78,15 @@ worked_library = record {
 abbrev pub function_library : LibraryView
 function_library = record {
   headers = worked_library.headers;
-  imports = part_of 1466 31 (codes "__imp_f" ∷ codes "f" ∷ codes "__imp_aux_f" ∷ codes "#f" ∷ []) ∷ [];
+  imports = part_of 1466 31 (codes "__imp_f" ∷ codes "f" ∷ codes "__imp_aux_f" ∷ codes "#f" ∷ [])
+      ∷ [];
   natives = [];
 }
 
 -- a library with one import, of this name and symbol
 abbrev pub library_of : List ℕ → List ℕ → LibraryView
-library_of name symbol = record { headers = []; imports = member name [] (symbol ∷ []) ∷ []; natives = [] }
+library_of name symbol =
+    record { headers = []; imports = member name [] (symbol ∷ []) ∷ []; natives = [] }
 
 -- the symbols of three headers, each with a NUL
 abbrev pub descriptor_text : List ℕ
@@ -99,18 +101,25 @@ pub record WorkedArchives : Type 0 where
   pub whole : ec_archive worked_library ≡ worked_archive
   pub function : ec_index (ec_entries function_library)
       ≡ hex "07 00 00 00 04 00 01 00 02 00 04 00 04 00 04 00 03 00"
-      ++ (codes "#f" ++ 0 ∷ (descriptor_text ++ (codes "__imp_aux_f" ++ 0 ∷ (codes "__imp_f" ++ 0 ∷ (codes "f" ++ 0 ∷ thunk_text)))))
+      ++ (codes "#f" ++ 0 ∷ (descriptor_text
+      ++ (codes "__imp_aux_f" ++ 0 ∷ (codes "__imp_f" ++ 0 ∷ (codes "f" ++ 0 ∷ thunk_text)))))
   pub no_import : ec_index (ec_entries (record function_library { imports = [] }))
       ≡ hex "03 00 00 00 01 00 02 00 03 00" ++ (descriptor_text ++ thunk_text)
   pub no_member : ec_archive (record { headers = []; imports = []; natives = [] })
-      ≡ codes "!<arch>\n/               0           0     0     0       4         `\n" ++ (hex "00 00 00 00"
-      ++ (codes "/               0           0     0     0       8         `\n" ++ (hex "00 00 00 00 00 00 00 00"
-      ++ (codes "/<ECSYMBOLS>/   0           0     0     0       4         `\n" ++ hex "00 00 00 00"))))
+      ≡ codes "!<arch>\n/               0           0     0     0       4         `\n"
+      ++ (hex "00 00 00 00"
+      ++ (codes "/               0           0     0     0       8         `\n"
+      ++ (hex "00 00 00 00 00 00 00 00"
+      ++ (codes "/<ECSYMBOLS>/   0           0     0     0       4         `\n"
+      ++ hex "00 00 00 00"))))
   -- two bytes and their NULs after 6 bytes, and a zero byte more that the size counts
   pub odd : ec_archive (library_of (codes "a") (codes "bc"))
-      ≡ codes "!<arch>\n/               0           0     0     0       4         `\n" ++ (hex "00 00 00 00"
-      ++ (codes "/               0           0     0     0       12        `\n" ++ (hex "01 00 00 00 d6 00 00 00 00 00 00 00"
-      ++ (codes "/<ECSYMBOLS>/   0           0     0     0       10        `\n" ++ (hex "01 00 00 00 01 00 62 63 00 00"
+      ≡ codes "!<arch>\n/               0           0     0     0       4         `\n"
+      ++ (hex "00 00 00 00"
+      ++ (codes "/               0           0     0     0       12        `\n"
+      ++ (hex "01 00 00 00 d6 00 00 00 00 00 00 00"
+      ++ (codes "/<ECSYMBOLS>/   0           0     0     0       10        `\n"
+      ++ (hex "01 00 00 00 01 00 62 63 00 00"
       ++ codes "a/              0           0     0     644     0         `\n")))))
 
 -- The archive is read back, with its indexes. `f` is an import for ARM64EC and a native one for
@@ -121,8 +130,11 @@ pub record WorkedArchiveReadings : Type 0 where
   pub read : IsReadBack worked_library worked_archive
   pub leads : IndexesLead worked_library worked_archive
   pub headers : ec_headers_in worked_archive ≡ Some (588 ∷ 1000 ∷ 1188 ∷ 1406 ∷ 1498 ∷ 1586 ∷ 1674 ∷ 1762 ∷ [])
-  pub ec_symbols : ec_symbols_in worked_archive ≡ Some ((codes "#f", 4) ∷ (codes "__IMPORT_DESCRIPTOR_t", 1) ∷ (codes "__NULL_IMPORT_DESCRIPTOR", 2) ∷ (codes "__imp_aux_f", 4)
-      ∷ (codes "__imp_d", 5) ∷ (codes "__imp_f", 4) ∷ (codes "f", 4) ∷ (127 ∷ codes "t_NULL_THUNK_DATA", 3) ∷ [])
+  pub ec_symbols : ec_symbols_in worked_archive
+      ≡ Some ((codes "#f", 4) ∷ (codes "__IMPORT_DESCRIPTOR_t", 1)
+      ∷ (codes "__NULL_IMPORT_DESCRIPTOR", 2) ∷ (codes "__imp_aux_f", 4)
+      ∷ (codes "__imp_d", 5) ∷ (codes "__imp_f", 4) ∷ (codes "f", 4)
+      ∷ (127 ∷ codes "t_NULL_THUNK_DATA", 3) ∷ [])
   pub ec_f : ec_header_for worked_archive (codes "f") ≡ Some 1406
   pub ec_marked : ec_header_for worked_archive (codes "#f") ≡ Some 1406
   pub ec_variable : ec_header_for worked_archive (codes "__imp_d") ≡ Some 1498
@@ -137,7 +149,9 @@ pub record WorkedArchiveReadings : Type 0 where
     bytes = hex "00 00 ff ff 00 00 41 a6 00 00 00 00 08 00 00 00 00 00 05 00" ++ (codes "d" ++ 0 ∷ (codes "t.dll" ++ 0 ∷ []));
   })
   pub other_reader : members_in Coff worked_archive ≡ None
-  pub other_order : IsReadBack (record worked_library { imports = worked_library.natives; natives = worked_library.imports }) worked_archive → ⊥
+  pub other_order : IsReadBack
+      (record worked_library { imports = worked_library.natives; natives = worked_library.imports })
+      worked_archive → ⊥
 
 -- Libraries that are refused, and why.
 pub record WorkedLibraryRefusals : Type 0 where

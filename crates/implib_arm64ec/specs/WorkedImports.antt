@@ -46,17 +46,20 @@ pub record WorkedImports : Type 0 where
   -- `?cpp@@YAHPEAX@Z`
   pub cplusplus : bytes_made (record empty_export { name = codes "?cpp@@YAHPEAX@Z" })
       ≡ Ok (hex "00 00 ff ff 00 00 41 a6 00 00 00 00 29 00 00 00 00 00 10 00"
-      ++ (codes "?cpp@@$$hYAHPEAX@Z" ++ 0 ∷ (codes "t.dll" ++ 0 ∷ (codes "?cpp@@YAHPEAX@Z" ++ 0 ∷ []))))
+      ++ (codes "?cpp@@$$hYAHPEAX@Z" ++ 0
+      ∷ (codes "t.dll" ++ 0 ∷ (codes "?cpp@@YAHPEAX@Z" ++ 0 ∷ []))))
   -- `?cpph@@$$hYAHPEAX@Z`
   pub marked_cplusplus : bytes_made (record empty_export { name = codes "?cpph@@$$hYAHPEAX@Z" })
       ≡ Ok (hex "00 00 ff ff 00 00 41 a6 00 00 00 00 2b 00 00 00 00 00 10 00"
-      ++ (codes "?cpph@@$$hYAHPEAX@Z" ++ 0 ∷ (codes "t.dll" ++ 0 ∷ (codes "?cpph@@YAHPEAX@Z" ++ 0 ∷ []))))
+      ++ (codes "?cpph@@$$hYAHPEAX@Z" ++ 0
+      ∷ (codes "t.dll" ++ 0 ∷ (codes "?cpph@@YAHPEAX@Z" ++ 0 ∷ []))))
   -- `a == b`
   pub alias : bytes_made (record empty_export { name = codes "a"; alias_target = codes "b" })
       ≡ Ok (hex "00 00 ff ff 00 00 41 a6 00 00 00 00 0b 00 00 00 00 00 10 00"
       ++ (codes "#a" ++ 0 ∷ (codes "t.dll" ++ 0 ∷ (codes "b" ++ 0 ∷ []))))
   -- `a EXPORTAS b`
-  pub exported_as : bytes_made (record empty_export { name = codes "a"; asked_name = Some (codes "b") })
+  pub exported_as : bytes_made
+      (record empty_export { name = codes "a"; asked_name = Some (codes "b") })
       ≡ Ok (hex "00 00 ff ff 00 00 41 a6 00 00 00 00 0b 00 00 00 00 00 10 00"
       ++ (codes "#a" ++ 0 ∷ (codes "t.dll" ++ 0 ∷ (codes "b" ++ 0 ∷ []))))
   -- `f @7`
@@ -64,7 +67,8 @@ pub record WorkedImports : Type 0 where
       ≡ Ok (hex "00 00 ff ff 00 00 41 a6 00 00 00 00 0b 00 00 00 07 00 10 00"
       ++ (codes "#f" ++ 0 ∷ (codes "t.dll" ++ 0 ∷ (codes "f" ++ 0 ∷ []))))
   -- `n @3 NONAME`
-  pub by_ordinal : bytes_made (record empty_export { name = codes "n"; ordinal = 3; no_name = true })
+  pub by_ordinal : bytes_made
+      (record empty_export { name = codes "n"; ordinal = 3; no_name = true })
       ≡ Ok (hex "00 00 ff ff 00 00 41 a6 00 00 00 00 09 00 00 00 03 00 00 00"
       ++ (codes "#n" ++ 0 ∷ (codes "t.dll" ++ 0 ∷ [])))
   -- `d DATA`
@@ -72,15 +76,18 @@ pub record WorkedImports : Type 0 where
       ≡ Ok (hex "00 00 ff ff 00 00 41 a6 00 00 00 00 08 00 00 00 00 00 05 00"
       ++ (codes "d" ++ 0 ∷ (codes "t.dll" ++ 0 ∷ [])))
   -- `d == e DATA`
-  pub variable_alias : bytes_made (record empty_export { name = codes "d"; alias_target = codes "e"; is_data = true })
+  pub variable_alias : bytes_made
+      (record empty_export { name = codes "d"; alias_target = codes "e"; is_data = true })
       ≡ Ok (hex "00 00 ff ff 00 00 41 a6 00 00 00 00 0a 00 00 00 00 00 11 00"
       ++ (codes "d" ++ 0 ∷ (codes "t.dll" ++ 0 ∷ (codes "e" ++ 0 ∷ []))))
   -- `d @3 NONAME DATA`
-  pub variable_by_ordinal : bytes_made (record empty_export { name = codes "d"; ordinal = 3; no_name = true; is_data = true })
+  pub variable_by_ordinal : bytes_made
+      (record empty_export { name = codes "d"; ordinal = 3; no_name = true; is_data = true })
       ≡ Ok (hex "00 00 ff ff 00 00 41 a6 00 00 00 00 08 00 00 00 03 00 01 00"
       ++ (codes "d" ++ 0 ∷ (codes "t.dll" ++ 0 ∷ [])))
   -- `?v@@3HA DATA`
-  pub variable_never_marked : bytes_made (record empty_export { name = codes "?v@@3HA"; is_data = true })
+  pub variable_never_marked : bytes_made
+      (record empty_export { name = codes "?v@@3HA"; is_data = true })
       ≡ Ok (hex "00 00 ff ff 00 00 41 a6 00 00 00 00 0e 00 00 00 00 00 05 00"
       ++ (codes "?v@@3HA" ++ 0 ∷ (codes "t.dll" ++ 0 ∷ [])))
   -- `c CONSTANT`
@@ -88,11 +95,13 @@ pub record WorkedImports : Type 0 where
       ≡ Ok (hex "00 00 ff ff 00 00 41 a6 00 00 00 00 08 00 00 00 00 00 06 00"
       ++ (codes "c" ++ 0 ∷ (codes "t.dll" ++ 0 ∷ [])))
   -- `c @3 NONAME CONSTANT`
-  pub constant_by_ordinal : bytes_made (record empty_export { name = codes "c"; ordinal = 3; no_name = true; constant = true })
+  pub constant_by_ordinal : bytes_made
+      (record empty_export { name = codes "c"; ordinal = 3; no_name = true; constant = true })
       ≡ Ok (hex "00 00 ff ff 00 00 41 a6 00 00 00 00 08 00 00 00 03 00 02 00"
       ++ (codes "c" ++ 0 ∷ (codes "t.dll" ++ 0 ∷ [])))
   -- `c == g CONSTANT`
-  pub constant_alias : bytes_made (record empty_export { name = codes "c"; alias_target = codes "g"; constant = true })
+  pub constant_alias : bytes_made
+      (record empty_export { name = codes "c"; alias_target = codes "g"; constant = true })
       ≡ Ok (hex "00 00 ff ff 00 00 41 a6 00 00 00 00 0a 00 00 00 00 00 12 00"
       ++ (codes "c" ++ 0 ∷ (codes "t.dll" ++ 0 ∷ (codes "g" ++ 0 ∷ []))))
   -- a name without a reading
@@ -105,14 +114,17 @@ pub record WorkedSymbols : Type 0 where
   pub marked : symbols_made (record empty_export { name = codes "#mang" })
       ≡ Ok (codes "__imp_mang" ∷ codes "mang" ∷ codes "__imp_aux_mang" ∷ codes "#mang" ∷ [])
   pub cplusplus : symbols_made (record empty_export { name = codes "?cpp@@YAHPEAX@Z" })
-      ≡ Ok (codes "__imp_?cpp@@YAHPEAX@Z" ∷ codes "?cpp@@YAHPEAX@Z" ∷ codes "__imp_aux_?cpp@@YAHPEAX@Z" ∷ codes "?cpp@@$$hYAHPEAX@Z" ∷ [])
+      ≡ Ok (codes "__imp_?cpp@@YAHPEAX@Z" ∷ codes "?cpp@@YAHPEAX@Z"
+      ∷ codes "__imp_aux_?cpp@@YAHPEAX@Z" ∷ codes "?cpp@@$$hYAHPEAX@Z" ∷ [])
   pub alias : symbols_made (record empty_export { name = codes "a"; alias_target = codes "b" })
       ≡ Ok (codes "__imp_a" ∷ codes "a" ∷ codes "__imp_aux_a" ∷ codes "#a" ∷ [])
-  pub by_ordinal : symbols_made (record empty_export { name = codes "n"; ordinal = 3; no_name = true })
+  pub by_ordinal : symbols_made
+      (record empty_export { name = codes "n"; ordinal = 3; no_name = true })
       ≡ Ok (codes "__imp_n" ∷ codes "n" ∷ codes "__imp_aux_n" ∷ codes "#n" ∷ [])
   pub variable : symbols_made (record empty_export { name = codes "d"; is_data = true })
       ≡ Ok (codes "__imp_d" ∷ [])
-  pub variable_never_marked : symbols_made (record empty_export { name = codes "?v@@3HA"; is_data = true })
+  pub variable_never_marked : symbols_made
+      (record empty_export { name = codes "?v@@3HA"; is_data = true })
       ≡ Ok (codes "__imp_?v@@3HA" ∷ [])
   pub constant : symbols_made (record empty_export { name = codes "c"; constant = true })
       ≡ Ok (codes "__imp_c" ∷ codes "c" ∷ codes "__imp_aux_c" ∷ [])
@@ -123,41 +135,108 @@ pub record WorkedSymbols : Type 0 where
       ≡ Ok (codes "__imp_c" ∷ codes "c" ∷ codes "__imp_aux_c" ∷ codes "#c" ∷ [])
   pub marked_cplusplus_constant : symbols_made
       (record empty_export { name = codes "?cpq@@$$hYAHPEAX@Z"; constant = true })
-      ≡ Ok (codes "__imp_?cpq@@YAHPEAX@Z" ∷ codes "?cpq@@YAHPEAX@Z" ∷ codes "__imp_aux_?cpq@@YAHPEAX@Z"
+      ≡ Ok (codes "__imp_?cpq@@YAHPEAX@Z" ∷ codes "?cpq@@YAHPEAX@Z"
+      ∷ codes "__imp_aux_?cpq@@YAHPEAX@Z"
       ∷ codes "?cpq@@$$hYAHPEAX@Z" ∷ [])
 
 -- what is read of them, and bytes that are none: of another machine, and with a text too many
 pub record WorkedReadings : Type 0 where
   pub function : read_back (record empty_export { name = codes "f" })
-      ≡ Some (record { symbol = codes "#f"; dll = codes "t.dll"; import_type = 0; ask = Name (codes "f") 0 })
+      ≡ Some (record {
+        symbol = codes "#f";
+        dll = codes "t.dll";
+        import_type = 0;
+        ask = Name (codes "f") 0;
+      })
   pub marked : read_back (record empty_export { name = codes "#mang" })
-      ≡ Some (record { symbol = codes "#mang"; dll = codes "t.dll"; import_type = 0; ask = Name (codes "mang") 0 })
+      ≡ Some (record {
+        symbol = codes "#mang";
+        dll = codes "t.dll";
+        import_type = 0;
+        ask = Name (codes "mang") 0;
+      })
   pub cplusplus : read_back (record empty_export { name = codes "?cpp@@YAHPEAX@Z" })
-      ≡ Some (record { symbol = codes "?cpp@@$$hYAHPEAX@Z"; dll = codes "t.dll"; import_type = 0; ask = Name (codes "?cpp@@YAHPEAX@Z") 0 })
+      ≡ Some (record {
+        symbol = codes "?cpp@@$$hYAHPEAX@Z";
+        dll = codes "t.dll";
+        import_type = 0;
+        ask = Name (codes "?cpp@@YAHPEAX@Z") 0;
+      })
   pub marked_cplusplus : read_back (record empty_export { name = codes "?cpph@@$$hYAHPEAX@Z" })
-      ≡ Some (record { symbol = codes "?cpph@@$$hYAHPEAX@Z"; dll = codes "t.dll"; import_type = 0; ask = Name (codes "?cpph@@YAHPEAX@Z") 0 })
+      ≡ Some (record {
+        symbol = codes "?cpph@@$$hYAHPEAX@Z";
+        dll = codes "t.dll";
+        import_type = 0;
+        ask = Name (codes "?cpph@@YAHPEAX@Z") 0;
+      })
   pub alias : read_back (record empty_export { name = codes "a"; alias_target = codes "b" })
-      ≡ Some (record { symbol = codes "#a"; dll = codes "t.dll"; import_type = 0; ask = Name (codes "b") 0 })
-  pub exported_as : read_back (record empty_export { name = codes "a"; asked_name = Some (codes "b") })
-      ≡ Some (record { symbol = codes "#a"; dll = codes "t.dll"; import_type = 0; ask = Name (codes "b") 0 })
+      ≡ Some (record {
+        symbol = codes "#a";
+        dll = codes "t.dll";
+        import_type = 0;
+        ask = Name (codes "b") 0;
+      })
+  pub exported_as : read_back
+      (record empty_export { name = codes "a"; asked_name = Some (codes "b") })
+      ≡ Some (record {
+        symbol = codes "#a";
+        dll = codes "t.dll";
+        import_type = 0;
+        ask = Name (codes "b") 0;
+      })
   pub hinted : read_back (record empty_export { name = codes "f"; ordinal = 7 })
-      ≡ Some (record { symbol = codes "#f"; dll = codes "t.dll"; import_type = 0; ask = Name (codes "f") 7 })
+      ≡ Some (record {
+        symbol = codes "#f";
+        dll = codes "t.dll";
+        import_type = 0;
+        ask = Name (codes "f") 7;
+      })
   pub by_ordinal : read_back (record empty_export { name = codes "n"; ordinal = 3; no_name = true })
       ≡ Some (record { symbol = codes "#n"; dll = codes "t.dll"; import_type = 0; ask = Ordinal 3 })
   pub variable : read_back (record empty_export { name = codes "d"; is_data = true })
-      ≡ Some (record { symbol = codes "d"; dll = codes "t.dll"; import_type = 1; ask = Name (codes "d") 0 })
-  pub variable_alias : read_back (record empty_export { name = codes "d"; alias_target = codes "e"; is_data = true })
-      ≡ Some (record { symbol = codes "d"; dll = codes "t.dll"; import_type = 1; ask = Name (codes "e") 0 })
-  pub variable_by_ordinal : read_back (record empty_export { name = codes "d"; ordinal = 3; no_name = true; is_data = true })
+      ≡ Some (record {
+        symbol = codes "d";
+        dll = codes "t.dll";
+        import_type = 1;
+        ask = Name (codes "d") 0;
+      })
+  pub variable_alias : read_back
+      (record empty_export { name = codes "d"; alias_target = codes "e"; is_data = true })
+      ≡ Some (record {
+        symbol = codes "d";
+        dll = codes "t.dll";
+        import_type = 1;
+        ask = Name (codes "e") 0;
+      })
+  pub variable_by_ordinal : read_back
+      (record empty_export { name = codes "d"; ordinal = 3; no_name = true; is_data = true })
       ≡ Some (record { symbol = codes "d"; dll = codes "t.dll"; import_type = 1; ask = Ordinal 3 })
-  pub variable_never_marked : read_back (record empty_export { name = codes "?v@@3HA"; is_data = true })
-      ≡ Some (record { symbol = codes "?v@@3HA"; dll = codes "t.dll"; import_type = 1; ask = Name (codes "?v@@3HA") 0 })
+  pub variable_never_marked : read_back
+      (record empty_export { name = codes "?v@@3HA"; is_data = true })
+      ≡ Some (record {
+        symbol = codes "?v@@3HA";
+        dll = codes "t.dll";
+        import_type = 1;
+        ask = Name (codes "?v@@3HA") 0;
+      })
   pub constant : read_back (record empty_export { name = codes "c"; constant = true })
-      ≡ Some (record { symbol = codes "c"; dll = codes "t.dll"; import_type = 2; ask = Name (codes "c") 0 })
-  pub constant_by_ordinal : read_back (record empty_export { name = codes "c"; ordinal = 3; no_name = true; constant = true })
+      ≡ Some (record {
+        symbol = codes "c";
+        dll = codes "t.dll";
+        import_type = 2;
+        ask = Name (codes "c") 0;
+      })
+  pub constant_by_ordinal : read_back
+      (record empty_export { name = codes "c"; ordinal = 3; no_name = true; constant = true })
       ≡ Some (record { symbol = codes "c"; dll = codes "t.dll"; import_type = 2; ask = Ordinal 3 })
-  pub constant_alias : read_back (record empty_export { name = codes "c"; alias_target = codes "g"; constant = true })
-      ≡ Some (record { symbol = codes "c"; dll = codes "t.dll"; import_type = 2; ask = Name (codes "g") 0 })
+  pub constant_alias : read_back
+      (record empty_export { name = codes "c"; alias_target = codes "g"; constant = true })
+      ≡ Some (record {
+        symbol = codes "c";
+        dll = codes "t.dll";
+        import_type = 2;
+        ask = Name (codes "g") 0;
+      })
   pub of_arm64 : import_in (hex "00 00 ff ff 00 00 64 aa 00 00 00 00 08 00 00 00 00 00 04 00" ++ (codes "f" ++ 0 ∷ (codes "t.dll" ++ 0 ∷ [])))
       ≡ None
   pub third_by_name : import_in (hex "00 00 ff ff 00 00 41 a6 00 00 00 00 0a 00 00 00 00 00 04 00"

@@ -32,9 +32,13 @@ asked_nul = record empty_export { name = codes "g"; asked_name = Some (0 ∷ [])
 -- Private exports are passed over, and count. The first export that is refused is told.
 pub record WorkedLibraryImports : Type 0 where
   pub symbols : map (λ m. m.symbols) (imports_of t_dll (function ∷ hidden ∷ variable ∷ []))
-      ≡ (codes "__imp_f" ∷ codes "f" ∷ codes "__imp_aux_f" ∷ codes "#f" ∷ []) ∷ (codes "__imp_d" ∷ []) ∷ []
+      ≡ (codes "__imp_f" ∷ codes "f" ∷ codes "__imp_aux_f" ∷ codes "#f" ∷ [])
+      ∷ (codes "__imp_d" ∷ []) ∷ []
   pub none : imports_fault t_dll (function ∷ hidden_nul ∷ variable ∷ []) ≡ None
-  pub nul_in_dll : imports_fault (record t_dll { text = 116 ∷ 0 ∷ [] }) (no_reading ∷ []) ≡ Some NulInDllName
+  pub nul_in_dll : imports_fault (record t_dll { text = 116 ∷ 0 ∷ [] }) (no_reading ∷ [])
+      ≡ Some NulInDllName
   pub nul_in_library : imports_fault (record t_dll { linked = 0 ∷ [] }) [] ≡ Some NulInDllName
-  pub nul_in_export : imports_fault t_dll (function ∷ asked_nul ∷ no_reading ∷ []) ≡ Some (NulInExport 1)
-  pub first_fault : imports_fault t_dll (hidden ∷ no_reading ∷ asked_nul ∷ []) ≡ Some (Unreadable 1 4)
+  pub nul_in_export : imports_fault t_dll (function ∷ asked_nul ∷ no_reading ∷ [])
+      ≡ Some (NulInExport 1)
+  pub first_fault : imports_fault t_dll (hidden ∷ no_reading ∷ asked_nul ∷ [])
+      ≡ Some (Unreadable 1 4)

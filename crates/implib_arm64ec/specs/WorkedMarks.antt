@@ -47,8 +47,11 @@ pub record WorkedNames : Type 0 where
       ≡ Ok (codes "?_Cl@?5???$log@M@std@@YA?AV?$complex@M@1@AEBV21@@Z@$$h4MB")
   pub eleventh : mark (codes "??B?$CDynamicArray@GPEAG@@QEBAPEAGXZ")
       ≡ Ok (codes "??B?$CDynamicArray@GPEAG@@$$hQEBAPEAGXZ")
-  pub twelfth : mark (codes "?_C@?1??_Nullstr@?$basic_string@DU?$char_traits@D@std@@V?$allocator@D@2@@std@@CAPEBDXZ@4DB")
-      ≡ Ok (codes "?_C@?1??_Nullstr@?$basic_string@DU?$char_traits@D@std@@V?$allocator@D@2@@std@@CAPEBDXZ@$$h4DB")
+  pub twelfth : mark (codes
+      "?_C@?1??_Nullstr@?$basic_string@DU?$char_traits@D@std@@V?$allocator@D@2@@std@@CAPEBDXZ@4DB")
+      ≡ Ok
+      (codes
+      "?_C@?1??_Nullstr@?$basic_string@DU?$char_traits@D@std@@V?$allocator@D@2@@std@@CAPEBDXZ@$$h4DB")
 
 -- names that use further rules, with what llvm-dlltool 19 gives
 pub record WorkedCraftedNames : Type 0 where

@@ -70,17 +70,20 @@ asking written (e ∷ exports) = asking_by written e ∷ asking (drop 1 written)
 -- the definition of these written exports, with the library's name for Microsoft's linkers, each
 -- export under the name to link by
 abbrev pub for_linkers : List ExportView → DefinitionView → DefinitionView
-for_linkers written d = renamed (with_library_name Msvc (record d { exports = asking written d.exports }))
+for_linkers written d =
+    renamed (with_library_name Msvc (record d { exports = asking written d.exports }))
 
 -- Each export of a definition that is read so asks for its own name: none is an alias, which is
 -- weak for the symbol of another, and asks for nothing.
 abbrev pub NoneIsWeak : Type 0
 NoneIsWeak = (text : List ℕ) (options : LibraryOptionsView) (d : DefinitionView)
-    → DefinitionFor text (arm64ec_options options) d → AllByRecursion (λ e. e.alias_target ≡ []) d.exports
+    → DefinitionFor text (arm64ec_options options) d →
+    AllByRecursion (λ e. e.alias_target ≡ []) d.exports
 
 -- The headers and the native members: those of an ordinary library for ARM64, of the native
 -- definition or of none.
-pub record AreOrdinary (native : Option (List ℕ)) (options : LibraryOptionsView) (dll : List ℕ) (headers natives : List MemberView) : Type 0 where
+pub record AreOrdinary (native : Option (List ℕ)) (options : LibraryOptionsView) (dll : List ℕ)
+    (headers natives : List MemberView) : Type 0 where
   pub ordinary : List MemberView
   pub of_native : MembersFor (unwrap_or native []) (native_options options dll) ordinary
   pub headers_are : headers ≡ take 3 ordinary
@@ -89,7 +92,8 @@ pub record AreOrdinary (native : Option (List ℕ)) (options : LibraryOptionsVie
 -- The library of a definition, and of a native one, where the name of the DLL is the one given, or
 -- the definition's: headers and native members are those of an ordinary library, and between them
 -- are the short imports of the definition.
-pub record IsLibraryNamed (bytes : List ℕ) (native : Option (List ℕ)) (options : LibraryOptionsView) (l : LibraryView) : Type 0 where
+pub record IsLibraryNamed (bytes : List ℕ) (native : Option (List ℕ)) (options : LibraryOptionsView)
+    (l : LibraryView) : Type 0 where
   pub utf8 : IsUtf8 (definition_text bytes)
   pub definition : DefinitionView
   pub of_text : DefinitionFor (definition_text bytes) (arm64ec_options options) definition
@@ -97,43 +101,55 @@ pub record IsLibraryNamed (bytes : List ℕ) (native : Option (List ℕ)) (optio
   pub written : DefinitionView
   pub parses : Parses (definition_text bytes) AMD64 written
   pub ordinary : AreOrdinary native options definition.import_name l.headers l.natives
-  pub imports : l.imports ≡ imports_of (names_for Msvc (for_linkers written.exports definition)) (for_linkers written.exports definition).exports
-  pub accepted : imports_fault (names_for Msvc (for_linkers written.exports definition)) (for_linkers written.exports definition).exports ≡ None
+  pub imports : l.imports ≡ imports_of (names_for Msvc (for_linkers written.exports definition))
+      (for_linkers written.exports definition).exports
+  pub accepted : imports_fault (names_for Msvc (for_linkers written.exports definition))
+      (for_linkers written.exports definition).exports ≡ None
 
 -- the bytes have a definition for this, whose short imports are refused
-pub record RefusesImports (bytes : List ℕ) (options : LibraryOptionsView) (fault : ImportsFault) : Type 0 where
+pub record RefusesImports (bytes : List ℕ) (options : LibraryOptionsView)
+    (fault : ImportsFault) : Type 0 where
   pub utf8 : IsUtf8 (definition_text bytes)
   pub definition : DefinitionView
   pub of_text : DefinitionFor (definition_text bytes) (arm64ec_options options) definition
   pub written : DefinitionView
   pub parses : Parses (definition_text bytes) AMD64 written
-  pub refused : imports_fault (names_for Msvc (for_linkers written.exports definition)) (for_linkers written.exports definition).exports ≡ Some fault
+  pub refused : imports_fault (names_for Msvc (for_linkers written.exports definition))
+      (for_linkers written.exports definition).exports ≡ Some fault
 
 -- the fault of short imports is told so: its export, if it is of one, is at this position of the
 -- text
 abbrev pub IsUnimported : List ℕ → ImportsFault → Unimported → Type 0
 IsUnimported text NulInDllName why = why.fault ≡ NulInDllName
-IsUnimported text (NulInExport index) why = (why.fault ≡ NulInExport index) × IsAtName text index why.position
-IsUnimported text (Unreadable index place) why = (why.fault ≡ Unreadable index place) × IsAtName text index why.position
-IsUnimported text (MemberTooLong index) why = (why.fault ≡ MemberTooLong index) × IsAtName text index why.position
+IsUnimported text (NulInExport index) why =
+    (why.fault ≡ NulInExport index) × IsAtName text index why.position
+IsUnimported text (Unreadable index place) why =
+    (why.fault ≡ Unreadable index place) × IsAtName text index why.position
+IsUnimported text (MemberTooLong index) why =
+    (why.fault ≡ MemberTooLong index) × IsAtName text index why.position
 
 -- a definition whose short imports are refused, with the place of that in the text
-pub record HasNoImports (bytes : List ℕ) (options : LibraryOptionsView) (why : Unimported) : Type 0 where
+pub record HasNoImports (bytes : List ℕ) (options : LibraryOptionsView)
+    (why : Unimported) : Type 0 where
   pub fault : ImportsFault
   pub refuses : RefusesImports bytes options fault
   pub told : IsUnimported (definition_text bytes) fault why
 
 -- the bytes have a definition, and the native one is refused
-pub record RefusesNative (bytes : List ℕ) (native : Option (List ℕ)) (options : LibraryOptionsView) (why : Refusal) : Type 0 where
+pub record RefusesNative (bytes : List ℕ) (native : Option (List ℕ)) (options : LibraryOptionsView)
+    (why : Refusal) : Type 0 where
   pub utf8 : IsUtf8 (definition_text bytes)
   pub definition : DefinitionView
   pub of_text : DefinitionFor (definition_text bytes) (arm64ec_options options) definition
-  pub refused : IsRefusalOfMembers (unwrap_or native []) (native_options options definition.import_name) why
+  pub refused : IsRefusalOfMembers (unwrap_or native [])
+      (native_options options definition.import_name) why
 
 -- why a text has no definition
 abbrev pub IsRefusalOfDefinition : List ℕ → LibraryOptionsView → Refusal → Type 0
-IsRefusalOfDefinition bytes options (NotUtf8 position) = IsNotUtf8At (definition_text bytes) position
-IsRefusalOfDefinition bytes options (Syntax fault position) = RefusesText bytes (arm64ec_options options) (Syntax fault position)
+IsRefusalOfDefinition bytes options (NotUtf8 position) =
+    IsNotUtf8At (definition_text bytes) position
+IsRefusalOfDefinition bytes options (Syntax fault position) =
+    RefusesText bytes (arm64ec_options options) (Syntax fault position)
 IsRefusalOfDefinition bytes options NoName = RefusesText bytes (arm64ec_options options) NoName
 IsRefusalOfDefinition bytes options (Members fault position) = ⊥
 IsRefusalOfDefinition bytes options (Archive fault) = ⊥
@@ -141,7 +157,8 @@ IsRefusalOfDefinition bytes options OutOfMemory = Unit {0}
 
 -- why there is no library under the name that is given, or the definition's
 abbrev pub IsRefusalNamed : List ℕ → Option (List ℕ) → LibraryOptionsView → Arm64ecRefusal → Type 0
-IsRefusalNamed bytes native options (refusal.OfDefinition why) = IsRefusalOfDefinition bytes options why
+IsRefusalNamed bytes native options (refusal.OfDefinition why) =
+    IsRefusalOfDefinition bytes options why
 IsRefusalNamed bytes native options (refusal.OfNative why) = RefusesNative bytes native options why
 IsRefusalNamed bytes native options (refusal.OfImports why) = HasNoImports bytes options why
 IsRefusalNamed bytes native options refusal.OutOfMemory = Unit {0}
@@ -159,7 +176,8 @@ GivesName bytes options (Some name) = NamesDll bytes options name
 GivesName bytes options None = IsRefusalOfDefinition bytes options NoName
 
 -- The name that the native definition gives, if there is one, and no other name is given.
-abbrev pub NativeNameBy : Option (List ℕ) → LibraryOptionsView → Option (List ℕ) → Option (List ℕ) → Type 0
+abbrev pub NativeNameBy : Option (List ℕ) → LibraryOptionsView → Option (List ℕ) → Option (List ℕ) →
+    Type 0
 NativeNameBy None options dll name = name ≡ None
 NativeNameBy (Some bytes) options (Some given) name = name ≡ None
 NativeNameBy (Some bytes) options None name = GivesName bytes options name
@@ -174,20 +192,23 @@ named options None = options
 named options (Some name) = record options { dll = Some name }
 
 -- The library of a definition, and of a native one.
-pub record IsLibraryOfTexts (bytes : List ℕ) (native : Option (List ℕ)) (options : LibraryOptionsView) (l : LibraryView) : Type 0 where
+pub record IsLibraryOfTexts (bytes : List ℕ) (native : Option (List ℕ))
+    (options : LibraryOptionsView) (l : LibraryView) : Type 0 where
   pub own : Option (List ℕ)
   pub is_own : IsNativeName native options own
   pub library : IsLibraryNamed bytes native (named options own) l
 
 -- the native definition has no meaning, so that it can give no name
-pub record RefusesName (native : Option (List ℕ)) (options : LibraryOptionsView) (why : Refusal) : Type 0 where
+pub record RefusesName (native : Option (List ℕ)) (options : LibraryOptionsView)
+    (why : Refusal) : Type 0 where
   pub bytes : List ℕ
   pub given : native ≡ Some bytes
   pub none : options.dll ≡ None
   pub refused : IsRefusalOfDefinition bytes options why
 
 -- the texts have no library under the name of the DLL
-pub record RefusesTexts (bytes : List ℕ) (native : Option (List ℕ)) (options : LibraryOptionsView) (why : Arm64ecRefusal) : Type 0 where
+pub record RefusesTexts (bytes : List ℕ) (native : Option (List ℕ)) (options : LibraryOptionsView)
+    (why : Arm64ecRefusal) : Type 0 where
   pub own : Option (List ℕ)
   pub is_own : IsNativeName native options own
   pub refused : IsRefusalNamed bytes native (named options own) why
@@ -199,10 +220,14 @@ IsRefusalOfNative bytes native options why =
     RefusesName native options why ⊎ RefusesTexts bytes native options (refusal.OfNative why)
 
 -- why there is no library
-abbrev pub IsRefusalOfTexts : List ℕ → Option (List ℕ) → LibraryOptionsView → Arm64ecRefusal → Type 0
-IsRefusalOfTexts bytes native options (refusal.OfDefinition why) = RefusesTexts bytes native options (refusal.OfDefinition why)
-IsRefusalOfTexts bytes native options (refusal.OfNative why) = IsRefusalOfNative bytes native options why
-IsRefusalOfTexts bytes native options (refusal.OfImports why) = RefusesTexts bytes native options (refusal.OfImports why)
+abbrev pub IsRefusalOfTexts : List ℕ → Option (List ℕ) → LibraryOptionsView → Arm64ecRefusal →
+    Type 0
+IsRefusalOfTexts bytes native options (refusal.OfDefinition why) =
+    RefusesTexts bytes native options (refusal.OfDefinition why)
+IsRefusalOfTexts bytes native options (refusal.OfNative why) =
+    IsRefusalOfNative bytes native options why
+IsRefusalOfTexts bytes native options (refusal.OfImports why) =
+    RefusesTexts bytes native options (refusal.OfImports why)
 IsRefusalOfTexts bytes native options refusal.OutOfMemory = Unit {0}
 
 -- why members have no archive

@@ -99,7 +99,8 @@ place_of text _ = 0
 
 -- the buffer: the encoding and what was after it, or all as it was
 abbrev pub buffer_of : List ℕ → Outcome → List ℕ
-buffer_of old (Success members) = encoded_members members ++ drop (length (encoded_members members)) old
+buffer_of old (Success members) =
+    encoded_members members ++ drop (length (encoded_members members)) old
 buffer_of old _ = old
 
 -- what is read in the buffer: the members, and then what was after their encoding
@@ -109,7 +110,8 @@ BufferReads old new (Success members) =
 BufferReads old new _ = Unit {0}
 
 -- the call's outcome, with all that it leaves
-pub record Answers (text : List ℕ) (machine flavor : ℕ) (old new : List ℕ) (length_left place_left : ℕ)
+pub record Answers (text : List ℕ) (machine flavor : ℕ) (old new : List ℕ)
+    (length_left place_left : ℕ)
     (status_left : ℕ) : Type 0 where
   pub outcome : Outcome
   pub ends : EndsSo text machine flavor (length old) outcome

@@ -66,7 +66,15 @@ told_in bytes = option_and_then
     (λ verdict. option_and_then
     (λ works. option_and_then
     (λ extra. option_map
-    (λ missing. (record { verdict = verdict.0; works = works.0; extra = extra.0; missing = missing.0 }, missing.1))
+    (λ missing. (
+      record {
+        verdict = verdict.0;
+        works = works.0;
+        extra = extra.0;
+        missing = missing.0;
+      },
+      missing.1,
+    ))
     (rows_in extra.1))
     (rows_in works.1))
     (number_in verdict.1))
@@ -82,4 +90,5 @@ pub record ToldFits (t : Told) : Type 0 where
 -- An encoding of fewer than 2^64 bytes reads back, whatever follows it.
 abbrev pub ReadsToldBack : Told → List ℕ → Type 0
 ReadsToldBack t rest =
-    ToldFits t → length (encoded_told t) < 2 ^ 64 → told_in (encoded_told t ++ rest) ≡ Some (t, rest)
+    ToldFits t → length (encoded_told t) < 2 ^ 64 →
+    told_in (encoded_told t ++ rest) ≡ Some (t, rest)

@@ -17,7 +17,8 @@ use Rattle.implib_c_calls.specs.LibraryWith.{option_status, place_of_refusal, re
 use Rattle.implib_c_calls.specs.Status.{status_number}
 
 -- This is told of a library beside the library that a definition has for these options.
-pub record ComparesSo (bytes text : List ℕ) (options : LibraryOptionsView) (told : Told) : Type 0 where
+pub record ComparesSo (bytes text : List ℕ) (options : LibraryOptionsView)
+    (told : Told) : Type 0 where
   -- what is read of the library
   pub archive : Archive
   pub members : List MemberRead
@@ -44,9 +45,11 @@ pub data CheckEnding : Type 0 where
 -- when a call ends so, for a buffer of this many bytes
 abbrev pub CheckEndsSo : List ℕ → List ℕ → GivenOptions → ℕ → CheckEnding → Type 0
 CheckEndsSo bytes text given room (Made told) =
-    WithOptions given (λ options. ComparesSo bytes text options told × (length (encoded_told told) ≤ room))
+    WithOptions given
+    (λ options. ComparesSo bytes text options told × (length (encoded_told told) ≤ room))
 CheckEndsSo bytes text given room (TooLong told) =
-    WithOptions given (λ options. ComparesSo bytes text options told × (room < length (encoded_told told)))
+    WithOptions given
+    (λ options. ComparesSo bytes text options told × (room < length (encoded_told told)))
 CheckEndsSo bytes text given room NoLibrary = WithOptions given (λ options. library_in bytes ≡ None)
 CheckEndsSo bytes text given room (Refused why) =
     WithOptions given (λ options. IsSome (library_in bytes) × IsRefusalOfBytes text options why)
@@ -99,7 +102,8 @@ BufferReads old new NoMemory = Unit {0}
 BufferReads old new (NoOptions fault) = Unit {0}
 
 -- the call's ending, with all that it leaves
-pub record CheckAnswers (bytes text : List ℕ) (given : GivenOptions) (old new : List ℕ) (length_left place_left : ℕ)
+pub record CheckAnswers (bytes text : List ℕ) (given : GivenOptions) (old new : List ℕ)
+    (length_left place_left : ℕ)
     (status_left : ℕ) : Type 0 where
   pub ending : CheckEnding
   pub ends : CheckEndsSo bytes text given (length old) ending

@@ -13,7 +13,8 @@ pub record EncodesTold (told : Told) (bytes : List ℕ) : Type 0 where
   pub fit : ToldFits told
 
 -- these are the bytes of an encoding of what is told of a library beside that of a definition
-pub record EncodesCheck (archive : Archive) (members : List MemberRead) (text : List ℕ) (options : LibraryOptionsView)
+pub record EncodesCheck (archive : Archive) (members : List MemberRead) (text : List ℕ)
+    (options : LibraryOptionsView)
     (bytes : List ℕ) : Type 0 where
   pub verdict : Verdict
   pub on : IsVerdictOn false text options members verdict

@@ -139,7 +139,8 @@ export_in bytes = option_and_then
     (λ ext_name. option_and_then
     (λ target. option_and_then
     (λ ordinal. option_and_then
-    (λ flags. option_map (λ e. (e, flags.1)) (export_with name.0 ext_name.0 target.0 ordinal.0 flags.0))
+    (λ flags. option_map (λ e. (e, flags.1))
+    (export_with name.0 ext_name.0 target.0 ordinal.0 flags.0))
     (number_in ordinal.1))
     (number_in target.1))
     (text_in ext_name.1))

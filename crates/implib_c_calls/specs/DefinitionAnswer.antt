@@ -72,7 +72,8 @@ place_of text _ = 0
 
 -- the buffer: the encoding and what was after it, or all as it was
 abbrev pub buffer_of : List ℕ → DefinitionEnding → List ℕ
-buffer_of old (Success said) = encoded_definition said ++ drop (length (encoded_definition said)) old
+buffer_of old (Success said) =
+    encoded_definition said ++ drop (length (encoded_definition said)) old
 buffer_of old _ = old
 
 -- what is read in the buffer: what the text states, and then what was after its encoding
@@ -82,7 +83,8 @@ DefinitionBufferReads old new (Success said) =
 DefinitionBufferReads old new _ = Unit {0}
 
 -- the call's ending, with all that it leaves
-pub record DefinitionAnswers (text : List ℕ) (machine : ℕ) (old new : List ℕ) (length_left place_left : ℕ)
+pub record DefinitionAnswers (text : List ℕ) (machine : ℕ) (old new : List ℕ)
+    (length_left place_left : ℕ)
     (status_left : ℕ) : Type 0 where
   pub ending : DefinitionEnding
   pub ends : DefinitionEndsSo text machine (length old) ending

@@ -16,7 +16,8 @@ HasDefinition text machine definition = WithMachine text machine (λ m. Parses t
 abbrev pub LacksDefinition : List ℕ → ℕ → Failure → Type 0
 LacksDefinition text machine failure =
     (buffer : List ℕ) →
-    DefinitionAnswers text machine buffer buffer (length_given (Err failure)) (place_given (Err failure)) (status_number (failure_status failure))
+    DefinitionAnswers text machine buffer buffer (length_given (Err failure))
+    (place_given (Err failure)) (status_number (failure_status failure))
 
 -- the bytes are the encoding, and its numbers fit
 pub record IsEncoding (said : StatedDefinition) (bytes : List ℕ) : Type 0 where

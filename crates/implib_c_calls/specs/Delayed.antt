@@ -62,9 +62,11 @@ pub data EndingDelayed : Type 0 where
 -- when a call ends so, for a buffer of this many bytes
 abbrev pub EndsDelayed : List ℕ → GivenOptions → ℕ → EndingDelayed → Type 0
 EndsDelayed text given room (Made file) =
-    WithOptions given (λ options. (options.flavor ≡ Gnu) × IsDelayedLibrary text options file × (length file ≤ room))
+    WithOptions given
+    (λ options. (options.flavor ≡ Gnu) × IsDelayedLibrary text options file × (length file ≤ room))
 EndsDelayed text given room (TooLong file) =
-    WithOptions given (λ options. (options.flavor ≡ Gnu) × IsDelayedLibrary text options file × (room < length file))
+    WithOptions given
+    (λ options. (options.flavor ≡ Gnu) × IsDelayedLibrary text options file × (room < length file))
 EndsDelayed text given room (Refused why) =
     WithOptions given (λ options. (options.flavor ≡ Gnu) × IsRefusalOfDelayed text options why)
 EndsDelayed text given room ForMicrosoft = WithOptions given (λ options. options.flavor ≡ Msvc)

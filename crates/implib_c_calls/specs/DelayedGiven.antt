@@ -16,8 +16,10 @@ use Rattle.implib_c_calls.specs.GivenWith.{IsWithin}
 
 -- when a call with these options, for GNU's linker, ends so, for a buffer of this many bytes
 abbrev pub EndsDelayedUnder : List ℕ → LibraryOptionsView → ℕ → EndingDelayed → Type 0
-EndsDelayedUnder text options room (Made file) = IsDelayedLibrary text options file × (length file ≤ room)
-EndsDelayedUnder text options room (TooLong file) = IsDelayedLibrary text options file × (room < length file)
+EndsDelayedUnder text options room (Made file) =
+    IsDelayedLibrary text options file × (length file ≤ room)
+EndsDelayedUnder text options room (TooLong file) =
+    IsDelayedLibrary text options file × (room < length file)
 EndsDelayedUnder text options room (Refused why) = IsRefusalOfDelayed text options why
 EndsDelayedUnder text options room ForMicrosoft = ⊥
 EndsDelayedUnder text options room (NoOptions fault) = ⊥
@@ -36,7 +38,8 @@ pub record PutsDelayed (text : List ℕ) (options : LibraryOptionsView) (old new
 -- the offset of an export that is not delayed is one of the text without its byte order mark, or of
 -- its end
 abbrev pub IsUndelayedWithin : List ℕ → Undelayed → Type 0
-IsUndelayedWithin text why = IfSome (position_of_undelayed why) (λ position. position.offset ≤ length (definition_text text))
+IsUndelayedWithin text why =
+    IfSome (position_of_undelayed why) (λ position. position.offset ≤ length (definition_text text))
 
 -- so is that of a refusal
 abbrev pub IsDelayedWithin : List ℕ → DelayRefusal → Type 0

@@ -81,7 +81,8 @@ buffer_of old NoMemory = old
 
 -- what is read in the buffer: what is told, and then what was after its encoding
 abbrev pub BufferReads : List ℕ → List ℕ → DllCheckEnding → Type 0
-BufferReads old new (Made told) = dll_told_in new ≡ Some (told, drop (length (encoded_dll_told told)) old)
+BufferReads old new (Made told) =
+    dll_told_in new ≡ Some (told, drop (length (encoded_dll_told told)) old)
 BufferReads old new (TooLong told) = Unit {0}
 BufferReads old new NoLibrary = Unit {0}
 BufferReads old new (NoImage fault) = Unit {0}
@@ -89,7 +90,8 @@ BufferReads old new NoDirectory = Unit {0}
 BufferReads old new NoMemory = Unit {0}
 
 -- the call's ending, with all that it leaves
-pub record DllCheckAnswers (library dll name old new : List ℕ) (length_left place_left status_left : ℕ) : Type 0 where
+pub record DllCheckAnswers (library dll name old new : List ℕ)
+    (length_left place_left status_left : ℕ) : Type 0 where
   pub ending : DllCheckEnding
   pub ends : DllCheckEndsSo library dll name (length old) ending
   pub status_is : status_left ≡ status_number (status_of ending)

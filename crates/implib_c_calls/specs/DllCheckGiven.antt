@@ -54,5 +54,6 @@ LacksDllCheck library dll (RefusedAt fault offset) = ⊥
 LacksDllCheck library dll (NoExport fault index) = ⊥
 LacksDllCheck library dll NotALibrary = library_in library ≡ None
 LacksDllCheck library dll (NotAnImage offset) = HasNoImage library dll offset
-LacksDllCheck library dll NoExportDirectory = IsSome (library_in library) × (exports_in File dll ≡ Ok None)
+LacksDllCheck library dll NoExportDirectory =
+    IsSome (library_in library) × (exports_in File dll ≡ Ok None)
 LacksDllCheck library dll (NotDelayed why offset) = ⊥

@@ -70,11 +70,13 @@ unfoldable pub encoded_export : ExportRow → List ℕ
 encoded_export r =
     encoded_number r.ordinal
     ++ (encoded_number r.kind
-    ++ (encoded_number r.address ++ (encoded_text r.forwarder ++ encoded_list encoded_text r.names)))
+    ++ (encoded_number r.address
+    ++ (encoded_text r.forwarder ++ encoded_list encoded_text r.names)))
 
 -- a DLL: its fields, in order
 unfoldable pub encoded_dll : DllRows → List ℕ
-encoded_dll d = encoded_number d.machine ++ (encoded_text d.dll ++ encoded_list encoded_export d.rows)
+encoded_dll d =
+    encoded_number d.machine ++ (encoded_text d.dll ++ encoded_list encoded_export d.rows)
 
 -- How it is read. Each reader gives what it finds at the front, and the bytes after it.
 

@@ -70,7 +70,8 @@ BufferReads old new NoDirectory = Unit {0}
 BufferReads old new NoMemory = Unit {0}
 
 -- the call's ending, with all that it leaves
-pub record ExportsAnswers (bytes old new : List ℕ) (length_left place_left status_left : ℕ) : Type 0 where
+pub record ExportsAnswers (bytes old new : List ℕ)
+    (length_left place_left status_left : ℕ) : Type 0 where
   pub ending : ExportsEnding
   pub ends : ExportsEndSo bytes (length old) ending
   pub status_is : status_left ≡ status_number (status_of ending)

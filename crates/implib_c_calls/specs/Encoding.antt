@@ -23,7 +23,8 @@ encoded_list encoded items = encoded_number (length items) ++ flat_map encoded i
 
 -- a member: its name, the symbols that it is listed for, and its file
 unfoldable pub encoded_member : MemberView → List ℕ
-encoded_member m = encoded_text m.name ++ (encoded_list encoded_text m.symbols ++ encoded_text m.bytes)
+encoded_member m =
+    encoded_text m.name ++ (encoded_list encoded_text m.symbols ++ encoded_text m.bytes)
 
 -- The members, in order. For example, no members are 8 zero bytes, and a member `a` for the symbol
 -- `b` with the file `c` has 43 bytes (WorkedEncoding).
@@ -55,7 +56,8 @@ items_in read (suc count) bytes = option_and_then
     (read bytes)
 
 -- a list, after its length
-unfoldable pub list_in : {X : Type 0} → (List ℕ → Option (X × List ℕ)) → List ℕ → Option (List X × List ℕ)
+unfoldable pub list_in : {X : Type 0} → (List ℕ → Option (X × List ℕ)) → List ℕ →
+    Option (List X × List ℕ)
 list_in read bytes = option_and_then (λ found. items_in read found.0 found.1) (number_in bytes)
 
 -- a member: its name, its symbols, its file

@@ -178,8 +178,10 @@ PutsInto members old new (Err (NotDelayed why offset)) = ⊥
 
 -- an encoding is put at the beginning of the buffer, where there is room; else nothing is
 abbrev pub PutsEncoding : List ℕ → List ℕ → List ℕ → Result ℕ Failure → Type 0
-PutsEncoding bytes old new (Ok put) = (length bytes ≤ length old) × (length bytes < 2 ^ 64) × Fills old new 0 put bytes
-PutsEncoding bytes old new (Err (BufferTooSmall needed)) = (needed ≡ length bytes) × (length old < needed) × (new ≡ old)
+PutsEncoding bytes old new (Ok put) =
+    (length bytes ≤ length old) × (length bytes < 2 ^ 64) × Fills old new 0 put bytes
+PutsEncoding bytes old new (Err (BufferTooSmall needed)) =
+    (needed ≡ length bytes) × (length old < needed) × (new ≡ old)
 PutsEncoding bytes old new (Err OutOfMemory) = ⊥
 PutsEncoding bytes old new (Err (NotUtf8 offset)) = ⊥
 PutsEncoding bytes old new (Err UnknownMachine) = ⊥
@@ -204,7 +206,8 @@ PacksInto kind members old new (Ok put) =
     (refusal_of kind members ≡ None) × (put ≡ length (archive_of kind members)) × (put ≤ length old)
     × (new ≡ archive_of kind members ++ drop (length (archive_of kind members)) old)
 PacksInto kind members old new (Err (BufferTooSmall needed)) =
-    (refusal_of kind members ≡ None) × (needed ≡ length (archive_of kind members)) × (length old < needed)
+    (refusal_of kind members ≡ None) × (needed ≡ length (archive_of kind members))
+    × (length old < needed)
     × (new ≡ old)
 PacksInto kind members old new (Err OutOfMemory) = new ≡ old
 PacksInto kind members old new (Err (NotUtf8 offset)) = ⊥
@@ -212,7 +215,8 @@ PacksInto kind members old new (Err UnknownMachine) = ⊥
 PacksInto kind members old new (Err UnknownFlavor) = ⊥
 PacksInto kind members old new (Err (SyntaxError fault offset)) = ⊥
 PacksInto kind members old new (Err (Refused fault)) = ⊥
-PacksInto kind members old new (Err (NoArchive fault)) = (refusal_of kind members ≡ Some fault) × (new ≡ old)
+PacksInto kind members old new (Err (NoArchive fault)) =
+    (refusal_of kind members ≡ Some fault) × (new ≡ old)
 PacksInto kind members old new (Err UnknownFlags) = ⊥
 PacksInto kind members old new (Err DllNotUtf8) = ⊥
 PacksInto kind members old new (Err NoDllName) = ⊥

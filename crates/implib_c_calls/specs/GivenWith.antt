@@ -30,7 +30,8 @@ EndsUnder IsMade IsRefused room (NoOptions fault) = ⊥
 
 -- the library is put at the beginning of the buffer, where there is one and room for it; else
 -- nothing is
-pub record PutsAs (IsMade : List ℕ → Type 0) (IsRefused : Refusal → Type 0) (text : List ℕ) (old new : List ℕ)
+pub record PutsAs (IsMade : List ℕ → Type 0) (IsRefused : Refusal → Type 0) (text : List ℕ)
+    (old new : List ℕ)
     (length_left place_left : ℕ) (status_left : Status) : Type 0 where
   pub ending : EndingWith
   pub ends : EndsUnder IsMade IsRefused (length old) ending
@@ -44,8 +45,10 @@ abbrev pub PutsLibrary : List ℕ → LibraryOptionsView → List ℕ → List �
 PutsLibrary text options = PutsAs (IsLibrary text options) (IsRefusalOfBytes text options) text
 
 -- and with the one whose null descriptor is named after it
-abbrev pub PutsNamedLibrary : List ℕ → LibraryOptionsView → List ℕ → List ℕ → ℕ → ℕ → Status → Type 0
-PutsNamedLibrary text options = PutsAs (IsNamedLibrary text options) (IsRefusalOfNamedLibrary text options) text
+abbrev pub PutsNamedLibrary : List ℕ → LibraryOptionsView → List ℕ → List ℕ → ℕ → ℕ → Status →
+    Type 0
+PutsNamedLibrary text options =
+    PutsAs (IsNamedLibrary text options) (IsRefusalOfNamedLibrary text options) text
 
 -- the offset of a refusal is one of the text without its byte order mark, or of its end
 abbrev pub IsWithin : List ℕ → Refusal → Type 0

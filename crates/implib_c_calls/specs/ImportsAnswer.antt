@@ -16,8 +16,10 @@ pub data ImportsEnding : Type 0 where
 
 -- when a call ends so, for a buffer of this many bytes
 abbrev pub ImportsEndSo : List ℕ → ℕ → ImportsEnding → Type 0
-ImportsEndSo bytes room (Made rows) = (rows_of bytes ≡ Some rows) × (length (encoded_rows rows) ≤ room)
-ImportsEndSo bytes room (TooLong rows) = (rows_of bytes ≡ Some rows) × (room < length (encoded_rows rows))
+ImportsEndSo bytes room (Made rows) =
+    (rows_of bytes ≡ Some rows) × (length (encoded_rows rows) ≤ room)
+ImportsEndSo bytes room (TooLong rows) =
+    (rows_of bytes ≡ Some rows) × (room < length (encoded_rows rows))
 ImportsEndSo bytes room NoLibrary = rows_of bytes ≡ None
 ImportsEndSo bytes room NoMemory = Unit {0}
 

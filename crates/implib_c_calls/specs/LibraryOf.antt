@@ -32,7 +32,8 @@ pub record GivenExport : Type 0 where
 
 -- the view of an export
 abbrev pub given_export : Export → GivenExport
-given_export e = record { name = e.name.now; target = e.target.now; ordinal = e.ordinal; flags = e.flags }
+given_export e =
+    record { name = e.name.now; target = e.target.now; ordinal = e.ordinal; flags = e.flags }
 
 -- What a definition has of an export: the name, what follows `==`, and the ordinal; the flag 1 is
 -- `NONAME`, 2 `DATA`, 4 `CONSTANT` and 8 `PRIVATE`. So the statement `name @ordinal NONAME DATA
@@ -64,7 +65,8 @@ IsExportFault e UnknownFlags = 16 ≤ e.flags
 IsExportFault e NotUtf8 = (e.flags < 16) × (¬ (IsUtf8 e.name) ⊎ ¬ (IsUtf8 e.target))
 
 -- the first of some exports that is refused is at this index, for this fault
-pub record IsFirstFault (exports : List GivenExport) (index : ℕ) (fault : ExportFault) : Type 0 where
+pub record IsFirstFault (exports : List GivenExport) (index : ℕ)
+    (fault : ExportFault) : Type 0 where
   pub export : GivenExport
   pub stands : slice_get exports index ≡ Some export
   pub before : All IsAccepted (take index exports)
@@ -92,8 +94,10 @@ EndsUnder exports options room (Made file) =
     WithExports exports (λ es. IsLibraryOfExports es options file × (length file ≤ room))
 EndsUnder exports options room (TooLong file) =
     WithExports exports (λ es. IsLibraryOfExports es options file × (room < length file))
-EndsUnder exports options room (Refused why) = WithExports exports (λ es. IsRefusalOfExports es options why)
-EndsUnder exports options room (Unpacked fault) = WithExports exports (λ es. RefusesArchiveOfExports es options fault)
+EndsUnder exports options room (Refused why) =
+    WithExports exports (λ es. IsRefusalOfExports es options why)
+EndsUnder exports options room (Unpacked fault) =
+    WithExports exports (λ es. RefusesArchiveOfExports es options fault)
 EndsUnder exports options room (NoExport fault index) = IsFirstFault exports index fault
 EndsUnder exports options room OutOfMemory = Unit {0}
 EndsUnder exports options room (NoOptions fault) = ⊥
@@ -101,7 +105,8 @@ EndsUnder exports options room (NoOptions fault) = ⊥
 -- when a call ends so, for a buffer of this many bytes
 abbrev pub EndsOf : List GivenExport → GivenOptions → ℕ → EndingOf → Type 0
 EndsOf exports given room (NoOptions fault) = IsOptionFault given fault
-EndsOf exports given room ending = WithOptions given (λ options. EndsUnder exports options room ending)
+EndsOf exports given room ending =
+    WithOptions given (λ options. EndsUnder exports options room ending)
 
 -- the status of an export that is refused by itself
 abbrev pub export_status : ExportFault → Status

@@ -32,7 +32,13 @@ pub record GivenOptions : Type 0 where
 
 -- the view of options
 abbrev pub given_options : OptionsArguments → GivenOptions
-given_options o = record { machine = o.machine; flavor = o.flavor; flags = o.flags; has_dll = o.has_dll; dll = o.dll.now }
+given_options o = record {
+  machine = o.machine;
+  flavor = o.flavor;
+  flags = o.flags;
+  has_dll = o.has_dll;
+  dll = o.dll.now;
+}
 
 -- how names are read, and asked for, with these flags: 1 is the option `-k`, 2
 -- `--no-leading-underscore`, 4 `--export-as`, and 8 what LIB's words have besides
@@ -83,7 +89,8 @@ IsOptionFault given UnknownFlags =
     × (naming_numbered given.flags ≡ None)
 IsOptionFault given DllNotUtf8 =
     IsSome (machine_numbered given.machine) × IsSome (flavor_numbered given.flavor)
-    × IsSome (naming_numbered given.flags) × (dll_given given ≡ Some given.dll) × ¬ (IsUtf8 given.dll)
+    × IsSome (naming_numbered given.flags) × (dll_given given ≡ Some given.dll)
+    × ¬ (IsUtf8 given.dll)
 
 -- How a call ends: with the library; with a buffer that is too small for it; without one, as the
 -- rules of the program refuse the text, or want of memory; or with what is given no options.
@@ -95,12 +102,14 @@ pub data EndingWith : Type 0 where
 
 -- When a call ends so, for a buffer of this many bytes, by what the library of options is, and why
 -- there is none.
-abbrev pub EndsAs : (LibraryOptionsView → List ℕ → Type 0) → (LibraryOptionsView → Refusal → Type 0) → GivenOptions → ℕ → EndingWith → Type 0
+abbrev pub EndsAs : (LibraryOptionsView → List ℕ → Type 0) →
+    (LibraryOptionsView → Refusal → Type 0) → GivenOptions → ℕ → EndingWith → Type 0
 EndsAs IsMade IsRefused given room (Made file) =
     WithOptions given (λ options. IsMade options file × (length file ≤ room))
 EndsAs IsMade IsRefused given room (TooLong file) =
     WithOptions given (λ options. IsMade options file × (room < length file))
-EndsAs IsMade IsRefused given room (Refused refusal) = WithOptions given (λ options. IsRefused options refusal)
+EndsAs IsMade IsRefused given room (Refused refusal) =
+    WithOptions given (λ options. IsRefused options refusal)
 EndsAs IsMade IsRefused given room (NoOptions fault) = IsOptionFault given fault
 
 -- when a call for the program's library ends so
@@ -173,8 +182,10 @@ buffer_with old (Refused refusal) = old
 buffer_with old (NoOptions fault) = old
 
 -- a call's ending, with all that it leaves
-pub record AnswersAs (IsMade : LibraryOptionsView → List ℕ → Type 0) (IsRefused : LibraryOptionsView → Refusal → Type 0)
-    (text : List ℕ) (given : GivenOptions) (old new : List ℕ) (length_left place_left : ℕ) (status_left : ℕ) : Type 0 where
+pub record AnswersAs (IsMade : LibraryOptionsView → List ℕ → Type 0)
+    (IsRefused : LibraryOptionsView → Refusal → Type 0)
+    (text : List ℕ) (given : GivenOptions) (old new : List ℕ) (length_left place_left : ℕ)
+    (status_left : ℕ) : Type 0 where
   pub ending : EndingWith
   pub ends : EndsAs IsMade IsRefused given (length old) ending
   pub status_is : status_left ≡ status_number (status_with ending)

@@ -15,6 +15,8 @@ text_before text offset = take (offset - mark_length text) (without_mark text)
 -- Of the place that C has of a refused text, the line and the column are those of the refusal, as
 -- the program writes them.
 abbrev pub PlacesAreOfRefusals : Type 0
-PlacesAreOfRefusals = (text : List ℕ) (options : LibraryOptionsView) (why : Refusal) (position : Position)
+PlacesAreOfRefusals =
+    (text : List ℕ) (options : LibraryOptionsView) (why : Refusal) (position : Position)
     → IsRefusalOfBytes text options why → position_of why ≡ Some position
-    → line_and_column (text_before text (place_of_refusal text why)) ≡ (position.line, position.column)
+    → line_and_column (text_before text (place_of_refusal text why))
+    ≡ (position.line, position.column)

@@ -224,7 +224,8 @@ text_for number = found_text (status_numbered number)
 -- has not
 abbrev pub with_text : List ℕ → List ℕ → List ℕ
 with_text buffer text =
-    if nat_lt (length text) (length buffer) then text ++ 0 ∷ drop (length text + 1) buffer else buffer
+    if nat_lt (length text) (length buffer) then text ++ 0 ∷ drop (length text + 1) buffer
+    else buffer
 
 -- each number leads back to its status
 pub record NumbersReturn : Type 0 where

@@ -27,7 +27,8 @@ use Rattle.implib_rules.specs.Warnings.{warnings_of}
 
 -- these are the warnings of the text, with its words as they are written: those of its form, and
 -- then the others
-pub record HasWarnings (text : List ℕ) (options : LibraryOptionsView) (said : List Said) : Type 0 where
+pub record HasWarnings (text : List ℕ) (options : LibraryOptionsView)
+    (said : List Said) : Type 0 where
   pub utf8 : IsUtf8 (definition_text text)
   pub definition : DefinitionView
   pub parses : Parses (definition_text text) AMD64 definition
@@ -35,17 +36,20 @@ pub record HasWarnings (text : List ℕ) (options : LibraryOptionsView) (said : 
   pub are_places : ArePlacesOf (definition_text text) places
   pub count : ℕ
   pub counts : CountsMembers text options options.flavor count
-  pub are : AreSaid (mark_length text) (text_warnings text ++ warnings_of options definition.exports places count) said
+  pub are : AreSaid (mark_length text)
+      (text_warnings text ++ warnings_of options definition.exports places count) said
 
 -- the grammar refuses the text, at this token. An open quote or a wrong ordinal, which the program
 -- refuses beside, is none of its refusals: the library's call tells them.
 pub record IsUngrammatical (text : List ℕ) (fault : Fault) (position : Position) : Type 0 where
   pub utf8 : IsUtf8 (definition_text text)
-  pub refused : RefusesAt (definition_text text) (cause_of fault) position.offset × (position ≡ position_at (definition_text text) position.offset)
+  pub refused : RefusesAt (definition_text text) (cause_of fault) position.offset
+      × (position ≡ position_at (definition_text text) position.offset)
 
 -- the text is no definition, or memory was refused
 abbrev pub HasNoWarnings : List ℕ → LibraryOptionsView → Refusal → Type 0
-HasNoWarnings text options (refusal.NotUtf8 position) = IsRefusalOfMembers text options (refusal.NotUtf8 position)
+HasNoWarnings text options (refusal.NotUtf8 position) =
+    IsRefusalOfMembers text options (refusal.NotUtf8 position)
 HasNoWarnings text options (refusal.Syntax fault position) = IsUngrammatical text fault position
 HasNoWarnings text options refusal.NoName = ⊥
 HasNoWarnings text options (refusal.Members fault position) = ⊥
@@ -63,10 +67,13 @@ pub data WarningsEnding : Type 0 where
 -- when a call ends so, for a buffer of this many bytes
 abbrev pub WarningsEndSo : List ℕ → GivenOptions → ℕ → WarningsEnding → Type 0
 WarningsEndSo text given room (Made said) =
-    WithOptions given (λ options. HasWarnings text options said × (length (encoded_warnings said) ≤ room))
+    WithOptions given
+    (λ options. HasWarnings text options said × (length (encoded_warnings said) ≤ room))
 WarningsEndSo text given room (TooLong said) =
-    WithOptions given (λ options. HasWarnings text options said × (room < length (encoded_warnings said)))
-WarningsEndSo text given room (Refused why) = WithOptions given (λ options. HasNoWarnings text options why)
+    WithOptions given
+    (λ options. HasWarnings text options said × (room < length (encoded_warnings said)))
+WarningsEndSo text given room (Refused why) =
+    WithOptions given (λ options. HasNoWarnings text options why)
 WarningsEndSo text given room (NoOptions fault) = IsOptionFault given fault
 
 -- the status
@@ -99,13 +106,15 @@ buffer_of old (NoOptions fault) = old
 
 -- what is read in the buffer: the warnings, and then what was after their encoding
 abbrev pub BufferReads : List ℕ → List ℕ → WarningsEnding → Type 0
-BufferReads old new (Made said) = warnings_in new ≡ Some (said, drop (length (encoded_warnings said)) old)
+BufferReads old new (Made said) =
+    warnings_in new ≡ Some (said, drop (length (encoded_warnings said)) old)
 BufferReads old new (TooLong said) = Unit {0}
 BufferReads old new (Refused why) = Unit {0}
 BufferReads old new (NoOptions fault) = Unit {0}
 
 -- the call's ending, with all that it leaves
-pub record WarningsAnswers (text : List ℕ) (given : GivenOptions) (old new : List ℕ) (length_left place_left : ℕ)
+pub record WarningsAnswers (text : List ℕ) (given : GivenOptions) (old new : List ℕ)
+    (length_left place_left : ℕ)
     (status_left : ℕ) : Type 0 where
   pub ending : WarningsEnding
   pub ends : WarningsEndSo text given (length old) ending

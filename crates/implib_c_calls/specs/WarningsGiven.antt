@@ -9,7 +9,8 @@ use Rattle.implib_rules.specs.Warnings.{WarningView}
 use Rattle.std.specs.List.{flat_map}
 
 -- these warnings are appended, in some words, after a number
-pub record PushesWarnings (mark count : ℕ) (warnings : List WarningView) (old new : List ℕ) : Type 0 where
+pub record PushesWarnings (mark count : ℕ) (warnings : List WarningView)
+    (old new : List ℕ) : Type 0 where
   pub said : List Said
   pub are : AreSaid mark warnings said
   pub fit : All Fits said
@@ -30,7 +31,8 @@ pub record IsEncodingOf (mark : ℕ) (warnings : List WarningView) (bytes : List
   pub is : bytes ≡ encoded_warnings said
 
 -- the bytes are the encoding of the text's warnings
-pub record EncodesWarnings (text : List ℕ) (options : LibraryOptionsView) (bytes : List ℕ) : Type 0 where
+pub record EncodesWarnings (text : List ℕ) (options : LibraryOptionsView)
+    (bytes : List ℕ) : Type 0 where
   pub said : List Said
   pub has : HasWarnings text options said
   pub fit : All Fits said

@@ -20,7 +20,8 @@ no_parts = record { parts = []; members = [] }
 
 -- what is told of a library that does not work
 abbrev pub told : ℕ → List Row → List Row → Told
-told verdict extra missing = record { verdict = verdict; works = 2; extra = extra; missing = missing }
+told verdict extra missing =
+    record { verdict = verdict; works = 2; extra = extra; missing = missing }
 
 -- the rows of an import of feed from zoo.dll, and of the alias nourish
 abbrev pub feed_row : Row
@@ -54,10 +55,13 @@ pub record WorkedTold : Type 0 where
   -- of two that are equal the second, where the other has one
   pub twice : told_of no_parts zoo (feed_of_zoo Code ∷ zoo) ≡ told 2 [] (feed_row ∷ [])
   -- a hint does not count
-  pub hint : told_of no_parts (of_dll (codes "zoo.dll") feed (Name (codes "feed") 7) Code 0x8664 ∷ []) (feed_of_zoo Code ∷ []) ≡ told 1 [] []
+  pub hint : told_of no_parts
+      (of_dll (codes "zoo.dll") feed (Name (codes "feed") 7) Code 0x8664 ∷ [])
+      (feed_of_zoo Code ∷ []) ≡ told 1 [] []
   -- a member that is not understood leaves it open, though others differ; another object does where
   -- none differs
-  pub not_understood : told_of no_parts (member NotUnderstood ∷ []) zoo ≡ told 3 [] (feed_row ∷ nourish_row ∷ [])
+  pub not_understood : told_of no_parts (member NotUnderstood ∷ []) zoo
+      ≡ told 3 [] (feed_row ∷ nourish_row ∷ [])
   pub other : told_of no_parts (member Other ∷ zoo) zoo ≡ told 3 [] []
 
 -- the rows with a flag that is set; the shorter list ends it
@@ -96,7 +100,8 @@ pub record WorkedToldBytes : Type 0 where
   pub apart : encoded_told two_apart ≡ two_apart_bytes
   pub apart_length : length two_apart_bytes ≡ 179
   pub apart_read : told_in two_apart_bytes ≡ Some (two_apart, [])
-  pub apart_read_before_others : told_in (two_apart_bytes ++ hex "ff 00") ≡ Some (two_apart, hex "ff 00")
+  pub apart_read_before_others : told_in (two_apart_bytes ++ hex "ff 00")
+      ≡ Some (two_apart, hex "ff 00")
   pub second_list_missing : told_in (hex "01 00 00 00 00 00 00 00 01 00 00 00 00 00 00 00 00 00 00 00 00 00 00 00") ≡ None
 
 -- all of them

@@ -82,7 +82,10 @@ pub record WorkedDefinitions : Type 0 where
   pub two : encoded_definition two_exports ≡ two_exports_bytes
   pub two_length : length two_exports_bytes ≡ 166
   pub two_read : definition_in two_exports_bytes ≡ Some (two_exports, [])
-  pub two_read_before_others : definition_in (two_exports_bytes ++ hex "ff 00") ≡ Some (two_exports, hex "ff 00")
+  pub two_read_before_others : definition_in (two_exports_bytes ++ hex "ff 00")
+      ≡ Some (two_exports, hex "ff 00")
   pub seven_bytes : definition_in (hex "00 00 00 00 00 00 00") ≡ None
-  pub third_text : export_in (export_bytes (hex "02 00 00 00 00 00 00 00") (hex "00 00 00 00 00 00 00 00")) ≡ None
-  pub fifth_attribute : export_in (export_bytes (hex "00 00 00 00 00 00 00 00") (hex "10 00 00 00 00 00 00 00")) ≡ None
+  pub third_text : export_in
+      (export_bytes (hex "02 00 00 00 00 00 00 00") (hex "00 00 00 00 00 00 00 00")) ≡ None
+  pub fifth_attribute : export_in
+      (export_bytes (hex "00 00 00 00 00 00 00 00") (hex "10 00 00 00 00 00 00 00")) ≡ None

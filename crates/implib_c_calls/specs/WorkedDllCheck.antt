@@ -75,7 +75,8 @@ pub record WorkedDllToldBytes : Type 0 where
   pub small : encoded_dll_told small_told ≡ small_told_bytes
   pub small_length : length small_told_bytes ≡ 40
   pub small_read : dll_told_in small_told_bytes ≡ Some (small_told, [])
-  pub small_read_before_others : dll_told_in (small_told_bytes ++ hex "ff 00") ≡ Some (small_told, hex "ff 00")
+  pub small_read_before_others : dll_told_in (small_told_bytes ++ hex "ff 00")
+      ≡ Some (small_told, hex "ff 00")
   pub none_read : dll_told_in (hex "01 00 00 00 00 00 00 00 05 00 00 00 00 00 00 00") ≡ None
 
 -- all of them

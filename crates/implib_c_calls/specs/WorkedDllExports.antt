@@ -68,7 +68,8 @@ pub record WorkedDllBytes : Type 0 where
   pub small : encoded_dll small_dll ≡ small_dll_bytes
   pub small_length : length small_dll_bytes ≡ 81
   pub small_read : dll_in small_dll_bytes ≡ Some (small_dll, [])
-  pub small_read_before_others : dll_in (small_dll_bytes ++ hex "ff 00") ≡ Some (small_dll, hex "ff 00")
+  pub small_read_before_others : dll_in (small_dll_bytes ++ hex "ff 00")
+      ≡ Some (small_dll, hex "ff 00")
   pub none_read : dll_in (hex "64 86 00 00 00 00 00 00 00 00 00 00 00 00 00 00 01 00 00 00 00 00 00 00") ≡ None
 
 -- all of them

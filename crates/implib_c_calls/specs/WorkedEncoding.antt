@@ -44,7 +44,8 @@ pub record WorkedEncodings : Type 0 where
   pub one_length : length one_member_bytes ≡ 43
   pub two : encoded_members two_members ≡ two_members_bytes
   pub two_read : members_in two_members_bytes ≡ Some (two_members, [])
-  pub two_read_before_others : members_in (two_members_bytes ++ hex "ff 00") ≡ Some (two_members, hex "ff 00")
+  pub two_read_before_others : members_in (two_members_bytes ++ hex "ff 00")
+      ≡ Some (two_members, hex "ff 00")
   pub seven_bytes : members_in (hex "00 00 00 00 00 00 00") ≡ None
   pub member_missing : members_in (hex "01 00 00 00 00 00 00 00") ≡ None
   pub name_too_short : members_in (hex "01 00 00 00 00 00 00 00 02 00 00 00 00 00 00 00 61") ≡ None

@@ -13,7 +13,8 @@ use Rattle.implib_c_calls.specs.Status.{status_number}
 
 -- an export of these names, with this ordinal and these flags
 abbrev pub passed : List ℕ → List ℕ → ℕ → ℕ → GivenExport
-passed name target ordinal flags = record { name = name; target = target; ordinal = ordinal; flags = flags }
+passed name target ordinal flags =
+    record { name = name; target = target; ordinal = ordinal; flags = flags }
 
 -- an export of a name in a definition
 abbrev pub named : List ℕ → ExportView
@@ -22,14 +23,21 @@ named name = record empty_export { name = name }
 -- what a definition has of exports
 pub record WorkedFlags : Type 0 where
   pub plain : export_given (passed (codes "a") [] 0 0) ≡ named (codes "a")
-  pub ordinal : export_given (passed (codes "a") [] 65535 0) ≡ record (named (codes "a")) { ordinal = 65535 }
-  pub target : export_given (passed (codes "a") (codes "b") 0 0) ≡ record (named (codes "a")) { alias_target = codes "b" }
-  pub no_name : export_given (passed (codes "a") [] 5 1) ≡ record (named (codes "a")) { ordinal = 5; no_name = true }
-  pub data_flag : export_given (passed (codes "a") [] 0 2) ≡ record (named (codes "a")) { is_data = true }
-  pub constant_flag : export_given (passed (codes "a") [] 0 4) ≡ record (named (codes "a")) { constant = true }
-  pub private_flag : export_given (passed (codes "a") [] 0 8) ≡ record (named (codes "a")) { private = true }
+  pub ordinal : export_given (passed (codes "a") [] 65535 0)
+      ≡ record (named (codes "a")) { ordinal = 65535 }
+  pub target : export_given (passed (codes "a") (codes "b") 0 0)
+      ≡ record (named (codes "a")) { alias_target = codes "b" }
+  pub no_name : export_given (passed (codes "a") [] 5 1)
+      ≡ record (named (codes "a")) { ordinal = 5; no_name = true }
+  pub data_flag : export_given (passed (codes "a") [] 0 2)
+      ≡ record (named (codes "a")) { is_data = true }
+  pub constant_flag : export_given (passed (codes "a") [] 0 4)
+      ≡ record (named (codes "a")) { constant = true }
+  pub private_flag : export_given (passed (codes "a") [] 0 8)
+      ≡ record (named (codes "a")) { private = true }
   pub all_flags : export_given (passed (codes "a") [] 0 15)
-      ≡ record (named (codes "a")) { no_name = true; is_data = true; constant = true; private = true }
+      ≡ record (named (codes "a"))
+      { no_name = true; is_data = true; constant = true; private = true }
 
 -- the number with which a call with exports ends so
 abbrev pub number_of : EndingOf → ℕ

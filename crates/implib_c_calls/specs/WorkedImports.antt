@@ -77,7 +77,8 @@ pub record WorkedRows : Type 0 where
   pub no_members : rows_of (codes "!<arch>\n") ≡ Some []
   pub thin : rows_of (codes "!<thin>\n") ≡ None
   pub no_bytes : rows_of [] ≡ None
-  pub an_alias : row_of (member (codes "a.o") 0x1234 (AnAlias (record { weak = codes "old"; target = codes "new" }))) ≡ old_row
+  pub an_alias : row_of (member (codes "a.o") 0x1234
+      (AnAlias (record { weak = codes "old"; target = codes "new" }))) ≡ old_row
   pub delayed : row_of (member (codes "a.o") 8 DelayImport) ≡ other_row 7 8
   pub other : row_of (member (codes "a.o") 8 Other) ≡ other_row 8 8
   pub not_understood : row_of (member (codes "a.o") 8 NotUnderstood) ≡ other_row 9 8
@@ -99,7 +100,8 @@ pub record WorkedRowBytes : Type 0 where
   pub old_length : length old_row_bytes ≡ 70
   pub two : encoded_rows (bar_row ∷ old_row ∷ []) ≡ two_rows_bytes
   pub two_read : rows_in two_rows_bytes ≡ Some (bar_row ∷ old_row ∷ [], [])
-  pub two_read_before_others : rows_in (two_rows_bytes ++ hex "ff 00") ≡ Some (bar_row ∷ old_row ∷ [], hex "ff 00")
+  pub two_read_before_others : rows_in (two_rows_bytes ++ hex "ff 00")
+      ≡ Some (bar_row ∷ old_row ∷ [], hex "ff 00")
   pub row_missing : rows_in (hex "01 00 00 00 00 00 00 00") ≡ None
 
 -- all of them

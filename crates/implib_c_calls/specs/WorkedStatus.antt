@@ -40,11 +40,15 @@ pub record WorkedNumbers : Type 0 where
   pub not_utf8 : number_of NotUtf8 ≡ 3
   pub unknown_machine : number_of UnknownMachine ≡ 4
   pub unknown_flavor : number_of UnknownFlavor ≡ 5
-  pub unknown_directive : (value : List ℕ) (offset : ℕ) → number_of (SyntaxError (cause.UnknownDirective value) offset) ≡ 16
-  pub expected_identifier : (kind : TokenKind) (offset : ℕ) → number_of (SyntaxError (cause.ExpectedIdentifier kind) offset) ≡ 17
-  pub expected_equal : (kind : TokenKind) (offset : ℕ) → number_of (SyntaxError (cause.ExpectedEqual kind) offset) ≡ 18
+  pub unknown_directive : (value : List ℕ) (offset : ℕ) →
+      number_of (SyntaxError (cause.UnknownDirective value) offset) ≡ 16
+  pub expected_identifier : (kind : TokenKind) (offset : ℕ) →
+      number_of (SyntaxError (cause.ExpectedIdentifier kind) offset) ≡ 17
+  pub expected_equal : (kind : TokenKind) (offset : ℕ) →
+      number_of (SyntaxError (cause.ExpectedEqual kind) offset) ≡ 18
   pub expected_integer : (offset : ℕ) → number_of (SyntaxError cause.ExpectedInteger offset) ≡ 19
-  pub invalid_ordinal : (value : List ℕ) (offset : ℕ) → number_of (SyntaxError (cause.InvalidOrdinal value) offset) ≡ 20
+  pub invalid_ordinal : (value : List ℕ) (offset : ℕ) →
+      number_of (SyntaxError (cause.InvalidOrdinal value) offset) ≡ 20
   pub lone_at : (offset : ℕ) → number_of (SyntaxError cause.LoneAt offset) ≡ 21
   pub empty_import_name : number_of (Refused cause.EmptyImportName) ≡ 22
   pub nul_in_import_name : number_of (Refused cause.NulInImportName) ≡ 23
@@ -64,18 +68,27 @@ library_number ending = status_number (library.status_of ending)
 -- what the numbers of these calls are
 pub record WorkedLibraryNumbers : Type 0 where
   pub packed : (kind : Kind) (members : List MemberView) → library_number (Packed kind members) ≡ 0
-  pub too_long : (kind : Kind) (members : List MemberView) → library_number (TooLong kind members) ≡ 1
+  pub too_long : (kind : Kind) (members : List MemberView) →
+      library_number (TooLong kind members) ≡ 1
   pub out_of_memory : library_number (Failed OutOfMemory) ≡ 2
   pub not_utf8 : library_number (Failed NotUtf8) ≡ 3
   pub empty_name : (index : ℕ) → library_number (Failed (Refused (cause.EmptyName index))) ≡ 24
-  pub member_too_long : (kind : Kind) (members : List MemberView) → library_number (Unpacked kind members archive.MemberTooLong) ≡ 27
-  pub empty_member_name : (kind : Kind) (members : List MemberView) → library_number (Unpacked kind members archive.EmptyName) ≡ 29
-  pub nul_in_member_name : (kind : Kind) (members : List MemberView) → library_number (Unpacked kind members archive.NulInName) ≡ 30
-  pub line_end_in_member_name : (kind : Kind) (members : List MemberView) → library_number (Unpacked kind members archive.LineEndInName) ≡ 31
-  pub empty_symbol : (kind : Kind) (members : List MemberView) → library_number (Unpacked kind members archive.EmptySymbol) ≡ 32
-  pub nul_in_symbol : (kind : Kind) (members : List MemberView) → library_number (Unpacked kind members archive.NulInSymbol) ≡ 33
-  pub too_many_members : (kind : Kind) (members : List MemberView) → library_number (Unpacked kind members archive.TooManyMembers) ≡ 34
-  pub archive_too_long : (kind : Kind) (members : List MemberView) → library_number (Unpacked kind members archive.ArchiveTooLong) ≡ 35
+  pub member_too_long : (kind : Kind) (members : List MemberView) →
+      library_number (Unpacked kind members archive.MemberTooLong) ≡ 27
+  pub empty_member_name : (kind : Kind) (members : List MemberView) →
+      library_number (Unpacked kind members archive.EmptyName) ≡ 29
+  pub nul_in_member_name : (kind : Kind) (members : List MemberView) →
+      library_number (Unpacked kind members archive.NulInName) ≡ 30
+  pub line_end_in_member_name : (kind : Kind) (members : List MemberView) →
+      library_number (Unpacked kind members archive.LineEndInName) ≡ 31
+  pub empty_symbol : (kind : Kind) (members : List MemberView) →
+      library_number (Unpacked kind members archive.EmptySymbol) ≡ 32
+  pub nul_in_symbol : (kind : Kind) (members : List MemberView) →
+      library_number (Unpacked kind members archive.NulInSymbol) ≡ 33
+  pub too_many_members : (kind : Kind) (members : List MemberView) →
+      library_number (Unpacked kind members archive.TooManyMembers) ≡ 34
+  pub archive_too_long : (kind : Kind) (members : List MemberView) →
+      library_number (Unpacked kind members archive.ArchiveTooLong) ≡ 35
 
 -- the number with which a call with options ends so
 abbrev pub number_with : EndingWith → ℕ
@@ -86,10 +99,12 @@ pub record WorkedNumbersWith : Type 0 where
   pub made : (file : List ℕ) → number_with (options.Made file) ≡ 0
   pub too_long : (file : List ℕ) → number_with (options.TooLong file) ≡ 1
   pub out_of_memory : number_with (options.Refused refusal.OutOfMemory) ≡ 2
-  pub not_utf8 : (position : Position) → number_with (options.Refused (refusal.NotUtf8 position)) ≡ 3
+  pub not_utf8 : (position : Position) →
+      number_with (options.Refused (refusal.NotUtf8 position)) ≡ 3
   pub unknown_machine : number_with (options.NoOptions options.UnknownMachine) ≡ 4
   pub unknown_flavor : number_with (options.NoOptions options.UnknownFlavor) ≡ 5
-  pub line_end_in_member_name : number_with (options.Refused (refusal.Archive archive.LineEndInName)) ≡ 31
+  pub line_end_in_member_name : number_with
+      (options.Refused (refusal.Archive archive.LineEndInName)) ≡ 31
   pub no_dll_name : number_with (options.Refused refusal.NoName) ≡ 39
   pub unknown_flags : number_with (options.NoOptions options.UnknownFlags) ≡ 41
   pub dll_not_utf8 : number_with (options.NoOptions options.DllNotUtf8) ≡ 42
@@ -155,19 +170,97 @@ pub record WorkedArguments : Type 0 where
   pub no_flavor : flavor_numbered 2 ≡ None
   pub msvc_kind : kind_of_flavor Msvc ≡ Coff
   pub gnu_kind : kind_of_flavor Gnu ≡ GnuKind
-  pub no_flags : naming_numbered 0 ≡ Some (record { is_plain = false; kills_at = false; exports_as = false; keeps_decorated = false })
-  pub kill_at : naming_numbered 1 ≡ Some (record { is_plain = false; kills_at = true; exports_as = false; keeps_decorated = false })
-  pub no_leading_underscore : naming_numbered 2 ≡ Some (record { is_plain = true; kills_at = false; exports_as = false; keeps_decorated = false })
-  pub both_flags : naming_numbered 3 ≡ Some (record { is_plain = true; kills_at = true; exports_as = false; keeps_decorated = false })
-  pub export_as : naming_numbered 4 ≡ Some (record { is_plain = false; kills_at = false; exports_as = true; keeps_decorated = false })
-  pub kill_at_export_as : naming_numbered 5 ≡ Some (record { is_plain = false; kills_at = true; exports_as = true; keeps_decorated = false })
-  pub plain_export_as : naming_numbered 6 ≡ Some (record { is_plain = true; kills_at = false; exports_as = true; keeps_decorated = false })
-  pub plain_kill_at_export_as : naming_numbered 7 ≡ Some (record { is_plain = true; kills_at = true; exports_as = true; keeps_decorated = false })
-  pub keep_decorated : naming_numbered 8 ≡ Some (record { is_plain = false; kills_at = false; exports_as = false; keeps_decorated = true })
-  pub kill_at_keep_decorated : naming_numbered 9 ≡ Some (record { is_plain = false; kills_at = true; exports_as = false; keeps_decorated = true })
-  pub plain_keep_decorated : naming_numbered 10 ≡ Some (record { is_plain = true; kills_at = false; exports_as = false; keeps_decorated = true })
-  pub export_as_keep_decorated : naming_numbered 12 ≡ Some (record { is_plain = false; kills_at = false; exports_as = true; keeps_decorated = true })
-  pub each_flag : naming_numbered 15 ≡ Some (record { is_plain = true; kills_at = true; exports_as = true; keeps_decorated = true })
+  pub no_flags : naming_numbered 0
+      ≡ Some (record {
+        is_plain = false;
+        kills_at = false;
+        exports_as = false;
+        keeps_decorated = false;
+      })
+  pub kill_at : naming_numbered 1
+      ≡ Some (record {
+        is_plain = false;
+        kills_at = true;
+        exports_as = false;
+        keeps_decorated = false;
+      })
+  pub no_leading_underscore : naming_numbered 2
+      ≡ Some (record {
+        is_plain = true;
+        kills_at = false;
+        exports_as = false;
+        keeps_decorated = false;
+      })
+  pub both_flags : naming_numbered 3
+      ≡ Some (record {
+        is_plain = true;
+        kills_at = true;
+        exports_as = false;
+        keeps_decorated = false;
+      })
+  pub export_as : naming_numbered 4
+      ≡ Some (record {
+        is_plain = false;
+        kills_at = false;
+        exports_as = true;
+        keeps_decorated = false;
+      })
+  pub kill_at_export_as : naming_numbered 5
+      ≡ Some (record {
+        is_plain = false;
+        kills_at = true;
+        exports_as = true;
+        keeps_decorated = false;
+      })
+  pub plain_export_as : naming_numbered 6
+      ≡ Some (record {
+        is_plain = true;
+        kills_at = false;
+        exports_as = true;
+        keeps_decorated = false;
+      })
+  pub plain_kill_at_export_as : naming_numbered 7
+      ≡ Some (record {
+        is_plain = true;
+        kills_at = true;
+        exports_as = true;
+        keeps_decorated = false;
+      })
+  pub keep_decorated : naming_numbered 8
+      ≡ Some (record {
+        is_plain = false;
+        kills_at = false;
+        exports_as = false;
+        keeps_decorated = true;
+      })
+  pub kill_at_keep_decorated : naming_numbered 9
+      ≡ Some (record {
+        is_plain = false;
+        kills_at = true;
+        exports_as = false;
+        keeps_decorated = true;
+      })
+  pub plain_keep_decorated : naming_numbered 10
+      ≡ Some (record {
+        is_plain = true;
+        kills_at = false;
+        exports_as = false;
+        keeps_decorated = true;
+      })
+  pub export_as_keep_decorated : naming_numbered 12
+      ≡ Some (record {
+        is_plain = false;
+        kills_at = false;
+        exports_as = true;
+        keeps_decorated = true;
+      })
+  pub each_flag : naming_numbered 15
+      ≡ Some (record {
+        is_plain = true;
+        kills_at = true;
+        exports_as = true;
+        keeps_decorated = true;
+      })
   pub unknown_flag : naming_numbered 16 ≡ None
   pub version_is : version ≡ 10
 
@@ -190,13 +283,17 @@ pub record WorkedNumbersDelayed : Type 0 where
   pub unknown_flags : number_delayed (delayed.NoOptions options.UnknownFlags) ≡ 41
   pub for_microsoft : number_delayed delayed.ForMicrosoft ≡ 50
   pub no_machine : number_delayed (delayed.Refused (delay.Undelayed undelayed.Machine)) ≡ 51
-  pub of_data : number_delayed (delayed.Refused (delay.Undelayed (undelayed.Data (at_offset 7)))) ≡ 52
-  pub of_alias : number_delayed (delayed.Refused (delay.Undelayed (undelayed.Alias (at_offset 7)))) ≡ 53
+  pub of_data : number_delayed (delayed.Refused (delay.Undelayed (undelayed.Data (at_offset 7))))
+      ≡ 52
+  pub of_alias : number_delayed (delayed.Refused (delay.Undelayed (undelayed.Alias (at_offset 7))))
+      ≡ 53
   pub no_dll_name : number_delayed (delayed.Refused (delay.Refused refusal.NoName)) ≡ 39
   pub data_at : marked_place (delayed.Refused (delay.Undelayed (undelayed.Data (at_offset 7)))) ≡ 10
-  pub alias_at : marked_place (delayed.Refused (delay.Undelayed (undelayed.Alias (at_offset 8)))) ≡ 11
+  pub alias_at : marked_place (delayed.Refused (delay.Undelayed (undelayed.Alias (at_offset 8))))
+      ≡ 11
   pub machine_nowhere : marked_place (delayed.Refused (delay.Undelayed undelayed.Machine)) ≡ 0
-  pub not_utf8_at : marked_place (delayed.Refused (delay.Refused (refusal.NotUtf8 (at_offset 9)))) ≡ 12
+  pub not_utf8_at : marked_place (delayed.Refused (delay.Refused (refusal.NotUtf8 (at_offset 9))))
+      ≡ 12
 
 -- all of them
 pub record WorkedStatuses : Type 0 where

@@ -33,17 +33,24 @@ pub record WorkedWarnings : Type 0 where
   pub two : encoded_warnings two_warnings ≡ two_warnings_bytes
   pub two_length : length two_warnings_bytes ≡ 89
   pub two_read : warnings_in two_warnings_bytes ≡ Some (two_warnings, [])
-  pub two_read_before_others : warnings_in (two_warnings_bytes ++ hex "ff 00") ≡ Some (two_warnings, hex "ff 00")
+  pub two_read_before_others : warnings_in (two_warnings_bytes ++ hex "ff 00")
+      ≡ Some (two_warnings, hex "ff 00")
   pub warning_missing : warnings_in (hex "01 00 00 00 00 00 00 00") ≡ None
   -- behind a byte order mark the offset is greater by its length, and the column is not
-  pub behind_mark : AreSaid 3 (record { notice = rules.IsSecondHeading; position = record { offset = 5; line = 1; column = 6 } } ∷ [])
+  pub behind_mark : AreSaid 3
+      (record {
+        notice = rules.IsSecondHeading;
+        position = record { offset = 5; line = 1; column = 6 };
+      } ∷ [])
       (record { warned = record { kind = 10; offset = 8; line = 1; column = 6 }; words = [] } ∷ [])
   pub no_export : kind_number rules.HasNoExport ≡ 1
   pub other_kind : kind_number rules.IsOtherKind ≡ 2
   pub repeated : (word : List ℕ) (first : ℕ) → kind_number (rules.IsRepeated word first) ≡ 3
   pub repeated_ordinal : (ordinal first : ℕ) → kind_number (rules.RepeatsOrdinal ordinal first) ≡ 4
-  pub opens_line : (attribute : Attribute) (word : List ℕ) → kind_number (rules.OpensLine attribute word) ≡ 5
-  pub lowered : (word : List ℕ) (attribute : Attribute) → kind_number (rules.IsLowered word attribute) ≡ 6
+  pub opens_line : (attribute : Attribute) (word : List ℕ) →
+      kind_number (rules.OpensLine attribute word) ≡ 5
+  pub lowered : (word : List ℕ) (attribute : Attribute) →
+      kind_number (rules.IsLowered word attribute) ≡ 6
   pub ordinal_like : (word : List ℕ) → kind_number (rules.IsOrdinalLike word) ≡ 7
   pub stdcall : (word : List ℕ) → kind_number (rules.IsStdcall word) ≡ 8
   pub not_exported : (word : List ℕ) → kind_number (rules.IsNotExported word) ≡ 9

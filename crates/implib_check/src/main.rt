@@ -1,5 +1,5 @@
-//! Reads import libraries of any maker: lists their imports, names their DLLs, and compares them with
-//! one another, with definitions and with DLLs.
+//! Reads import libraries of any maker: lists their imports, names their DLLs, and compares them
+//! with one another, with definitions and with DLLs.
 //!
 //! What it does is in the crate `implib_check_driver`, over the system's files.
 #![tactic(auto)]

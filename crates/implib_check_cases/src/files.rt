@@ -1,11 +1,11 @@
 //! The files of a case, and the shelf that they stand on.
 //!
-//! - `library NAME MACHINE FLAVOUR` makes the import library of the definition that the `text` lines
-//!   after it say; `older` after the flavour gives addresses their older symbols.
+//! - `library NAME MACHINE FLAVOUR` makes the import library of the definition that the `text`
+//!   lines after it say; `older` after the flavour gives addresses their older symbols.
 //! - `definition NAME` is the definition itself.
 //! - `bytes NAME BYTES` appends bytes to a file, which begins empty.
-//! - `with NAME OTHER` appends the members of another library to a file, but for its indexes and long
-//!   names.
+//! - `with NAME OTHER` appends the members of another library to a file, but for its indexes and
+//!   long names.
 //! - `copy NAME OTHER` is a file with the bytes of another.
 //! - `put NAME OFFSET BYTES` changes bytes of a file, and `cut NAME LENGTH` cuts it off.
 

@@ -47,7 +47,8 @@ names_of None path own = loader_name own ∷ loader_name (last_part path) ∷ []
 -- read, and 1 where there is no import.
 abbrev pub against_status : List Judgement → Bool → ℕ
 against_status found unread =
-    if list_any is_lost found then 1 else if unread then 4 else if list_any is_import found then 0 else 1
+    if list_any is_lost found then 1 else if unread then 4 else if list_any is_import found then 0
+    else 1
 
 -- The same of what they come to, and where forwarders lead: 1 where one leads to nothing.
 abbrev pub held_status : List Judgement → List (Option End) → Bool → ℕ
@@ -57,13 +58,15 @@ held_status found ends unread = if list_any is_stop ends then 1 else against_sta
 abbrev pub members_against : Through → CheckView → Exports → List MemberRead → ℕ
 members_against others check e members =
     let names = names_of check.dll check.definition e.dll in
-    held_status (judgements e names members) (ends_through others e names members) (has_unread members)
+    held_status (judgements e names members) (ends_through others e names members)
+    (has_unread members)
 
 -- whether a call has an option that a definition alone is read by
 abbrev pub has_options : CheckView → Bool
 has_options c =
     is_some c.machine || (is_some c.native || (is_some c.flavor || (c.older_symbols
-    || (c.naming.is_plain || (c.naming.kills_at || (c.naming.exports_as || c.naming.keeps_decorated))))))
+    || (c.naming.is_plain
+    || (c.naming.kills_at || (c.naming.exports_as || c.naming.keeps_decorated))))))
 
 -- the status of members in the DLL that bytes are read as: 3 where they are refused, and 1 where
 -- nothing is exported
@@ -85,7 +88,8 @@ options_against c e = record {
 }
 
 -- The status of a definition in a DLL: of a library that it has for these options, as that is read.
-pub record IsHeld (others : Through) (check : CheckView) (e : Exports) (definition : List ℕ) (status : ℕ) : Type 0 where
+pub record IsHeld (others : Through) (check : CheckView) (e : Exports) (definition : List ℕ)
+    (status : ℕ) : Type 0 where
   pub file : List ℕ
   pub is_library : IsLibraryFor check.older_symbols definition (options_against check e) file
   pub meant : List MemberRead
@@ -93,7 +97,8 @@ pub record IsHeld (others : Through) (check : CheckView) (e : Exports) (definiti
   pub is : status ≡ members_against others check e meant
 
 -- the status of a definition that is refused
-pub record IsRefused (check : CheckView) (e : Exports) (definition : List ℕ) (status : ℕ) : Type 0 where
+pub record IsRefused (check : CheckView) (e : Exports) (definition : List ℕ)
+    (status : ℕ) : Type 0 where
   pub why : Refusal
   pub is_refusal : IsRefusalFor check.older_symbols definition (options_against check e) why
   pub is : status ≡ refusal_status why
@@ -111,5 +116,6 @@ DefinitionAgainst others check definition (Err fault) status = status ≡ 3
 abbrev pub library_against : Through → CheckView → List ℕ → List ℕ → ℕ
 library_against others check library dll =
     if has_options check then 2
-    else option_map_or (λ (a : Archive). members_in others check (members_read a.members) (exports_in File dll))
+    else option_map_or
+    (λ (a : Archive). members_in others check (members_read a.members) (exports_in File dll))
     (archive_in library) (no_library_status library)

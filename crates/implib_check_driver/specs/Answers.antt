@@ -42,7 +42,8 @@ use Rattle.implib_check_driver.specs.Status.{undefined_status}
 
 -- a library is that of these bytes
 abbrev pub IsReadAs : List ℕ → Library → Type 0
-IsReadAs bytes l = (archive_in bytes ≡ Some (archive_view l.archive)) × (map member_read_view l.members.items ≡ members_read (archive_view l.archive).members)
+IsReadAs bytes l = (archive_in bytes ≡ Some (archive_view l.archive))
+    × (map member_read_view l.members.items ≡ members_read (archive_view l.archive).members)
 
 -- a status: 3, for what failed, or as it is to be
 abbrev pub OrFailed : ℕ → Type 0 → Type 0
@@ -57,7 +58,8 @@ abbrev pub listed : Archive → ℕ
 listed a = list_status (has_unread (members_read a.members))
 
 abbrev pub identified : Bool → Archive → ℕ
-identified strictly a = identity_status (has_unread (members_read a.members)) (length (dlls_of (members_read a.members))) strictly
+identified strictly a = identity_status (has_unread (members_read a.members))
+    (length (dlls_of (members_read a.members))) strictly
 
 abbrev pub worked : Archive → ℕ
 worked a = working_status (working_of a (members_read a.members))
@@ -67,7 +69,9 @@ abbrev pub compared_as : Library → Library → ℕ
 compared_as a b =
     let left = map member_read_view a.members.items in
     let right = map member_read_view b.members.items in
-    comparison_status (verdict left right) (both_work (working_of (archive_view a.archive) left) (working_of (archive_view b.archive) right))
+    comparison_status (verdict left right)
+    (both_work (working_of (archive_view a.archive) left)
+    (working_of (archive_view b.archive) right))
 
 -- the status of a call for the library of a file, where the file's bytes are known
 abbrev pub AnswersOf : (Archive → ℕ) → Option (List ℕ) → ℕ → Type 0
@@ -82,11 +86,14 @@ compared a b =
 -- the status of the bytes of two files: where the first are no archive, theirs; else where the
 -- second are none
 abbrev pub compared_in : List ℕ → List ℕ → ℕ
-compared_in left right = option_map_or (λ a. option_map_or (compared a) (archive_in right) (no_library_status right)) (archive_in left) (no_library_status left)
+compared_in left right =
+    option_map_or (λ a. option_map_or (compared a) (archive_in right) (no_library_status right))
+    (archive_in left) (no_library_status left)
 
 -- the status of a call for the libraries of two files, where their bytes are known
 abbrev pub AnswersOfBoth : Option (List ℕ) → Option (List ℕ) → ℕ → Type 0
-AnswersOfBoth left right status = OrFailed status (IfSome left (λ l. IfSome right (λ r. status ≡ compared_in l r)))
+AnswersOfBoth left right status =
+    OrFailed status (IfSome left (λ l. IfSome right (λ r. status ≡ compared_in l r)))
 
 -- the status of the exports of a DLL: 3 where its bytes are refused, and 1 where nothing is
 -- exported
@@ -96,50 +103,62 @@ exported (Ok None) = 1
 exported (Err fault) = 3
 
 abbrev pub AnswersExports : Option (List ℕ) → ℕ → Type 0
-AnswersExports file status = OrFailed status (IfSome file (λ bytes. status ≡ exported (exports_in File bytes)))
+AnswersExports file status =
+    OrFailed status (IfSome file (λ bytes. status ≡ exported (exports_in File bytes)))
 
 -- The status of an archive beside a definition: of the verdict on both, and where they are the
 -- same, of whether the archive works.
-pub record IsChecked (check : CheckView) (a : Archive) (definition : List ℕ) (status : ℕ) : Type 0 where
+pub record IsChecked (check : CheckView) (a : Archive) (definition : List ℕ)
+    (status : ℕ) : Type 0 where
   pub verdict : Verdict
-  pub on : IsVerdictOn check.older_symbols definition (options_for check (members_read a.members)) (members_read a.members) verdict
+  pub on : IsVerdictOn check.older_symbols definition (options_for check (members_read a.members))
+      (members_read a.members) verdict
   pub is : status ≡ comparison_status verdict (working_of a (members_read a.members))
 
 -- the status of a definition that is refused
-pub record IsCheckRefused (check : CheckView) (a : Archive) (definition : List ℕ) (status : ℕ) : Type 0 where
+pub record IsCheckRefused (check : CheckView) (a : Archive) (definition : List ℕ)
+    (status : ℕ) : Type 0 where
   pub why : Refusal
-  pub is_refusal : IsRefusalFor check.older_symbols definition (options_for check (members_read a.members)) why
+  pub is_refusal : IsRefusalFor check.older_symbols definition
+      (options_for check (members_read a.members)) why
   pub is : status ≡ refusal_status why
 
 -- the status of an archive beside a definition
 abbrev pub IsCheckedOrdinary : CheckView → Archive → List ℕ → ℕ → Type 0
-IsCheckedOrdinary check a definition status = IsChecked check a definition status ⊎ IsCheckRefused check a definition status
+IsCheckedOrdinary check a definition status =
+    IsChecked check a definition status ⊎ IsCheckRefused check a definition status
 
 -- the same beside the definitions of a library for ARM64EC, of which the second is the native one,
 -- if there is one
-pub record IsArm64ecChecked (check : CheckView) (a : Archive) (definition : List ℕ) (native : Option (List ℕ)) (status : ℕ) : Type 0 where
+pub record IsArm64ecChecked (check : CheckView) (a : Archive) (definition : List ℕ)
+    (native : Option (List ℕ)) (status : ℕ) : Type 0 where
   pub verdict : Verdict
-  pub on : IsArm64ecVerdictOn definition native (options_for check (members_read a.members)) (members_read a.members) verdict
+  pub on : IsArm64ecVerdictOn definition native (options_for check (members_read a.members))
+      (members_read a.members) verdict
   pub is : status ≡ comparison_status verdict (working_of a (members_read a.members))
 
 -- the status of such definitions, one of which is refused
-pub record IsArm64ecRefused (check : CheckView) (a : Archive) (definition : List ℕ) (native : Option (List ℕ)) (status : ℕ) : Type 0 where
+pub record IsArm64ecRefused (check : CheckView) (a : Archive) (definition : List ℕ)
+    (native : Option (List ℕ)) (status : ℕ) : Type 0 where
   pub why : Arm64ecFault
   pub is_fault : IsArm64ecFault definition native (options_for check (members_read a.members)) why
   pub is : status ≡ arm64ec_status why
 
 abbrev pub IsCheckedForArm64ec : CheckView → Archive → List ℕ → Option (List ℕ) → ℕ → Type 0
 IsCheckedForArm64ec check a definition native status =
-    IsArm64ecChecked check a definition native status ⊎ IsArm64ecRefused check a definition native status
+    IsArm64ecChecked check a definition native status
+    ⊎ IsArm64ecRefused check a definition native status
 
 -- the status of an archive beside definitions: 2 where the call asks for what its library is not
 -- made with
 abbrev pub IsCheckedBeside : CheckView → Archive → List ℕ → Option (List ℕ) → ℕ → Type 0
 IsCheckedBeside check a definition native status =
     (is_unfit check (members_read a.members) ≡ true → status ≡ 2)
-    × ((is_unfit check (members_read a.members) ≡ false → is_for_arm64ec check (members_read a.members) ≡ true
+    × ((is_unfit check (members_read a.members) ≡ false →
+    is_for_arm64ec check (members_read a.members) ≡ true
     → IsCheckedForArm64ec check a definition native status)
-    × (is_unfit check (members_read a.members) ≡ false → is_for_arm64ec check (members_read a.members) ≡ false
+    × (is_unfit check (members_read a.members) ≡ false →
+    is_for_arm64ec check (members_read a.members) ≡ false
     → IsCheckedOrdinary check a definition status))
 
 -- the status of an archive, or of bytes that are none, beside definitions: 2 where the first is a
@@ -158,18 +177,22 @@ asks_for_dll check = check.lists_unasked || is_searching check
 abbrev pub IsAnswerChecked : CheckView → List ℕ → List ℕ → Option (List ℕ) → ℕ → Type 0
 IsAnswerChecked check library definition native status =
     (asks_for_dll check ≡ true → status ≡ 2)
-    × (asks_for_dll check ≡ false → CheckedAs check library definition native (archive_in library) status)
+    × (asks_for_dll check ≡ false →
+    CheckedAs check library definition native (archive_in library) status)
 
 -- The status of an archive of one DLL whose definition is asked for: 0 where the text that says its
 -- imports is one.
 pub record IsDefinedAs (define : DefineView) (a : Archive) (status : ℕ) : Type 0 where
   pub text : List ℕ
-  pub defines : DefinesFor define.older_symbols text (options_of define (members_read a.members)) (members_read a.members)
+  pub defines : DefinesFor define.older_symbols text (options_of define (members_read a.members))
+      (members_read a.members)
   pub is : status ≡ 0
 
-pub record IsUndefinedAs (hints : Bool) (define : DefineView) (a : Archive) (status : ℕ) : Type 0 where
+pub record IsUndefinedAs (hints : Bool) (define : DefineView) (a : Archive)
+    (status : ℕ) : Type 0 where
   pub why : Undefined
-  pub undefined : IsUndefined hints define.older_symbols (options_of define (members_read a.members)) (members_read a.members) why
+  pub undefined : IsUndefined hints define.older_symbols
+      (options_of define (members_read a.members)) (members_read a.members) why
   pub is : status ≡ undefined_status why
 
 -- the status of an archive, or of bytes that are none, whose definition is asked for, with hints as
@@ -178,8 +201,10 @@ abbrev pub DefinedAs : Bool → DefineView → List ℕ → Option Archive → �
 DefinedAs hints define library None status = status ≡ no_library_status library
 DefinedAs hints define library (Some a) status =
     ((length (dlls_of (members_read a.members)) == 1) ≡ false → status ≡ 1)
-    × (((length (dlls_of (members_read a.members)) == 1) ≡ true → has_arm64ec (members_read a.members) ≡ true → status ≡ 1)
-    × ((length (dlls_of (members_read a.members)) == 1) ≡ true → has_arm64ec (members_read a.members) ≡ false
+    × (((length (dlls_of (members_read a.members)) == 1) ≡ true →
+    has_arm64ec (members_read a.members) ≡ true → status ≡ 1)
+    × ((length (dlls_of (members_read a.members)) == 1) ≡ true →
+    has_arm64ec (members_read a.members) ≡ false
     → IsDefinedAs define a status ⊎ IsUndefinedAs hints define a status))
 
 -- The status of a DLL whose definition is asked for: that of its library, where it has one.
@@ -202,14 +227,16 @@ asks_for_arm64ec check = check.arm64ec || is_some check.native
 abbrev pub DefinitionBeside : Through → CheckView → List ℕ → List ℕ → ℕ → Type 0
 DefinitionBeside others check definition dll status =
     (asks_for_arm64ec check ≡ true → status ≡ 2)
-    × (asks_for_arm64ec check ≡ false → DefinitionAgainst others check definition (exports_in File dll) status)
+    × (asks_for_arm64ec check ≡ false →
+    DefinitionAgainst others check definition (exports_in File dll) status)
 
 -- what is said of the status of a library or a definition beside a DLL: 2 where it is a DLL itself
 abbrev pub IsAnswerBeside : Through → CheckView → List ℕ → List ℕ → ℕ → Type 0
 IsAnswerBeside others check first dll status =
     (begins_archive first ≡ true → status ≡ library_against others check first dll)
     × ((begins_archive first ≡ false → begins_dll first ≡ true → status ≡ 2)
-    × (begins_archive first ≡ false → begins_dll first ≡ false → DefinitionBeside others check first dll status))
+    × (begins_archive first ≡ false → begins_dll first ≡ false →
+    DefinitionBeside others check first dll status))
 
 -- what is said of the status of a library or a definition beside a DLL or a definition, and a
 -- native one
@@ -224,42 +251,56 @@ native_seen seen None = Some None
 native_seen seen (Some path) = option_map Some (seen path)
 
 -- what is said of it where the bytes of all files are known
-abbrev pub AnswersAll : Through → CheckView → Option (List ℕ) → Option (List ℕ) → Option (Option (List ℕ)) → ℕ → Type 0
+abbrev pub AnswersAll : Through → CheckView → Option (List ℕ) → Option (List ℕ) →
+    Option (Option (List ℕ)) → ℕ → Type 0
 AnswersAll others check first second native status =
-    OrFailed status (IfSome first (λ f. IfSome second (λ d. IfSome native (λ n. IsAnswerWith others check f d n status))))
+    OrFailed status (IfSome first
+    (λ f. IfSome second (λ d. IfSome native (λ n. IsAnswerWith others check f d n status))))
 
 -- The same, and where forwarders are followed, where the bytes of all files and the names in all
 -- folders are known.
-abbrev pub AnswersBeside : (List ℕ → Option (List ℕ)) → (List ℕ → Option (List (List ℕ))) → CheckView → ℕ → Type 0
+abbrev pub AnswersBeside : (List ℕ → Option (List ℕ)) → (List ℕ → Option (List (List ℕ))) →
+    CheckView → ℕ → Type 0
 AnswersBeside seen listed check status =
-    (file : List ℕ → List ℕ) (names : List ℕ → List (List ℕ)) → AreKnownFor seen listed check file names
-    → AnswersAll (through file (listings names check.folders) check) check (seen check.library) (seen check.definition)
+    (file : List ℕ → List ℕ) (names : List ℕ → List (List ℕ)) →
+    AreKnownFor seen listed check file names
+    → AnswersAll (through file (listings names check.folders) check) check (seen check.library)
+    (seen check.definition)
     (native_seen seen check.native) status
 
 -- what is said of the status of libraries in one link, where the bytes of all files are known
 abbrev pub AnswersJoined : (List ℕ → Option (List ℕ)) → List (List ℕ) → ℕ → Type 0
 AnswersJoined seen paths status =
-    (file : List ℕ → List ℕ) → AreKnown seen file → OrFailed status (status ≡ joined_status (map file paths))
+    (file : List ℕ → List ℕ) → AreKnown seen file →
+    OrFailed status (status ≡ joined_status (map file paths))
 
 -- What is said of the status of a program beside folders, where the bytes of all files and the
 -- names in all folders are known.
-abbrev pub AnswersProgram : (List ℕ → Option (List ℕ)) → (List ℕ → Option (List (List ℕ))) → List ℕ → List (List ℕ) → ℕ
+abbrev pub AnswersProgram : (List ℕ → Option (List ℕ)) → (List ℕ → Option (List (List ℕ))) →
+    List ℕ → List (List ℕ) → ℕ
     → Type 0
 AnswersProgram seen listed program folders status =
-    (file : List ℕ → List ℕ) (names : List ℕ → List (List ℕ)) → AreKnown seen file → AreKnown listed names
-    → OrFailed status (status ≡ program_status file (listings names folders) (imports_in File (file program)))
+    (file : List ℕ → List ℕ) (names : List ℕ → List (List ℕ)) → AreKnown seen file →
+    AreKnown listed names
+    → OrFailed status
+    (status ≡ program_status file (listings names folders) (imports_in File (file program)))
 
 -- the status of what a command line asks for: 2 where it asks for nothing
-abbrev pub AnswersTask : (List ℕ → Option (List ℕ)) → (List ℕ → Option (List (List ℕ))) → Option TaskView → ℕ → Type 0
+abbrev pub AnswersTask : (List ℕ → Option (List ℕ)) → (List ℕ → Option (List (List ℕ))) →
+    Option TaskView → ℕ → Type 0
 AnswersTask seen names None status = status ≡ 2
 AnswersTask seen names (Some (Lists path)) status = AnswersOf listed (seen path) status
 AnswersTask seen names (Some (ListsExports path)) status = AnswersExports (seen path) status
-AnswersTask seen names (Some (Identifies path strictly)) status = AnswersOf (identified strictly) (seen path) status
+AnswersTask seen names (Some (Identifies path strictly)) status =
+    AnswersOf (identified strictly) (seen path) status
 AnswersTask seen names (Some (WorksOf path)) status = AnswersOf worked (seen path) status
-AnswersTask seen names (Some (Compares left right)) status = AnswersOfBoth (seen left) (seen right) status
+AnswersTask seen names (Some (Compares left right)) status =
+    AnswersOfBoth (seen left) (seen right) status
 AnswersTask seen names (Some Help) status = OrFailed status (status ≡ 0)
 AnswersTask seen names (Some Version) status = OrFailed status (status ≡ 0)
-AnswersTask seen names (Some (Defines define)) status = AnswersDefine define (seen define.library) status
+AnswersTask seen names (Some (Defines define)) status =
+    AnswersDefine define (seen define.library) status
 AnswersTask seen names (Some (Joins paths)) status = AnswersJoined seen paths status
 AnswersTask seen names (Some (Checks check)) status = AnswersBeside seen names check status
-AnswersTask seen names (Some (Searches path folders)) status = AnswersProgram seen names path folders status
+AnswersTask seen names (Some (Searches path folders)) status =
+    AnswersProgram seen names path folders status

@@ -121,7 +121,12 @@ unread_call = record {
   native = None;
   flavor = None;
   dll = None;
-  naming = record { is_plain = false; kills_at = false; exports_as = false; keeps_decorated = false };
+  naming = record {
+    is_plain = false;
+    kills_at = false;
+    exports_as = false;
+    keeps_decorated = false;
+  };
   older_symbols = false;
   lists_unasked = false;
   waiting = None;
@@ -130,33 +135,46 @@ unread_call = record {
 -- after the name of a machine: as `-m` of `implib_dlltool` has it, ARM64EC's too
 abbrev pub with_machine : List ℕ → ReadingView → Option ReadingView
 with_machine name r =
-    if bytes_eq name (codes "arm64ec") then Some (record r { machine = Some ARM64; arm64ec = true; waiting = None })
-    else option_map (λ m. record r { machine = Some m; arm64ec = false; waiting = None }) (machine_called name)
+    if bytes_eq name (codes "arm64ec")
+    then Some (record r { machine = Some ARM64; arm64ec = true; waiting = None })
+    else option_map (λ m. record r { machine = Some m; arm64ec = false; waiting = None })
+    (machine_called name)
 
 -- after the value of an option; a name of a DLL is not empty, but for a directory
 abbrev pub with_value : Setting → List ℕ → ReadingView → Option ReadingView
 with_value setting.Machine value r = with_machine value r
 with_value setting.Native value r = Some (record r { native = Some value; waiting = None })
-with_value setting.Flavor value r = option_map (λ f. record r { flavor = Some f; waiting = None }) (flavor_named value)
+with_value setting.Flavor value r =
+    option_map (λ f. record r { flavor = Some f; waiting = None }) (flavor_named value)
 with_value setting.Dll value r =
-    if nat_eq (length (last_part value)) 0 then None else Some (record r { dll = Some value; waiting = None })
+    if nat_eq (length (last_part value)) 0 then None
+    else Some (record r { dll = Some value; waiting = None })
 
 -- after an option
 abbrev pub with_option : List ℕ → ReadingView → Option ReadingView
 with_option option r =
-    if bytes_eq option (codes "-k") then Some (record r { naming = record r.naming { kills_at = true } })
-    else if bytes_eq option (codes "--kill-at") then Some (record r { naming = record r.naming { kills_at = true } })
-    else if bytes_eq option (codes "--no-leading-underscore") then Some (record r { naming = record r.naming { is_plain = true } })
-    else if bytes_eq option (codes "--export-as") then Some (record r { naming = record r.naming { exports_as = true } })
-    else if bytes_eq option (codes "--lib") then Some (record r { naming = record r.naming { exports_as = true; keeps_decorated = true } })
-    else if bytes_eq option (codes "-C") || bytes_eq option (codes "--compat-implib") then Some (record r { older_symbols = true })
+    if bytes_eq option (codes "-k")
+    then Some (record r { naming = record r.naming { kills_at = true } })
+    else if bytes_eq option (codes "--kill-at")
+    then Some (record r { naming = record r.naming { kills_at = true } })
+    else if bytes_eq option (codes "--no-leading-underscore")
+    then Some (record r { naming = record r.naming { is_plain = true } })
+    else if bytes_eq option (codes "--export-as")
+    then Some (record r { naming = record r.naming { exports_as = true } })
+    else if bytes_eq option (codes "--lib")
+    then Some (record r { naming = record r.naming { exports_as = true; keeps_decorated = true } })
+    else if bytes_eq option (codes "-C") || bytes_eq option (codes "--compat-implib")
+    then Some (record r { older_symbols = true })
     else if bytes_eq option (codes "--all") then Some (record r { lists_unasked = true })
     else if bytes_eq option (codes "-m") then Some (record r { waiting = Some setting.Machine })
-    else if bytes_eq option (codes "--machine") then Some (record r { waiting = Some setting.Machine })
-    else if bytes_eq option (codes "-N") || bytes_eq option (codes "--input-native-def") then Some (record r { waiting = Some setting.Native })
+    else if bytes_eq option (codes "--machine")
+    then Some (record r { waiting = Some setting.Machine })
+    else if bytes_eq option (codes "-N") || bytes_eq option (codes "--input-native-def")
+    then Some (record r { waiting = Some setting.Native })
     else if bytes_eq option (codes "-D") then Some (record r { waiting = Some setting.Dll })
     else if bytes_eq option (codes "--dllname") then Some (record r { waiting = Some setting.Dll })
-    else if bytes_eq option (codes "--flavor") || bytes_eq option (codes "--flavour") then Some (record r { waiting = Some setting.Flavor })
+    else if bytes_eq option (codes "--flavor") || bytes_eq option (codes "--flavour")
+    then Some (record r { waiting = Some setting.Flavor })
     else None
 
 -- after the name of a file: the first is the library, the second the definition
@@ -195,7 +213,8 @@ abbrev pub lacks_older : ReadingView → Bool
 lacks_older r = r.older_symbols && are_for_msvc r.flavor
 
 -- what two files say with options, none of which lacks its value
-abbrev pub check_of : Option (List ℕ) → Option (List ℕ) → Option Setting → ReadingView → Option CheckView
+abbrev pub check_of : Option (List ℕ) → Option (List ℕ) → Option Setting → ReadingView →
+    Option CheckView
 check_of (Some library) (Some definition) None r = Some (record {
   library = library;
   definition = definition;
@@ -234,7 +253,8 @@ is_search_word word = bytes_eq word (codes "--search")
 -- a comparison that looks into folders, of which there is one or more
 abbrev pub searching : List (List ℕ) → Option CheckView → Option CheckView
 searching folders check =
-    if nat_eq (length folders) 0 then None else option_map (λ (c : CheckView). record c { folders = folders }) check
+    if nat_eq (length folders) 0 then None
+    else option_map (λ (c : CheckView). record c { folders = folders }) check
 
 abbrev pub check_at : Option ℕ → List (List ℕ) → Option CheckView
 check_at None words = check_called words
@@ -245,7 +265,8 @@ abbrev pub check_named : List (List ℕ) → Option CheckView
 check_named words = check_at (position_from is_search_word 0 words) words
 
 -- the definition of a file, with options, none of which lacks its value
-abbrev pub define_of : Option (List ℕ) → Option (List ℕ) → Option Setting → ReadingView → Option DefineView
+abbrev pub define_of : Option (List ℕ) → Option (List ℕ) → Option Setting → ReadingView →
+    Option DefineView
 define_of (Some library) None None r = Some (record {
   library = library;
   machine = r.machine;
@@ -262,7 +283,10 @@ asks_for_arm64ec_in r = r.arm64ec || is_some r.native
 -- What all words say. A library has the name of its DLL and the names that it asks for itself, so
 -- no option says these; and of a library for ARM64EC no definition is written.
 abbrev pub define_in : ReadingView → Option DefineView
-define_in r = if lacks_older r || (r.naming.kills_at || (r.naming.exports_as || (is_some r.dll || (r.lists_unasked || asks_for_arm64ec_in r)))) then None else define_of r.library r.definition r.waiting r
+define_in r = if lacks_older r
+    || (r.naming.kills_at || (r.naming.exports_as
+    || (is_some r.dll || (r.lists_unasked || asks_for_arm64ec_in r)))) then None
+    else define_of r.library r.definition r.waiting r
 
 -- the definition that words ask for
 abbrev pub define_called : List (List ℕ) → Option DefineView

@@ -15,7 +15,8 @@ use Rattle.implib_check_driver.specs.OwnLibraries.{IsDefinedBy}
 -- A text is a definition of a library under these options: by the grammar and by the rules of
 -- `implib_dlltool` it means the imports and the aliases of the library, as many times each, in any
 -- order.
-pub record Defines (text : List ℕ) (options : LibraryOptionsView) (members : List MemberRead) : Type 0 where
+pub record Defines (text : List ℕ) (options : LibraryOptionsView)
+    (members : List MemberRead) : Type 0 where
   -- the members of the library that the text has
   pub meant : List MemberRead
   pub defined : IsDefinedBy text options meant
@@ -25,7 +26,8 @@ pub record Defines (text : List ℕ) (options : LibraryOptionsView) (members : L
 
 -- A text is a definition of a library that has the older symbols of addresses: the library that the
 -- text has with them does not differ from it, and no member of it may import what is not read.
-pub record DefinesWithOlder (text : List ℕ) (options : LibraryOptionsView) (members : List MemberRead) : Type 0 where
+pub record DefinesWithOlder (text : List ℕ) (options : LibraryOptionsView)
+    (members : List MemberRead) : Type 0 where
   pub verdict : Verdict
   pub on : IsVerdictOn true text options members verdict
   pub same : verdict ≡ TheyDiffer → ⊥
@@ -40,6 +42,8 @@ DefinesFor false text options members = Defines text options members
 -- imports, as far as a text can, is refused, or means others.
 abbrev pub IsUndefined : Bool → Bool → LibraryOptionsView → List MemberRead → Undefined → Type 0
 IsUndefined hints older options members Unread = has_unread members ≡ true
-IsUndefined hints older options members (Refused refusal) = IsRefusalFor older (definition_text hints options members) options refusal
-IsUndefined hints older options members Different = IsVerdictOn older (definition_text hints options members) options members TheyDiffer
+IsUndefined hints older options members (Refused refusal) =
+    IsRefusalFor older (definition_text hints options members) options refusal
+IsUndefined hints older options members Different =
+    IsVerdictOn older (definition_text hints options members) options members TheyDiffer
 IsUndefined hints older options members (Failed failure) = Unit {0}

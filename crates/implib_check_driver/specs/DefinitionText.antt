@@ -43,7 +43,8 @@ is_name_byte b = is_small_letter b || (is_capital_or_digit b || is_name_sign b)
 -- Whether a name is written without quotes: it is of these bytes, does not begin with `@` as an
 -- ordinal does, and has a small letter, so it is no keyword of any tool.
 abbrev pub is_plain_name : List ℕ → Bool
-is_plain_name name = list_all is_name_byte name && (list_any is_small_letter name && not (begins_with at_sign name))
+is_plain_name name =
+    list_all is_name_byte name && (list_any is_small_letter name && not (begins_with at_sign name))
 
 -- a name as it is written: in quotes, unless it needs none
 abbrev pub name_text : List ℕ → List ℕ
@@ -56,13 +57,15 @@ is_address symbol = bytes_eq (take 6 symbol) (codes "__imp_")
 -- a symbol of I386 without the underscore of C's names, unless it is a word as it is
 abbrev pub without_underscore : NamingView → List ℕ → List ℕ
 without_underscore naming [] = []
-without_underscore naming (b ∷ rest) = if b == underscore && not (keeps_word naming rest) then rest else b ∷ rest
+without_underscore naming (b ∷ rest) =
+    if b == underscore && not (keeps_word naming rest) then rest else b ∷ rest
 
 -- The word that names a symbol, where one does. For example, on I386 that of `_f@8` is `f@8`, and
 -- that of `@f@8` itself.
 abbrev pub word_of_symbol : MachineType → NamingView → List ℕ → List ℕ
 word_of_symbol machine naming symbol =
-    if has_leading_underscore machine && not naming.is_plain then without_underscore naming symbol else symbol
+    if has_leading_underscore machine && not naming.is_plain then without_underscore naming symbol
+    else symbol
 
 -- Lines.
 
@@ -92,21 +95,26 @@ kind_text Delayed = []
 -- the hint, as a comment, where it is no ordinal
 abbrev pub hint_text : Bool → Ask → List ℕ
 hint_text hints (Ordinal ordinal) = []
-hint_text hints (Name name hint) = if hints || hint == 0 then [] else codes " ; hint " ++ decimal hint
+hint_text hints (Name name hint) =
+    if hints || hint == 0 then [] else codes " ; hint " ++ decimal hint
 
 -- an import by its word
 abbrev pub export_text : Bool → List ℕ → Imported → List ℕ
 export_text hints word i =
-    codes "    " ++ (name_text word ++ (asked_text hints word i.imports.ask ++ (kind_text i.kind ++ (hint_text hints i.imports.ask ++ 10 ∷ []))))
+    codes "    " ++ (name_text word
+    ++ (asked_text hints word i.imports.ask
+    ++ (kind_text i.kind ++ (hint_text hints i.imports.ask ++ 10 ∷ []))))
 
 -- an import
 abbrev pub import_text : Bool → MachineType → NamingView → Imported → List ℕ
-import_text hints machine naming i = export_text hints (word_of_symbol machine naming (linked_symbol i.imports.declared)) i
+import_text hints machine naming i =
+    export_text hints (word_of_symbol machine naming (linked_symbol i.imports.declared)) i
 
 -- an alias of one symbol for another, and what it is of
 abbrev pub weak_text : MachineType → NamingView → List ℕ → List ℕ → List ℕ → List ℕ
 weak_text machine naming weak target of =
-    codes "    " ++ (name_text (word_of_symbol machine naming weak) ++ (codes " == " ++ (name_text (word_of_symbol machine naming target) ++ (of ++ 10 ∷ []))))
+    codes "    " ++ (name_text (word_of_symbol machine naming weak)
+    ++ (codes " == " ++ (name_text (word_of_symbol machine naming target) ++ (of ++ 10 ∷ []))))
 
 -- An alias, given the weak symbol of the member before it. That of an address has no line of its
 -- own behind that of the symbol, and else it is of data.
@@ -146,7 +154,8 @@ weak_of NotUnderstood = []
 abbrev pub members_text : Bool → MachineType → NamingView → List ℕ → List MemberRead → List ℕ
 members_text hints machine naming before [] = []
 members_text hints machine naming before (m ∷ members) =
-    member_text hints machine naming before m.class ++ members_text hints machine naming (weak_of m.class) members
+    member_text hints machine naming before m.class
+    ++ members_text hints machine naming (weak_of m.class) members
 
 -- The head.
 
@@ -178,10 +187,12 @@ first_dll (m ∷ members) = unwrap_or (dll_of m.class) (first_dll members)
 -- what stands before the exports: the options under which the text means the library, and the DLL
 abbrev pub head_text : LibraryOptionsView → Bool → List ℕ → List ℕ
 head_text options told dll =
-    codes "; -m " ++ (machine_text options.machine ++ (codes " --flavor " ++ (flavor_text options.flavor ++ (naming_text options.naming
+    codes "; -m " ++ (machine_text options.machine
+    ++ (codes " --flavor " ++ (flavor_text options.flavor ++ (naming_text options.naming
     ++ (10 ∷ (untold_text told ++ (codes "LIBRARY " ++ (name_text dll ++ codes "\nEXPORTS\n"))))))))
 
 -- the definition of a library, with its hints as ordinals or as comments
 abbrev pub definition_text : Bool → LibraryOptionsView → List MemberRead → List ℕ
 definition_text hints options members =
-    head_text options (tells_constants members) (first_dll members) ++ members_text hints options.machine options.naming [] members
+    head_text options (tells_constants members) (first_dll members)
+    ++ members_text hints options.machine options.naming [] members

@@ -98,13 +98,18 @@ site_view (site.Library path) = InLibrary path.now
 site_view (site.Definition path position) = InDefinition path.now position
 
 abbrev pub side_view : Side → SideView
-side_view s = record { site = site_view s.site; symbol = s.symbol.now; member = member_read_view s.member.now }
+side_view s = record {
+  site = site_view s.site;
+  symbol = s.symbol.now;
+  member = member_read_view s.member.now;
+}
 
 abbrev pub fault_view : Fault → FaultView
 fault_view fault.NoIndex = NoIndex
 fault_view (fault.UnreadableIndex index) = UnreadableIndex index
 fault_view (fault.MisleadingEntry index entry) = MisleadingEntry index (index_entry_view entry.now)
-fault_view (fault.CutApart apart) = CutApart (cut_apart_view apart.now).0 (cut_apart_view apart.now).1
+fault_view (fault.CutApart apart) =
+    CutApart (cut_apart_view apart.now).0 (cut_apart_view apart.now).1
 fault_view (fault.NotOnePart part) = NotOnePart part
 fault_view fault.SeveralDlls = SeveralDlls
 
@@ -140,7 +145,8 @@ abbrev pub text_within : ℕ → List ℕ → List ℕ
 text_within zero name = []
 text_within (suc n) name =
     let front = utf8_valid_len name in
-    take front name ++ (if front == length name then [] else replacement_bytes ++ text_within n (drop (front + 1) name))
+    take front name ++ (if front == length name then []
+    else replacement_bytes ++ text_within n (drop (front + 1) name))
 
 -- a name as text
 abbrev pub text_of : List ℕ → List ℕ
@@ -237,29 +243,35 @@ with_number key n fields = put key (number (unsigned n)) fields
 -- where in a definition an export is
 abbrev pub with_position : Option Position → Members → Members
 with_position None fields = fields
-with_position (Some p) fields = with_number (codes "column") p.column (with_number (codes "line") p.line fields)
+with_position (Some p) fields =
+    with_number (codes "column") p.column (with_number (codes "line") p.line fields)
 
 -- the file of a library or a definition, and where in a definition an export is
 abbrev pub with_site : SiteView → Members → Members
 with_site (InLibrary path) fields = with_word (codes "library") path fields
-with_site (InDefinition path position) fields = with_position position (with_word (codes "file") path fields)
+with_site (InDefinition path position) fields =
+    with_position position (with_word (codes "file") path fields)
 
 -- which member of a library it is; a definition has none
 abbrev pub with_member : SiteView → MemberRead → Members → Members
-with_member (InLibrary path) m fields = with_number (codes "offset") m.offset (with_name (codes "member") m.name fields)
+with_member (InLibrary path) m fields =
+    with_number (codes "offset") m.offset (with_name (codes "member") m.name fields)
 with_member (InDefinition path position) m fields = fields
 
 -- what a DLL is asked for
 abbrev pub with_asked : Ask → Members → Members
-with_asked (Name name hint) fields = with_number (codes "hint") hint (with_name (codes "name") name fields)
+with_asked (Name name hint) fields =
+    with_number (codes "hint") hint (with_name (codes "name") name fields)
 with_asked (Ordinal ordinal) fields = with_number (codes "ordinal") ordinal fields
 
 -- what an import or an alias is
 abbrev pub with_class : Class → Members → Members
 with_class (AnImport i) fields =
     with_number (codes "machine") i.machine
-    (with_asked i.imports.ask (with_name (codes "dll") i.imports.dll (with_word (codes "kind") (kind_word i.kind) fields)))
-with_class (AnAlias a) fields = with_name (codes "target") a.target (with_word (codes "kind") (codes "alias") fields)
+    (with_asked i.imports.ask
+    (with_name (codes "dll") i.imports.dll (with_word (codes "kind") (kind_word i.kind) fields)))
+with_class (AnAlias a) fields =
+    with_name (codes "target") a.target (with_word (codes "kind") (codes "alias") fields)
 with_class Descriptor fields = fields
 with_class NullDescriptor fields = fields
 with_class NullThunk fields = fields
@@ -271,7 +283,8 @@ with_class NotUnderstood fields = fields
 
 -- an import or an alias, and where it is
 abbrev pub with_side : SideView → Members → Members
-with_side s fields = with_class s.member.class (with_name (codes "symbol") s.symbol (with_member s.site s.member (with_site s.site fields)))
+with_side s fields = with_class s.member.class
+    (with_name (codes "symbol") s.symbol (with_member s.site s.member (with_site s.site fields)))
 
 -- the object of an import or an alias, and that of a file
 abbrev pub side_object : SideView → Data
@@ -282,20 +295,27 @@ site_object s = object (with_site s no_members)
 
 -- what two sides have of a symbol
 abbrev pub with_sides : List ℕ → Data → Data → Members → Members
-with_sides symbol here there fields = put (codes "there") there (put (codes "here") here (with_name (codes "symbol") symbol fields))
+with_sides symbol here there fields =
+    put (codes "there") there (put (codes "here") here (with_name (codes "symbol") symbol fields))
 
 -- why a library does not work
 abbrev pub with_fault : FaultView → Members → Members
 with_fault NoIndex fields = with_word (codes "why") (codes "no index") fields
-with_fault (UnreadableIndex index) fields = with_number (codes "index") index (with_word (codes "why") (codes "unreadable index") fields)
+with_fault (UnreadableIndex index) fields =
+    with_number (codes "index") index (with_word (codes "why") (codes "unreadable index") fields)
 with_fault (MisleadingEntry index entry) fields =
     with_number (codes "offset") entry.place
-    (with_name (codes "symbol") entry.symbol (with_number (codes "index") index (with_word (codes "why") (codes "entry misleads") fields)))
+    (with_name (codes "symbol") entry.symbol
+    (with_number (codes "index") index (with_word (codes "why") (codes "entry misleads") fields)))
 with_fault (CutApart m cut) fields =
     with_name (codes "gnu") cut.by_gnu
     (with_name (codes "lld") cut.by_lld
-    (with_name (codes "symbol") cut.symbol (with_number (codes "offset") m.offset (with_word (codes "why") (codes "linkers cut differently") fields))))
-with_fault (NotOnePart part) fields = with_word (codes "part") (piece_words part) (with_word (codes "why") (codes "not one part") fields)
+    (with_name (codes "symbol") cut.symbol
+    (with_number (codes "offset") m.offset
+    (with_word (codes "why") (codes "linkers cut differently") fields))))
+with_fault (NotOnePart part) fields =
+    with_word (codes "part") (piece_words part)
+    (with_word (codes "why") (codes "not one part") fields)
 with_fault SeveralDlls fields = with_word (codes "why") (codes "several DLLs") fields
 
 -- where an export leads
@@ -303,40 +323,49 @@ abbrev pub with_target : Target → Members → Members
 with_target Empty fields = fields
 with_target (Address place kind) fields =
     with_number (codes "address") place (with_word (codes "kind") (address_word kind) fields)
-with_target (Forwarder text) fields = with_name (codes "target") text (with_word (codes "kind") (codes "forwarder") fields)
+with_target (Forwarder text) fields =
+    with_name (codes "target") text (with_word (codes "kind") (codes "forwarder") fields)
 
 -- the name of an export, and its position, which is the hint by which a loader finds it at once
 abbrev pub with_named : Option (ℕ × List ℕ) → Members → Members
 with_named None fields = fields
-with_named (Some found) fields = with_number (codes "hint") found.0 (with_name (codes "name") found.1 fields)
+with_named (Some found) fields =
+    with_number (codes "hint") found.0 (with_name (codes "name") found.1 fields)
 
 -- an export of the DLL of a file
 abbrev pub with_export : List ℕ → ExportView → Members → Members
 with_export path e fields =
-    with_named e.name (with_target e.target (with_number (codes "ordinal") e.ordinal (with_word (codes "file") path fields)))
+    with_named e.name (with_target e.target
+    (with_number (codes "ordinal") e.ordinal (with_word (codes "file") path fields)))
 
 -- an import that is lost in the DLL of a file
 abbrev pub with_loss : SideView → List ℕ → Loss → Members → Members
-with_loss side dll loss fields = with_side side (with_word (codes "dll_file") dll (with_word (codes "why") (loss_words loss) fields))
+with_loss side dll loss fields =
+    with_side side
+    (with_word (codes "dll_file") dll (with_word (codes "why") (loss_words loss) fields))
 
 -- an import that the DLL of a file forwards to nothing: the last forwarder, and why
 abbrev pub with_stop : SideView → List ℕ → List ℕ → Stop → Members → Members
 with_stop side dll text why fields =
     with_side side
     (with_word (codes "end") (stop_words why)
-    (with_name (codes "forwarder") text (with_word (codes "dll_file") dll (with_word (codes "why") (codes "forwarded to nothing") fields))))
+    (with_name (codes "forwarder") text
+    (with_word (codes "dll_file") dll
+    (with_word (codes "why") (codes "forwarded to nothing") fields))))
 
 -- what a program asks a DLL for, if that is told
 abbrev pub with_ask_of : Option Asked → Members → Members
 with_ask_of None fields = fields
-with_ask_of (Some (ByName name hint)) fields = with_number (codes "hint") hint (with_name (codes "name") name fields)
+with_ask_of (Some (ByName name hint)) fields =
+    with_number (codes "hint") hint (with_name (codes "name") name fields)
 with_ask_of (Some (ByOrdinal ordinal)) fields = with_number (codes "ordinal") ordinal fields
 
 -- why a program does not find what it imports from a DLL
 abbrev pub with_unmet : UnmetView → Members → Members
 with_unmet NoFile fields = with_word (codes "why") (codes "no file") fields
 with_unmet (LostIn path loss ask) fields =
-    with_ask_of ask (with_word (codes "dll_file") path (with_word (codes "why") (loss_words loss) fields))
+    with_ask_of ask
+    (with_word (codes "dll_file") path (with_word (codes "why") (loss_words loss) fields))
 
 -- the file of a program, a DLL that it imports from, and what it does not find there
 abbrev pub with_program : List ℕ → List ℕ → UnmetView → Members → Members
@@ -346,13 +375,18 @@ with_program program dll unmet fields =
 -- what is found
 abbrev pub with_finding : FindingView → Members → Members
 with_finding (Listed side) fields = with_side side fields
-with_finding (Different here there) fields = with_sides here.symbol (side_object here) (side_object there) fields
-with_finding (Missing here there) fields = with_sides here.symbol (side_object here) (site_object there) fields
-with_finding (Clash symbol here there) fields = with_sides symbol (side_object here) (side_object there) fields
-with_finding (FaultOf path fault) fields = with_fault fault (with_word (codes "library") path fields)
+with_finding (Different here there) fields =
+    with_sides here.symbol (side_object here) (side_object there) fields
+with_finding (Missing here there) fields =
+    with_sides here.symbol (side_object here) (site_object there) fields
+with_finding (Clash symbol here there) fields =
+    with_sides symbol (side_object here) (side_object there) fields
+with_finding (FaultOf path fault) fields =
+    with_fault fault (with_word (codes "library") path fields)
 with_finding (Lost side dll loss) fields = with_loss side dll loss fields
 with_finding (StoppedAt side dll text why) fields = with_stop side dll text why fields
-with_finding (Searched site count) fields = with_number (codes "count") count (with_site site fields)
+with_finding (Searched site count) fields =
+    with_number (codes "count") count (with_site site fields)
 with_finding (Unasked path export) fields = with_export path export fields
 with_finding (Exported path export) fields = with_export path export fields
 with_finding (UnmetBy program dll unmet) fields = with_program program dll unmet fields

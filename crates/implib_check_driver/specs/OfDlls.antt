@@ -34,7 +34,12 @@ options_for_dll define machine = record {
   machine = machine;
   flavor = unwrap_or define.flavor Msvc;
   dll = None;
-  naming = record { is_plain = define.is_plain; kills_at = false; exports_as = false; keeps_decorated = false };
+  naming = record {
+    is_plain = define.is_plain;
+    kills_at = false;
+    exports_as = false;
+    keeps_decorated = false;
+  };
   additions = no_additions;
 }
 
@@ -44,7 +49,8 @@ IsMachineFor define e machine =
     (machine_numbered e.machine ≡ Some machine) × IfSome define.machine (λ named. named ≡ machine)
 
 -- The library of exports.
-pub record IsLibraryOfExports (define : DefineView) (exports : Exports) (library : List ℕ) : Type 0 where
+pub record IsLibraryOfExports (define : DefineView) (exports : Exports)
+    (library : List ℕ) : Type 0 where
   pub machine : MachineType
   pub members : List MemberView
   pub suits : IsMachineFor define exports machine
@@ -88,7 +94,8 @@ pub record AreUnmade (define : DefineView) (e : Exports) : Type 0 where
 
 -- exports without a library: there is no machine for which it could be, or it is not made
 abbrev pub HaveNoLibrary : DefineView → Exports → Type 0
-HaveNoLibrary define e = ((machine : MachineType) → ¬ (IsMachineFor define e machine)) ⊎ AreUnmade define e
+HaveNoLibrary define e =
+    ((machine : MachineType) → ¬ (IsMachineFor define e machine)) ⊎ AreUnmade define e
 
 -- A DLL whose exports have none.
 pub record IsDllUnmade (define : DefineView) (dll : List ℕ) : Type 0 where
@@ -101,4 +108,5 @@ pub record IsDllUnmade (define : DefineView) (dll : List ℕ) : Type 0 where
 abbrev pub HasNoLibrary : DefineView → List ℕ → ℕ → Type 0
 HasNoLibrary define dll status =
     (define.older_symbols ≡ true → status ≡ 2)
-    × (define.older_symbols ≡ false → IsNoDll (exports_in File dll) status ⊎ ((status ≡ 1) × IsDllUnmade define dll))
+    × (define.older_symbols ≡ false →
+    IsNoDll (exports_in File dll) status ⊎ ((status ≡ 1) × IsDllUnmade define dll))

@@ -33,42 +33,55 @@ has_third_text machine e = is_some (exported_name machine e)
 -- which asks for b.
 abbrev pub imports_by_texts : MachineType → DefinitionView → List Import
 imports_by_texts machine d =
-    map (expected_import machine d.import_name) (filter (λ e. not (has_third_text machine e) && not (is_weak e)) (public_exports d))
-    ++ map (expected_import machine d.import_name) (filter (has_third_text machine) (public_exports d))
+    map (expected_import machine d.import_name)
+    (filter (λ e. not (has_third_text machine e) && not (is_weak e)) (public_exports d))
+    ++ map (expected_import machine d.import_name)
+    (filter (has_third_text machine) (public_exports d))
 
 -- the imports that a definition means by these rules for names
 abbrev pub imports_made : NamingView → Flavor → MachineType → DefinitionView → List Import
-imports_made naming Msvc machine d = if naming.exports_as then imports_by_texts machine d else own_imports machine d
+imports_made naming Msvc machine d =
+    if naming.exports_as then imports_by_texts machine d else own_imports machine d
 imports_made naming Gnu machine d = imports_of machine d
 
 -- What is read of the library of a definition: the imports and the aliases that the definition
 -- means, in the order of its exports but for those with a third text, and nothing else but parts of
 -- import tables.
-pub record SaysWhatIsMade (naming : NamingView) (d : DefinitionView) (machine : MachineType) (flavor : Flavor) (meant : List MemberRead) : Type 0 where
-  pub imports : filter_map import_among (by_export flavor (meanings_read meant)) ≡ imports_made naming flavor machine d
-  pub aliases : filter_map alias_among (by_export flavor (meanings_read meant)) ≡ aliases_meant flavor d
+pub record SaysWhatIsMade (naming : NamingView) (d : DefinitionView) (machine : MachineType)
+    (flavor : Flavor) (meant : List MemberRead) : Type 0 where
+  pub imports : filter_map import_among (by_export flavor (meanings_read meant))
+      ≡ imports_made naming flavor machine d
+  pub aliases : filter_map alias_among (by_export flavor (meanings_read meant))
+      ≡ aliases_meant flavor d
   pub read : has_unread meant ≡ false
   pub alone : has_other meant ≡ false
 
 -- the definition of bytes for these options says what is read
-pub record IsMadeBy (definition : List ℕ) (options : LibraryOptionsView) (meant : List MemberRead) : Type 0 where
+pub record IsMadeBy (definition : List ℕ) (options : LibraryOptionsView)
+    (meant : List MemberRead) : Type 0 where
   pub d : DefinitionView
   pub of_text : DefinitionFor (definition_text definition) options d
   pub says : SaysWhatIsMade options.naming (renamed d) options.machine options.flavor meant
 
 -- What is read of the library of a definition is what the definition says.
 abbrev pub MeantIsMade : Type 0
-MeantIsMade = (definition : List ℕ) (options : LibraryOptionsView) (file : List ℕ) (meant : List MemberRead)
-    → IsLibrary definition options file → library_in file ≡ Some meant → IsMadeBy definition options meant
+MeantIsMade =
+    (definition : List ℕ) (options : LibraryOptionsView) (file : List ℕ) (meant : List MemberRead)
+    → IsLibrary definition options file → library_in file ≡ Some meant →
+    IsMadeBy definition options meant
 
 -- The library that a definition has is told to be the same as the definition.
 abbrev pub MadeLibrariesAreTheSame : Type 0
-MadeLibrariesAreTheSame = (definition : List ℕ) (options : LibraryOptionsView) (file : List ℕ) (members : List MemberRead) (v : Verdict)
-    → IsLibrary definition options file → library_in file ≡ Some members → IsVerdictOn false definition options members v → v ≡ Same
+MadeLibrariesAreTheSame =
+    (definition : List ℕ) (options : LibraryOptionsView) (file : List ℕ) (members : List MemberRead)
+    (v : Verdict)
+    → IsLibrary definition options file → library_in file ≡ Some members →
+    IsVerdictOn false definition options members v → v ≡ Same
 
 -- a library has the imports and aliases that a definition means: those of members that say what is
 -- made, in any order
-pub record SaysTheMade (definition : List ℕ) (options : LibraryOptionsView) (members : List MemberRead) : Type 0 where
+pub record SaysTheMade (definition : List ℕ) (options : LibraryOptionsView)
+    (members : List MemberRead) : Type 0 where
   pub meant : List MemberRead
   pub made : IsMadeBy definition options meant
   pub same : AreTheSame members meant

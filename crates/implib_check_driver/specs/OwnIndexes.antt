@@ -11,7 +11,8 @@ pub record IndexesLead (a : Archive) : Type 0 where
   pub contents : List ℕ
   pub first : linker_member 0 a.parts ≡ Some contents
   pub leads : first_misleads a.members contents ≡ Some []
-  pub second_leads : (others : List ℕ) → linker_member 1 a.parts ≡ Some others → second_misleads a.members others ≡ Some []
+  pub second_leads : (others : List ℕ) → linker_member 1 a.parts ≡ Some others →
+      second_misleads a.members others ≡ Some []
 
 -- The library of a definition has a first linker member. That, and the second one where there is
 -- one, lead each of their symbols to the first member that declares it.

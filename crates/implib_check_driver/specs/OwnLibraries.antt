@@ -40,14 +40,18 @@ aliases_meant Gnu d = aliases_of d
 
 -- What is read of the library of a definition: the imports and the aliases that the definition
 -- means, in the order of its exports, and nothing else but parts of import tables.
-pub record SaysWhatIsDefined (d : DefinitionView) (machine : MachineType) (flavor : Flavor) (meant : List MemberRead) : Type 0 where
-  pub imports : filter_map import_among (by_export flavor (meanings_read meant)) ≡ imports_meant flavor machine d
-  pub aliases : filter_map alias_among (by_export flavor (meanings_read meant)) ≡ aliases_meant flavor d
+pub record SaysWhatIsDefined (d : DefinitionView) (machine : MachineType) (flavor : Flavor)
+    (meant : List MemberRead) : Type 0 where
+  pub imports : filter_map import_among (by_export flavor (meanings_read meant))
+      ≡ imports_meant flavor machine d
+  pub aliases : filter_map alias_among (by_export flavor (meanings_read meant))
+      ≡ aliases_meant flavor d
   pub read : has_unread meant ≡ false
   pub alone : has_other meant ≡ false
 
 -- the definition of bytes for these options says what is read
-pub record IsDefinedBy (definition : List ℕ) (options : LibraryOptionsView) (meant : List MemberRead) : Type 0 where
+pub record IsDefinedBy (definition : List ℕ) (options : LibraryOptionsView)
+    (meant : List MemberRead) : Type 0 where
   pub d : DefinitionView
   pub of_text : DefinitionFor (definition_text definition) options d
   pub says : SaysWhatIsDefined (renamed d) options.machine options.flavor meant
@@ -55,19 +59,25 @@ pub record IsDefinedBy (definition : List ℕ) (options : LibraryOptionsView) (m
 -- What is read of the library of a definition is what the definition says, where no short import
 -- has a third text.
 abbrev pub MeantIsDefined : Type 0
-MeantIsDefined = (definition : List ℕ) (options : LibraryOptionsView) (file : List ℕ) (meant : List MemberRead)
-    → options.naming.exports_as ≡ false → IsLibrary definition options file → library_in file ≡ Some meant → IsDefinedBy definition options meant
+MeantIsDefined =
+    (definition : List ℕ) (options : LibraryOptionsView) (file : List ℕ) (meant : List MemberRead)
+    → options.naming.exports_as ≡ false → IsLibrary definition options file →
+    library_in file ≡ Some meant → IsDefinedBy definition options meant
 
 -- The library that a definition has is told to be the same as the definition, where no short import
 -- has a third text.
 abbrev pub OwnLibrariesAreTheSame : Type 0
-OwnLibrariesAreTheSame = (definition : List ℕ) (options : LibraryOptionsView) (file : List ℕ) (members : List MemberRead) (v : Verdict)
-    → options.naming.exports_as ≡ false → IsLibrary definition options file → library_in file ≡ Some members → IsVerdictOn false definition options members v
+OwnLibrariesAreTheSame =
+    (definition : List ℕ) (options : LibraryOptionsView) (file : List ℕ) (members : List MemberRead)
+    (v : Verdict)
+    → options.naming.exports_as ≡ false → IsLibrary definition options file →
+    library_in file ≡ Some members → IsVerdictOn false definition options members v
     → v ≡ Same
 
 -- a library has the imports and aliases that a definition means: those of members that say what is
 -- defined, in any order
-pub record SaysTheDefined (definition : List ℕ) (options : LibraryOptionsView) (members : List MemberRead) : Type 0 where
+pub record SaysTheDefined (definition : List ℕ) (options : LibraryOptionsView)
+    (members : List MemberRead) : Type 0 where
   pub meant : List MemberRead
   pub defined : IsDefinedBy definition options meant
   pub same : AreTheSame members meant
@@ -75,5 +85,6 @@ pub record SaysTheDefined (definition : List ℕ) (options : LibraryOptionsView)
 -- A library is told to be the same as a definition only where it has the imports and aliases that
 -- the definition means, and no short import of the definition's library has a third text.
 abbrev pub SameSaysTheDefined : Type 0
-SameSaysTheDefined = (definition : List ℕ) (options : LibraryOptionsView) (members : List MemberRead) → options.naming.exports_as ≡ false
+SameSaysTheDefined = (definition : List ℕ) (options : LibraryOptionsView)
+    (members : List MemberRead) → options.naming.exports_as ≡ false
     → IsVerdictOn false definition options members Same → SaysTheDefined definition options members

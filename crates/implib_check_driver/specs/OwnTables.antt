@@ -13,6 +13,8 @@ use Rattle.implib_compare.specs.Working.{has_whole_tables, works_of}
 -- understood, its imports are of one DLL at most, and its import tables are whole, for the flavour
 -- that is told from its members.
 abbrev pub OwnTablesAreWhole : Type 0
-OwnTablesAreWhole = (definition : List ℕ) (options : LibraryOptionsView) (file : List ℕ) (members : List MemberRead)
+OwnTablesAreWhole =
+    (definition : List ℕ) (options : LibraryOptionsView) (file : List ℕ) (members : List MemberRead)
     → IsLibrary definition options file → library_in file ≡ Some members
-    → works_of false (has_unread members) (length (dlls_of members)) (has_whole_tables (flavor_of members) members) ≡ Works
+    → works_of false (has_unread members) (length (dlls_of members))
+    (has_whole_tables (flavor_of members) members) ≡ Works

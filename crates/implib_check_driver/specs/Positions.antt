@@ -19,7 +19,8 @@ use Rattle.implib_rules.specs.declared.places.Place.{Place}
 
 -- the position of an export, if it declares this symbol
 abbrev pub position_if : ExportView → List ℕ → Position → Option Position
-position_if e symbol position = if not e.private && bytes_eq e.name symbol then Some position else None
+position_if e symbol position =
+    if not e.private && bytes_eq e.name symbol then Some position else None
 
 -- The position of the first export that declares a symbol, where exports count from a number. A
 -- private one declares none.
@@ -30,12 +31,14 @@ position_from number (e ∷ exports) positions symbol =
     (position_from (number + 1) exports positions symbol)
 
 -- The positions of a definition's exports, as it is linked, by their symbols.
-pub record ArePositionsOf (definition : List ℕ) (options : LibraryOptionsView) (at : List ℕ → Option Position) : Type 0 where
+pub record ArePositionsOf (definition : List ℕ) (options : LibraryOptionsView)
+    (at : List ℕ → Option Position) : Type 0 where
   pub meant : DefinitionView
   pub places : List Place
   pub of_text : DefinitionFor (definition_text definition) options meant
   pub in_text : ArePlacesOf (definition_text definition) places
-  pub are : (symbol : List ℕ) → at symbol ≡ position_from 0 meant.exports (export_positions places) symbol
+  pub are : (symbol : List ℕ) →
+      at symbol ≡ position_from 0 meant.exports (export_positions places) symbol
 
 -- what refuses a text, but for want of memory
 abbrev pub IsTextCause : Refusal → Type 0

@@ -9,10 +9,13 @@ use Rattle.implib_check_driver.specs.declared.definition.CheckError.TheVariants.
 
 -- why a definition is not compared: it has no library, for this
 abbrev pub IsRefusalOfCheck : Bool → List ℕ → LibraryOptionsView → CheckError → Type 0
-IsRefusalOfCheck older definition options (Refused refusal) = IsRefusalFor older definition options refusal
+IsRefusalOfCheck older definition options (Refused refusal) =
+    IsRefusalFor older definition options refusal
 IsRefusalOfCheck older definition options (Failed failure) = Unit {0}
 
 -- why the definitions of a library for ARM64EC are not compared
-abbrev pub IsRefusalOfArm64ec : List ℕ → Option (List ℕ) → LibraryOptionsView → Arm64ecError → Type 0
-IsRefusalOfArm64ec definition native options (arm64ec.Refused fault) = IsArm64ecFault definition native options fault
+abbrev pub IsRefusalOfArm64ec : List ℕ → Option (List ℕ) → LibraryOptionsView → Arm64ecError →
+    Type 0
+IsRefusalOfArm64ec definition native options (arm64ec.Refused fault) =
+    IsArm64ecFault definition native options fault
 IsRefusalOfArm64ec definition native options (arm64ec.Failed failure) = Unit {0}

@@ -21,13 +21,15 @@ status_in (Err fault) machine asks = 3
 -- and 1 where no folder has the DLL.
 abbrev pub dll_status : (List ℕ → List ℕ) → List Listing → ℕ → ImportedDll → ℕ
 dll_status file folders machine i =
-    if is_asked i then option_map_or (λ path. status_in (exports_in File (file path)) machine i.asks)
+    if is_asked i
+    then option_map_or (λ path. status_in (exports_in File (file path)) machine i.asks)
     (dll_path folders (loader_name i.dll)) 1
     else 0
 
 -- the greatest status of the DLLs
 abbrev pub dlls_status : (List ℕ → List ℕ) → List Listing → ℕ → List ImportedDll → ℕ
-dlls_status file folders machine dlls = fold (λ status i. max status (dll_status file folders machine i)) 0 dlls
+dlls_status file folders machine dlls =
+    fold (λ status i. max status (dll_status file folders machine i)) 0 dlls
 
 -- The status of a program: that of its DLLs, or 3 where its file is refused.
 abbrev pub program_status : (List ℕ → List ℕ) → List Listing → Read Imports → ℕ

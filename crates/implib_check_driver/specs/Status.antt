@@ -65,7 +65,8 @@ together_status unread clash = if unread then 4 else if clash then 1 else 0
 -- what failed: memory alone is told apart from writing
 abbrev pub IsFailureOf : ErrorKind → Failure → Type 0
 IsFailureOf kind failure =
-    (kind ≡ io.OutOfMemory → failure ≡ failed.OutOfMemory) × (¬ (kind ≡ io.OutOfMemory) → failure ≡ failed.Writing)
+    (kind ≡ io.OutOfMemory → failure ≡ failed.OutOfMemory)
+    × (¬ (kind ≡ io.OutOfMemory) → failure ≡ failed.Writing)
 
 -- of bytes that are no library: 1, as of a broken one, where they begin as an archive and are cut
 -- off; else 3

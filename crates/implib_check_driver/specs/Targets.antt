@@ -67,7 +67,8 @@ is_for_gnu None = false
 -- has, and for another machine a native definition.
 abbrev pub is_unfit : CheckView → List MemberRead → Bool
 is_unfit check members =
-    if is_for_arm64ec check members then check.older_symbols || is_for_gnu check.flavor else is_some check.native
+    if is_for_arm64ec check members then check.older_symbols || is_for_gnu check.flavor
+    else is_some check.native
 
 -- The flavour that is named, and else that of the library; but GNU's where older symbols are asked
 -- for, which it alone has.
@@ -92,6 +93,11 @@ options_of define members = record {
   machine = unwrap_or define.machine (machine_of members);
   flavor = flavor_for define.flavor define.older_symbols members;
   dll = None;
-  naming = record { is_plain = define.is_plain; kills_at = false; exports_as = false; keeps_decorated = false };
+  naming = record {
+    is_plain = define.is_plain;
+    kills_at = false;
+    exports_as = false;
+    keeps_decorated = false;
+  };
   additions = no_additions;
 }

@@ -66,7 +66,8 @@ with_library option path =
 
 -- the task of a word and two libraries
 abbrev pub with_libraries : List ℕ → List ℕ → List ℕ → Option TaskView
-with_libraries option left right = if bytes_eq option (codes "--same") then Some (Compares left right) else None
+with_libraries option left right =
+    if bytes_eq option (codes "--same") then Some (Compares left right) else None
 
 -- what the words ask for by the first of them
 abbrev pub task_by_name : List (List ℕ) → Option TaskView
@@ -101,7 +102,8 @@ with_files (first ∷ rest) =
 
 -- what the words after the program's name ask for
 abbrev pub task_named : List (List ℕ) → Option TaskView
-task_named words = option_or (task_by_name words) (option_or (with_folders words) (with_files words))
+task_named words =
+    option_or (task_by_name words) (option_or (with_folders words) (with_files words))
 
 -- whether a word asks for JSON
 abbrev pub is_json_word : List ℕ → Bool

@@ -29,7 +29,8 @@ symbols_of NotUnderstood = []
 -- What a member makes of its symbols, as bytes: of an import what it asks for, and its DLL, whose
 -- capitals do not count; of an alias the other symbol.
 abbrev pub made_of : Class → List ℕ
-made_of (AnImport i) = 1 ∷ (asked_key (asked_by i.imports.ask) ++ text_key (map to_ascii_lowercase i.imports.dll))
+made_of (AnImport i) =
+    1 ∷ (asked_key (asked_by i.imports.ask) ++ text_key (map to_ascii_lowercase i.imports.dll))
 made_of (AnAlias a) = 2 ∷ text_key a.target
 made_of Descriptor = []
 made_of NullDescriptor = []
@@ -49,11 +50,13 @@ pub record ClaimView : Type 0 where
 
 -- the view of a claim of the program
 abbrev pub claim_view : Claim → ClaimView
-claim_view c = record { symbol = c.symbol.items; made = c.made.items; library = c.library; member = c.member }
+claim_view c =
+    record { symbol = c.symbol.items; made = c.made.items; library = c.library; member = c.member }
 
 -- the claim of a symbol
 abbrev pub claim_for : ℕ → ℕ → List ℕ → List ℕ → ClaimView
-claim_for library member made symbol = record { symbol = symbol; made = made; library = library; member = member }
+claim_for library member made symbol =
+    record { symbol = symbol; made = made; library = library; member = member }
 
 -- the claims of a member
 abbrev pub claims_of : ℕ → ℕ → Class → List ClaimView
@@ -62,21 +65,27 @@ claims_of library member class = map (claim_for library member (made_of class)) 
 -- the claims of the members of a library, the first of which has a number, in order
 abbrev pub claims_from : ℕ → ℕ → List MemberRead → List ClaimView
 claims_from library member [] = []
-claims_from library member (m ∷ members) = claims_of library member m.class ++ claims_from library (member + 1) members
+claims_from library member (m ∷ members) =
+    claims_of library member m.class ++ claims_from library (member + 1) members
 
 -- the number of the first claim of a symbol, where the claims count from a number
 abbrev pub first_of : ℕ → List ClaimView → List ℕ → Option ℕ
 first_of number [] symbol = None
-first_of number (c ∷ claims) symbol = option_or (if bytes_eq c.symbol symbol then Some number else None) (first_of (number + 1) claims symbol)
+first_of number (c ∷ claims) symbol =
+    option_or (if bytes_eq c.symbol symbol then Some number else None)
+    (first_of (number + 1) claims symbol)
 
 -- a number, if the claim that has it is another library's than this one, and makes another thing of
 -- the symbol
 abbrev pub apart : ClaimView → ℕ → ClaimView → Option ℕ
-apart c number first = if first.library == c.library || bytes_eq first.made c.made then None else Some number
+apart c number first =
+    if first.library == c.library || bytes_eq first.made c.made then None else Some number
 
 -- the number of the first claim of a claim's symbol, if they clash
 abbrev pub clash_of : List ClaimView → ClaimView → Option ℕ
-clash_of claims c = option_and_then (λ number. option_and_then (apart c number) (slice_get claims number)) (first_of 0 claims c.symbol)
+clash_of claims c = option_and_then
+    (λ number. option_and_then (apart c number) (slice_get claims number))
+    (first_of 0 claims c.symbol)
 
 -- With which first claim each claim clashes, if it does.
 abbrev pub clashes : List ClaimView → List (Option ℕ)
@@ -85,7 +94,8 @@ clashes claims = map (clash_of claims) claims
 -- the claims of libraries, the first of which has a number, in order
 abbrev pub claims_of_all : ℕ → List (List MemberRead) → List ClaimView
 claims_of_all library [] = []
-claims_of_all library (members ∷ libraries) = claims_from library 0 members ++ claims_of_all (library + 1) libraries
+claims_of_all library (members ∷ libraries) =
+    claims_from library 0 members ++ claims_of_all (library + 1) libraries
 
 -- whether a claim of libraries clashes
 abbrev pub is_clash : List (List MemberRead) → Bool

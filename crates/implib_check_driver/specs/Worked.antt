@@ -15,9 +15,12 @@ use Rattle.implib_check_driver.specs.Tasks.{WorksOf, asks_json, call_named, task
 
 -- Which DLLs a library has.
 pub record WorkedIdentities : Type 0 where
-  pub two : dlls_of (of_dll (codes "b.dll") [] (Ordinal 1) Code 0 ∷ member Descriptor ∷ of_dll (codes "a.dll") [] (Ordinal 1) Code 0 ∷ of_dll (codes "b.dll") [] (Ordinal 2) Code 0 ∷ [])
+  pub two : dlls_of (of_dll (codes "b.dll") [] (Ordinal 1) Code 0 ∷ member Descriptor
+      ∷ of_dll (codes "a.dll") [] (Ordinal 1) Code 0 ∷ of_dll (codes "b.dll") [] (Ordinal 2) Code 0
+      ∷ [])
       ≡ codes "b.dll" ∷ codes "a.dll" ∷ []
-  pub capitals : dlls_of (of_dll (codes "a.dll") [] (Ordinal 1) Code 0 ∷ of_dll (codes "A.dll") [] (Ordinal 1) Code 0 ∷ []) ≡ codes "a.dll" ∷ codes "A.dll" ∷ []
+  pub capitals : dlls_of (of_dll (codes "a.dll") [] (Ordinal 1) Code 0
+      ∷ of_dll (codes "A.dll") [] (Ordinal 1) Code 0 ∷ []) ≡ codes "a.dll" ∷ codes "A.dll" ∷ []
   pub none : dlls_of (member Descriptor ∷ alias (codes "a") (codes "b") ∷ []) ≡ []
 
 -- The exit statuses.
@@ -43,9 +46,12 @@ pub record WorkedStatuses : Type 0 where
 -- Command lines.
 pub record WorkedTasks : Type 0 where
   pub list : task_named (codes "--list" ∷ codes "a.lib" ∷ []) ≡ Some (Lists (codes "a.lib"))
-  pub identify : task_named (codes "--identify" ∷ codes "a.lib" ∷ []) ≡ Some (Identifies (codes "a.lib") false)
-  pub strictly : task_named (codes "--identify-strict" ∷ codes "a.lib" ∷ []) ≡ Some (Identifies (codes "a.lib") true)
-  pub same : task_named (codes "--same" ∷ codes "a.lib" ∷ codes "b.lib" ∷ []) ≡ Some (Compares (codes "a.lib") (codes "b.lib"))
+  pub identify : task_named (codes "--identify" ∷ codes "a.lib" ∷ [])
+      ≡ Some (Identifies (codes "a.lib") false)
+  pub strictly : task_named (codes "--identify-strict" ∷ codes "a.lib" ∷ [])
+      ≡ Some (Identifies (codes "a.lib") true)
+  pub same : task_named (codes "--same" ∷ codes "a.lib" ∷ codes "b.lib" ∷ [])
+      ≡ Some (Compares (codes "a.lib") (codes "b.lib"))
   pub works : task_named (codes "--works" ∷ codes "a.lib" ∷ []) ≡ Some (WorksOf (codes "a.lib"))
   pub help : task_named (codes "-h" ∷ []) ≡ Some Help
   pub long_help : task_named (codes "--help" ∷ []) ≡ Some Help
@@ -58,15 +64,24 @@ pub record WorkedTasks : Type 0 where
   pub three_libraries : task_named (codes "--same" ∷ codes "a" ∷ codes "b" ∷ codes "c" ∷ []) ≡ None
   pub unknown : task_named (codes "--lists" ∷ codes "a.lib" ∷ []) ≡ None
   -- `--json` before, among and behind the other words, twice, and where a call has no JSON
-  pub json_first : call_named (codes "--json" ∷ codes "--list" ∷ codes "a.lib" ∷ []) ≡ Some (Lists (codes "a.lib"))
-  pub json_last : call_named (codes "--works" ∷ codes "a.lib" ∷ codes "--json" ∷ []) ≡ Some (WorksOf (codes "a.lib"))
-  pub json_among : call_named (codes "--same" ∷ codes "a.lib" ∷ codes "--json" ∷ codes "b.lib" ∷ []) ≡ Some (Compares (codes "a.lib") (codes "b.lib"))
-  pub json_twice : call_named (codes "--together" ∷ codes "--json" ∷ codes "a" ∷ codes "b" ∷ codes "--json" ∷ []) ≡ Some (Joins (codes "a" ∷ codes "b" ∷ []))
+  pub json_first : call_named (codes "--json" ∷ codes "--list" ∷ codes "a.lib" ∷ [])
+      ≡ Some (Lists (codes "a.lib"))
+  pub json_last : call_named (codes "--works" ∷ codes "a.lib" ∷ codes "--json" ∷ [])
+      ≡ Some (WorksOf (codes "a.lib"))
+  pub json_among : call_named (codes "--same" ∷ codes "a.lib" ∷ codes "--json" ∷ codes "b.lib" ∷ [])
+      ≡ Some (Compares (codes "a.lib") (codes "b.lib"))
+  pub json_twice : call_named
+      (codes "--together" ∷ codes "--json" ∷ codes "a" ∷ codes "b" ∷ codes "--json" ∷ [])
+      ≡ Some (Joins (codes "a" ∷ codes "b" ∷ []))
   pub asked : asks_json (codes "--list" ∷ codes "a.lib" ∷ codes "--json" ∷ []) ≡ true
   pub not_asked : asks_json (codes "--list" ∷ codes "a.lib" ∷ codes "--jsonl" ∷ []) ≡ false
-  pub without_json : call_named (codes "--identify" ∷ codes "a.lib" ∷ []) ≡ Some (Identifies (codes "a.lib") false)
-  pub no_json_of_names : call_named (codes "--identify" ∷ codes "a.lib" ∷ codes "--json" ∷ []) ≡ None
-  pub no_json_of_a_name : call_named (codes "--identify-strict" ∷ codes "--json" ∷ codes "a.lib" ∷ []) ≡ None
-  pub no_json_of_a_definition : call_named (codes "--def" ∷ codes "a.lib" ∷ codes "--json" ∷ []) ≡ None
+  pub without_json : call_named (codes "--identify" ∷ codes "a.lib" ∷ [])
+      ≡ Some (Identifies (codes "a.lib") false)
+  pub no_json_of_names : call_named (codes "--identify" ∷ codes "a.lib" ∷ codes "--json" ∷ [])
+      ≡ None
+  pub no_json_of_a_name : call_named
+      (codes "--identify-strict" ∷ codes "--json" ∷ codes "a.lib" ∷ []) ≡ None
+  pub no_json_of_a_definition : call_named (codes "--def" ∷ codes "a.lib" ∷ codes "--json" ∷ [])
+      ≡ None
   pub no_json_of_help : call_named (codes "--help" ∷ codes "--json" ∷ []) ≡ None
   pub json_is_no_library : call_named (codes "--list" ∷ codes "--json" ∷ []) ≡ None

@@ -26,10 +26,13 @@ beside_dll = record plain_check { definition = codes "d/W.dll" }
 
 -- What calls say.
 pub record WorkedAgainst : Type 0 where
-  pub all : check_called (codes "--all" ∷ codes "a.lib" ∷ codes "d/W.dll" ∷ []) ≡ Some (record beside_dll { lists_unasked = true })
+  pub all : check_called (codes "--all" ∷ codes "a.lib" ∷ codes "d/W.dll" ∷ [])
+      ≡ Some (record beside_dll { lists_unasked = true })
   pub all_defines_nothing : define_called (codes "a.lib" ∷ codes "--all" ∷ []) ≡ None
-  pub exports : task_named (codes "--exports" ∷ codes "a.dll" ∷ []) ≡ Some (ListsExports (codes "a.dll"))
-  pub exports_in_json : call_named (codes "--exports" ∷ codes "--json" ∷ codes "a.dll" ∷ []) ≡ Some (ListsExports (codes "a.dll"))
+  pub exports : task_named (codes "--exports" ∷ codes "a.dll" ∷ [])
+      ≡ Some (ListsExports (codes "a.dll"))
+  pub exports_in_json : call_named (codes "--exports" ∷ codes "--json" ∷ codes "a.dll" ∷ [])
+      ≡ Some (ListsExports (codes "a.dll"))
   pub exports_of_two : task_named (codes "--exports" ∷ codes "a.dll" ∷ codes "b.dll" ∷ []) ≡ None
   -- bytes, whole and cut
   pub dll : begins_dll (codes "MZ.") ≡ true
@@ -38,17 +41,51 @@ pub record WorkedAgainst : Type 0 where
   pub thin : begins_archive (codes "!<thin>\n") ≡ true
   pub no_archive : begins_archive (codes "!<arch>") ≡ false
   -- names: those of the directory and of the file, or the one that is given
-  pub own_names : names_of None (codes "d/ZOO") (codes "Zoo2.Dll") ≡ codes "zoo2.dll" ∷ codes "zoo.dll" ∷ []
-  pub given_name : names_of (Some (codes "d\\Bar")) (codes "d/ZOO") (codes "Zoo2.Dll") ≡ codes "bar.dll" ∷ []
+  pub own_names : names_of None (codes "d/ZOO") (codes "Zoo2.Dll")
+      ≡ codes "zoo2.dll" ∷ codes "zoo.dll" ∷ []
+  pub given_name : names_of (Some (codes "d\\Bar")) (codes "d/ZOO") (codes "Zoo2.Dll")
+      ≡ codes "bar.dll" ∷ []
   -- options of definitions
-  pub no_option : has_options (record beside_dll { dll = Some (codes "w.dll"); lists_unasked = true }) ≡ false
+  pub no_option : has_options
+      (record beside_dll { dll = Some (codes "w.dll"); lists_unasked = true }) ≡ false
   pub machine : has_options (record beside_dll { machine = Some I386 }) ≡ true
   pub flavor : has_options (record beside_dll { flavor = Some Gnu }) ≡ true
   pub older : has_options (record beside_dll { older_symbols = true }) ≡ true
-  pub plain : has_options (record beside_dll { naming = record { is_plain = true; kills_at = false; exports_as = false; keeps_decorated = false } }) ≡ true
-  pub killed : has_options (record beside_dll { naming = record { is_plain = false; kills_at = true; exports_as = false; keeps_decorated = false } }) ≡ true
-  pub exported_as : has_options (record beside_dll { naming = record { is_plain = false; kills_at = false; exports_as = true; keeps_decorated = false } }) ≡ true
-  pub decorated : has_options (record beside_dll { naming = record { is_plain = false; kills_at = false; exports_as = false; keeps_decorated = true } }) ≡ true
+  pub plain : has_options (record beside_dll {
+    naming = record {
+      is_plain = true;
+      kills_at = false;
+      exports_as = false;
+      keeps_decorated = false;
+    };
+  }) ≡ true
+  pub killed : has_options
+      (record beside_dll {
+        naming = record {
+          is_plain = false;
+          kills_at = true;
+          exports_as = false;
+          keeps_decorated = false;
+        };
+      }) ≡ true
+  pub exported_as : has_options
+      (record beside_dll {
+        naming = record {
+          is_plain = false;
+          kills_at = false;
+          exports_as = true;
+          keeps_decorated = false;
+        };
+      }) ≡ true
+  pub decorated : has_options
+      (record beside_dll {
+        naming = record {
+          is_plain = false;
+          kills_at = false;
+          exports_as = false;
+          keeps_decorated = true;
+        };
+      }) ≡ true
   -- statuses: a search alone is no fault, a lost import counts before a member that is not
   -- understood, and no import is one
   pub found : against_status (NoImport ∷ Searched ∷ Reached ∷ []) false ≡ 0
@@ -59,21 +96,48 @@ pub record WorkedAgainst : Type 0 where
   -- members: one is of another DLL; without it all is found; not by another name; and one is not
   -- understood
   pub other_dll : members_in None beside_dll members (Ok (Some worked_exports)) ≡ 1
-  pub as_other : members_in None (record beside_dll { dll = Some (codes "v.dll") }) (member_of (AnImport (import_of (codes "v") (Ordinal 5) Code 0x14C)) ∷ []) (Ok (Some worked_exports)) ≡ 0
-  pub all_found : members_against None beside_dll worked_exports (member_of Head ∷ member_of (AnImport (import_of (codes "W") (Name (codes "beta") 0) Code 0x14C)) ∷ []) ≡ 0
-  pub not_by_that_name : members_against None (record beside_dll { dll = Some (codes "v.dll") }) worked_exports
+  pub as_other : members_in None (record beside_dll { dll = Some (codes "v.dll") })
+      (member_of (AnImport (import_of (codes "v") (Ordinal 5) Code 0x14C)) ∷ [])
+      (Ok (Some worked_exports)) ≡ 0
+  pub all_found : members_against None beside_dll worked_exports
+      (member_of Head
+      ∷ member_of (AnImport (import_of (codes "W") (Name (codes "beta") 0) Code 0x14C)) ∷ []) ≡ 0
+  pub not_by_that_name : members_against None (record beside_dll { dll = Some (codes "v.dll") })
+      worked_exports
       (member_of (AnImport (import_of (codes "W") (Name (codes "beta") 0) Code 0x14C)) ∷ []) ≡ 1
-  pub is_open : members_against None beside_dll worked_exports (member_of NotUnderstood ∷ member_of (AnImport (import_of (codes "W") (Name (codes "beta") 0) Code 0x14C)) ∷ []) ≡ 4
+  pub is_open : members_against None beside_dll worked_exports
+      (member_of NotUnderstood
+      ∷ member_of (AnImport (import_of (codes "W") (Name (codes "beta") 0) Code 0x14C)) ∷ []) ≡ 4
   pub exports_nothing : members_in None beside_dll members (Ok None) ≡ 1
-  pub refused : members_in None beside_dll members (Err (record { cause = NoDosHeader; offset = 0 })) ≡ 3
+  pub refused : members_in None beside_dll members
+      (Err (record { cause = NoDosHeader; offset = 0 })) ≡ 3
   pub listed : exported (Ok (Some worked_exports)) ≡ 0
   pub none_listed : exported (Ok None) ≡ 1
   pub none_read : exported (Err (record { cause = NoDosHeader; offset = 0 })) ≡ 3
   -- for what a definition is read: the DLL's machine, Microsoft's flavour, or GNU's for older
   -- symbols, or as a call says
   pub for_dll : options_against beside_dll worked_exports
-      ≡ record { machine = I386; flavor = Msvc; dll = None; naming = plain_check.naming; additions = no_additions }
-  pub for_unknown : options_against (record beside_dll { older_symbols = true }) (record worked_exports { machine = 0x166 })
-      ≡ record { machine = AMD64; flavor = Gnu; dll = None; naming = plain_check.naming; additions = no_additions }
+      ≡ record {
+        machine = I386;
+        flavor = Msvc;
+        dll = None;
+        naming = plain_check.naming;
+        additions = no_additions;
+      }
+  pub for_unknown : options_against (record beside_dll { older_symbols = true })
+      (record worked_exports { machine = 0x166 })
+      ≡ record {
+        machine = AMD64;
+        flavor = Gnu;
+        dll = None;
+        naming = plain_check.naming;
+        additions = no_additions;
+      }
   pub as_said : options_against (record full_check { machine = Some ARM64 }) worked_exports
-      ≡ record { machine = ARM64; flavor = Gnu; dll = Some (codes "d/zoo.dll"); naming = full_check.naming; additions = no_additions }
+      ≡ record {
+        machine = ARM64;
+        flavor = Gnu;
+        dll = Some (codes "d/zoo.dll");
+        naming = full_check.naming;
+        additions = no_additions;
+      }

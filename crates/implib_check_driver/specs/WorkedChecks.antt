@@ -30,7 +30,12 @@ plain_check = record {
   native = None;
   flavor = None;
   dll = None;
-  naming = record { is_plain = false; kills_at = false; exports_as = false; keeps_decorated = false };
+  naming = record {
+    is_plain = false;
+    kills_at = false;
+    exports_as = false;
+    keeps_decorated = false;
+  };
   older_symbols = false;
   lists_unasked = false;
   folders = [];
@@ -56,35 +61,60 @@ full_check = record {
 pub record WorkedChecks : Type 0 where
   pub plain : check_called (codes "a.lib" ∷ codes "a.def" ∷ []) ≡ Some plain_check
   pub full : check_called
-      (codes "a.lib" ∷ codes "a.def" ∷ codes "-m" ∷ codes "i386" ∷ codes "-k" ∷ codes "--no-leading-underscore" ∷ codes "-D" ∷ codes "d/zoo.dll"
+      (codes "a.lib" ∷ codes "a.def" ∷ codes "-m" ∷ codes "i386" ∷ codes "-k"
+      ∷ codes "--no-leading-underscore" ∷ codes "-D" ∷ codes "d/zoo.dll"
       ∷ codes "--flavor" ∷ codes "gnu" ∷ []) ≡ Some full_check
   -- by long names, before the files and between them, and an option twice: the last counts
   pub long : check_called
-      (codes "--machine" ∷ codes "arm64" ∷ codes "a.lib" ∷ codes "--kill-at" ∷ codes "--dllname" ∷ codes "d/zoo.dll" ∷ codes "a.def" ∷ codes "--no-leading-underscore"
+      (codes "--machine" ∷ codes "arm64" ∷ codes "a.lib" ∷ codes "--kill-at" ∷ codes "--dllname"
+      ∷ codes "d/zoo.dll" ∷ codes "a.def" ∷ codes "--no-leading-underscore"
       ∷ codes "--flavor" ∷ codes "gnu" ∷ codes "--machine" ∷ codes "x86" ∷ []) ≡ Some full_check
   pub export_as : check_called (codes "a.lib" ∷ codes "--export-as" ∷ codes "a.def" ∷ [])
-      ≡ Some (record plain_check { naming = record { is_plain = false; kills_at = false; exports_as = true; keeps_decorated = false } })
-  pub lib : check_called (codes "a.lib" ∷ codes "--lib" ∷ codes "a.def" ∷ codes "-m" ∷ codes "x86" ∷ [])
-      ≡ Some (record plain_check { machine = Some I386; naming = record { is_plain = false; kills_at = false; exports_as = true; keeps_decorated = true } })
+      ≡ Some (record plain_check {
+        naming = record {
+          is_plain = false;
+          kills_at = false;
+          exports_as = true;
+          keeps_decorated = false;
+        };
+      })
+  pub lib : check_called
+      (codes "a.lib" ∷ codes "--lib" ∷ codes "a.def" ∷ codes "-m" ∷ codes "x86" ∷ [])
+      ≡ Some (record plain_check {
+        machine = Some I386;
+        naming =
+            record { is_plain = false; kills_at = false; exports_as = true; keeps_decorated = true };
+      })
   -- older symbols, which GNU's flavour alone has
-  pub older : check_called (codes "-C" ∷ codes "a.lib" ∷ codes "a.def" ∷ []) ≡ Some (record plain_check { older_symbols = true })
-  pub older_by_long_name : check_called (codes "a.lib" ∷ codes "a.def" ∷ codes "--compat-implib" ∷ codes "--flavor" ∷ codes "gnu" ∷ [])
+  pub older : check_called (codes "-C" ∷ codes "a.lib" ∷ codes "a.def" ∷ [])
+      ≡ Some (record plain_check { older_symbols = true })
+  pub older_by_long_name : check_called
+      (codes "a.lib" ∷ codes "a.def" ∷ codes "--compat-implib" ∷ codes "--flavor" ∷ codes "gnu"
+      ∷ [])
       ≡ Some (record plain_check { flavor = Some Gnu; older_symbols = true })
-  pub older_for_msvc : check_called (codes "a.lib" ∷ codes "a.def" ∷ codes "--flavor" ∷ codes "msvc" ∷ codes "-C" ∷ []) ≡ None
+  pub older_for_msvc : check_called
+      (codes "a.lib" ∷ codes "a.def" ∷ codes "--flavor" ∷ codes "msvc" ∷ codes "-C" ∷ []) ≡ None
   pub no_definition_of_lib : define_called (codes "a.lib" ∷ codes "--lib" ∷ []) ≡ None
   pub no_definition_of_export_as : define_called (codes "a.lib" ∷ codes "--export-as" ∷ []) ≡ None
   pub task : task_named (codes "a.lib" ∷ codes "a.def" ∷ []) ≡ Some (Checks plain_check)
-  pub task_of_more : task_named (codes "a.lib" ∷ codes "a.def" ∷ codes "--flavour" ∷ codes "msvc" ∷ []) ≡ Some (Checks (record plain_check { flavor = Some Msvc }))
-  pub same : task_named (codes "--same" ∷ codes "a.lib" ∷ codes "b.lib" ∷ []) ≡ Some (Compares (codes "a.lib") (codes "b.lib"))
+  pub task_of_more : task_named
+      (codes "a.lib" ∷ codes "a.def" ∷ codes "--flavour" ∷ codes "msvc" ∷ [])
+      ≡ Some (Checks (record plain_check { flavor = Some Msvc }))
+  pub same : task_named (codes "--same" ∷ codes "a.lib" ∷ codes "b.lib" ∷ [])
+      ≡ Some (Compares (codes "a.lib") (codes "b.lib"))
   -- in JSON
-  pub json : call_named (codes "a.lib" ∷ codes "--json" ∷ codes "a.def" ∷ []) ≡ Some (Checks plain_check)
-  pub json_is_no_value : call_named (codes "a.lib" ∷ codes "a.def" ∷ codes "-D" ∷ codes "--json" ∷ []) ≡ None
+  pub json : call_named (codes "a.lib" ∷ codes "--json" ∷ codes "a.def" ∷ [])
+      ≡ Some (Checks plain_check)
+  pub json_is_no_value : call_named
+      (codes "a.lib" ∷ codes "a.def" ∷ codes "-D" ∷ codes "--json" ∷ []) ≡ None
   pub no_word : check_called [] ≡ None
   pub no_definition : check_called (codes "a.lib" ∷ codes "-k" ∷ []) ≡ None
   pub three_files : check_called (codes "a.lib" ∷ codes "a.def" ∷ codes "b.def" ∷ []) ≡ None
   pub no_value : check_called (codes "a.lib" ∷ codes "a.def" ∷ codes "-m" ∷ []) ≡ None
-  pub no_machine : check_called (codes "a.lib" ∷ codes "a.def" ∷ codes "-m" ∷ codes "mips" ∷ []) ≡ None
-  pub no_flavor : check_called (codes "a.lib" ∷ codes "a.def" ∷ codes "--flavor" ∷ codes "unix" ∷ []) ≡ None
+  pub no_machine : check_called (codes "a.lib" ∷ codes "a.def" ∷ codes "-m" ∷ codes "mips" ∷ [])
+      ≡ None
+  pub no_flavor : check_called
+      (codes "a.lib" ∷ codes "a.def" ∷ codes "--flavor" ∷ codes "unix" ∷ []) ≡ None
   pub no_dll : check_called (codes "a.lib" ∷ codes "a.def" ∷ codes "-D" ∷ codes "d/" ∷ []) ≡ None
   pub no_option : check_called (codes "a.lib" ∷ codes "a.def" ∷ codes "-x" ∷ []) ≡ None
   pub listed : check_called (codes "--list" ∷ codes "a.lib" ∷ codes "a.def" ∷ []) ≡ None
@@ -111,7 +141,8 @@ define_of machine flavor = record {
 
 -- The machine of libraries, and what a definition's library is made for.
 pub record WorkedTargets : Type 0 where
-  pub first : machine_of (member Descriptor ∷ import_on Code 0x14C ∷ import_on Code 0x8664 ∷ []) ≡ I386
+  pub first : machine_of (member Descriptor ∷ import_on Code 0x14C ∷ import_on Code 0x8664 ∷ [])
+      ≡ I386
   pub known : machine_of (import_on Code 0xA641 ∷ import_on Code 0xAA64 ∷ []) ≡ ARM64
   pub arm : machine_of (import_on Code 0x1C4 ∷ []) ≡ ARMNT
   pub no_import : machine_of (member Head ∷ []) ≡ AMD64
@@ -119,36 +150,62 @@ pub record WorkedTargets : Type 0 where
     machine = ARM64;
     flavor = Msvc;
     dll = None;
-    naming = record { is_plain = false; kills_at = false; exports_as = false; keeps_decorated = false };
+    naming = record {
+      is_plain = false;
+      kills_at = false;
+      exports_as = false;
+      keeps_decorated = false;
+    };
     additions = no_additions;
   }
   pub named : options_for full_check (import_on Code 0xAA64 ∷ []) ≡ record {
     machine = I386;
     flavor = Gnu;
     dll = Some (codes "d/zoo.dll");
-    naming = record { is_plain = true; kills_at = true; exports_as = false; keeps_decorated = false };
+    naming = record {
+      is_plain = true;
+      kills_at = true;
+      exports_as = false;
+      keeps_decorated = false;
+    };
     additions = no_additions;
   }
-  pub older_for_gnu : options_for (record plain_check { older_symbols = true }) (import_on Code 0xAA64 ∷ []) ≡ record {
-    machine = ARM64;
-    flavor = Gnu;
-    dll = None;
-    naming = record { is_plain = false; kills_at = false; exports_as = false; keeps_decorated = false };
-    additions = no_additions;
-  }
+  pub older_for_gnu : options_for (record plain_check { older_symbols = true })
+      (import_on Code 0xAA64 ∷ []) ≡ record {
+        machine = ARM64;
+        flavor = Gnu;
+        dll = None;
+        naming = record {
+          is_plain = false;
+          kills_at = false;
+          exports_as = false;
+          keeps_decorated = false;
+        };
+        additions = no_additions;
+      }
   -- of a DLL: for Microsoft's linker, or as it is named
   pub of_dll : options_for_dll (define_of None None) ARM64 ≡ record {
     machine = ARM64;
     flavor = Msvc;
     dll = None;
-    naming = record { is_plain = false; kills_at = false; exports_as = false; keeps_decorated = false };
+    naming = record {
+      is_plain = false;
+      kills_at = false;
+      exports_as = false;
+      keeps_decorated = false;
+    };
     additions = no_additions;
   }
   pub of_dll_named : options_for_dll (define_of (Some I386) (Some Gnu)) I386 ≡ record {
     machine = I386;
     flavor = Gnu;
     dll = None;
-    naming = record { is_plain = false; kills_at = false; exports_as = false; keeps_decorated = false };
+    naming = record {
+      is_plain = false;
+      kills_at = false;
+      exports_as = false;
+      keeps_decorated = false;
+    };
     additions = no_additions;
   }
   pub memory : IsFailureOf io.OutOfMemory failed.OutOfMemory

@@ -26,14 +26,18 @@ use Rattle.implib_check_driver.specs.OwnLibraries.{aliases_meant}
 
 -- `a == b` and `bar` of foo.dll
 abbrev pub two : DefinitionView
-two = record empty_definition { import_name = codes "foo.dll"; exports = line (codes "a") (codes "b") ∷ line (codes "bar") [] ∷ [] }
+two = record empty_definition {
+  import_name = codes "foo.dll";
+  exports = line (codes "a") (codes "b") ∷ line (codes "bar") [] ∷ [];
+}
 
 -- `a == b`, `bar`, `c == bar`, `d == e DATA` and `f @7 == g` of foo.dll
 abbrev pub five : DefinitionView
 five = record empty_definition {
   import_name = codes "foo.dll";
   exports = line (codes "a") (codes "b") ∷ line (codes "bar") [] ∷ line (codes "c") (codes "bar")
-      ∷ record (line (codes "d") (codes "e")) { is_data = true } ∷ record (line (codes "f") (codes "g")) { ordinal = 7 } ∷ [];
+      ∷ record (line (codes "d") (codes "e")) { is_data = true }
+      ∷ record (line (codes "f") (codes "g")) { ordinal = 7 } ∷ [];
 }
 
 -- the imports of a definition, as it is linked on AMD64
@@ -42,7 +46,8 @@ imports_on naming flavor d = imports_made naming flavor AMD64 (linked AMD64 nami
 
 -- an import of foo.dll
 abbrev pub of_foo : List (List ℕ) → List ℕ → ℕ → Import
-of_foo declared name hint = record { dll = codes "foo.dll"; declared = declared; ask = Name name hint }
+of_foo declared name hint =
+    record { dll = codes "foo.dll"; declared = declared; ask = Name name hint }
 
 -- a member for this
 abbrev pub member : Class → MemberRead
@@ -50,11 +55,13 @@ member class = record { name = codes "foo.dll"; offset = 0; class = class }
 
 -- an import of foo.dll on AMD64
 abbrev pub import_of : List (List ℕ) → List ℕ → Class
-import_of declared name = AnImport (record { imports = of_foo declared name 0; kind = Code; machine = 0x8664 })
+import_of declared name =
+    AnImport (record { imports = of_foo declared name 0; kind = Code; machine = 0x8664 })
 
 -- the members of a library for Microsoft's linker, with two after the tables
 abbrev pub with_two : Class → Class → List MemberRead
-with_two first second = member Descriptor ∷ member NullDescriptor ∷ member NullThunk ∷ member first ∷ member second ∷ []
+with_two first second =
+    member Descriptor ∷ member NullDescriptor ∷ member NullThunk ∷ member first ∷ member second ∷ []
 
 -- these are what the two exports mean with third texts
 abbrev pub TwoSay : List MemberRead → Type 0
@@ -69,11 +76,20 @@ a_as_b = import_of (codes "__imp_a" ∷ codes "a" ∷ []) (codes "b")
 
 -- an import of another DLL
 abbrev pub of_another : Class
-of_another = AnImport (record { imports = record { dll = codes "bar.dll"; declared = codes "a" ∷ []; ask = Name (codes "b") 0 }; kind = Code; machine = 0x8664 })
+of_another = AnImport (record {
+  imports = record {
+    dll = codes "bar.dll";
+    declared = codes "a" ∷ [];
+    ask = Name (codes "b") 0;
+  };
+  kind = Code;
+  machine = 0x8664;
+})
 
 -- whether members work, where no index misleads
 abbrev pub working : List MemberRead → Working
-working members = works_of false (has_unread members) (length (dlls_of members)) (has_whole_tables (flavor_of members) members)
+working members = works_of false (has_unread members) (length (dlls_of members))
+    (has_whole_tables (flavor_of members) members)
 
 -- The short import of a from foo.dll on AMD64, with the third text b, and its header at 0x48. It
 -- declares `__imp_a` and a.
@@ -101,25 +117,31 @@ pub record WorkedExportAs : Type 0 where
       ∷ of_foo (codes "__imp_d" ∷ []) (codes "e") 0
       ∷ of_foo (codes "__imp_f" ∷ codes "f" ∷ []) (codes "g") 7 ∷ []
   pub aliases : aliases_meant Msvc (linked AMD64 exporting Msvc five)
-      ≡ record { weak = codes "c"; target = codes "bar" } ∷ record { weak = codes "__imp_c"; target = codes "__imp_bar" } ∷ []
+      ≡ record { weak = codes "c"; target = codes "bar" }
+      ∷ record { weak = codes "__imp_c"; target = codes "__imp_bar" } ∷ []
   -- in the order of the exports for GNU's linker
   pub gnu : imports_on exporting Gnu two
-      ≡ of_foo (codes "__imp_a" ∷ codes "a" ∷ []) (codes "b") 0 ∷ of_foo (codes "__imp_bar" ∷ codes "bar" ∷ []) (codes "bar") 0 ∷ []
+      ≡ of_foo (codes "__imp_a" ∷ codes "a" ∷ []) (codes "b") 0
+      ∷ of_foo (codes "__imp_bar" ∷ codes "bar" ∷ []) (codes "bar") 0 ∷ []
   -- without the option a is weak for b, which is an import of its own
   pub without : imports_on usual Msvc two
-      ≡ of_foo (codes "__imp_bar" ∷ codes "bar" ∷ []) (codes "bar") 0 ∷ of_foo (codes "__imp_b" ∷ codes "b" ∷ []) (codes "b") 0 ∷ []
+      ≡ of_foo (codes "__imp_bar" ∷ codes "bar" ∷ []) (codes "bar") 0
+      ∷ of_foo (codes "__imp_b" ∷ codes "b" ∷ []) (codes "b") 0 ∷ []
   pub without_aliases : aliases_meant Msvc (linked AMD64 usual Msvc two)
-      ≡ record { weak = codes "a"; target = codes "b" } ∷ record { weak = codes "__imp_a"; target = codes "__imp_b" } ∷ []
+      ≡ record { weak = codes "a"; target = codes "b" }
+      ∷ record { weak = codes "__imp_a"; target = codes "__imp_b" } ∷ []
   -- a library of the two exports; not so in their order, where a asks for its own name, and where
   -- it is not read
   pub says : TwoSay (with_two bar a_as_b)
   pub other_order : TwoSay (with_two a_as_b bar) → ⊥
-  pub own_name : TwoSay (with_two bar (import_of (codes "__imp_a" ∷ codes "a" ∷ []) (codes "a"))) → ⊥
+  pub own_name : TwoSay (with_two bar (import_of (codes "__imp_a" ∷ codes "a" ∷ []) (codes "a"))) →
+      ⊥
   pub not_read : TwoSay (with_two bar NotUnderstood) → ⊥
   -- it works; not without a part of its tables, and that is open where an import is of another DLL,
   -- or is not read
   pub works : working (with_two bar a_as_b) ≡ Works
-  pub no_thunk : working (member Descriptor ∷ member NullDescriptor ∷ member bar ∷ member a_as_b ∷ []) ≡ Broken
+  pub no_thunk : working
+      (member Descriptor ∷ member NullDescriptor ∷ member bar ∷ member a_as_b ∷ []) ≡ Broken
   pub two_dlls : working (with_two bar of_another) ≡ NotDecided
   pub unread : working (with_two bar NotUnderstood) ≡ NotDecided
   -- an index that leads the symbols of a short import with a third text; the text is none, and the

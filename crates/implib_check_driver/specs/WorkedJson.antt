@@ -79,7 +79,9 @@ pub record WorkedJson : Type 0 where
       (numeral (codes "offset") 8
       (word (codes "symbol") (codes "feed")
       (word (codes "what") (codes "import") no_members))))))))))
-  pub listed_delayed : object_of (Listed (in_library (of_dll (codes "bar.dll") feed (Name (codes "eat") 0) Delayed 0x14C))) ≡ object
+  pub listed_delayed : object_of
+      (Listed (in_library (of_dll (codes "bar.dll") feed (Name (codes "eat") 0) Delayed 0x14C)))
+      ≡ object
       (word (codes "dll") (codes "bar.dll")
       (numeral (codes "hint") 0
       (word (codes "kind") (codes "delayed")
@@ -104,12 +106,14 @@ pub record WorkedJson : Type 0 where
       (member (codes "there") defined_object
       (word (codes "what") (codes "difference") no_members))))
   -- a symbol that the definition does not have
-  pub missing : object_of (Missing (in_library by_ordinal) (InDefinition (codes "a.def") None)) ≡ object
+  pub missing : object_of (Missing (in_library by_ordinal) (InDefinition (codes "a.def") None))
+      ≡ object
       (member (codes "here") ordinal_object
       (word (codes "symbol") (codes "feed")
       (member (codes "there") (object (word (codes "file") (codes "a.def") no_members))
       (word (codes "what") (codes "difference") no_members))))
-  pub clash : object_of (Clash (codes "__imp_feed") (in_library by_ordinal) (in_library by_ordinal)) ≡ object
+  pub clash : object_of (Clash (codes "__imp_feed") (in_library by_ordinal) (in_library by_ordinal))
+      ≡ object
       (member (codes "here") ordinal_object
       (word (codes "symbol") (codes "__imp_feed")
       (member (codes "there") ordinal_object
@@ -123,14 +127,17 @@ pub record WorkedJson : Type 0 where
       (word (codes "library") (codes "a.lib")
       (word (codes "what") (codes "broken")
       (word (codes "why") (codes "unreadable index") no_members))))
-  pub misleading : object_of (FaultOf (codes "a.lib") (MisleadingEntry 1 (record { symbol = codes "feed"; place = 128 }))) ≡ object
+  pub misleading : object_of
+      (FaultOf (codes "a.lib") (MisleadingEntry 1 (record { symbol = codes "feed"; place = 128 })))
+      ≡ object
       (numeral (codes "index") 1
       (word (codes "library") (codes "a.lib")
       (numeral (codes "offset") 128
       (word (codes "symbol") (codes "feed")
       (word (codes "what") (codes "broken")
       (word (codes "why") (codes "entry misleads") no_members))))))
-  pub cut_apart : object_of (FaultOf (codes "a.lib") (CutApart (record { name = codes "m"; offset = 92; bytes = [] })
+  pub cut_apart : object_of
+      (FaultOf (codes "a.lib") (CutApart (record { name = codes "m"; offset = 92; bytes = [] })
       (record { symbol = codes "__f"; by_lld = codes "_f"; by_gnu = codes "__f" }))) ≡ object
       (word (codes "gnu") (codes "__f")
       (word (codes "library") (codes "a.lib")
@@ -162,7 +169,8 @@ pub record WorkedJson : Type 0 where
       (word (codes "symbol") (codes "feed")
       (word (codes "what") (codes "lost")
       (word (codes "why") (codes "not exported") no_members))))))))))))
-  pub lost_of_definition : object_of (Lost (in_definition by_ordinal) (codes "z.dll") DataAsFunction) ≡ object
+  pub lost_of_definition : object_of
+      (Lost (in_definition by_ordinal) (codes "z.dll") DataAsFunction) ≡ object
       (numeral (codes "column") 3
       (word (codes "dll") (codes "zoo.dll")
       (word (codes "dll_file") (codes "z.dll")
@@ -180,7 +188,9 @@ pub record WorkedJson : Type 0 where
       (numeral (codes "count") 16
       (word (codes "library") (codes "a.lib")
       (word (codes "what") (codes "searched") no_members)))
-  pub of_code : object_of (Exported (codes "z.dll") (record { ordinal = 7; target = Address 0x1040 address.Code; name = Some (3, codes "feed") })) ≡ object
+  pub of_code : object_of (Exported (codes "z.dll")
+      (record { ordinal = 7; target = Address 0x1040 address.Code; name = Some (3, codes "feed") }))
+      ≡ object
       (numeral (codes "address") 0x1040
       (word (codes "file") (codes "z.dll")
       (numeral (codes "hint") 3
@@ -188,13 +198,17 @@ pub record WorkedJson : Type 0 where
       (word (codes "name") (codes "feed")
       (numeral (codes "ordinal") 7
       (word (codes "what") (codes "export") no_members)))))))
-  pub of_data : object_of (Unasked (codes "z.dll") (record { ordinal = 9; target = Address 0x2000 address.Data; name = None })) ≡ object
+  pub of_data : object_of (Unasked (codes "z.dll")
+      (record { ordinal = 9; target = Address 0x2000 address.Data; name = None })) ≡ object
       (numeral (codes "address") 0x2000
       (word (codes "file") (codes "z.dll")
       (word (codes "kind") (codes "data")
       (numeral (codes "ordinal") 9
       (word (codes "what") (codes "unasked") no_members)))))
-  pub of_forwarder : object_of (Exported (codes "z.dll") (record { ordinal = 8; target = Forwarder (codes "y.eat"); name = Some (0, codes "eat") })) ≡ object
+  pub of_forwarder : object_of
+      (Exported (codes "z.dll")
+      (record { ordinal = 8; target = Forwarder (codes "y.eat"); name = Some (0, codes "eat") }))
+      ≡ object
       (word (codes "file") (codes "z.dll")
       (numeral (codes "hint") 0
       (word (codes "kind") (codes "forwarder")
@@ -212,9 +226,12 @@ pub record WorkedJson : Type 0 where
   -- lines: of an import; of a difference, with an object in each field of two; and of a name with a
   -- quote, a backslash, a line feed, a NUL and a letter that is no ASCII
   pub line : line_of (Listed (in_library by_name))
-      ≡ codes "{\"dll\":\"zoo.dll\",\"hint\":5,\"kind\":\"code\",\"library\":\"a.lib\",\"machine\":34404,\"member\":\"m\",\"name\":\"feed\",\"offset\":8,\"symbol\":\"feed\",\"what\":\"import\"}\n"
+      ≡ codes
+      "{\"dll\":\"zoo.dll\",\"hint\":5,\"kind\":\"code\",\"library\":\"a.lib\",\"machine\":34404,\"member\":\"m\",\"name\":\"feed\",\"offset\":8,\"symbol\":\"feed\",\"what\":\"import\"}\n"
   pub nested_line : line_of (Missing (in_library by_ordinal) (InDefinition (codes "a.def") None))
-      ≡ codes "{\"here\":{\"dll\":\"zoo.dll\",\"kind\":\"code\",\"library\":\"a.lib\",\"machine\":332,\"member\":\"m\",\"offset\":8,\"ordinal\":7,\"symbol\":\"feed\"},"
+      ≡ codes
+      "{\"here\":{\"dll\":\"zoo.dll\",\"kind\":\"code\",\"library\":\"a.lib\",\"machine\":332,\"member\":\"m\",\"offset\":8,\"ordinal\":7,\"symbol\":\"feed\"},"
       ++ codes "\"symbol\":\"feed\",\"there\":{\"file\":\"a.def\"},\"what\":\"difference\"}\n"
   pub escaped_line : line_of (FaultOf (0x61 ∷ 0x22 ∷ 0x5C ∷ 0x0A ∷ 0 ∷ 0xC3 ∷ 0xBC ∷ []) NoIndex)
-      ≡ codes "{\"library\":\"a\\\"\\\\\\n\\u0000" ++ 0xC3 ∷ 0xBC ∷ codes "\",\"what\":\"broken\",\"why\":\"no index\"}\n"
+      ≡ codes "{\"library\":\"a\\\"\\\\\\n\\u0000" ++ 0xC3 ∷ 0xBC
+      ∷ codes "\",\"what\":\"broken\",\"why\":\"no index\"}\n"

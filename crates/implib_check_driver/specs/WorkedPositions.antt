@@ -14,7 +14,8 @@ export_of symbol = record empty_export { name = symbol }
 
 -- `open`, private, then `shut`, then `open`, then `shut` again
 abbrev pub four : List ExportView
-four = record (export_of (codes "open")) { private = true } ∷ export_of (codes "shut") ∷ export_of (codes "open")
+four = record (export_of (codes "open")) { private = true } ∷ export_of (codes "shut")
+    ∷ export_of (codes "open")
     ∷ export_of (codes "shut") ∷ []
 
 abbrev pub lines : List Position

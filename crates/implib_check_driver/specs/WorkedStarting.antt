@@ -45,24 +45,31 @@ pub record WorkedStarting : Type 0 where
   pub no_file : dll_path folders (codes "w.dll") ≡ None
   -- what is asked of a DLL that is read: all is found, one is lost, for another machine; nothing is
   -- exported; a refused file
-  pub met : status_in (Ok (Some worked_exports)) 0x14C (ByOrdinal 8 ∷ ByName (codes "beta") 0 ∷ []) ≡ 0
+  pub met : status_in (Ok (Some worked_exports)) 0x14C (ByOrdinal 8 ∷ ByName (codes "beta") 0 ∷ [])
+      ≡ 0
   pub unmet : status_in (Ok (Some worked_exports)) 0x14C (ByOrdinal 8 ∷ ByOrdinal 7 ∷ []) ≡ 1
   pub other_machine : status_in (Ok (Some worked_exports)) 0x8664 (ByOrdinal 8 ∷ []) ≡ 1
   pub nothing_exported : status_in (Ok None) 0x14C (ByOrdinal 8 ∷ []) ≡ 1
-  pub refused : status_in (Err (record { cause = NoDosHeader; offset = 0 })) 0x14C (ByOrdinal 8 ∷ []) ≡ 3
+  pub refused : status_in (Err (record { cause = NoDosHeader; offset = 0 })) 0x14C
+      (ByOrdinal 8 ∷ []) ≡ 3
   -- of several DLLs the greatest counts, wherever it stands; nothing asked is nothing lost
   pub nothing : dlls_status empty_files folders 0x14C [] ≡ 0
   pub unasked : dlls_status empty_files folders 0x14C (asked_of (codes "none.dll") [] ∷ []) ≡ 0
-  pub missing : dlls_status empty_files folders 0x14C (asked_of (codes "none.dll") (ByOrdinal 1 ∷ []) ∷ []) ≡ 1
+  pub missing : dlls_status empty_files folders 0x14C
+      (asked_of (codes "none.dll") (ByOrdinal 1 ∷ []) ∷ []) ≡ 1
   pub missing_first : dlls_status empty_files folders 0x14C
       (asked_of (codes "none.dll") (ByOrdinal 1 ∷ []) ∷ asked_of (codes "zoo") [] ∷ []) ≡ 1
   pub refused_first : dlls_status empty_files folders 0x14C
-      (asked_of (codes "zoo") (ByOrdinal 1 ∷ []) ∷ asked_of (codes "none.dll") (ByOrdinal 1 ∷ []) ∷ []) ≡ 3
+      (asked_of (codes "zoo") (ByOrdinal 1 ∷ []) ∷ asked_of (codes "none.dll") (ByOrdinal 1 ∷ [])
+      ∷ []) ≡ 3
   pub refused_last : dlls_status empty_files folders 0x14C
-      (asked_of (codes "none.dll") (ByOrdinal 1 ∷ []) ∷ asked_of (codes "ZOO.dll") (ByOrdinal 1 ∷ []) ∷ []) ≡ 3
+      (asked_of (codes "none.dll") (ByOrdinal 1 ∷ [])
+      ∷ asked_of (codes "ZOO.dll") (ByOrdinal 1 ∷ []) ∷ []) ≡ 3
   pub program : program_status empty_files folders
-      (Ok (record { machine = 0x14C; dlls = asked_of (codes "none.dll") (ByOrdinal 1 ∷ []) ∷ [] })) ≡ 1
-  pub no_image : program_status empty_files folders (Err (record { cause = NoDosHeader; offset = 0 })) ≡ 3
+      (Ok (record { machine = 0x14C; dlls = asked_of (codes "none.dll") (ByOrdinal 1 ∷ []) ∷ [] }))
+      ≡ 1
+  pub no_image : program_status empty_files folders
+      (Err (record { cause = NoDosHeader; offset = 0 })) ≡ 3
   -- objects
   pub no_file_object : object_of (UnmetBy (codes "p.exe") (codes "zoo.dll") NoFile) ≡ object
       (word (codes "dll") (codes "zoo.dll")

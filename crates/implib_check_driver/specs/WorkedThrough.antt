@@ -44,18 +44,26 @@ members =
 
 pub record WorkedThrough : Type 0 where
   -- calls: all words behind are folders
-  pub two_folders : check_named (codes "a.lib" ∷ codes "d/W.dll" ∷ codes "--search" ∷ codes "d" ∷ codes "e/f" ∷ []) ≡ Some in_folders
-  pub options_before : check_named (codes "a.lib" ∷ codes "--all" ∷ codes "d/W.dll" ∷ codes "--search" ∷ codes "d" ∷ [])
+  pub two_folders : check_named
+      (codes "a.lib" ∷ codes "d/W.dll" ∷ codes "--search" ∷ codes "d" ∷ codes "e/f" ∷ [])
+      ≡ Some in_folders
+  pub options_before : check_named
+      (codes "a.lib" ∷ codes "--all" ∷ codes "d/W.dll" ∷ codes "--search" ∷ codes "d" ∷ [])
       ≡ Some (record beside_dll { lists_unasked = true; folders = codes "d" ∷ [] })
-  pub option_behind : check_named (codes "a.lib" ∷ codes "d/W.dll" ∷ codes "--search" ∷ codes "d" ∷ codes "--all" ∷ [])
+  pub option_behind : check_named
+      (codes "a.lib" ∷ codes "d/W.dll" ∷ codes "--search" ∷ codes "d" ∷ codes "--all" ∷ [])
       ≡ Some (record beside_dll { folders = codes "d" ∷ codes "--all" ∷ [] })
   pub no_folder : check_named (codes "a.lib" ∷ codes "d/W.dll" ∷ codes "--search" ∷ []) ≡ None
   pub no_dll : check_named (codes "a.lib" ∷ codes "-k" ∷ codes "--search" ∷ codes "d" ∷ []) ≡ None
   pub not_asked : check_named (codes "a.lib" ∷ codes "d/W.dll" ∷ []) ≡ Some beside_dll
-  pub task : task_named (codes "a.lib" ∷ codes "d/W.dll" ∷ codes "--search" ∷ codes "d" ∷ codes "e/f" ∷ []) ≡ Some (Checks in_folders)
-  pub in_json : call_named (codes "a.lib" ∷ codes "d/W.dll" ∷ codes "--search" ∷ codes "d" ∷ codes "--json" ∷ codes "e/f" ∷ [])
+  pub task : task_named (codes "a.lib" ∷ codes "d/W.dll" ∷ codes "--search" ∷ codes "d"
+      ∷ codes "e/f" ∷ []) ≡ Some (Checks in_folders)
+  pub in_json : call_named
+      (codes "a.lib" ∷ codes "d/W.dll" ∷ codes "--search" ∷ codes "d" ∷ codes "--json" ∷ codes "e/f"
+      ∷ [])
       ≡ Some (Checks in_folders)
-  pub of_program : task_named (codes "a.lib" ∷ codes "--search" ∷ codes "d/W.dll" ∷ []) ≡ Some (Searches (codes "a.lib") (codes "d/W.dll" ∷ []))
+  pub of_program : task_named (codes "a.lib" ∷ codes "--search" ∷ codes "d/W.dll" ∷ [])
+      ≡ Some (Searches (codes "a.lib") (codes "d/W.dll" ∷ []))
   pub asks : asks_for_dll in_folders ≡ true
   pub asks_nothing : asks_for_dll beside_dll ≡ false
   -- what there is of DLLs
@@ -67,16 +75,19 @@ pub record WorkedThrough : Type 0 where
   pub no_file : content_at empty_files folders (codes "gone.dll") ≡ NoFile
   -- statuses: a forwarder that leads to nothing counts before a member that is not understood
   pub followed : held_status (Reached ∷ NoImport ∷ []) (Some Arrives ∷ None ∷ []) false ≡ 0
-  pub stopped : held_status (Reached ∷ NoImport ∷ []) (Some (Stops (codes "k.g") NotExported) ∷ None ∷ []) true ≡ 1
+  pub stopped : held_status (Reached ∷ NoImport ∷ [])
+      (Some (Stops (codes "k.g") NotExported) ∷ None ∷ []) true ≡ 1
   pub lost : held_status (LostImport NotFound ∷ []) (None ∷ []) false ≡ 1
   pub unread : held_status (Reached ∷ []) (Some Arrives ∷ []) true ≡ 4
   -- members: followed to a function, to nothing, and not followed
   pub through_dlls : members_against (Some there) in_folders worked_exports members ≡ 0
   pub to_nothing : members_against (Some none) in_folders worked_exports members ≡ 1
   pub not_followed : members_against None beside_dll worked_exports members ≡ 0
-  pub is_open : members_against (Some there) in_folders worked_exports (member_of NotUnderstood ∷ members) ≡ 4
+  pub is_open : members_against (Some there) in_folders worked_exports
+      (member_of NotUnderstood ∷ members) ≡ 4
   -- an object
-  pub stopped_object : object_of (StoppedAt (in_library by_name) (codes "d/W.dll") (codes "gone.fly") Endless) ≡ object
+  pub stopped_object : object_of
+      (StoppedAt (in_library by_name) (codes "d/W.dll") (codes "gone.fly") Endless) ≡ object
       (word (codes "dll") (codes "zoo.dll")
       (word (codes "dll_file") (codes "d/W.dll")
       (word (codes "end") (codes "circle")

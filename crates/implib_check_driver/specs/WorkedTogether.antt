@@ -19,26 +19,46 @@ feed_of dll ask = of_dll dll feed ask Code 0x8664
 -- Which claims clash, statuses and calls.
 pub record WorkedTogether : Type 0 where
   -- another DLL: both symbols of the second library clash with those of the first
-  pub other_dll : clashes (both_claims (feed_of (codes "zoo.dll") (Ordinal 1)) (feed_of (codes "bar.dll") (Ordinal 1))) ≡ None ∷ None ∷ Some 0 ∷ Some 1 ∷ []
-  pub other_ordinal : clashes (both_claims (feed_of (codes "zoo.dll") (Ordinal 1)) (feed_of (codes "zoo.dll") (Ordinal 2))) ≡ None ∷ None ∷ Some 0 ∷ Some 1 ∷ []
-  pub other_name : clashes (both_claims (feed_of (codes "zoo.dll") (Name (codes "feed") 0)) (feed_of (codes "zoo.dll") (Name (codes "food") 0))) ≡ None ∷ None ∷ Some 0 ∷ Some 1 ∷ []
-  pub by_ordinal : clashes (both_claims (feed_of (codes "zoo.dll") (Ordinal 1)) (feed_of (codes "zoo.dll") (Name (codes "feed") 1))) ≡ None ∷ None ∷ Some 0 ∷ Some 1 ∷ []
+  pub other_dll : clashes (both_claims (feed_of (codes "zoo.dll") (Ordinal 1))
+      (feed_of (codes "bar.dll") (Ordinal 1))) ≡ None ∷ None ∷ Some 0 ∷ Some 1 ∷ []
+  pub other_ordinal : clashes
+      (both_claims (feed_of (codes "zoo.dll") (Ordinal 1)) (feed_of (codes "zoo.dll") (Ordinal 2)))
+      ≡ None ∷ None ∷ Some 0 ∷ Some 1 ∷ []
+  pub other_name : clashes
+      (both_claims (feed_of (codes "zoo.dll") (Name (codes "feed") 0))
+      (feed_of (codes "zoo.dll") (Name (codes "food") 0))) ≡ None ∷ None ∷ Some 0 ∷ Some 1 ∷ []
+  pub by_ordinal : clashes
+      (both_claims (feed_of (codes "zoo.dll") (Ordinal 1))
+      (feed_of (codes "zoo.dll") (Name (codes "feed") 1))) ≡ None ∷ None ∷ Some 0 ∷ Some 1 ∷ []
   -- an alias of one, an import of the other
-  pub an_alias : clashes (both_claims (feed_of (codes "zoo.dll") (Ordinal 1)) (alias (codes "feed") (codes "food"))) ≡ None ∷ None ∷ Some 1 ∷ []
-  pub other_target : clashes (both_claims (alias (codes "feed") (codes "food")) (alias (codes "feed") (codes "fodder"))) ≡ None ∷ Some 0 ∷ []
+  pub an_alias : clashes (both_claims (feed_of (codes "zoo.dll") (Ordinal 1))
+      (alias (codes "feed") (codes "food"))) ≡ None ∷ None ∷ Some 1 ∷ []
+  pub other_target : clashes
+      (both_claims (alias (codes "feed") (codes "food")) (alias (codes "feed") (codes "fodder")))
+      ≡ None ∷ Some 0 ∷ []
   -- near misses: the same but for hints, capitals of the DLL and the kind; another symbol; one
   -- library with itself
-  pub same : clashes (both_claims (feed_of (codes "zoo.dll") (Name (codes "feed") 0)) (of_dll (codes "ZOO.dll") feed (Name (codes "feed") 7) CodeOrConst 0x8664))
+  pub same : clashes (both_claims (feed_of (codes "zoo.dll") (Name (codes "feed") 0))
+      (of_dll (codes "ZOO.dll") feed (Name (codes "feed") 7) CodeOrConst 0x8664))
       ≡ None ∷ None ∷ None ∷ None ∷ []
-  pub other_symbol : clashes (both_claims (alias (codes "feed") (codes "food")) (alias (codes "feeds") (codes "fodder"))) ≡ None ∷ None ∷ []
-  pub one_library : clashes (claims_from 0 0 (alias (codes "feed") (codes "food") ∷ alias (codes "feed") (codes "fodder") ∷ [])) ≡ None ∷ None ∷ []
+  pub other_symbol : clashes
+      (both_claims (alias (codes "feed") (codes "food")) (alias (codes "feeds") (codes "fodder")))
+      ≡ None ∷ None ∷ []
+  pub one_library : clashes
+      (claims_from 0 0 (alias (codes "feed") (codes "food") ∷ alias (codes "feed") (codes "fodder")
+      ∷ [])) ≡ None ∷ None ∷ []
   -- of three the first counts, and members that declare nothing have no claim
-  pub first_counts : clashes (both_claims (alias (codes "feed") (codes "food")) (member Head) ++ claims_from 2 0 (alias (codes "feed") (codes "fodder") ∷ []) ++ claims_from 3 0 (alias (codes "feed") (codes "food") ∷ []))
+  pub first_counts : clashes
+      (both_claims (alias (codes "feed") (codes "food")) (member Head)
+      ++ claims_from 2 0 (alias (codes "feed") (codes "fodder") ∷ [])
+      ++ claims_from 3 0 (alias (codes "feed") (codes "food") ∷ []))
       ≡ None ∷ Some 0 ∷ None ∷ []
   pub unread : together_status true true ≡ 4
   pub clash : together_status false true ≡ 1
   pub none : together_status false false ≡ 0
-  pub task : task_named (codes "--together" ∷ codes "a.lib" ∷ codes "b.lib" ∷ []) ≡ Some (Joins (codes "a.lib" ∷ codes "b.lib" ∷ []))
-  pub three : task_named (codes "--together" ∷ codes "a.lib" ∷ codes "b.lib" ∷ codes "c.lib" ∷ []) ≡ Some (Joins (codes "a.lib" ∷ codes "b.lib" ∷ codes "c.lib" ∷ []))
+  pub task : task_named (codes "--together" ∷ codes "a.lib" ∷ codes "b.lib" ∷ [])
+      ≡ Some (Joins (codes "a.lib" ∷ codes "b.lib" ∷ []))
+  pub three : task_named (codes "--together" ∷ codes "a.lib" ∷ codes "b.lib" ∷ codes "c.lib" ∷ [])
+      ≡ Some (Joins (codes "a.lib" ∷ codes "b.lib" ∷ codes "c.lib" ∷ []))
   pub one_alone : task_named (codes "--together" ∷ codes "a.lib" ∷ []) ≡ None
   pub no_library : task_named (codes "--together" ∷ []) ≡ None

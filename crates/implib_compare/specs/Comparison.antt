@@ -57,13 +57,15 @@ is_some_set flags = list_any (λ flag. flag) flags
 -- object, unless the imports and aliases that are read differ.
 abbrev pub verdict_of : Bool → Bool → Bool → Verdict
 verdict_of unread different other =
-    if unread then NotDecided else if different then Different else if other then NotDecided else Same
+    if unread then NotDecided else if different then Different else if other then NotDecided
+    else Same
 
 -- facts are others in another order
 abbrev pub Rearranged : List Fact → List Fact → Type 0
 Rearranged [] others = others ≡ []
 Rearranged (fact ∷ facts) others =
-    (front : List Fact) × (back : List Fact) × (others ≡ front ++ fact ∷ back) × Rearranged facts (front ++ back)
+    (front : List Fact) × (back : List Fact) × (others ≡ front ++ fact ∷ back)
+    × Rearranged facts (front ++ back)
 
 -- two libraries say the same, in any order
 abbrev pub SayTheSame : List MemberRead → List MemberRead → Type 0
@@ -95,4 +97,5 @@ abbrev pub Means : Verdict → List MemberRead → List MemberRead → Type 0
 Means Same left right = AreTheSame left right
 Means Different left right = Differ left right
 Means NotDecided left right =
-    ((has_unread left || has_unread right) ≡ true) ⊎ (SayTheSame left right × ((has_other left || has_other right) ≡ true))
+    ((has_unread left || has_unread right) ≡ true)
+    ⊎ (SayTheSame left right × ((has_other left || has_other right) ≡ true))

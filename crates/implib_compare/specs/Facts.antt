@@ -157,7 +157,8 @@ kind_number Delayed = 4
 
 -- The key of what a member says: bytes that no other fact has (`KeysTellFacts`).
 abbrev pub fact_key : Fact → List ℕ
-fact_key (Imports i) = 1 ∷ kind_number i.kind ∷ (number_key i.machine ++ (asked_key i.asked ++ (text_key i.dll ++ texts_key i.declared)))
+fact_key (Imports i) = 1 ∷ kind_number i.kind
+    ∷ (number_key i.machine ++ (asked_key i.asked ++ (text_key i.dll ++ texts_key i.declared)))
 fact_key (Aliases a) = 2 ∷ (text_key a.weak ++ text_key a.target)
 
 -- the key of a member, and no byte for one that says nothing

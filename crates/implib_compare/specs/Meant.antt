@@ -29,7 +29,8 @@ IsRefusalFor false definition options why = IsRefusalOfBytes definition options 
 -- The verdict on a library beside a definition: that on the library and on the one that the
 -- definition has for these options, with the older symbols of addresses or without, as both are
 -- read.
-pub record IsVerdictOn (older : Bool) (definition : List ℕ) (options : LibraryOptionsView) (members : List MemberRead) (v : Verdict) : Type 0 where
+pub record IsVerdictOn (older : Bool) (definition : List ℕ) (options : LibraryOptionsView)
+    (members : List MemberRead) (v : Verdict) : Type 0 where
   -- the library of the definition
   pub file : List ℕ
   pub is_library : IsLibraryFor older definition options file
@@ -42,25 +43,30 @@ pub record IsVerdictOn (older : Bool) (definition : List ℕ) (options : Library
 
 -- The file of a library for ARM64EC: of a definition and, if there is one, of a native definition,
 -- for these options.
-pub record IsArm64ecFile (definition : List ℕ) (native : Option (List ℕ)) (options : LibraryOptionsView) (file : List ℕ) : Type 0 where
+pub record IsArm64ecFile (definition : List ℕ) (native : Option (List ℕ))
+    (options : LibraryOptionsView) (file : List ℕ) : Type 0 where
   pub library : LibraryView
   pub is_library : IsLibraryOfTexts definition native options library
   pub accepted : library_refusal library ≡ None
   pub is : file ≡ ec_archive library
 
 -- the definitions have a library for ARM64EC, whose members have no archive
-pub record HasNoArm64ecArchive (definition : List ℕ) (native : Option (List ℕ)) (options : LibraryOptionsView) (why : Refusal) : Type 0 where
+pub record HasNoArm64ecArchive (definition : List ℕ) (native : Option (List ℕ))
+    (options : LibraryOptionsView) (why : Refusal) : Type 0 where
   pub library : LibraryView
   pub is_library : IsLibraryOfTexts definition native options library
   pub refused : IsRefusalOfArchive library why
 
 -- why there is no such file
 abbrev pub IsArm64ecFault : List ℕ → Option (List ℕ) → LibraryOptionsView → Arm64ecFault → Type 0
-IsArm64ecFault definition native options (OfTexts why) = IsRefusalOfTexts definition native options why
-IsArm64ecFault definition native options (OfArchive why) = HasNoArm64ecArchive definition native options why
+IsArm64ecFault definition native options (OfTexts why) =
+    IsRefusalOfTexts definition native options why
+IsArm64ecFault definition native options (OfArchive why) =
+    HasNoArm64ecArchive definition native options why
 
 -- The verdict on a library beside the definitions of one for ARM64EC.
-pub record IsArm64ecVerdictOn (definition : List ℕ) (native : Option (List ℕ)) (options : LibraryOptionsView) (members : List MemberRead) (v : Verdict) : Type 0 where
+pub record IsArm64ecVerdictOn (definition : List ℕ) (native : Option (List ℕ))
+    (options : LibraryOptionsView) (members : List MemberRead) (v : Verdict) : Type 0 where
   -- the library of the definitions
   pub file : List ℕ
   pub is_file : IsArm64ecFile definition native options file
@@ -73,4 +79,5 @@ pub record IsArm64ecVerdictOn (definition : List ℕ) (native : Option (List ℕ
 
 -- In the archive of a library for ARM64EC its members are found, in order, and nothing else.
 abbrev pub Arm64ecMembersFound : Type 0
-Arm64ecMembersFound = (l : LibraryView) → library_refusal l ≡ None → member_bytes_in (ec_archive l) ≡ Some (map (λ m. m.bytes) (members_of l))
+Arm64ecMembersFound = (l : LibraryView) → library_refusal l ≡ None →
+    member_bytes_in (ec_archive l) ≡ Some (map (λ m. m.bytes) (members_of l))

@@ -18,12 +18,14 @@ has_no_byte (byte ∷ bytes) = false
 -- Whether a key has no partner among others: as many equal ones are before it as the others have.
 -- The key of a member that says nothing needs none.
 abbrev pub lacks_partner : List (List ℕ) → List ℕ → List (List ℕ) → Bool
-lacks_partner before key others = not (has_no_byte key) && nat_le (how_many key others) (how_many key before)
+lacks_partner before key others =
+    not (has_no_byte key) && nat_le (how_many key others) (how_many key before)
 
 -- whether each of these keys has no partner among others, after keys that are before it
 abbrev pub lack_partners : List (List ℕ) → List (List ℕ) → List (List ℕ) → List Bool
 lack_partners before [] others = []
-lack_partners before (key ∷ keys) others = lacks_partner before key others ∷ lack_partners (before ++ key ∷ []) keys others
+lack_partners before (key ∷ keys) others =
+    lacks_partner before key others ∷ lack_partners (before ++ key ∷ []) keys others
 
 -- how many of a key are noted in a map
 abbrev pub counted : {S : Type 0} → HashMap (Bor (List ℕ)) ℕ S → List ℕ → ℕ

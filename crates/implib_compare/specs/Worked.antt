@@ -45,10 +45,13 @@ pub record WorkedComparisons : Type 0 where
   pub itself : verdict zoo zoo ≡ Same
   pub empty : verdict [] [] ≡ Same
   -- in another order, with other members of import tables
-  pub order : verdict zoo (alias (codes "nourish") (codes "feed") ∷ feed_of_zoo Code ∷ member NullThunk ∷ []) ≡ Same
+  pub order : verdict zoo
+      (alias (codes "nourish") (codes "feed") ∷ feed_of_zoo Code ∷ member NullThunk ∷ []) ≡ Same
   -- with a DLL's name in capitals, and another hint
-  pub capitals : verdict (feed_of_zoo Code ∷ []) (of_dll (codes "ZOO.DLL") feed (Name (codes "feed") 0) Code 0x8664 ∷ []) ≡ Same
-  pub hint : verdict (feed_of_zoo Code ∷ []) (of_dll (codes "zoo.dll") feed (Name (codes "feed") 7) Code 0x8664 ∷ []) ≡ Same
+  pub capitals : verdict (feed_of_zoo Code ∷ [])
+      (of_dll (codes "ZOO.DLL") feed (Name (codes "feed") 0) Code 0x8664 ∷ []) ≡ Same
+  pub hint : verdict (feed_of_zoo Code ∷ [])
+      (of_dll (codes "zoo.dll") feed (Name (codes "feed") 7) Code 0x8664 ∷ []) ≡ Same
   -- code and a constant are as one that is not told
   pub untold : verdict (feed_of_zoo Code ∷ []) (feed_of_zoo CodeOrConst ∷ []) ≡ Same
   pub untold_constant : verdict (feed_of_zoo CodeOrConst ∷ []) (feed_of_zoo Const ∷ []) ≡ Same
@@ -56,20 +59,31 @@ pub record WorkedComparisons : Type 0 where
   pub constant_data : verdict (feed_of_zoo Const ∷ []) (feed_of_zoo Data ∷ []) ≡ Different
   pub untold_data : verdict (feed_of_zoo CodeOrConst ∷ []) (feed_of_zoo Data ∷ []) ≡ Different
   -- a delayed import is as no other
-  pub delayed_itself : verdict (feed_of_zoo Delayed ∷ member Head ∷ []) (member Tail ∷ feed_of_zoo Delayed ∷ []) ≡ Same
+  pub delayed_itself : verdict (feed_of_zoo Delayed ∷ member Head ∷ [])
+      (member Tail ∷ feed_of_zoo Delayed ∷ []) ≡ Same
   pub delayed_code : verdict (feed_of_zoo Code ∷ []) (feed_of_zoo Delayed ∷ []) ≡ Different
   pub delayed_untold : verdict (feed_of_zoo Delayed ∷ []) (feed_of_zoo CodeOrConst ∷ []) ≡ Different
   -- another DLL, symbols, name, ordinal, machine
-  pub dll : verdict (feed_of_zoo Code ∷ []) (of_dll (codes "zoo.dl") feed (Name (codes "feed") 0) Code 0x8664 ∷ []) ≡ Different
-  pub symbols : verdict (feed_of_zoo Code ∷ []) (of_dll (codes "zoo.dll") (codes "__imp_feed" ∷ []) (Name (codes "feed") 0) Code 0x8664 ∷ []) ≡ Different
-  pub name : verdict (feed_of_zoo Code ∷ []) (of_dll (codes "zoo.dll") feed (Name (codes "Feed") 0) Code 0x8664 ∷ []) ≡ Different
-  pub by_ordinal : verdict (feed_of_zoo Code ∷ []) (of_dll (codes "zoo.dll") feed (Ordinal 0) Code 0x8664 ∷ []) ≡ Different
-  pub ordinal : verdict (of_dll (codes "zoo.dll") feed (Ordinal 7) Code 0x8664 ∷ []) (of_dll (codes "zoo.dll") feed (Ordinal 263) Code 0x8664 ∷ []) ≡ Different
-  pub machine : verdict (feed_of_zoo Code ∷ []) (of_dll (codes "zoo.dll") feed (Name (codes "feed") 0) Code 0x8665 ∷ []) ≡ Different
+  pub dll : verdict (feed_of_zoo Code ∷ [])
+      (of_dll (codes "zoo.dl") feed (Name (codes "feed") 0) Code 0x8664 ∷ []) ≡ Different
+  pub symbols : verdict (feed_of_zoo Code ∷ [])
+      (of_dll (codes "zoo.dll") (codes "__imp_feed" ∷ []) (Name (codes "feed") 0) Code 0x8664 ∷ [])
+      ≡ Different
+  pub name : verdict (feed_of_zoo Code ∷ [])
+      (of_dll (codes "zoo.dll") feed (Name (codes "Feed") 0) Code 0x8664 ∷ []) ≡ Different
+  pub by_ordinal : verdict (feed_of_zoo Code ∷ [])
+      (of_dll (codes "zoo.dll") feed (Ordinal 0) Code 0x8664 ∷ []) ≡ Different
+  pub ordinal : verdict (of_dll (codes "zoo.dll") feed (Ordinal 7) Code 0x8664 ∷ [])
+      (of_dll (codes "zoo.dll") feed (Ordinal 263) Code 0x8664 ∷ []) ≡ Different
+  pub machine : verdict (feed_of_zoo Code ∷ [])
+      (of_dll (codes "zoo.dll") feed (Name (codes "feed") 0) Code 0x8665 ∷ []) ≡ Different
   -- another alias, the same twice, none
-  pub weak : verdict (alias (codes "a") (codes "b") ∷ []) (alias (codes "c") (codes "b") ∷ []) ≡ Different
-  pub target : verdict (alias (codes "a") (codes "b") ∷ []) (alias (codes "a") (codes "c") ∷ []) ≡ Different
-  pub parted : verdict (alias (codes "ab") (codes "c") ∷ []) (alias (codes "a") (codes "bc") ∷ []) ≡ Different
+  pub weak : verdict (alias (codes "a") (codes "b") ∷ []) (alias (codes "c") (codes "b") ∷ [])
+      ≡ Different
+  pub target : verdict (alias (codes "a") (codes "b") ∷ []) (alias (codes "a") (codes "c") ∷ [])
+      ≡ Different
+  pub parted : verdict (alias (codes "ab") (codes "c") ∷ []) (alias (codes "a") (codes "bc") ∷ [])
+      ≡ Different
   pub twice : verdict zoo (feed_of_zoo Code ∷ zoo) ≡ Different
   pub none : verdict zoo [] ≡ Different
   -- another object leaves it open where the imports are the same, and one that is not understood
@@ -79,7 +93,9 @@ pub record WorkedComparisons : Type 0 where
   pub not_understood : verdict zoo (member NotUnderstood ∷ zoo) ≡ NotDecided
   pub delayed_part : verdict (member DelayImport ∷ []) zoo ≡ NotDecided
   -- which members differ: of two that are equal the second, where the other library has one
-  pub flags : differing true (feed_of_zoo Code ∷ alias (codes "a") (codes "b") ∷ feed_of_zoo Code ∷ []) zoo ≡ false ∷ true ∷ true ∷ []
+  pub flags : differing true
+      (feed_of_zoo Code ∷ alias (codes "a") (codes "b") ∷ feed_of_zoo Code ∷ []) zoo
+      ≡ false ∷ true ∷ true ∷ []
 
 -- an import on a machine
 abbrev pub import_on : ImportKind → ℕ → MemberRead
@@ -87,11 +103,13 @@ import_on kind machine = of_dll (codes "zoo.dll") feed (Ordinal 1) kind machine
 
 -- The flavour of libraries.
 pub record WorkedFlavors : Type 0 where
-  pub msvc : flavor_of (member Descriptor ∷ member NullDescriptor ∷ member NullThunk ∷ import_on Code 0x8664 ∷ []) ≡ Msvc
+  pub msvc : flavor_of (member Descriptor ∷ member NullDescriptor ∷ member NullThunk
+      ∷ import_on Code 0x8664 ∷ []) ≡ Msvc
   pub tables : flavor_of (member Descriptor ∷ import_on Data 0x8664 ∷ []) ≡ Msvc
   pub code : flavor_of (import_on Code 0x8664 ∷ []) ≡ Msvc
   pub constant : flavor_of (import_on Data 0x8664 ∷ import_on Const 0x8664 ∷ []) ≡ Msvc
   pub gnu : flavor_of (member Tail ∷ member Head ∷ import_on CodeOrConst 0x8664 ∷ []) ≡ Gnu
   pub delayed : flavor_of (member Tail ∷ member Head ∷ import_on Delayed 0x8664 ∷ []) ≡ Gnu
-  pub data_alone : flavor_of (import_on Data 0x8664 ∷ alias (codes "a") (codes "b") ∷ member Other ∷ []) ≡ Gnu
+  pub data_alone : flavor_of
+      (import_on Data 0x8664 ∷ alias (codes "a") (codes "b") ∷ member Other ∷ []) ≡ Gnu
   pub none : flavor_of [] ≡ Gnu

@@ -16,7 +16,8 @@ part name byte = record { offset = 8; name = name; contents = byte ∷ [] }
 
 -- the front of an archive: two linker members, long names, and a member
 abbrev pub front : List Part
-front = part LinkerMember 1 ∷ part LinkerMember 2 ∷ part LongNamesMember 3 ∷ part (Named (codes "a.o")) 4 ∷ []
+front = part LinkerMember 1 ∷ part LinkerMember 2 ∷ part LongNamesMember 3
+    ∷ part (Named (codes "a.o")) 4 ∷ []
 
 -- A short import of `f` from d.dll, by its name, on AMD64, and its header at 0x48. It declares
 -- `__imp_f` and `f`.
@@ -72,12 +73,17 @@ pub record WorkedWorking : Type 0 where
   pub both_indexes : misled (Some (Some [])) (Some (Some [])) ≡ false
   pub unreadable_first : misled (Some None) None ≡ true
   pub unreadable_second : misled (Some (Some [])) (Some None) ≡ true
-  pub misled_by_first : misled (Some (Some (record { symbol = codes "f"; place = 0 } ∷ []))) (Some (Some [])) ≡ true
-  pub misled_by_second : misled (Some (Some [])) (Some (Some (record { symbol = codes "f"; place = 0 } ∷ []))) ≡ true
+  pub misled_by_first : misled (Some (Some (record { symbol = codes "f"; place = 0 } ∷ [])))
+      (Some (Some [])) ≡ true
+  pub misled_by_second : misled (Some (Some []))
+      (Some (Some (record { symbol = codes "f"; place = 0 } ∷ []))) ≡ true
   -- import tables
-  pub msvc : has_whole_tables Msvc (member NullThunk ∷ member Descriptor ∷ member Other ∷ member NullDescriptor ∷ []) ≡ true
+  pub msvc : has_whole_tables Msvc
+      (member NullThunk ∷ member Descriptor ∷ member Other ∷ member NullDescriptor ∷ []) ≡ true
   pub no_thunk : has_whole_tables Msvc (member Descriptor ∷ member NullDescriptor ∷ []) ≡ false
-  pub two_descriptors : has_whole_tables Msvc (member Descriptor ∷ member Descriptor ∷ member NullDescriptor ∷ member NullThunk ∷ []) ≡ false
+  pub two_descriptors : has_whole_tables Msvc
+      (member Descriptor ∷ member Descriptor ∷ member NullDescriptor ∷ member NullThunk ∷ [])
+      ≡ false
   pub gnu : has_whole_tables Gnu (member Tail ∷ member Head ∷ []) ≡ true
   pub two_heads : has_whole_tables Gnu (member Tail ∷ member Head ∷ member Head ∷ []) ≡ false
   pub no_tail : has_whole_tables Gnu (member Head ∷ []) ≡ false

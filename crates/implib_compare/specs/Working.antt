@@ -39,12 +39,14 @@ is_linker (Special text) = false
 abbrev pub linker_member : ℕ → List Part → Option (List ℕ)
 linker_member skipped [] = None
 linker_member skipped (p ∷ parts) =
-    if is_linker p.name then (if skipped == 0 then Some p.contents else linker_member (skipped - 1) parts)
+    if is_linker p.name
+    then (if skipped == 0 then Some p.contents else linker_member (skipped - 1) parts)
     else linker_member skipped parts
 
 -- entries, with one more unless one of its symbol is among them
 abbrev pub with_first : List IndexEntry → IndexEntry → List IndexEntry
-with_first entries e = if list_any (λ f. bytes_eq e.symbol f.symbol) entries then entries else entries ++ e ∷ []
+with_first entries e =
+    if list_any (λ f. bytes_eq e.symbol f.symbol) entries then entries else entries ++ e ∷ []
 
 -- The first entry of each symbol. A linker goes by it; later entries of the symbol it passes over.
 abbrev pub first_entries : List IndexEntry → List IndexEntry
@@ -61,12 +63,14 @@ first_misleads members contents = option_map (misleading members) (first_index_i
 -- an entry of the second linker member with the offset that its number has, or 0, where no member
 -- is
 abbrev pub with_offset : List ℕ → IndexEntry → IndexEntry
-with_offset offsets e = record { symbol = e.symbol; place = unwrap_or (offset_numbered offsets e.place) 0 }
+with_offset offsets e =
+    record { symbol = e.symbol; place = unwrap_or (offset_numbered offsets e.place) 0 }
 
 -- the same of the second linker member
 abbrev pub second_misleads : List StoredMember → List ℕ → Option (List IndexEntry)
 second_misleads members contents =
-    option_map (λ i. misleading members (map (with_offset i.offsets) i.entries)) (second_index_in contents)
+    option_map (λ i. misleading members (map (with_offset i.offsets) i.entries))
+    (second_index_in contents)
 
 -- the members whose symbols the linker members have: all or, beside an EC index, those of ARM64
 abbrev pub linked_members : Archive → List StoredMember
@@ -83,13 +87,15 @@ second_found a = option_map (second_misleads (linked_members a)) (linker_member 
 
 -- the offsets of the second linker member, or none where it is not there or cannot be read
 abbrev pub second_offsets : Archive → List ℕ
-second_offsets a = option_map_or (λ i. i.offsets) (option_and_then second_index_in (linker_member 1 a.parts)) []
+second_offsets a =
+    option_map_or (λ i. i.offsets) (option_and_then second_index_in (linker_member 1 a.parts)) []
 
 -- The entries of an EC index by which a linker is misled, given the offsets of the second linker
 -- member: of each symbol the first, if it does not lead where it ought to.
 abbrev pub ec_misleads : List StoredMember → List ℕ → List ℕ → Option (List IndexEntry)
 ec_misleads members offsets contents = option_map
-    (λ entries. wrong_entries (first_ec_declarer members) (first_entries (map (with_offset offsets) entries)))
+    (λ entries. wrong_entries (first_ec_declarer members)
+    (first_entries (map (with_offset offsets) entries)))
     (ec_entries_in contents)
 
 -- what is found of the EC index, if there is one
@@ -109,7 +115,8 @@ misled None second = true
 misled (Some first) second = misled_by first || option_map_or misled_by second false
 
 -- whether one of three indexes does, given what is found of the EC index, too
-abbrev pub some_misled : Option (Option (List IndexEntry)) → Option (Option (List IndexEntry)) → Option (Option (List IndexEntry)) → Bool
+abbrev pub some_misled : Option (Option (List IndexEntry)) → Option (Option (List IndexEntry)) →
+    Option (Option (List IndexEntry)) → Bool
 some_misled first second ec = misled first second || option_map_or misled_by ec false
 
 -- Short imports.
@@ -150,7 +157,9 @@ has_one wanted members = has_one_from false wanted members
 -- head and tail are there once. The members of Microsoft's import tables are found by their
 -- symbols.
 abbrev pub has_whole_tables : Flavor → List MemberRead → Bool
-has_whole_tables Msvc members = has_one piece.OfDescriptor members && (has_one piece.OfNullDescriptor members && has_one piece.OfNullThunk members)
+has_whole_tables Msvc members =
+    has_one piece.OfDescriptor members
+    && (has_one piece.OfNullDescriptor members && has_one piece.OfNullThunk members)
 has_whole_tables Gnu members = has_one piece.OfHead members && has_one piece.OfTail members
 
 -- Whether a library works: given whether an index or a short import misleads, whether a member may
@@ -164,7 +173,8 @@ works_of misleads unread dlls whole =
 -- whether a library works, given its archive and what each member is for
 abbrev pub working_of : Archive → List MemberRead → Working
 working_of a members =
-    works_of (some_misled (first_found a) (second_found a) (ec_found a) || is_some_cut (cut_apart a.members)) (has_unread members) (length (dlls_of members))
+    works_of (some_misled (first_found a) (second_found a) (ec_found a)
+    || is_some_cut (cut_apart a.members)) (has_unread members) (length (dlls_of members))
     (has_whole_tables (flavor_of members) members)
 
 -- of whether a library works: 0 it does, 1 it does not, 4 not decided

@@ -44,7 +44,8 @@ pub data Goes (mode : Mode) (p : Placement) : ℕ → State → ℕ → State �
       run mode p.stub (linked_stub mode p.fields) offset s ≡ Some (record { to = to; state = t }) →
       Goes mode p from s to t
   ByTail : (offset from : ℕ) (s : State) (to : ℕ) (t : State) → from ≡ p.tail + offset →
-      run mode p.tail (linked_tail mode p.helper_field) offset s ≡ Some (record { to = to; state = t }) →
+      run mode p.tail (linked_tail mode p.helper_field) offset s
+      ≡ Some (record { to = to; state = t }) →
       Goes mode p from s to t
   -- one after the other
   Then : (a : ℕ) (s : State) (b : ℕ) (t : State) (c : ℕ) (u : State) →
@@ -132,7 +133,8 @@ pub record CallsHelper (mode : Mode) (p : Placement) (s called : State) : Type 0
 -- What is taken for granted of the helper: it answers an address, has written it into the entry,
 -- and has kept what the convention says is kept, registers and the stack above its own arguments
 -- and home space.
-pub record Answers (mode : Mode) (p : Placement) (end address : ℕ) (called returned : State) : Type 0 where
+pub record Answers (mode : Mode) (p : Placement) (end address : ℕ)
+    (called returned : State) : Type 0 where
   pub answer : returned.registers rax ≡ address
   pub written : returned.words p.entry ≡ address
   pub pointer : returned.registers rsp ≡ called.registers rsp + dropped_size mode
@@ -144,7 +146,8 @@ pub record Answers (mode : Mode) (p : Placement) (end address : ℕ) (called ret
 
 -- Control is at the function as it was at the call: arguments, registers that are kept, the stack's
 -- pointer, the return address and the stack above the home space. The entry leads to the function.
-pub record ArrivesAs (mode : Mode) (p : Placement) (end address : ℕ) (s arrived : State) : Type 0 where
+pub record ArrivesAs (mode : Mode) (p : Placement) (end address : ℕ)
+    (s arrived : State) : Type 0 where
   pub arguments : SameAt (argument_registers mode) arrived.registers s.registers
   pub argument_vectors : SameAt (argument_vectors mode) arrived.vectors s.vectors
   pub pointer : arrived.registers rsp ≡ s.registers rsp
@@ -157,7 +160,8 @@ pub record ArrivesAs (mode : Mode) (p : Placement) (end address : ℕ) (s arrive
   pub sound : arrived.is_sound ≡ true
 
 -- from where the helper returned, the function is reached
-pub record Arrives (mode : Mode) (p : Placement) (end address : ℕ) (s returned : State) : Type 0 where
+pub record Arrives (mode : Mode) (p : Placement) (end address : ℕ)
+    (s returned : State) : Type 0 where
   pub arrived : State
   pub goes : Goes mode p (return_point mode p) returned address arrived
   pub arrives_as : ArrivesAs mode p end address s arrived

@@ -49,7 +49,8 @@ short_displacement _ = None
 abbrev pub long_displacement : List ℕ → Option ℕ
 long_displacement (sib ∷ rest) = elim (number_of rest) [
   | None ↦ None
-  | Some displacement ↦ if sib == 0x24 && nat_lt displacement (2 ^ 31) then Some displacement else None
+  | Some displacement ↦ if sib == 0x24 && nat_lt displacement (2 ^ 31) then Some displacement
+      else None
 ]
 long_displacement _ = None
 
@@ -102,7 +103,8 @@ long_number bytes = elim (number_of bytes) [
 -- takes off
 abbrev pub sum_of : ℕ → ℕ → ℕ → Option Instruction
 sum_of middle r number =
-    if middle == 0 then Some (Add r number) else if middle == 5 then Some (Subtract r number) else None
+    if middle == 0 then Some (Add r number) else if middle == 5 then Some (Subtract r number)
+    else None
 
 -- the sum of an operand that is a register, whose number may be extended by 8
 abbrev pub sum_with : ℕ → ℕ → Operand → ℕ → Option Instruction
@@ -112,12 +114,14 @@ sum_with extension middle _ number = None
 -- a register's move to an operand, and the other way; the operand's register may be extended by 8
 abbrev pub move_to : ℕ → ℕ → Operand → Option Instruction
 move_to extension from (Register r) = Some (Move (r + extension) from)
-move_to extension from (Based base offset) = if extension == 0 then Some (Store from base offset) else None
+move_to extension from (Based base offset) =
+    if extension == 0 then Some (Store from base offset) else None
 move_to extension from _ = None
 
 abbrev pub move_from : ℕ → ℕ → Operand → Option Instruction
 move_from extension to (Register r) = Some (Move to (r + extension))
-move_from extension to (Based base offset) = if extension == 0 then Some (Load to base offset) else None
+move_from extension to (Based base offset) =
+    if extension == 0 then Some (Load to base offset) else None
 move_from extension to _ = None
 
 -- the address of an operand goes into a register
@@ -150,7 +154,8 @@ with_operands before instruction found = option_and_then
 abbrev pub sum_behind : ℕ → ℕ → ℕ → (List ℕ → Option ℕ) → List ℕ → Option Operands → Option Decoded
 sum_behind before width extension number rest found = option_and_then
     (λ o. option_and_then
-    (λ n. option_map (decoded_as (before + o.size + width)) (sum_with extension o.middle o.operand n))
+    (λ n. option_map (decoded_as (before + o.size + width))
+    (sum_with extension o.middle o.operand n))
     (number (drop o.size rest)))
     found
 
@@ -210,7 +215,8 @@ decoded Bits64 at offset [] = None
 decoded Bits64 at offset (opcode ∷ []) = plain Bits64 at offset opcode []
 decoded Bits64 at offset (first ∷ second ∷ rest) =
     let bits : ℕ = first % 8 in
-    if first / 8 == 9 then (if bits / 2 % 2 == 0 then wide at offset (bits / 4 * 8) (bits % 2 * 8) second rest else None)
+    if first / 8 == 9 then (if bits / 2 % 2 == 0
+    then wide at offset (bits / 4 * 8) (bits % 2 * 8) second rest else None)
     else if first == 0x0F then of_vectors at offset second rest
     else plain Bits64 at offset first (second ∷ rest)
 

@@ -54,7 +54,8 @@ abbrev pub HasAddress : KeptExport → Type 0
 HasAddress k = string_bytes k.address ≡ imp_symbol (kept_name k)
 
 -- what is kept is what the object of an export says, with these texts and this size
-pub record KeepsExport (name address : List ℕ) (size : ℕ) (e : ExportView) (k : KeptExport) : Type 0 where
+pub record KeepsExport (name address : List ℕ) (size : ℕ) (e : ExportView)
+    (k : KeptExport) : Type 0 where
   pub name_is : string_bytes k.name ≡ name
   pub address_is : string_bytes k.address ≡ address
   pub size_is : k.size ≡ size
@@ -72,8 +73,8 @@ pub record IsKept (machine : MachineType) (linked : List ℕ) (k : KeptExport) :
 
 -- what holds of all that is kept for a library of this name, with the symbols of its head and its
 -- tail
-pub record AreKept (machine : MachineType) (linked tail dll_name handle : List ℕ) (exports : List KeptExport)
-    : Type 0 where
+pub record AreKept (machine : MachineType) (linked tail dll_name handle : List ℕ)
+    (exports : List KeptExport) : Type 0 where
   pub tail_is : tail ≡ tail_symbol machine linked
   pub name_is : dll_name ≡ name_symbol linked
   pub handle_is : handle ≡ handle_symbol linked
@@ -82,20 +83,25 @@ pub record AreKept (machine : MachineType) (linked tail dll_name handle : List �
 
 -- the specified members are put after those that are kept; they are refused only where one is too
 -- long
-pub record KeepsExports (specs : List MemberSpec) (old new : DelayedExportsView) (result : Result (Unit {0}) Error)
-    : Type 0 where
+pub record KeepsExports (specs : List MemberSpec) (old new : DelayedExportsView)
+    (result : Result (Unit {0}) Error) : Type 0 where
   pub ok : OnOk result (new ≡ record old { members = old.members ++ map member_of specs })
   pub fit : OnOk result (list_any is_too_long specs ≡ false)
-  pub too_long : IfInvalid result (λ cause. (cause ≡ MemberTooLong) × (list_any is_too_long specs ≡ true))
+  pub too_long : IfInvalid result
+      (λ cause. (cause ≡ MemberTooLong) × (list_any is_too_long specs ≡ true))
 
 -- the specified members are kept; they are refused only where one is too long
-pub record MakesExports (specs : List MemberSpec) (result : Result DelayedExportsView Error) : Type 0 where
+pub record MakesExports (specs : List MemberSpec)
+    (result : Result DelayedExportsView Error) : Type 0 where
   pub ok : IfOk result (λ exports. exports.members ≡ map member_of specs)
   pub fit : OnOk result (list_any is_too_long specs ≡ false)
-  pub too_long : IfInvalid result (λ cause. (cause ≡ MemberTooLong) × (list_any is_too_long specs ≡ true))
+  pub too_long : IfInvalid result
+      (λ cause. (cause ≡ MemberTooLong) × (list_any is_too_long specs ≡ true))
 
 -- the specified members, most of them kept; they are refused only where one is too long
-pub record MakesDelayed (specs : List MemberSpec) (result : Result (List MemberView) Error) : Type 0 where
+pub record MakesDelayed (specs : List MemberSpec)
+    (result : Result (List MemberView) Error) : Type 0 where
   pub ok : IfOk result (λ members. members ≡ map member_of specs)
   pub fit : OnOk result (list_any is_too_long specs ≡ false)
-  pub too_long : IfInvalid result (λ cause. (cause ≡ MemberTooLong) × (list_any is_too_long specs ≡ true))
+  pub too_long : IfInvalid result
+      (λ cause. (cause ≡ MemberTooLong) × (list_any is_too_long specs ≡ true))

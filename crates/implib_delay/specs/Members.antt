@@ -43,13 +43,15 @@ export_spec machine library number e = record {
 abbrev pub numbered_specs : MachineType → List ℕ → ℕ → List ExportView → List MemberSpec
 numbered_specs machine library number [] = []
 numbered_specs machine library number (e ∷ exports) =
-    (export_spec machine library number e ∷ []) ++ numbered_specs machine library (number + 1) exports
+    (export_spec machine library number e ∷ [])
+    ++ numbered_specs machine library (number + 1) exports
 
 -- The exports in order, the head and the tail. For example, for bar and qux in foo.dll:
 -- `foo_dll_d_s00000.o`, `foo_dll_d_s00001.o`, `foo_dll_d_h.o` and `foo_dll_d_t.o`.
 abbrev pub delayed_specs : MachineType → NamesOfDll → List ExportView → List MemberSpec
 delayed_specs machine dll exports =
-    numbered_specs machine dll.linked 0 exports ++ (head_spec machine dll.linked ∷ tail_spec machine dll ∷ [])
+    numbered_specs machine dll.linked 0 exports
+    ++ (head_spec machine dll.linked ∷ tail_spec machine dll ∷ [])
 
 -- the names of a definition's library and of its DLL
 abbrev pub names_of : DefinitionView → NamesOfDll
@@ -59,11 +61,13 @@ names_of d = record { linked = linked_name d; text = d.import_name }
 unfoldable pub delay_refusal : DefinitionView → MachineType → Option DelayCause
 delay_refusal d machine =
     first_cause (input_refusal d machine)
-    (if list_any is_too_long (delayed_specs machine (names_of d) (public_exports d)) then Some (OfNames MemberTooLong)
+    (if list_any is_too_long (delayed_specs machine (names_of d) (public_exports d))
+    then Some (OfNames MemberTooLong)
     else None)
 
 -- the members are those of the definition, which is not refused
-pub record AreDelayedMembersOf (d : DefinitionView) (machine : MachineType) (members : List MemberView) : Type 0 where
+pub record AreDelayedMembersOf (d : DefinitionView) (machine : MachineType)
+    (members : List MemberView) : Type 0 where
   pub accepted : delay_refusal d machine ≡ None
   pub made : members ≡ map member_of (delayed_specs machine (names_of d) (public_exports d))
   pub ordinals : list_all has_u16_ordinal (public_exports d) ≡ true

@@ -35,4 +35,5 @@ name_symbol library = codes "__" ++ (mangled_name library ++ codes "_iname")
 -- the symbol of the helper of GNU's `libdelayimp`, which on I386 drops its 8 bytes of arguments
 unfoldable pub helper_symbol : MachineType → List ℕ
 helper_symbol machine =
-    if has_leading_underscore machine then codes "___delayLoadHelper2@8" else codes "__delayLoadHelper2"
+    if has_leading_underscore machine then codes "___delayLoadHelper2@8"
+    else codes "__delayLoadHelper2"

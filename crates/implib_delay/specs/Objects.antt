@@ -140,11 +140,13 @@ export_sections machine e =
     (stub_relocations machine)
     -- 2, 0xC0300040
     ∷ section (codes ".didat$2") table_flags descriptor_bytes
-    (relocation machine 4 3 ∷ relocation machine 8 4 ∷ relocation machine 12 8 ∷ relocation machine 16 7 ∷ [])
+    (relocation machine 4 3 ∷ relocation machine 8 4 ∷ relocation machine 12 8
+    ∷ relocation machine 16 7 ∷ [])
     -- 3 and 4, 0xC0400040 or 0xC0300040
     ∷ section (codes ".didat$5") (thunk_flags machine) (unbound_entry machine)
     (relocated 0 5 (word_kind machine) ∷ [])
-    ∷ section (codes ".didat$4") (thunk_flags machine) (thunk machine e) (thunk_relocations machine e)
+    ∷ section (codes ".didat$4") (thunk_flags machine) (thunk machine e)
+    (thunk_relocations machine e)
     -- 5, 0xC0300040
     ∷ section (codes ".didat$6") table_flags (hint_name machine e) []
     ∷ []

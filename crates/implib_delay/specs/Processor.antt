@@ -99,7 +99,8 @@ is_aligned size address = address % size == 0
 -- a word goes into memory
 abbrev pub store_word : Mode → ℕ → ℕ → State → State
 store_word mode address value s =
-    checked (is_aligned (word_size mode) address) (record s { words = with_value s.words address value })
+    checked (is_aligned (word_size mode) address)
+    (record s { words = with_value s.words address value })
 
 -- a word comes from memory into a register
 abbrev pub load_word : Mode → ℕ → ℕ → State → State
@@ -128,7 +129,8 @@ push_word mode value s =
 -- a word is popped off the stack into a register, which is not the stack's pointer
 abbrev pub pop_word : Mode → ℕ → State → State
 pop_word mode r s =
-    let top : ℕ = s.registers rsp in load_word mode r top (set_register rsp (top + word_size mode) s)
+    let top : ℕ =
+    s.registers rsp in load_word mode r top (set_register rsp (top + word_size mode) s)
 
 -- what a step gives: the next instruction's state, or control leaves for an address
 pub data Step : Type 0 where

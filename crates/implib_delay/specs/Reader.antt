@@ -73,14 +73,17 @@ is_delayed o head =
 -- the DLL's name: at 4 the descriptor leads to it, in the tail's `.didat$7`
 unfoldable pub delayed_dll : Object → Object → Option (List ℕ)
 delayed_dll o tail =
-    let symbol : Option (List ℕ) = option_and_then (relocated_to o 4) (section_named o (codes ".didat$2")) in
-    let name : Option ObjectSection = option_and_then (section_defining tail (codes ".didat$7")) symbol in
+    let symbol : Option (List ℕ) =
+    option_and_then (relocated_to o 4) (section_named o (codes ".didat$2")) in
+    let name : Option ObjectSection =
+    option_and_then (section_defining tail (codes ".didat$7")) symbol in
     option_and_then (λ section. before_nul section.bytes) name
 
 -- what is asked of it: at 16 the descriptor leads to the name table, whose first thunk says it
 unfoldable pub delayed_ask : Object → Option Ask
 delayed_ask o =
-    let table : Option ObjectSection = option_and_then (own_section o 16) (section_named o (codes ".didat$2")) in
+    let table : Option ObjectSection =
+    option_and_then (own_section o 16) (section_named o (codes ".didat$2")) in
     option_and_then (λ section. ask_of_entry o section.bytes section.relocations) table
 
 -- the symbols that are declared: those of the entry, and then those of the stub
@@ -101,14 +104,17 @@ delayed_import o head tail =
 -- the same by the bytes of the three files
 abbrev pub delayed_import_in : List ℕ → List ℕ → List ℕ → Option Import
 delayed_import_in own head tail = option_and_then
-    (λ o. option_and_then (λ h. option_and_then (λ t. delayed_import o h t) (object_in tail)) (object_in head))
+    (λ o. option_and_then (λ h. option_and_then (λ t. delayed_import o h t) (object_in tail))
+    (object_in head))
     (object_in own)
 
 -- What the members of a definition are read as: the last two are the head and the tail, and with
 -- these the others, one after the other, are the imports that the definition means.
-pub record DelayedReadBack (d : DefinitionView) (machine : MachineType) (members : List MemberView) : Type 0 where
+pub record DelayedReadBack (d : DefinitionView) (machine : MachineType)
+    (members : List MemberView) : Type 0 where
   pub exports : List MemberView
   pub head : MemberView
   pub tail : MemberView
   pub all : members ≡ exports ++ (head ∷ tail ∷ [])
-  pub read : map (λ m. delayed_import_in m.bytes head.bytes tail.bytes) exports ≡ map Some (imports_of machine d)
+  pub read : map (λ m. delayed_import_in m.bytes head.bytes tail.bytes) exports
+      ≡ map Some (imports_of machine d)

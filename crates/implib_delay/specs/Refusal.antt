@@ -73,11 +73,13 @@ kind_refusal index e =
 abbrev pub kinds_refusal : ℕ → List ExportView → Option DelayCause
 kinds_refusal index [] = None
 kinds_refusal index (e ∷ exports) =
-    first_cause (if e.private then None else kind_refusal index e) (kinds_refusal (index + 1) exports)
+    first_cause (if e.private then None else kind_refusal index e)
+    (kinds_refusal (index + 1) exports)
 
 -- The first rule that a definition breaks, its exports under their names to link by: on the
 -- machine, on names as in an ordinary library for GNU's linker, on what its exports are.
 unfoldable pub input_refusal : DefinitionView → MachineType → Option DelayCause
 input_refusal d machine =
     first_cause (machine_refusal machine)
-    (first_cause (option_map OfNames (definition_names_refusal d machine Gnu)) (kinds_refusal 0 d.exports))
+    (first_cause (option_map OfNames (definition_names_refusal d machine Gnu))
+    (kinds_refusal 0 d.exports))

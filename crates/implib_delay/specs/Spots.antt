@@ -10,4 +10,5 @@ use Rattle.implib_delay.specs.declared.members.Spot.TheVariants.{Held, Kept}
 abbrev pub IsThere : List MemberView → ℕ → Spot → Type 0
 IsThere members index (Held member) = member_at members index ≡ member_view member.now
 IsThere members index (Kept exports) =
-    (member_at members index ≡ member_at exports.now.members index) × (index < length exports.now.members)
+    (member_at members index ≡ member_at exports.now.members index)
+    × (index < length exports.now.members)

@@ -50,4 +50,5 @@ long_name_size name = if is_long name then string_size name else 0
 
 -- the size in bytes that a name adds to the string table after those of other symbols
 abbrev pub added_size : List ℕ → List AddedSymbol → ℕ
-added_size name others = if list_any (λ s. bytes_eq name s.name) others then 0 else long_name_size name
+added_size name others =
+    if list_any (λ s. bytes_eq name s.name) others then 0 else long_name_size name

@@ -43,7 +43,8 @@ helped mode p address s = record {
 -- and from an offset on.
 abbrev pub to_helper : Mode → Placement → List ℕ → List ℕ → State → Option Left
 to_helper mode p stub tail s =
-    let behind : Option Left = option_and_then (λ a. run mode p.stub stub 6 a.state) (run mode p.stub stub 0 s) in
+    let behind : Option Left =
+    option_and_then (λ a. run mode p.stub stub 6 a.state) (run mode p.stub stub 0 s) in
     option_and_then (λ b. run mode p.tail tail 0 b.state) behind
 
 abbrev pub whole_call : Mode → Placement → List ℕ → List ℕ → ℕ → ℕ → State → Option Left
@@ -70,7 +71,8 @@ seen32 left =
 
 -- the arguments that the helper is called with
 abbrev pub arguments_seen : Mode → Left → List ℕ
-arguments_seen mode left = left.to ∷ first_argument mode left.state ∷ second_argument mode left.state ∷ []
+arguments_seen mode left =
+    left.to ∷ first_argument mode left.state ∷ second_argument mode left.state ∷ []
 
 -- The tail of GNU dlltool 2.40 on AMD64, in the place of `program64`'s: it keeps no xmm register.
 abbrev pub older_tail : List ℕ
@@ -101,11 +103,13 @@ pub record WorkedCalls : Type 0 where
   -- the function is reached with all arguments
   pub function64 : option_map seen
       (whole_call Bits64 program64 (linked_stub Bits64 program64.fields)
-      (linked_tail Bits64 program64.helper_field) 0x50 0x7FFE0000 (at_call program64 0x7FF008 0x1000))
+      (linked_tail Bits64 program64.helper_field) 0x50 0x7FFE0000
+      (at_call program64 0x7FF008 0x1000))
       ≡ Some (0x7FFE0000 ∷ 0x1001 ∷ 0x1002 ∷ 0x1008 ∷ 0x1009 ∷ 0x7FF008 ∷ [])
   pub vectors64 : option_map vectors_seen
       (whole_call Bits64 program64 (linked_stub Bits64 program64.fields)
-      (linked_tail Bits64 program64.helper_field) 0x50 0x7FFE0000 (at_call program64 0x7FF008 0x1000))
+      (linked_tail Bits64 program64.helper_field) 0x50 0x7FFE0000
+      (at_call program64 0x7FF008 0x1000))
       ≡ Some (0x1010 ∷ 0x1020 ∷ 0x1011 ∷ 0x1021 ∷ 0x1012 ∷ 0x1022
       ∷ 0x1013 ∷ 0x1023 ∷ 0x1014 ∷ 0x1024 ∷ 0x1015 ∷ 0x1025 ∷ [])
   pub function32 : option_map seen32
@@ -132,7 +136,8 @@ pub record WorkedCalls : Type 0 where
       (at_call program32 0x19FF70 0x1000))
       ≡ Some (0x402820 ∷ 0x40A0E0 ∷ 0x1002 ∷ [])
   pub without_edx : option_map seen32
-      (whole_call Bits32 program32 (linked_stub Bits32 program32.fields) tail_without_edx 11 0x6B001234
+      (whole_call Bits32 program32 (linked_stub Bits32 program32.fields) tail_without_edx 11
+      0x6B001234
       (at_call program32 0x19FF70 0x1000))
       ≡ Some (0x6B001234 ∷ 0x1001 ∷ 0 ∷ 0x19FF70 ∷ 0x19FF70 ∷ [])
   -- where the stack is not aligned as the convention has it, an access is not either
@@ -171,7 +176,8 @@ pub record NearFieldsLead : Type 0 where
   pub entry : FieldsLead Bits64
       (record program64 { fields = record program64.fields { entry = field 0xDA 0x89 0 0 } }) → ⊥
   pub descriptor : FieldsLead Bits64
-      (record program64 { fields = record program64.fields { descriptor = field 0xCC 0x88 0 1 } }) → ⊥
+      (record program64 { fields = record program64.fields { descriptor = field 0xCC 0x88 0 1 } }) →
+      ⊥
   pub tail : FieldsLead Bits64
       (record program64 { fields = record program64.fields { tail = field 0x57 0 0 0x80 } }) → ⊥
   pub helper : FieldsLead Bits64 (record program64 { helper_field = field 0xC0 0x12 0 0 }) → ⊥
@@ -202,7 +208,8 @@ pub record NearAnswers : Type 0 where
       (record (helped Bits64 program64 0x7FFE0000 at_helper64) { words = at_helper64.words }) → ⊥
   pub pointer : Answers Bits64 program64 0x7FF100 0x7FFE0000 at_helper64
       (record (helped Bits64 program64 0x7FFE0000 at_helper64) {
-        registers = with_value (helped Bits64 program64 0x7FFE0000 at_helper64).registers 4 0x7FEF78;
+        registers = with_value (helped Bits64 program64 0x7FFE0000 at_helper64).registers 4
+            0x7FEF78;
       }) → ⊥
   pub registers : Answers Bits64 program64 0x7FF100 0x7FFE0000 at_helper64
       (record (helped Bits64 program64 0x7FFE0000 at_helper64) {

@@ -23,7 +23,8 @@ head64 = record {
       section (codes ".text" ++ zeros 3) 0x60500020 (hex "48 81 ec 88 00 00 00 48 89 8c 24 90 00 00 00 48 89 94 24 98 00 00 00 4c 89 84 24 a0 00 00 00 4c 89 8c 24 a8 00 00 00 0f 29 44 24 20 0f 29 4c 24 30 0f 29 54 24 40 0f 29 5c 24 50 0f 29 64 24 60 0f 29 6c 24 70 48 89 c2 4c 89 d9 e8 00 00 00 00 48 8b 8c 24 90 00 00 00 48 8b 94 24 98 00 00 00 4c 8b 84 24 a0 00 00 00 4c 8b 8c 24 a8 00 00 00 0f 28 44 24 20 0f 28 4c 24 30 0f 28 54 24 40 0f 28 5c 24 50 0f 28 64 24 60 0f 28 6c 24 70 48 81 c4 88 00 00 00 ff e0") (at 76 2 4 ∷ [])
       ∷ section (codes ".data" ++ zeros 3) 0xC0400040 (zeros 8) []
       ∷ section (codes ".xdata" ++ zeros 2) 0x40300040 (hex "01 07 02 00 07 01 11 00") []
-      ∷ section (codes ".pdata" ++ zeros 2) 0x40300040 (hex "00 00 00 00 97 00 00 00 00 00 00 00") (at 0 3 3 ∷ at 4 3 3 ∷ at 8 4 3 ∷ [])
+      ∷ section (codes ".pdata" ++ zeros 2) 0x40300040 (hex "00 00 00 00 97 00 00 00 00 00 00 00")
+      (at 0 3 3 ∷ at 4 3 3 ∷ at 8 4 3 ∷ [])
       ∷ [];
   symbols =
       symbol (InStringTable 0) 1 2
@@ -32,7 +33,8 @@ head64 = record {
       ∷ symbol (InRecord (codes ".text")) 1 3
       ∷ symbol (InRecord (codes ".xdata")) 3 3
       ∷ [];
-  strings = codes "__tailMerge_foo_dll" ∷ codes "__DLL_HANDLE_foo_dll" ∷ codes "__delayLoadHelper2" ∷ [];
+  strings = codes "__tailMerge_foo_dll" ∷ codes "__DLL_HANDLE_foo_dll" ∷ codes "__delayLoadHelper2"
+      ∷ [];
 }
 
 -- its tail
@@ -58,7 +60,8 @@ by_name64 = record {
   characteristics = 0;
   sections =
       section (codes ".text" ++ zeros 3) 0x60300020 (hex "ff 25 00 00 00 00 48 8d 05 00 00 00 00 4c 8d 1d 00 00 00 00 e9 00 00 00 00") (at 2 8 4 ∷ at 9 8 4 ∷ at 16 6 4 ∷ at 21 2 4 ∷ [])
-      ∷ section (codes ".didat$2") 0xC0300040 (1 ∷ zeros 31) (at 4 3 3 ∷ at 8 4 3 ∷ at 12 8 3 ∷ at 16 7 3 ∷ [])
+      ∷ section (codes ".didat$2") 0xC0300040 (1 ∷ zeros 31)
+      (at 4 3 3 ∷ at 8 4 3 ∷ at 12 8 3 ∷ at 16 7 3 ∷ [])
       ∷ section (codes ".didat$5") 0xC0400040 (6 ∷ zeros 7) (at 0 5 1 ∷ [])
       ∷ section (codes ".didat$4") 0xC0400040 (zeros 8) (at 0 9 3 ∷ [])
       ∷ section (codes ".didat$6") 0xC0300040 (hex "02 01 62 61 72 00") []
@@ -75,7 +78,8 @@ by_name64 = record {
       ∷ symbol (InRecord (codes ".didat$5")) 3 3
       ∷ symbol (InRecord (codes ".didat$6")) 5 3
       ∷ [];
-  strings = codes "__imp_bar" ∷ codes "__tailMerge_foo_dll" ∷ codes "__foo_dll_iname" ∷ codes "__DLL_HANDLE_foo_dll" ∷ [];
+  strings = codes "__imp_bar" ∷ codes "__tailMerge_foo_dll" ∷ codes "__foo_dll_iname"
+      ∷ codes "__DLL_HANDLE_foo_dll" ∷ [];
 }
 
 -- the ordinal 258 under the same name
@@ -85,7 +89,8 @@ by_ordinal64 = record {
   characteristics = 0;
   sections =
       section (codes ".text" ++ zeros 3) 0x60300020 (hex "ff 25 00 00 00 00 48 8d 05 00 00 00 00 4c 8d 1d 00 00 00 00 e9 00 00 00 00") (at 2 8 4 ∷ at 9 8 4 ∷ at 16 6 4 ∷ at 21 2 4 ∷ [])
-      ∷ section (codes ".didat$2") 0xC0300040 (1 ∷ zeros 31) (at 4 3 3 ∷ at 8 4 3 ∷ at 12 8 3 ∷ at 16 7 3 ∷ [])
+      ∷ section (codes ".didat$2") 0xC0300040 (1 ∷ zeros 31)
+      (at 4 3 3 ∷ at 8 4 3 ∷ at 12 8 3 ∷ at 16 7 3 ∷ [])
       ∷ section (codes ".didat$5") 0xC0400040 (6 ∷ zeros 7) (at 0 5 1 ∷ [])
       ∷ section (codes ".didat$4") 0xC0400040 (hex "02 01 00 00 00 00 00 80") []
       ∷ section (codes ".didat$6") 0xC0300040 [] []
@@ -102,7 +107,8 @@ by_ordinal64 = record {
       ∷ symbol (InRecord (codes ".didat$5")) 3 3
       ∷ symbol (InRecord (codes ".didat$6")) 5 3
       ∷ [];
-  strings = codes "__imp_bar" ∷ codes "__tailMerge_foo_dll" ∷ codes "__foo_dll_iname" ∷ codes "__DLL_HANDLE_foo_dll" ∷ [];
+  strings = codes "__imp_bar" ∷ codes "__tailMerge_foo_dll" ∷ codes "__foo_dll_iname"
+      ∷ codes "__DLL_HANDLE_foo_dll" ∷ [];
 }
 
 -- the head of foo.dll on I386
@@ -119,7 +125,8 @@ head32 = record {
       ∷ symbol (InStringTable 1) 2 2
       ∷ symbol (InStringTable 2) 0 2
       ∷ [];
-  strings = codes "___tailMerge_foo_dll" ∷ codes "__DLL_HANDLE_foo_dll" ∷ codes "___delayLoadHelper2@8" ∷ [];
+  strings = codes "___tailMerge_foo_dll" ∷ codes "__DLL_HANDLE_foo_dll"
+      ∷ codes "___delayLoadHelper2@8" ∷ [];
 }
 
 -- its tail
@@ -145,7 +152,8 @@ by_name32 = record {
   characteristics = 0;
   sections =
       section (codes ".text" ++ zeros 3) 0x60300020 (hex "ff 25 00 00 00 00 b8 00 00 00 00 68 00 00 00 00 e9 00 00 00 00") (at 2 8 6 ∷ at 7 8 6 ∷ at 12 6 6 ∷ at 17 2 20 ∷ [])
-      ∷ section (codes ".didat$2") 0xC0300040 (1 ∷ zeros 31) (at 4 3 7 ∷ at 8 4 7 ∷ at 12 8 7 ∷ at 16 7 7 ∷ [])
+      ∷ section (codes ".didat$2") 0xC0300040 (1 ∷ zeros 31)
+      (at 4 3 7 ∷ at 8 4 7 ∷ at 12 8 7 ∷ at 16 7 7 ∷ [])
       ∷ section (codes ".didat$5") 0xC0300040 (6 ∷ zeros 3) (at 0 5 6 ∷ [])
       ∷ section (codes ".didat$4") 0xC0300040 (zeros 4) (at 0 9 7 ∷ [])
       ∷ section (codes ".didat$6") 0xC0300040 (hex "02 01 62 61 72 00") []
@@ -162,7 +170,8 @@ by_name32 = record {
       ∷ symbol (InRecord (codes ".didat$5")) 3 3
       ∷ symbol (InRecord (codes ".didat$6")) 5 3
       ∷ [];
-  strings = codes "__imp__bar" ∷ codes "___tailMerge_foo_dll" ∷ codes "__foo_dll_iname" ∷ codes "__DLL_HANDLE_foo_dll" ∷ [];
+  strings = codes "__imp__bar" ∷ codes "___tailMerge_foo_dll" ∷ codes "__foo_dll_iname"
+      ∷ codes "__DLL_HANDLE_foo_dll" ∷ [];
 }
 
 -- the ordinal 258 under the same name
@@ -172,7 +181,8 @@ by_ordinal32 = record {
   characteristics = 0;
   sections =
       section (codes ".text" ++ zeros 3) 0x60300020 (hex "ff 25 00 00 00 00 b8 00 00 00 00 68 00 00 00 00 e9 00 00 00 00") (at 2 8 6 ∷ at 7 8 6 ∷ at 12 6 6 ∷ at 17 2 20 ∷ [])
-      ∷ section (codes ".didat$2") 0xC0300040 (1 ∷ zeros 31) (at 4 3 7 ∷ at 8 4 7 ∷ at 12 8 7 ∷ at 16 7 7 ∷ [])
+      ∷ section (codes ".didat$2") 0xC0300040 (1 ∷ zeros 31)
+      (at 4 3 7 ∷ at 8 4 7 ∷ at 12 8 7 ∷ at 16 7 7 ∷ [])
       ∷ section (codes ".didat$5") 0xC0300040 (6 ∷ zeros 3) (at 0 5 6 ∷ [])
       ∷ section (codes ".didat$4") 0xC0300040 (hex "02 01 00 80") []
       ∷ section (codes ".didat$6") 0xC0300040 [] []
@@ -189,7 +199,8 @@ by_ordinal32 = record {
       ∷ symbol (InRecord (codes ".didat$5")) 3 3
       ∷ symbol (InRecord (codes ".didat$6")) 5 3
       ∷ [];
-  strings = codes "__imp__bar" ∷ codes "___tailMerge_foo_dll" ∷ codes "__foo_dll_iname" ∷ codes "__DLL_HANDLE_foo_dll" ∷ [];
+  strings = codes "__imp__bar" ∷ codes "___tailMerge_foo_dll" ∷ codes "__foo_dll_iname"
+      ∷ codes "__DLL_HANDLE_foo_dll" ∷ [];
 }
 
 -- an export of a name, with the number 258
@@ -206,10 +217,14 @@ pub record WorkedObjects : Type 0 where
   pub head_on_i386 : layout_of (head_object I386 (codes "foo.dll")) ≡ head32
   pub tail_on_amd64 : layout_of (tail_object AMD64 (own_names (codes "foo.dll"))) ≡ tail64
   pub tail_on_i386 : layout_of (tail_object I386 (own_names (codes "foo.dll"))) ≡ tail32
-  pub name_on_amd64 : layout_of (export_object AMD64 (codes "foo.dll") (numbered (codes "bar"))) ≡ by_name64
-  pub name_on_i386 : layout_of (export_object I386 (codes "foo.dll") (numbered (codes "_bar"))) ≡ by_name32
-  pub ordinal_on_amd64 : layout_of (export_object AMD64 (codes "foo.dll") (nameless (codes "bar"))) ≡ by_ordinal64
-  pub ordinal_on_i386 : layout_of (export_object I386 (codes "foo.dll") (nameless (codes "_bar"))) ≡ by_ordinal32
+  pub name_on_amd64 : layout_of (export_object AMD64 (codes "foo.dll") (numbered (codes "bar")))
+      ≡ by_name64
+  pub name_on_i386 : layout_of (export_object I386 (codes "foo.dll") (numbered (codes "_bar")))
+      ≡ by_name32
+  pub ordinal_on_amd64 : layout_of (export_object AMD64 (codes "foo.dll") (nameless (codes "bar")))
+      ≡ by_ordinal64
+  pub ordinal_on_i386 : layout_of (export_object I386 (codes "foo.dll") (nameless (codes "_bar")))
+      ≡ by_ordinal32
 
 -- the names of the members of foo.dll
 pub record WorkedNames : Type 0 where
@@ -231,13 +246,19 @@ pub record WorkedRefusals : Type 0 where
   pub nul : input_refusal (of_dll (codes "foo.dll") (numbered (0x61 ∷ 0 ∷ []) ∷ [])) AMD64
       ≡ Some (OfNames (NulInExport 0))
   pub data_of_two : input_refusal
-      (of_dll (codes "foo.dll") (numbered (codes "bar") ∷ record empty_export { name = codes "e"; is_data = true } ∷ [])) AMD64
+      (of_dll (codes "foo.dll")
+      (numbered (codes "bar") ∷ record empty_export { name = codes "e"; is_data = true } ∷ []))
+      AMD64
       ≡ Some (IsData 1)
-  pub constant : input_refusal (of_dll (codes "foo.dll") (record empty_export { name = codes "e"; constant = true } ∷ [])) I386
+  pub constant : input_refusal
+      (of_dll (codes "foo.dll") (record empty_export { name = codes "e"; constant = true } ∷ []))
+      I386
       ≡ Some (IsData 0)
   pub private_data : input_refusal
-      (of_dll (codes "foo.dll") (record empty_export { name = codes "e"; is_data = true; private = true } ∷ [])) AMD64
+      (of_dll (codes "foo.dll")
+      (record empty_export { name = codes "e"; is_data = true; private = true } ∷ [])) AMD64
       ≡ None
   pub alias : input_refusal
-      (of_dll (codes "foo.dll") (record empty_export { name = codes "e"; alias_target = codes "f" } ∷ [])) AMD64
+      (of_dll (codes "foo.dll")
+      (record empty_export { name = codes "e"; alias_target = codes "f" } ∷ [])) AMD64
       ≡ Some (IsAlias 0)

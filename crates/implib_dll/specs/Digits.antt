@@ -1,6 +1,7 @@
 -- How worked bytes are written.
 use Prim.Native.String.{String}
-use Rattle.std.specs.Prelude.{ℕ, ◌+◌, ◌-◌, ◌*◌, ◌++◌, nat_lt, List, [], ◌∷◌, codes, drop, take, if◌then◌else◌}
+use Rattle.std.specs.Prelude.{ℕ, ◌+◌, ◌-◌, ◌*◌, ◌++◌, nat_lt, List, [], ◌∷◌, codes, drop, take}
+use Rattle.std.specs.Prelude.{if◌then◌else◌}
 
 -- the value of a hexadecimal digit, `0` to `9` or `a` to `f`
 abbrev pub digit_value : ℕ → ℕ

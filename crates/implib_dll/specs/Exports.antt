@@ -1,9 +1,13 @@
 -- The export directory of an image (PE/COFF specification, "The .edata Section (Image Only)"):
 -- "Export Directory Table", "Export Address Table", "Export Name Pointer Table", "Export Ordinal
 -- Table", "Export Name Table". Counts are believed as far as there are bytes for them.
-use Rattle.std.specs.Prelude.{ℕ, ◌+◌, ◌*◌, ◌-◌, ◌==◌, Bool, ◌&&◌, List, [], length, nat_le, nat_lt, Option, None, Some, Ok, Err, if◌then◌else◌}
+use Rattle.std.specs.Prelude.{ℕ, ◌+◌, ◌*◌, ◌-◌, ◌==◌, Bool, ◌&&◌, List, [], length, nat_le, nat_lt}
+use Rattle.std.specs.Prelude.{Option, None, Some, Ok, Err, if◌then◌else◌}
 use Rattle.implib_dll.specs.declared.fault.Cause.{Cause}
-use Rattle.implib_dll.specs.declared.fault.Cause.TheVariants.{DirectoryOutside, DllNameOutside, AddressTableOutside, NameTableOutside, OrdinalTableOutside, ForwarderOutside, NameOutside, TextsTooLong}
+use Rattle.implib_dll.specs.declared.fault.Cause.TheVariants.{DirectoryOutside, DllNameOutside}
+use Rattle.implib_dll.specs.declared.fault.Cause.TheVariants.{AddressTableOutside, NameTableOutside}
+use Rattle.implib_dll.specs.declared.fault.Cause.TheVariants.{OrdinalTableOutside, ForwarderOutside}
+use Rattle.implib_dll.specs.declared.fault.Cause.TheVariants.{NameOutside, TextsTooLong}
 use Rattle.implib_dll.specs.declared.header.Entry.{Entry}
 use Rattle.implib_dll.specs.declared.header.Header.{Header}
 use Rattle.implib_dll.specs.declared.section.Layout.{Layout}

@@ -1,8 +1,11 @@
 -- The headers of an image (PE/COFF specification, "MS-DOS Stub (Image Only)", "Signature (Image
 -- Only)", "COFF File Header", "Optional Header (Image Only)", "Optional Header Data Directories
 -- (Image Only)"). Offsets are of the file.
-use Rattle.std.specs.Prelude.{ℕ, ◌+◌, ◌*◌, ◌-◌, ◌==◌, Bool, true, false, ◌&&◌, List, length, nat_le, nat_lt, Ok, if◌then◌else◌}
-use Rattle.implib_dll.specs.declared.fault.Cause.TheVariants.{NoDosHeader, NoPeSignature, OptionalHeaderCut, UnknownMagic, TooManySections, SectionTableCut}
+use Rattle.std.specs.Prelude.{ℕ, ◌+◌, ◌*◌, ◌-◌, ◌==◌, Bool, true, false, ◌&&◌, List, length, nat_le}
+use Rattle.std.specs.Prelude.{nat_lt, Ok, if◌then◌else◌}
+use Rattle.implib_dll.specs.declared.fault.Cause.TheVariants.{NoDosHeader, NoPeSignature}
+use Rattle.implib_dll.specs.declared.fault.Cause.TheVariants.{OptionalHeaderCut, UnknownMagic}
+use Rattle.implib_dll.specs.declared.fault.Cause.TheVariants.{TooManySections, SectionTableCut}
 use Rattle.implib_dll.specs.declared.header.Entry.{Entry}
 use Rattle.implib_dll.specs.declared.header.Header.{Header}
 use Rattle.implib_dll.specs.Bytes.{u16_at, u32_at}
@@ -57,8 +60,8 @@ header_with bytes place is_pe32_plus end entry =
       section_count = u16_at bytes (place + 6);
     })
 
--- what the headers say, with the entry of a data directory, by the place and the size of the optional
--- header, and by whether it is that of PE32+
+-- what the headers say, with the entry of a data directory, by the place and the size of the
+-- optional header, and by whether it is that of PE32+
 abbrev pub header_of : ℕ → List ℕ → ℕ → ℕ → Bool → ℕ → Read Header
 header_of number bytes place size is_pe32_plus fields = do
   entry ← entry_in number bytes (place + 24) size fields

@@ -1,8 +1,13 @@
 -- What an image imports (PE/COFF specification, "The .idata Section": "Import Directory Table",
 -- "Import Lookup Table", "Hint/Name Table"), as loaders take it. Counts are found by the entries
 -- that end the tables, as far as there are bytes for them.
-use Rattle.std.specs.Prelude.{ℕ, zero, suc, ◌+◌, ◌*◌, ◌-◌, ◌/◌, ◌==◌, Bool, ◌&&◌, ◌||◌, not, List, [], length, nat_le, nat_lt, take, Option, None, Some, Ok, Err, if◌then◌else◌}
-use Rattle.implib_dll.specs.declared.fault.Cause.TheVariants.{AskOutside, ImportDirectoryOpen, ImportDirectoryOutside, ImportedDllOutside, LookupTableOpen, LookupTableOutside, TextsTooLong}
+use Rattle.std.specs.Prelude.{ℕ, zero, suc, ◌+◌, ◌*◌, ◌-◌, ◌/◌, ◌==◌, Bool, ◌&&◌, ◌||◌, not, List}
+use Rattle.std.specs.Prelude.{[], length, nat_le, nat_lt, take, Option, None, Some, Ok, Err}
+use Rattle.std.specs.Prelude.{if◌then◌else◌}
+use Rattle.implib_dll.specs.declared.fault.Cause.TheVariants.{AskOutside, ImportDirectoryOpen}
+use Rattle.implib_dll.specs.declared.fault.Cause.TheVariants.{ImportDirectoryOutside}
+use Rattle.implib_dll.specs.declared.fault.Cause.TheVariants.{ImportedDllOutside, LookupTableOpen}
+use Rattle.implib_dll.specs.declared.fault.Cause.TheVariants.{LookupTableOutside, TextsTooLong}
 use Rattle.implib_dll.specs.declared.header.Header.{Header}
 use Rattle.implib_dll.specs.declared.section.Layout.{Layout}
 use Rattle.implib_dll.specs.Bytes.{u16_at, u32_at}
@@ -69,8 +74,8 @@ named_at sections place room rva None = refusal AskOutside place
 named_at sections place room rva (Some hint) =
     as_name (u16_at hint.1 0) (text_within AskOutside place room (text_at sections (rva + 2)))
 
--- what the thunk at an offset of a table asks for, with the table's own offset; and the room that it
--- leaves. Tables and texts may overlap, so those of a file could be longer than the file by any
+-- what the thunk at an offset of a table asks for, with the table's own offset; and the room that
+-- it leaves. Tables and texts may overlap, so those of a file could be longer than the file by any
 -- factor: each thunk takes its size of room, and each text its length with its NUL.
 unfoldable pub ask_at : List Section → Bool → ℕ × List ℕ → ℕ → ℕ → Read (Ask × ℕ)
 ask_at sections is_pe32_plus table offset room =
@@ -108,8 +113,8 @@ unfoldable pub descriptor_count : List ℕ → Option ℕ
 descriptor_count table =
     first_end (λ number. is_null_descriptor table (20 * number)) 0 (length table / 20)
 
--- What a lookup table asks a DLL of a name for. Of the table no more is looked at than there is room
--- for.
+-- What a lookup table asks a DLL of a name for. Of the table no more is looked at than there is
+-- room for.
 unfoldable pub asks_in : List Section → Bool → List ℕ → ℕ → ℕ → ℕ × List ℕ
     → Read (ImportedDll × ℕ)
 asks_in sections is_pe32_plus dll place room lookups = do

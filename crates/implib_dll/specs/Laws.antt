@@ -1,7 +1,8 @@
 -- What lookups come to, and what they do not.
 use Rattle.std.specs.Prelude.{◌≡◌, ◌↔◌, ℕ, ◌<◌, ◌^◌, true, List, Some, slice_get}
 use Rattle.implib_dll.specs.Exports.{Exports, NameEntry}
-use Rattle.implib_dll.specs.Lookup.{by_name, by_ordinal, names_rise, ordinal_of, position_of, target_at, text_at}
+use Rattle.implib_dll.specs.Lookup.{by_name, by_ordinal, names_rise, ordinal_of, position_of}
+use Rattle.implib_dll.specs.Lookup.{target_at, text_at}
 
 -- Where names rise, a lookup with any hint finds a name just where it stands.
 abbrev pub FindsExactly : Type 0

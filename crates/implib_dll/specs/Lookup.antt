@@ -2,7 +2,8 @@
 -- pointer table ("Export Name Pointer Table") and the hint of an import as the index at which it
 -- begins ("Hint/Name Table"); the order of steps is that of the loaders of Windows and of Wine
 -- (`dlls/ntdll/loader.c`: find_named_export, find_ordinal_export).
-use Rattle.std.specs.Prelude.{ℕ, zero, suc, ◌+◌, ◌-◌, ◌/◌, ◌%◌, ◌^◌, Bool, true, ◌&&◌, List, [], ◌∷◌, length, nat_lt, slice_get, Option, None, Some, if◌then◌else◌}
+use Rattle.std.specs.Prelude.{ℕ, zero, suc, ◌+◌, ◌-◌, ◌/◌, ◌%◌, ◌^◌, Bool, true, ◌&&◌, List, []}
+use Rattle.std.specs.Prelude.{◌∷◌, length, nat_lt, slice_get, Option, None, Some, if◌then◌else◌}
 use Rattle.std.specs.Cmp.Lexicographic.{slice_cmp}
 use Rattle.std.specs.Option.{option_and_then, option_map, option_map_or}
 use Rattle.std.specs.Ordering.{is_eq, is_gt, is_lt, nat_cmp}

@@ -1,6 +1,8 @@
 -- An image as it lies in memory (PE/COFF specification, "Section Table (Section Headers)":
 -- VirtualSize and SizeOfRawData), stated apart from how it is read.
-use Rattle.std.specs.Prelude.{◌≡◌, ℕ, zero, suc, ◌+◌, ◌-◌, ◌*◌, ◌<◌, true, false, ◌&&◌, List, [], ◌∷◌, ◌++◌, length, nat_lt, slice_get, slice_index, Option, None, Some, Ok, if◌then◌else◌}
+use Rattle.std.specs.Prelude.{◌≡◌, ℕ, zero, suc, ◌+◌, ◌-◌, ◌*◌, ◌<◌, true, false, ◌&&◌, List, []}
+use Rattle.std.specs.Prelude.{◌∷◌, ◌++◌, length, nat_lt, slice_get, slice_index, Option, None, Some}
+use Rattle.std.specs.Prelude.{Ok, if◌then◌else◌}
 use Rattle.std.specs.Int.{w16, w32, from_le_bytes}
 use Rattle.std.specs.Ordering.{is_eq, is_gt, is_lt, nat_cmp, ordering_then}
 use Rattle.std.specs.declared.cmp.Ordering.{Ordering}
@@ -8,7 +10,8 @@ use Rattle.implib_dll.specs.declared.header.Entry.{Entry}
 use Rattle.implib_dll.specs.declared.header.Header.{Header}
 use Rattle.implib_dll.specs.declared.section.Layout.TheVariants.{File, Image}
 use Rattle.implib_dll.specs.Bytes.{bytes_at}
-use Rattle.implib_dll.specs.Exports.{Exports, NameEntry, Target, Empty, Address, Forwarder, exports_in, is_forwarder}
+use Rattle.implib_dll.specs.Exports.{Exports, NameEntry, Target, Empty, Address, Forwarder}
+use Rattle.implib_dll.specs.Exports.{exports_in, is_forwarder}
 use Rattle.implib_dll.specs.Headers.{header_in}
 use Rattle.implib_dll.specs.Lookup.{middle, position_of}
 use Rattle.implib_dll.specs.Sections.{Section, has_address, kind_at, part_at, sections_in, text_at}

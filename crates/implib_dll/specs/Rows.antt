@@ -1,5 +1,6 @@
 -- What an image exports, ordinal by ordinal.
-use Rattle.std.specs.Prelude.{ℕ, ◌+◌, ◌==◌, List, [], ◌∷◌, filter, length, map, nat_lt, Option, None, Some, if◌then◌else◌}
+use Rattle.std.specs.Prelude.{ℕ, ◌+◌, ◌==◌, List, [], ◌∷◌, filter, length, map, nat_lt, Option}
+use Rattle.std.specs.Prelude.{None, Some, if◌then◌else◌}
 use Rattle.implib_dll.specs.declared.rows.Oddity.{Oddity}
 use Rattle.implib_dll.specs.declared.rows.Oddity.TheVariants.{PastTable, AtEmpty}
 use Rattle.implib_dll.specs.Exports.{Exports, NameEntry, Target}

@@ -1,6 +1,8 @@
 -- The sections of an image (PE/COFF specification, "Section Table (Section Headers)"), and what is
 -- at an address. Addresses are relative to the base of the image (RVA).
-use Rattle.std.specs.Prelude.{ℕ, ◌+◌, ◌*◌, ◌-◌, ◌/◌, ◌%◌, ◌==◌, Bool, ◌&&◌, List, [], ◌∷◌, length, take, drop, max, nat_le, nat_lt, Option, None, Some, Ok, Err, if◌then◌else◌}
+use Rattle.std.specs.Prelude.{ℕ, ◌+◌, ◌*◌, ◌-◌, ◌/◌, ◌%◌, ◌==◌, Bool, ◌&&◌, List, [], ◌∷◌, length}
+use Rattle.std.specs.Prelude.{take, drop, max, nat_le, nat_lt, Option, None, Some, Ok, Err}
+use Rattle.std.specs.Prelude.{if◌then◌else◌}
 use Rattle.std.specs.Option.{option_and_then}
 use Rattle.implib_dll.specs.declared.fault.Cause.TheVariants.{SectionsOverlap, SectionDataCut}
 use Rattle.implib_dll.specs.declared.section.Layout.{Layout}

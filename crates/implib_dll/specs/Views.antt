@@ -13,7 +13,8 @@ use Rattle.implib_dll.specs.declared.target.Target.{Target}
 use Rattle.implib_dll.specs.declared.target.Target.TheVariants.{Empty, Address, Forwarder}
 use Rattle.implib_dll.specs.Exports as seen
 use Rattle.implib_dll.specs.Exports.{NameEntry, Exports as SeenExports, Target as SeenTarget}
-use Rattle.implib_dll.specs.Imports.{Ask as SeenAsk, ByName, ByOrdinal, ImportedDll as SeenImportedDll, Imports as SeenImports}
+use Rattle.implib_dll.specs.Imports.{Ask as SeenAsk, ByName, ByOrdinal}
+use Rattle.implib_dll.specs.Imports.{ImportedDll as SeenImportedDll, Imports as SeenImports}
 use Rattle.implib_dll.specs.Rows.{Row as SeenRow}
 use Rattle.implib_dll.specs.Sections.{Section as SeenSection}
 

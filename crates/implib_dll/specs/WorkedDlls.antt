@@ -1,7 +1,7 @@
--- DLLs that linkers wrote, of the machines that `WorkedFiles` has none of, and what they export: their headers and the
--- section with the export directory, with zeros for the data of the other sections. What they export is what
--- llvm-readobj 19 and python3-pefile find. Each has a function and a variable with names, a hole, a function without a
--- name, and a forwarder.
+-- DLLs that linkers wrote, of the machines that `WorkedFiles` has none of, and what they export:
+-- their headers and the section with the export directory, with zeros for the data of the other
+-- sections. What they export is what llvm-readobj 19 and python3-pefile find. Each has a function
+-- and a variable with names, a hole, a function without a name, and a forwarder.
 use Rattle.std.specs.Prelude.{◌≡◌, ℕ, ◌++◌, true, false, List, [], ◌∷◌, Some, Ok, codes, replicate}
 use Rattle.implib_dll.specs.declared.section.Layout.TheVariants.{File}
 use Rattle.implib_dll.specs.declared.section.AddressKind.TheVariants.{Code, Data}
@@ -10,7 +10,8 @@ use Rattle.implib_dll.specs.Exports.{Address, Empty, Exports, Forwarder, exports
 use Rattle.implib_dll.specs.Rows.{rows_of}
 use Rattle.implib_dll.specs.WorkedFiles.{found, named, row, targets_found}
 
--- A DLL for ARM64, PE32+, by lld-link 19. The directory is at 0x2000 in `.rdata`, of 0x85 bytes, at offset 0x600.
+-- A DLL for ARM64, PE32+, by lld-link 19. The directory is at 0x2000 in `.rdata`, of 0x85 bytes, at
+-- offset 0x600.
 unfoldable pub worked_arm64 : List ℕ
 worked_arm64 =
     (hex "4d 5a 78 00 01 00 00 00 04 00 00 00 00 00 00 00 00 00 00 00 00 00 00 00 40 00 00 00 00 00 00 00 00 00 00 00 00 00 00 00 00 00 00 00 00 00 00 00"
@@ -29,7 +30,8 @@ worked_arm64 =
     ++ (hex "6c 65 00 4e 54 44 4c 4c 2e 52 74 6c 41 6c 6c 6f 63 61 74 65 48 65 61 70"
     ++ replicate 892 0))))))))))))))
 
--- A DLL for ARMNT, PE32, by lld-link 19. The addresses of its functions are odd, since their code is Thumb.
+-- A DLL for ARMNT, PE32, by lld-link 19. The addresses of its functions are odd, since their code
+-- is Thumb.
 unfoldable pub worked_armnt : List ℕ
 worked_armnt =
     (hex "4d 5a 78 00 01 00 00 00 04 00 00 00 00 00 00 00 00 00 00 00 00 00 00 00 40 00 00 00 00 00 00 00 00 00 00 00 00 00 00 00 00 00 00 00 00 00 00 00"
@@ -48,7 +50,8 @@ worked_armnt =
     ++ (hex "6c 65 00 4e 54 44 4c 4c 2e 52 74 6c 41 6c 6c 6f 63 61 74 65 48 65 61 70"
     ++ replicate 892 0))))))))))))))
 
--- A DLL for I386, PE32, by GNU ld 2.40. The directory is `.edata` at 0x5000, of 0xEB bytes, at offset 0xC00.
+-- A DLL for I386, PE32, by GNU ld 2.40. The directory is `.edata` at 0x5000, of 0xEB bytes, at
+-- offset 0xC00.
 unfoldable pub worked_i386 : List ℕ
 worked_i386 =
     (hex "4d 5a 90 00 03 00 00 00 04 00 00 00 ff ff 00 00 b8 00 00 00 00 00 00 00 40 00 00 00 00 00 00 00 00 00 00 00 00 00 00 00 00 00 00 00 00 00 00 00"
@@ -71,7 +74,8 @@ worked_i386 =
     ++ (hex "00 00 01 00 02 00 7a 6f 6f 5f 69 33 38 36 2e 64 6c 6c 00 66 65 65 64 00 6e 69 67 68 74 00 76 61 72 69 61 62 6c 65"
     ++ replicate 790 0))))))))))))))))))
 
--- what the first two export: they differ in their machine, in the addresses of their functions, and in their names
+-- what the first two export: they differ in their machine, in the addresses of their functions, and
+-- in their names
 abbrev pub of_lld : ℕ → List ℕ → ℕ → ℕ → Exports
 of_lld machine dll feed night = record {
   machine = machine;
@@ -97,9 +101,11 @@ of_gnu_ld = record {
 
 -- What they export, and what they do with a changed byte.
 pub record WorkedDlls : Type 0 where
-  pub arm64 : exports_in File worked_arm64 ≡ Ok (Some (of_lld 0xAA64 (codes "zoo_arm64.dll") 0x1000 0x1008))
+  pub arm64 : exports_in File worked_arm64
+      ≡ Ok (Some (of_lld 0xAA64 (codes "zoo_arm64.dll") 0x1000 0x1008))
   pub armnt : exports_in File worked_armnt
-      ≡ Ok (Some (record (of_lld 0x1C4 (codes "zoo_armnt.dll") 0x1001 0x1005) { is_pe32_plus = false }))
+      ≡ Ok (Some (record (of_lld 0x1C4 (codes "zoo_armnt.dll") 0x1001 0x1005)
+      { is_pe32_plus = false }))
   pub i386 : exports_in File worked_i386 ≡ Ok (Some of_gnu_ld)
   pub i386_rows : rows_of of_gnu_ld ≡
       row 5 (Address 0x1000 Code) (codes "feed" ∷ [])

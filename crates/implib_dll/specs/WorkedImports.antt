@@ -1,9 +1,14 @@
 -- Programs that linkers wrote, and what they import.
 use Rattle.std.specs.Prelude.{◌≡◌, ℕ, ◌++◌, true, false, List, [], ◌∷◌, Ok, codes, replicate}
-use Rattle.implib_dll.specs.declared.fault.Cause.TheVariants.{AskOutside, ImportDirectoryOpen, ImportDirectoryOutside, ImportedDllOutside, LookupTableOpen, LookupTableOutside, OptionalHeaderCut, TextsTooLong}
+use Rattle.implib_dll.specs.declared.fault.Cause.TheVariants.{AskOutside, ImportDirectoryOpen}
+use Rattle.implib_dll.specs.declared.fault.Cause.TheVariants.{ImportDirectoryOutside}
+use Rattle.implib_dll.specs.declared.fault.Cause.TheVariants.{ImportedDllOutside, LookupTableOpen}
+use Rattle.implib_dll.specs.declared.fault.Cause.TheVariants.{LookupTableOutside, OptionalHeaderCut}
+use Rattle.implib_dll.specs.declared.fault.Cause.TheVariants.{TextsTooLong}
 use Rattle.implib_dll.specs.declared.section.Layout.TheVariants.{File}
 use Rattle.implib_dll.specs.Digits.{changed, hex}
-use Rattle.implib_dll.specs.Imports.{Ask, ByName, ByOrdinal, ImportedDll, Imports, ask_at, imports_in}
+use Rattle.implib_dll.specs.Imports.{Ask, ByName, ByOrdinal, ImportedDll, Imports, ask_at}
+use Rattle.implib_dll.specs.Imports.{imports_in}
 use Rattle.implib_dll.specs.Outcome.{refusal}
 
 -- A program that GNU ld 2.40 linked for I386, PE32: its headers and its `.idata`, at 0x800, with
@@ -113,7 +118,8 @@ pub record WorkedImports : Type 0 where
       ≡ Ok (for_amd64 (zoo (ByOrdinal 0x2080) ∷ kernel32 (ByName (codes "ExitProcess") 0) ∷ []))
   -- a hint of two bytes
   pub hint : imports_in File (changed 0x86B 0x12 program_of_gnu)
-      ≡ Ok (for_i386 (kernel32 (ByName (codes "ExitProcess") 1) ∷ zoo (ByName (codes "zoo_open") 0x1200) ∷ []))
+      ≡ Ok (for_i386
+      (kernel32 (ByName (codes "ExitProcess") 1) ∷ zoo (ByName (codes "zoo_open") 0x1200) ∷ []))
   -- without the address of the lookup table the import address table is taken, and with that of
   -- another table, that one
   pub no_lookups : imports_in File (changed 0x800 0 (changed 0x801 0 program_of_gnu))

@@ -1,5 +1,6 @@
 -- An image in memory worked by hand: `worked_pe32` of `WorkedFiles`, mapped.
-use Rattle.std.specs.Prelude.{◌≡◌, ℕ, ◌++◌, List, [], Some, None, Ok, Err, codes, drop, replicate, take}
+use Rattle.std.specs.Prelude.{◌≡◌, ℕ, ◌++◌, List, [], Some, None, Ok, Err, codes, drop, replicate}
+use Rattle.std.specs.Prelude.{take}
 use Rattle.std.specs.declared.cmp.Ordering.TheVariants.{Less, Equal, Greater}
 use Rattle.implib_dll.specs.declared.fault.Cause.TheVariants.{SectionDataCut}
 use Rattle.implib_dll.specs.declared.header.Entry.{Entry}

@@ -1,7 +1,14 @@
 -- Files that are refused, each for its first fault, and near misses: `worked_pe32` with changed
 -- bytes.
 use Rattle.std.specs.Prelude.{◌≡◌, Some, Ok, codes, take}
-use Rattle.implib_dll.specs.declared.fault.Cause.TheVariants.{NoDosHeader, NoPeSignature, OptionalHeaderCut, UnknownMagic, TooManySections, SectionTableCut, SectionsOverlap, SectionDataCut, DirectoryOutside, DllNameOutside, AddressTableOutside, NameTableOutside, OrdinalTableOutside, ForwarderOutside, NameOutside, TextsTooLong}
+use Rattle.implib_dll.specs.declared.fault.Cause.TheVariants.{NoDosHeader, NoPeSignature}
+use Rattle.implib_dll.specs.declared.fault.Cause.TheVariants.{OptionalHeaderCut, UnknownMagic}
+use Rattle.implib_dll.specs.declared.fault.Cause.TheVariants.{TooManySections, SectionTableCut}
+use Rattle.implib_dll.specs.declared.fault.Cause.TheVariants.{SectionsOverlap, SectionDataCut}
+use Rattle.implib_dll.specs.declared.fault.Cause.TheVariants.{DirectoryOutside, DllNameOutside}
+use Rattle.implib_dll.specs.declared.fault.Cause.TheVariants.{AddressTableOutside, NameTableOutside}
+use Rattle.implib_dll.specs.declared.fault.Cause.TheVariants.{OrdinalTableOutside, ForwarderOutside}
+use Rattle.implib_dll.specs.declared.fault.Cause.TheVariants.{NameOutside, TextsTooLong}
 use Rattle.implib_dll.specs.declared.section.Layout.TheVariants.{File}
 use Rattle.implib_dll.specs.Digits.{changed}
 use Rattle.implib_dll.specs.Exports.{exports_in, text_within}

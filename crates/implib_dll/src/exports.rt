@@ -4,7 +4,8 @@ ghost use Rattle.std.specs.Prelude.{◌≡◌, ℕ, ◌+◌, ◌*◌, ◌<◌, �
 ghost use Rattle.std.specs.Option.{option_map};
 ghost use Rattle.implib_dll.specs.declared.fault.Cause.TheVariants.{DllNameOutside};
 ghost use Rattle.implib_dll.specs.Bytes.{u32_at};
-ghost use Rattle.implib_dll.specs.Exports.{exports_at, exports_behind, exports_in, found_or, table_at};
+ghost use Rattle.implib_dll.specs.Exports.{exports_at, exports_behind, exports_in, found_or};
+ghost use Rattle.implib_dll.specs.Exports.{table_at};
 ghost use Rattle.implib_dll.specs.Outcome.{Gives};
 ghost use Rattle.implib_dll.specs.Sections.{part_at, text_at};
 ghost use Rattle.implib_dll.specs.Views.{exports_view, part_view, section_view};

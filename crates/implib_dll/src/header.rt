@@ -1,7 +1,8 @@
 //! The headers of an image.
 
 ghost use Rattle.std.specs.Prelude.{◌≡◌, ℕ, ◌+◌, ◌*◌, ◌<◌, ◌≤◌, ◌^◌, length, IfOk};
-ghost use Rattle.implib_dll.specs.Headers.{entry_in, header_at, header_for, header_of, header_with, is_dos_header, is_signature, signature_in};
+ghost use Rattle.implib_dll.specs.Headers.{entry_in, header_at, header_for, header_of, header_with};
+ghost use Rattle.implib_dll.specs.Headers.{is_dos_header, is_signature, signature_in};
 ghost use Rattle.implib_dll.specs.Outcome.{Gives};
 
 use crate::fault::{Cause, ReadError, refused};

@@ -1,13 +1,16 @@
 //! What an image imports.
 
-ghost use Rattle.std.specs.Prelude.{◌≡◌, ℕ, ◌+◌, ◌*◌, ◌<◌, ◌≤◌, ◌^◌, ◌/◌, length, map, IfOk, IfSome};
-ghost use Rattle.implib_dll.specs.Imports.{ask_at, ask_step, asks_in, descriptor_count, dll_at, dll_step};
-ghost use Rattle.implib_dll.specs.Imports.{has_address, imports_behind, imports_in, is_by_ordinal};
-ghost use Rattle.implib_dll.specs.Imports.{is_null_descriptor, is_null_thunk, lookup_address, lookup_field};
-ghost use Rattle.implib_dll.specs.Imports.{named_at, thunk_count, thunk_size};
+ghost use Rattle.std.specs.Prelude.{◌≡◌, ℕ, ◌+◌, ◌*◌, ◌<◌, ◌≤◌, ◌^◌, ◌/◌, length, map, IfOk};
+ghost use Rattle.std.specs.Prelude.{IfSome};
+ghost use Rattle.implib_dll.specs.Imports.{ask_at, ask_step, asks_in, descriptor_count, dll_at};
+ghost use Rattle.implib_dll.specs.Imports.{dll_step, has_address, imports_behind, imports_in};
+ghost use Rattle.implib_dll.specs.Imports.{is_by_ordinal, is_null_descriptor, is_null_thunk};
+ghost use Rattle.implib_dll.specs.Imports.{lookup_address, lookup_field, named_at, thunk_count};
+ghost use Rattle.implib_dll.specs.Imports.{thunk_size};
 ghost use Rattle.implib_dll.specs.Outcome.{Gives, each_from};
 ghost use Rattle.implib_dll.specs.Sections.{part_at};
-ghost use Rattle.implib_dll.specs.Views.{ask_view, imported_view, imports_view, part_view, section_view};
+ghost use Rattle.implib_dll.specs.Views.{ask_view, imported_view, imports_view, part_view};
+ghost use Rattle.implib_dll.specs.Views.{section_view};
 
 use crate::fault::{Cause, ReadError, refused};
 use crate::fields::{u16_at, u32_at};

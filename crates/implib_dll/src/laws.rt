@@ -1,8 +1,10 @@
 //! Laws of lookups and of memory, and what is worked by hand. The functions do nothing: their
 //! contracts are the laws.
 
-ghost use Rattle.implib_dll.specs.Laws.{FindsExactly, FindsTheName, HintsChangeNothing, NamesLead, OrdinalsLead, RightHintFinds};
-ghost use Rattle.implib_dll.specs.Memory.{ExportsLieInMemory, FileIsInMemory, ImageIsRead, LookupsAreThoseInMemory};
+ghost use Rattle.implib_dll.specs.Laws.{FindsExactly, FindsTheName, HintsChangeNothing, NamesLead};
+ghost use Rattle.implib_dll.specs.Laws.{OrdinalsLead, RightHintFinds};
+ghost use Rattle.implib_dll.specs.Memory.{ExportsLieInMemory, FileIsInMemory, ImageIsRead};
+ghost use Rattle.implib_dll.specs.Memory.{LookupsAreThoseInMemory};
 ghost use Rattle.implib_dll.specs.WorkedDlls.{WorkedDlls};
 ghost use Rattle.implib_dll.specs.WorkedFiles.{WorkedFiles};
 ghost use Rattle.implib_dll.specs.WorkedImports.{WorkedImports};

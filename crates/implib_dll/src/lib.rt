@@ -11,8 +11,8 @@
 //! target is allowed, as loaders allow it, and told by [`Exports::oddity`]; so is an address in no
 //! section, as [`AddressKind::Outside`].
 //!
-//! [`Imports::read`] has the import directory of a program or a DLL: each DLL by its name, with what
-//! it is asked for, by names and ordinals.
+//! [`Imports::read`] has the import directory of a program or a DLL: each DLL by its name, with
+//! what it is asked for, by names and ordinals.
 //!
 //! Each of these equals a definition in `specs/` that goes by the bytes alone. Values borrow the
 //! bytes, so that texts are not copied. [`laws`] says what lookups come to and what of it lies in

@@ -4,7 +4,8 @@ ghost use Rattle.std.specs.Prelude.{◌≡◌, ℕ, ◌+◌, ◌<◌, ◌≤◌,
 ghost use Rattle.std.specs.Cmp.Lexicographic.{slice_cmp};
 ghost use Rattle.std.specs.Option.{option_map};
 ghost use Rattle.std.specs.Ordering.{nat_cmp};
-ghost use Rattle.implib_dll.specs.Lookup.{by_name, by_ordinal, is_at, names_rise, order_at, ordinal_of, position_of, rise_from, searched, target_at};
+ghost use Rattle.implib_dll.specs.Lookup.{by_name, by_ordinal, is_at, names_rise, order_at};
+ghost use Rattle.implib_dll.specs.Lookup.{ordinal_of, position_of, rise_from, searched, target_at};
 ghost use Rattle.implib_dll.specs.Views.{exports_view, name_view, target_view};
 
 use crate::exports::Exports;

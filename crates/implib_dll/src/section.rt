@@ -1,10 +1,13 @@
 //! Sections, and what is at an address.
 
-ghost use Rattle.std.specs.Prelude.{◌≡◌, ℕ, ◌+◌, ◌*◌, ◌<◌, ◌≤◌, ◌^◌, length, map, max, take, IfSome};
+ghost use Rattle.std.specs.Prelude.{◌≡◌, ℕ, ◌+◌, ◌*◌, ◌<◌, ◌≤◌, ◌^◌, length, map, max, take};
+ghost use Rattle.std.specs.Prelude.{IfSome};
 ghost use Rattle.std.specs.Option.{option_map};
 ghost use Rattle.implib_dll.specs.Outcome.{Gives};
-ghost use Rattle.implib_dll.specs.Sections.{contents_at, contents_place, contents_size, data_from, has_address, has_data, kind_at, kind_in};
-ghost use Rattle.implib_dll.specs.Sections.{located, part_at, section_at, section_size, section_step, sections_in, text_at};
+ghost use Rattle.implib_dll.specs.Sections.{contents_at, contents_place, contents_size, data_from};
+ghost use Rattle.implib_dll.specs.Sections.{has_address, has_data, kind_at, kind_in, located};
+ghost use Rattle.implib_dll.specs.Sections.{part_at, section_at, section_size, section_step};
+ghost use Rattle.implib_dll.specs.Sections.{sections_in, text_at};
 ghost use Rattle.implib_dll.specs.Views.{part_view, section_view};
 
 use crate::fault::{Cause, ReadError, refused};

@@ -1,12 +1,15 @@
--- The DLLs of some folders, which stand for those that a loader searches (this project's choice; docs/CHECK.md, "A program").
-use Rattle.std.specs.Prelude.{◌≡◌, ℕ, ◌++◌, ◌&&◌, All, Bool, List, [], ◌∷◌, Err, None, Ok, Option, Some, bytes_eq, codes, find, map}
+-- The DLLs of some folders, which stand for those that a loader searches (this project's choice;
+-- docs/CHECK.md, "A program").
+use Rattle.std.specs.Prelude.{◌≡◌, ℕ, ◌++◌, ◌&&◌, All, Bool, List, [], ◌∷◌, Err, None, Ok, Option}
+use Rattle.std.specs.Prelude.{Some, bytes_eq, codes, find, map}
 use Rattle.std.specs.Option.{option_map, option_map_or, option_or}
 use Rattle.std.specs.String.{string_bytes}
 use Rattle.implib_dll.specs.Exports.{Exports, exports_in}
 use Rattle.implib_dll.specs.Outcome.{Read}
 use Rattle.implib_dll.specs.declared.section.Layout.TheVariants.{File}
 use Rattle.implib_dll_check.specs.DllName.{has_ending, loader_name}
-use Rattle.implib_dll_check.specs.Forwarding.{Content, Holds, Known, NoExports, NoFile, Refused, known_in}
+use Rattle.implib_dll_check.specs.Forwarding.{Content, Holds, Known, NoExports, NoFile, Refused}
+use Rattle.implib_dll_check.specs.Forwarding.{known_in}
 use Rattle.implib_dll_check.specs.Laws.{Extends}
 use Rattle.implib_dll_check.specs.declared.folder.Folder.{Folder}
 use Rattle.implib_dll_check.specs.declared.folder.Loaded.{Loaded}
@@ -23,7 +26,8 @@ folder_view f = (f.path.now, map string_bytes f.names.items)
 abbrev pub path_in : List ℕ → List ℕ → List ℕ
 path_in folder name = folder ++ codes "/" ++ name
 
--- Whether a loader takes a file for the DLL that it knows by a name: in letters of any case, with its ending.
+-- Whether a loader takes a file for the DLL that it knows by a name: in letters of any case, with
+-- its ending.
 abbrev pub is_file_of : List ℕ → List ℕ → Bool
 is_file_of known name = has_ending name && bytes_eq (loader_name name) known
 
@@ -31,7 +35,8 @@ is_file_of known name = has_ending name && bytes_eq (loader_name name) known
 abbrev pub dll_path : List Listing → List ℕ → Option (List ℕ)
 dll_path [] known = None
 dll_path (folder ∷ folders) known =
-    option_or (option_map (path_in folder.0) (find (is_file_of known) folder.1)) (dll_path folders known)
+    option_or (option_map (path_in folder.0) (find (is_file_of known) folder.1))
+    (dll_path folders known)
 
 -- the folders of paths, with the names of their files
 abbrev pub listings : (List ℕ → List (List ℕ)) → List (List ℕ) → List Listing
@@ -56,7 +61,8 @@ content_at file folders name = content_in (option_map file (dll_path folders nam
 
 -- what is known of a DLL that a program has read
 abbrev pub loaded_view : Loaded → Known
-loaded_view l = record { name = l.name.items; content = content_in (option_map (λ bytes. bytes.items) l.bytes) }
+loaded_view l =
+    record { name = l.name.items; content = content_in (option_map (λ bytes. bytes.items) l.bytes) }
 
 -- what is known of a DLL is what there is of it in the folders
 abbrev pub IsRight : (List ℕ → List ℕ) → List Listing → Known → Type 0
@@ -64,5 +70,6 @@ IsRight file folders d = d.content ≡ content_at file folders d.name
 
 -- What is right of some DLLs is part of what there is in the folders.
 abbrev pub RightDllsExtend : Type 0
-RightDllsExtend = (file : List ℕ → List ℕ) (folders : List Listing) (dlls : List Known) → All (IsRight file folders) dlls
+RightDllsExtend = (file : List ℕ → List ℕ) (folders : List Listing) (dlls : List Known) →
+    All (IsRight file folders) dlls
     → Extends (known_in dlls) (λ name. Some (content_at file folders name))

@@ -1,6 +1,8 @@
--- What a forwarder leads to (the loader of Wine, `dlls/ntdll/loader.c`: find_forwarded_export): its text has the name of a
--- DLL before its last full stop, and behind that what the DLL is asked for.
-use Rattle.std.specs.Prelude.{ℕ, zero, suc, ◌+◌, ◌-◌, ◌*◌, ◌==◌, ◌&&◌, Bool, true, false, List, [], ◌∷◌, Option, None, Some, bytes_eq, fold, if◌then◌else◌, length, map, nat_le, take_while}
+-- What a forwarder leads to (the loader of Wine, `dlls/ntdll/loader.c`: find_forwarded_export): its
+-- text has the name of a DLL before its last full stop, and behind that what the DLL is asked for.
+use Rattle.std.specs.Prelude.{ℕ, zero, suc, ◌+◌, ◌-◌, ◌*◌, ◌==◌, ◌&&◌, Bool, true, false, List, []}
+use Rattle.std.specs.Prelude.{◌∷◌, Option, None, Some, bytes_eq, fold, if◌then◌else◌, length, map}
+use Rattle.std.specs.Prelude.{nat_le, take_while}
 use Rattle.std.specs.List.{list_any}
 use Rattle.std.specs.Option.{option_and_then, option_map, option_map_or}
 use Rattle.implib_dll.specs.Exports.{Exports, Target, Empty, Address, Forwarder}
@@ -32,21 +34,23 @@ with_digit n digit = 10 * n + (digit - 48)
 abbrev pub number_of : List ℕ → ℕ
 number_of text = fold with_digit 0 (take_while is_digit text)
 
--- What a forwarder asks a DLL for: behind `#` by an ordinal, else by a name, for which there is no hint.
+-- What a forwarder asks a DLL for: behind `#` by an ordinal, else by a name, for which there is no
+-- hint.
 abbrev pub found_behind : Exports → List ℕ → Option Target
 found_behind e [] = by_name e [] (length e.names)
 found_behind e (byte ∷ text) =
     if byte == 0x23 then by_ordinal e (number_of text) else by_name e (byte ∷ text) (length e.names)
 
--- what there is of a DLL that a forwarder names: no file; one that is refused; one that exports nothing; or its exports
+-- what there is of a DLL that a forwarder names: no file; one that is refused; one that exports
+-- nothing; or its exports
 pub data Content : Type 0 where
   NoFile : Content
   Refused : Content
   NoExports : Content
   Holds : Exports → Content
 
--- Where a forwarder leads in the end: to an address; to nothing, by this last forwarder, and why; or to a DLL of this name,
--- of which nothing is known.
+-- Where a forwarder leads in the end: to an address; to nothing, by this last forwarder, and why;
+-- or to a DLL of this name, of which nothing is known.
 pub data End : Type 0 where
   Arrives : End
   Stops : List ℕ → Stop → End
@@ -62,13 +66,15 @@ abbrev pub at_target : Bool → List ℕ → Option Target → Step
 at_target is_data text None = Ends (Stops text stop.NotExported)
 at_target is_data text (Some Empty) = Ends (Stops text stop.NotExported)
 at_target is_data text (Some (Address address kind)) =
-    if fits_kind (Some (Address address kind)) is_data then Ends Arrives else Ends (Stops text stop.DataAsFunction)
+    if fits_kind (Some (Address address kind)) is_data then Ends Arrives
+    else Ends (Stops text stop.DataAsFunction)
 at_target is_data text (Some (Forwarder next)) = On next
 
 -- where it leads in a DLL, which is for a machine
 abbrev pub in_exports : ℕ → Bool → List ℕ → List ℕ → Exports → Step
 in_exports machine is_data text asked e =
-    if machine == e.machine then at_target is_data text (found_behind e asked) else Ends (Stops text stop.OtherMachine)
+    if machine == e.machine then at_target is_data text (found_behind e asked)
+    else Ends (Stops text stop.OtherMachine)
 
 -- where it leads in what there is of a DLL, and where nothing may be known of that
 abbrev pub in_known : ℕ → Bool → List ℕ → List ℕ → Content → Step
@@ -81,8 +87,8 @@ abbrev pub in_content : ℕ → Bool → List ℕ → List ℕ × List ℕ → O
 in_content machine is_data text parts None = Ends (Unknown parts.0)
 in_content machine is_data text parts (Some content) = in_known machine is_data text parts.1 content
 
--- Where one forwarder leads, by what is known of DLLs by their loader's names, for an import of a machine that is of data or
--- not.
+-- Where one forwarder leads, by what is known of DLLs by their loader's names, for an import of a
+-- machine that is of data or not.
 abbrev pub next_step : (List ℕ → Option Content) → ℕ → Bool → List ℕ → Step
 next_step known machine is_data text =
     option_map_or (λ parts. in_content machine is_data text parts (known (loader_name parts.0)))
@@ -92,7 +98,8 @@ abbrev pub then_on : (List ℕ → End) → Step → End
 then_on go (On text) = go text
 then_on go (Ends end) = end
 
--- Where a forwarder leads in the end, where at most a number of forwarders are followed: a circle has no end.
+-- Where a forwarder leads in the end, where at most a number of forwarders are followed: a circle
+-- has no end.
 unfoldable pub end_by : ℕ → (List ℕ → Option Content) → ℕ → Bool → List ℕ → End
 end_by zero known machine is_data text = Stops text stop.Endless
 end_by (suc n) known machine is_data text =
@@ -120,7 +127,8 @@ pub record Beside : Type 0 where
 
 -- what is known of the DLL of a loader's name: the DLL itself, or another one
 abbrev pub known_by : Beside → List ℕ → Option Content
-known_by b name = if list_any (λ one. bytes_eq name one) b.names then Some (Holds b.exports) else b.others name
+known_by b name =
+    if list_any (λ one. bytes_eq name one) b.names then Some (Holds b.exports) else b.others name
 
 -- the text of a target that is a forwarder
 abbrev pub forwarder_at : Option Target → Option (List ℕ)
@@ -132,12 +140,14 @@ forwarder_at (Some (Forwarder text)) = Some text
 -- the forwarder that an import comes to in a DLL that loaders know by these names, if it does
 abbrev pub forwarder_of : Exports → List (List ℕ) → Imported → Option (List ℕ)
 forwarder_of e names i =
-    if is_called names i.imports.dll && (i.machine == e.machine) then forwarder_at (found e i.imports.ask) else None
+    if is_called names i.imports.dll && (i.machine == e.machine)
+    then forwarder_at (found e i.imports.ask) else None
 
 -- Where that leads in the end.
 abbrev pub end_of : Beside → Imported → Option End
 end_of b i =
-    option_map (λ text. end_by most_forwarders (known_by b) b.exports.machine (is_of_data i.kind) text)
+    option_map (λ text. end_by most_forwarders (known_by b) b.exports.machine (is_of_data i.kind)
+    text)
     (forwarder_of b.exports b.names i)
 
 abbrev pub end_of_member : Beside → MemberRead → Option End

@@ -5,7 +5,8 @@ use Rattle.implib_dll_check.specs.Forwarding.{Beside, Content, End, Known, Step,
 use Rattle.implib_dll_check.specs.Forwarding as seen
 use Rattle.implib_dll_check.specs.declared.forwarder.Beside.{Beside as BorrowedBeside}
 use Rattle.implib_dll_check.specs.declared.forwarder.DllContent.{DllContent}
-use Rattle.implib_dll_check.specs.declared.forwarder.DllContent.TheVariants.{NoFile, Refused, NoExports, Holds}
+use Rattle.implib_dll_check.specs.declared.forwarder.DllContent.TheVariants.{NoFile, Refused}
+use Rattle.implib_dll_check.specs.declared.forwarder.DllContent.TheVariants.{NoExports, Holds}
 use Rattle.implib_dll_check.specs.declared.forwarder.End.{End as BorrowedEnd}
 use Rattle.implib_dll_check.specs.declared.forwarder.End.TheVariants.{Arrives, Stops, Unknown}
 use Rattle.implib_dll_check.specs.declared.forwarder.NamedDll.{NamedDll}

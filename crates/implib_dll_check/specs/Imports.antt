@@ -1,6 +1,8 @@
--- What the imports of a library come to in a DLL. An import is lost where it is of another DLL or for another machine,
--- where a loader finds nothing for what it asks, or where data is imported as a function.
-use Rattle.std.specs.Prelude.{ℕ, ◌==◌, Bool, true, false, List, Option, None, Some, bytes_eq, if◌then◌else◌, is_none, map, not}
+-- What the imports of a library come to in a DLL. An import is lost where it is of another DLL or
+-- for another machine, where a loader finds nothing for what it asks, or where data is imported as
+-- a function.
+use Rattle.std.specs.Prelude.{ℕ, ◌==◌, Bool, true, false, List, Option, None, Some, bytes_eq}
+use Rattle.std.specs.Prelude.{if◌then◌else◌, is_none, map, not}
 use Rattle.std.specs.List.{filter_map, list_any}
 use Rattle.std.specs.Option.{option_and_then, option_map_or}
 use Rattle.implib.specs.Import.{Ask}
@@ -8,11 +10,16 @@ use Rattle.implib_dll.specs.Exports.{Exports}
 use Rattle.implib_dll_check.specs.DllName.{loader_name}
 use Rattle.implib_dll_check.specs.Verdict.{Verdicts, verdict_of}
 use Rattle.implib_dll_check.specs.declared.import.Judgement.{Judgement}
-use Rattle.implib_dll_check.specs.declared.import.Judgement.TheVariants.{NoImport, Reached, Searched, Lost}
-use Rattle.implib_dll_check.specs.declared.import.Loss.TheVariants.{OtherDll, OtherMachine, NotFound, DataAsFunction}
-use Rattle.implib_read.specs.Classes.{Class, AnImport, AnAlias, Descriptor, NullDescriptor, NullThunk, Head, Tail, DelayImport, Other, NotUnderstood, Imported, MemberRead}
+use Rattle.implib_dll_check.specs.declared.import.Judgement.TheVariants.{NoImport, Reached}
+use Rattle.implib_dll_check.specs.declared.import.Judgement.TheVariants.{Searched, Lost}
+use Rattle.implib_dll_check.specs.declared.import.Loss.TheVariants.{OtherDll, OtherMachine}
+use Rattle.implib_dll_check.specs.declared.import.Loss.TheVariants.{NotFound, DataAsFunction}
+use Rattle.implib_read.specs.Classes.{Class, AnImport, AnAlias, Descriptor, NullDescriptor}
+use Rattle.implib_read.specs.Classes.{NullThunk, Head, Tail, DelayImport, Other, NotUnderstood}
+use Rattle.implib_read.specs.Classes.{Imported, MemberRead}
 use Rattle.implib_read.specs.declared.import.ImportKind.{ImportKind}
-use Rattle.implib_read.specs.declared.import.ImportKind.TheVariants.{Code, CodeOrConst, Const, Data, Delayed}
+use Rattle.implib_read.specs.declared.import.ImportKind.TheVariants.{Code, CodeOrConst, Const, Data}
+use Rattle.implib_read.specs.declared.import.ImportKind.TheVariants.{Delayed}
 
 -- whether an import is of data: a constant is, too, whose symbol stands for its address
 abbrev pub is_of_data : ImportKind → Bool
@@ -87,4 +94,5 @@ ask_of_called names i = if is_called names i.imports.dll then Some i.imports.ask
 
 -- What the members of a library ask a DLL for that loaders know by these names, in order.
 abbrev pub asks_in : List (List ℕ) → List MemberRead → List Ask
-asks_in names members = filter_map (λ m. option_and_then (ask_of_called names) (import_in m.class)) members
+asks_in names members =
+    filter_map (λ m. option_and_then (ask_of_called names) (import_in m.class)) members

@@ -1,13 +1,17 @@
--- Which exports of a DLL are forwarded to data (this project's choice; docs/DLLTOOL.md, "From a DLL"). A forwarder that is
--- followed as what a function is imported by stops at data, and at nothing else that is there.
-use Rattle.std.specs.Prelude.{◌≡◌, ℕ, zero, suc, ◌==◌, Bool, true, false, List, [], Option, None, Some, count_by, if◌then◌else◌, map}
+-- Which exports of a DLL are forwarded to data (this project's choice; docs/DLLTOOL.md, "From a
+-- DLL"). A forwarder that is followed as what a function is imported by stops at data, and at
+-- nothing else that is there.
+use Rattle.std.specs.Prelude.{◌≡◌, ℕ, zero, suc, ◌==◌, Bool, true, false, List, [], Option, None}
+use Rattle.std.specs.Prelude.{Some, count_by, if◌then◌else◌, map}
 use Rattle.std.specs.List.{filter_map}
 use Rattle.std.specs.Option.{option_and_then, option_map}
 use Rattle.implib.specs.Definition.{ExportView}
 use Rattle.implib_dll.specs.Exports.{Address, Empty, Exports, Forwarder, Target}
 use Rattle.implib_dll.specs.declared.section.AddressKind.TheVariants.{Code, Data, Outside}
 use Rattle.implib_dll_check.specs.DllName.{loader_name}
-use Rattle.implib_dll_check.specs.Forwarding.{Arrives, Beside, Content, End, Holds, NoExports, NoFile, Refused, Stops, Unknown, end_by, forwarder_at, found_behind, known_by, most_forwarders, split_last}
+use Rattle.implib_dll_check.specs.Forwarding.{Arrives, Beside, Content, End, Holds, NoExports}
+use Rattle.implib_dll_check.specs.Forwarding.{NoFile, Refused, Stops, Unknown, end_by, forwarder_at}
+use Rattle.implib_dll_check.specs.Forwarding.{found_behind, known_by, most_forwarders, split_last}
 use Rattle.implib_dll_check.specs.Laws.{Extends}
 use Rattle.implib_dll_check.specs.declared.forwarder.Stop.{Stop}
 use Rattle.implib_dll_check.specs.declared.forwarder.Stop.TheVariants as stop
@@ -20,7 +24,8 @@ forwarder_in e x = forwarder_at (found e (ask_of x))
 -- Where it leads in the end, as what a function is imported by.
 abbrev pub end_of_export : Beside → ExportView → Option End
 end_of_export b x =
-    option_map (λ text. end_by most_forwarders (known_by b) b.exports.machine false text) (forwarder_in b.exports x)
+    option_map (λ text. end_by most_forwarders (known_by b) b.exports.machine false text)
+    (forwarder_in b.exports x)
 
 -- whether it stopped at data, and whether at nothing
 abbrev pub is_data_stop : Stop → Bool
@@ -45,18 +50,21 @@ is_stray_end (Some Arrives) = false
 is_stray_end (Some (Stops text why)) = if is_data_stop why then false else true
 is_stray_end (Some (Unknown name)) = false
 
--- The same said apart: what a forwarder comes to in the DLL that it names, where that is known and for the same machine, and
--- the target that it leads to in the end, where at most a number are followed.
+-- The same said apart: what a forwarder comes to in the DLL that it names, where that is known and
+-- for the same machine, and the target that it leads to in the end, where at most a number are
+-- followed.
 abbrev pub target_in : ℕ → List ℕ → Option Content → Option Target
 target_in machine asked None = None
 target_in machine asked (Some NoFile) = None
 target_in machine asked (Some Refused) = None
 target_in machine asked (Some NoExports) = None
-target_in machine asked (Some (Holds e)) = if machine == e.machine then found_behind e asked else None
+target_in machine asked (Some (Holds e)) =
+    if machine == e.machine then found_behind e asked else None
 
 abbrev pub target_behind : (List ℕ → Option Content) → ℕ → List ℕ → Option Target
 target_behind known machine text =
-    option_and_then (λ parts. target_in machine parts.1 (known (loader_name parts.0))) (split_last text)
+    option_and_then (λ parts. target_in machine parts.1 (known (loader_name parts.0)))
+    (split_last text)
 
 abbrev pub unless_forwarded : (List ℕ → Option Target) → Option Target → Option Target
 unless_forwarded go None = None
@@ -81,7 +89,8 @@ is_data_target (Some (Forwarder text)) = false
 -- A forwarder stops at data, as what a function is imported by, just where it leads to data.
 abbrev pub DataEndsAreData : Type 0
 DataEndsAreData = (n : ℕ) (known : List ℕ → Option Content) (machine : ℕ) (text : List ℕ)
-    → is_data_end (Some (end_by n known machine false text)) ≡ is_data_target (last_target n known machine text)
+    → is_data_end (Some (end_by n known machine false text))
+    ≡ is_data_target (last_target n known machine text)
 
 -- an export, which is data where it is forwarded to data
 abbrev pub with_kind : Beside → ExportView → ExportView
@@ -106,13 +115,16 @@ unknown_in (Some (Unknown name)) = Some (loader_name name)
 abbrev pub unknown_dlls : Beside → List ExportView → List (List ℕ)
 unknown_dlls b exports = filter_map (λ x. unknown_in (end_of_export b x)) exports
 
--- exports are of the same kinds, and as many of them are forwarded to nothing, whatever is known besides
-pub record AreDecided (b : Beside) (more : List ℕ → Option Content) (exports : List ExportView) : Type 0 where
+-- exports are of the same kinds, and as many of them are forwarded to nothing, whatever is known
+-- besides
+pub record AreDecided (b : Beside) (more : List ℕ → Option Content)
+    (exports : List ExportView) : Type 0 where
   pub kinds : kinds_followed (record b { others = more }) exports ≡ kinds_followed b exports
-  pub astray : count_by (is_astray (record b { others = more })) exports ≡ count_by (is_astray b) exports
+  pub astray : count_by (is_astray (record b { others = more })) exports
+      ≡ count_by (is_astray b) exports
 
--- Where enough is known of other DLLs, so that each forwarder leads to an end, nothing that is known besides changes the
--- kinds of exports.
+-- Where enough is known of other DLLs, so that each forwarder leads to an end, nothing that is
+-- known besides changes the kinds of exports.
 abbrev pub KnownDllsDecideKinds : Type 0
 KnownDllsDecideKinds = (b : Beside) (more : List ℕ → Option Content) (exports : List ExportView)
     → Extends b.others more → unknown_dlls b exports ≡ [] → AreDecided b more exports

@@ -20,10 +20,11 @@ OwnAsksPass = (e : Exports) → Fits e → All (Passes e) (asks_of e)
 
 -- More is known of DLLs: what is known of one stays.
 abbrev pub Extends : (List ℕ → Option Content) → (List ℕ → Option Content) → Type 0
-Extends known more = (name : List ℕ) (content : Content) → known name ≡ Some content → more name ≡ Some content
+Extends known more =
+    (name : List ℕ) (content : Content) → known name ≡ Some content → more name ≡ Some content
 
--- Where enough is known of other DLLs, so that each forwarder of the members leads to an end, nothing that is known besides
--- changes where they lead.
+-- Where enough is known of other DLLs, so that each forwarder of the members leads to an end,
+-- nothing that is known besides changes where they lead.
 abbrev pub KnownDllsDecide : Type 0
 KnownDllsDecide = (b : Beside) (more : List ℕ → Option Content) (members : List MemberRead)
     → Extends b.others more → list_any is_unknown (ends b members) ≡ false

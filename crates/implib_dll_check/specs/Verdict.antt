@@ -18,7 +18,8 @@ ask_view (ask.Ordinal ordinal) = Ordinal ordinal
 
 -- whether a name stands at a position of the name table
 abbrev pub stands_at : List NameEntry → List ℕ → ℕ → Bool
-stands_at names name position = option_map_or (λ text. bytes_eq text name) (text_at names position) false
+stands_at names name position =
+    option_map_or (λ text. bytes_eq text name) (text_at names position) false
 
 -- whether a loader needs no search for an ask: by ordinal, or since the name stands at its hint
 abbrev pub needs_no_search : Exports → Asked → Bool
@@ -42,9 +43,14 @@ pub record Verdicts : Type 0 where
 
 -- the view of a verdict of the program
 abbrev pub verdict_view : Verdict → Verdicts
-verdict_view v = record { target = option_map target_view v.target; at_once = v.at_once; fits_kind = v.fits_kind }
+verdict_view v = record {
+  target = option_map target_view v.target;
+  at_once = v.at_once;
+  fits_kind = v.fits_kind;
+}
 
--- The verdict of an import: what a loader finds, whether without a search, and whether its kind fits.
+-- The verdict of an import: what a loader finds, whether without a search, and whether its kind
+-- fits.
 abbrev pub verdict_of : Exports → Asked → Bool → Verdicts
 verdict_of e asked is_data = record {
   target = found e asked;

@@ -20,14 +20,16 @@ pub record WorkedVerdicts : Type 0 where
       ≡ record { target = Some (Address 0x1000 Code); at_once = true; fits_kind = true }
   pub by_search : verdict_of worked_exports (Name (codes "beta") 0) false
       ≡ record { target = Some (Address 0x1000 Code); at_once = false; fits_kind = true }
-  -- a name that is not there; one that a search misses, as the names do not rise, and finds at its hint
+  -- a name that is not there; one that a search misses, as the names do not rise, and finds at its
+  -- hint
   pub no_name : verdict_of worked_exports (Name (codes "bet") 1) false
       ≡ record { target = None; at_once = false; fits_kind = true }
   pub missed : verdict_of falling (Name (codes "alpha") 0) true
       ≡ record { target = None; at_once = false; fits_kind = true }
   pub not_missed : verdict_of falling (Name (codes "alpha") 1) true
       ≡ record { target = Some (Address 0x2004 Data); at_once = true; fits_kind = true }
-  -- by ordinal: a variable as data and as a function, a function as data, a hole, a forwarder, and none
+  -- by ordinal: a variable as data and as a function, a function as data, a hole, a forwarder, and
+  -- none
   pub variable : verdict_of worked_exports (Ordinal 6) true
       ≡ record { target = Some (Address 0x2004 Data); at_once = true; fits_kind = true }
   pub variable_as_code : verdict_of worked_exports (Ordinal 6) false
@@ -40,11 +42,12 @@ pub record WorkedVerdicts : Type 0 where
       ≡ record { target = Some (Forwarder (codes "K.f")); at_once = true; fits_kind = true }
   pub past : verdict_of worked_exports (Ordinal 10) false
       ≡ record { target = None; at_once = true; fits_kind = true }
-  -- what is missing where nothing is asked for: all but the hole; where all is; and where beta is, which is alpha's
-  -- target, and two ordinals, one of them of the hole
+  -- what is missing where nothing is asked for: all but the hole; where all is; and where beta is,
+  -- which is alpha's target, and two ordinals, one of them of the hole
   pub all_missing : missing worked_exports [] ≡ 0 ∷ 1 ∷ 3 ∷ 4 ∷ []
   pub none_missing : missing worked_exports (asks_of worked_exports) ≡ []
-  pub some_missing : missing worked_exports (Name (codes "beta") 0 ∷ Ordinal 7 ∷ Ordinal 9 ∷ []) ≡ 1 ∷ 3 ∷ []
+  pub some_missing : missing worked_exports (Name (codes "beta") 0 ∷ Ordinal 7 ∷ Ordinal 9 ∷ [])
+      ≡ 1 ∷ 3 ∷ []
   -- a name that a search misses is asked for in vain
   pub in_vain : missing falling (Name (codes "alpha") 0 ∷ []) ≡ 0 ∷ 1 ∷ 3 ∷ 4 ∷ []
   -- names of DLLs

@@ -5,10 +5,12 @@ use Rattle.implib_dll_check.specs.Folders.{Listing, content_at, content_of, dll_
 use Rattle.implib_dll_check.specs.Forwarding.{Holds, NoExports, NoFile}
 
 abbrev pub folders : List Listing
-folders = (codes "a", codes "k" ∷ codes "K.DLL" ∷ codes "k.dll" ∷ []) ∷ (codes "b/c", codes "k.dll" ∷ codes "Deep.Name.drv" ∷ []) ∷ []
+folders = (codes "a", codes "k" ∷ codes "K.DLL" ∷ codes "k.dll" ∷ [])
+    ∷ (codes "b/c", codes "k.dll" ∷ codes "Deep.Name.drv" ∷ []) ∷ []
 
 pub record WorkedFolders : Type 0 where
-  -- the first folder's first file, in letters of any case, with its ending; one of another folder; none
+  -- the first folder's first file, in letters of any case, with its ending; one of another folder;
+  -- none
   pub first : dll_path folders (codes "k.dll") ≡ Some (codes "a/K.DLL")
   pub second : dll_path folders (codes "deep.name.drv") ≡ Some (codes "b/c/Deep.Name.drv")
   pub none : dll_path folders (codes "deep.name") ≡ None

@@ -1,11 +1,15 @@
--- The kinds of exports worked by hand: of `f.dll`, which forwards to a function and to a variable of `deep.name.drv`, to the
--- variable through `g.dll`, to nothing, and to itself; and which has a function and a variable of its own.
-use Rattle.std.specs.Prelude.{◌≡◌, ℕ, Bool, true, false, List, [], ◌∷◌, None, Some, codes, count_by, map}
+-- The kinds of exports worked by hand: of `f.dll`, which forwards to a function and to a variable
+-- of `deep.name.drv`, to the variable through `g.dll`, to nothing, and to itself; and which has a
+-- function and a variable of its own.
+use Rattle.std.specs.Prelude.{◌≡◌, ℕ, Bool, true, false, List, [], ◌∷◌, None, Some, codes, count_by}
+use Rattle.std.specs.Prelude.{map}
 use Rattle.implib_dll.specs.Exports.{Address, Exports, Forwarder}
 use Rattle.implib_dll.specs.WorkedFiles.{named, worked_exports}
 use Rattle.implib_dll.specs.declared.section.AddressKind.TheVariants.{Code, Data}
-use Rattle.implib_dll_check.specs.Forwarding.{Beside, Holds, Known, Stops, Unknown, end_by, known_by, known_in}
-use Rattle.implib_dll_check.specs.Kinds.{is_astray, is_data_end, is_data_target, is_stray_end, kinds_followed, last_target, unknown_dlls}
+use Rattle.implib_dll_check.specs.Forwarding.{Beside, Holds, Known, Stops, Unknown, end_by}
+use Rattle.implib_dll_check.specs.Forwarding.{known_by, known_in}
+use Rattle.implib_dll_check.specs.Kinds.{is_astray, is_data_end, is_data_target, is_stray_end}
+use Rattle.implib_dll_check.specs.Kinds.{kinds_followed, last_target, unknown_dlls}
 use Rattle.implib_dll_check.specs.WorkedForwarding.{others}
 use Rattle.implib_dll_check.specs.declared.forwarder.Stop.TheVariants as stop
 use Rattle.implib_from_dll.specs.Definition.{exports_of}
@@ -26,13 +30,19 @@ f_exports = record worked_exports {
       ∷ Forwarder (codes "F.own")
       ∷ Forwarder (codes "deep.name.drv.#8") ∷ [];
   names =
-      named (codes "code") 0 ∷ named (codes "own") 1 ∷ named (codes "to_code") 2 ∷ named (codes "to_data") 3
-      ∷ named (codes "through") 4 ∷ named (codes "to_none") 5 ∷ named (codes "to_nothing") 6 ∷ named (codes "to_own") 7 ∷ [];
+      named (codes "code") 0 ∷ named (codes "own") 1 ∷ named (codes "to_code") 2
+      ∷ named (codes "to_data") 3
+      ∷ named (codes "through") 4 ∷ named (codes "to_none") 5 ∷ named (codes "to_nothing") 6
+      ∷ named (codes "to_own") 7 ∷ [];
 }
 
 -- a DLL that forwards its variable to that of `deep.name.drv`
 abbrev pub g_exports : Exports
-g_exports = record worked_exports { base = 1; targets = Forwarder (codes "deep.name.drv.#8") ∷ []; names = named (codes "variable") 0 ∷ [] }
+g_exports = record worked_exports {
+  base = 1;
+  targets = Forwarder (codes "deep.name.drv.#8") ∷ [];
+  names = named (codes "variable") 0 ∷ [];
+}
 
 abbrev pub known : List Known
 known = record { name = codes "g.dll"; content = Holds g_exports } ∷ others
@@ -46,11 +56,13 @@ beside_none = record beside { others = λ name. None }
 
 -- a DLL whose one export is forwarded, beside the same DLLs
 abbrev pub forwarding : List ℕ → Beside
-forwarding text = record beside { exports = record f_exports { targets = Forwarder text ∷ []; names = [] } }
+forwarding text =
+    record beside { exports = record f_exports { targets = Forwarder text ∷ []; names = [] } }
 
 -- whether that is data, and whether it is forwarded to nothing
 abbrev pub is_data : List ℕ → List Bool
-is_data text = map (λ x. x.is_data) (kinds_followed (forwarding text) (exports_of (forwarding text).exports))
+is_data text =
+    map (λ x. x.is_data) (kinds_followed (forwarding text) (exports_of (forwarding text).exports))
 
 pub record WorkedKinds : Type 0 where
   -- as the DLL alone says it, forwarders are code
@@ -82,7 +94,8 @@ pub record WorkedKinds : Type 0 where
   pub by_itself : map (λ x. x.is_data) (kinds_followed beside_none (exports_of f_exports))
       ≡ false ∷ true ∷ false ∷ false ∷ false ∷ false ∷ false ∷ true ∷ false ∷ []
   pub unknown : unknown_dlls beside_none (exports_of f_exports)
-      ≡ codes "deep.name.drv" ∷ codes "deep.name.drv" ∷ codes "g.dll" ∷ codes "gone.dll" ∷ codes "k.dll" ∷ codes "deep.name.drv" ∷ []
+      ≡ codes "deep.name.drv" ∷ codes "deep.name.drv" ∷ codes "g.dll" ∷ codes "gone.dll"
+      ∷ codes "k.dll" ∷ codes "deep.name.drv" ∷ []
   -- one export: to data of a DLL for another machine, to one that is refused, and to a hole
   pub other_machine : is_data (codes "other.f") ≡ false ∷ []
   pub refused : is_data (codes "bad.f") ≡ false ∷ []
@@ -95,7 +108,8 @@ pub record WorkedKinds : Type 0 where
   pub is_data_last : is_data_target (Some (Address 0x2000 Data)) ≡ true
   pub code_is_none : is_data_target (Some (Address 0x1000 Code)) ≡ false
   -- a circle, and its end; and ends that are no data
-  pub in_circle : is_data_end (Some (end_by 50 (known_by beside) 0x14C false (codes "round.a"))) ≡ false
+  pub in_circle : is_data_end (Some (end_by 50 (known_by beside) 0x14C false (codes "round.a")))
+      ≡ false
   pub circle_last : last_target 50 (known_by beside) 0x14C (codes "round.a") ≡ None
   pub circle : is_data_end (Some (Stops (codes "round.b") stop.Endless)) ≡ false
   pub circle_astray : is_stray_end (Some (Stops (codes "round.b") stop.Endless)) ≡ true

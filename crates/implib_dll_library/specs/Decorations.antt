@@ -1,6 +1,7 @@
--- The symbols that a file has for names, which a DLL for I386 does not say (this project's own; docs/DLLTOOL.md, "From a
--- DLL").
-use Rattle.std.specs.Prelude.{◌≡◌, ℕ, Bool, true, false, ◌&&◌, ◌||◌, not, List, [], ◌∷◌, Option, None, Some, bytes_eq, codes, drop, if◌then◌else◌, map, take}
+-- The symbols that a file has for names, which a DLL for I386 does not say (this project's own;
+-- docs/DLLTOOL.md, "From a DLL").
+use Rattle.std.specs.Prelude.{◌≡◌, ℕ, Bool, true, false, ◌&&◌, ◌||◌, not, List, [], ◌∷◌, Option}
+use Rattle.std.specs.Prelude.{None, Some, bytes_eq, codes, drop, if◌then◌else◌, map, take}
 use Rattle.std.specs.List.{filter, flat_map}
 use Rattle.std.specs.Str.{IsUtf8}
 use Rattle.implib.specs.declared.flavor.Flavor.TheVariants.{Gnu}
@@ -10,11 +11,15 @@ use Rattle.implib.specs.Definition.{DefinitionView, ExportView}
 use Rattle.implib.specs.Import.{Ask, Import, Name, Ordinal}
 use Rattle.implib_dll_library.specs.declared.decorations.Decoration.{Decoration}
 use Rattle.implib_dll_library.specs.declared.decorations.NotDecorations.{NotDecorations}
-use Rattle.implib_dll_library.specs.declared.decorations.NotDecorations.TheVariants.{NoLibrary, Text}
-use Rattle.implib_read.specs.Classes.{AnAlias, AnImport, Class, DelayImport, Descriptor, Head, MemberRead, NotUnderstood, NullDescriptor, NullThunk, Other, Tail, library_in}
+use Rattle.implib_dll_library.specs.declared.decorations.NotDecorations.TheVariants.{NoLibrary}
+use Rattle.implib_dll_library.specs.declared.decorations.NotDecorations.TheVariants.{Text}
+use Rattle.implib_read.specs.Classes.{AnAlias, AnImport, Class, DelayImport, Descriptor, Head}
+use Rattle.implib_read.specs.Classes.{MemberRead, NotUnderstood, NullDescriptor, NullThunk, Other}
+use Rattle.implib_read.specs.Classes.{Tail, library_in}
 use Rattle.implib_read.specs.Symbols.{begins_imp}
 use Rattle.implib_rules.specs.declared.library.Refusal.{Refusal}
-use Rattle.implib_rules.specs.declared.library.Refusal.TheVariants.{Archive, Members, NoName, NotUtf8, OutOfMemory, Syntax}
+use Rattle.implib_rules.specs.declared.library.Refusal.TheVariants.{Archive, Members, NoName}
+use Rattle.implib_rules.specs.declared.library.Refusal.TheVariants.{NotUtf8, OutOfMemory, Syntax}
 use Rattle.implib_rules.specs.Additions.{no_additions}
 use Rattle.implib_rules.specs.Library.{DefinitionFor, IsRefusalOfText, definition_text}
 use Rattle.implib_rules.specs.Linked.{NamingView}
@@ -67,12 +72,14 @@ of_class NotUnderstood = []
 abbrev pub of_members : List MemberRead → List DecorationView
 of_members members = flat_map (λ m. of_class m.class) members
 
--- One of a definition, as it is read by dlltool's rules, and the one by LIB's, whose words are symbols as they are. For
--- example, of the word `_f@8` the symbol is `__f@8` by the first, for the name `_f`; and `_f@8` by the second, for f.
+-- One of a definition, as it is read by dlltool's rules, and the one by LIB's, whose words are
+-- symbols as they are. For example, of the word `_f@8` the symbol is `__f@8` by the first, for the
+-- name `_f`; and `_f@8` by the second, for f.
 abbrev pub both_ways : List ℕ → List ℕ → List DecorationView
 both_ways name symbol =
     decoration name symbol
-    ∷ (if begins_with underscore name && begins_with underscore symbol then decoration (drop 1 name) (drop 1 symbol) ∷ [] else [])
+    ∷ (if begins_with underscore name && begins_with underscore symbol
+    then decoration (drop 1 name) (drop 1 symbol) ∷ [] else [])
 
 -- those of a symbol that asks for a name, if it is given
 abbrev pub of_asked : List ℕ → Option (List ℕ) → List DecorationView
@@ -88,7 +95,13 @@ abbrev pub killing : NamingView
 killing = record { is_plain = false; kills_at = true; exports_as = false; keeps_decorated = false }
 
 abbrev pub reading : LibraryOptionsView
-reading = record { machine = I386; flavor = Gnu; dll = Some (codes "a.dll"); naming = killing; additions = no_additions }
+reading = record {
+  machine = I386;
+  flavor = Gnu;
+  dll = Some (codes "a.dll");
+  naming = killing;
+  additions = no_additions;
+}
 
 -- those of a library
 pub record OfLibrary (bytes : List ℕ) (decorations : List DecorationView) : Type 0 where
@@ -112,8 +125,8 @@ abbrev pub OfFile : Bool → List ℕ → List DecorationView → Type 0
 OfFile true bytes decorations = OfLibrary bytes decorations
 OfFile false bytes decorations = OfDefinition bytes decorations
 
--- The names of a file with their symbols, in its order: of a library where it begins as an archive does, else of a
--- definition.
+-- The names of a file with their symbols, in its order: of a library where it begins as an archive
+-- does, else of a definition.
 abbrev pub AreDecorations : List ℕ → List DecorationView → Type 0
 AreDecorations bytes decorations = OfFile (begins_archive bytes) bytes decorations
 
@@ -131,7 +144,8 @@ IsNoDefinition bytes (Members fault position) = RefusesDefinition bytes (Members
 IsNoDefinition bytes (Archive fault) = RefusesDefinition bytes (Archive fault)
 IsNoDefinition bytes OutOfMemory = Unit {0}
 
--- why a file has none: it begins as an archive does, and is none; or it is no definition; or memory was refused
+-- why a file has none: it begins as an archive does, and is none; or it is no definition; or memory
+-- was refused
 abbrev pub IsNoFile : Bool → List ℕ → NotDecorations → Type 0
 IsNoFile true bytes NoLibrary = library_in bytes ≡ None
 IsNoFile false bytes NoLibrary = ⊥

@@ -1,5 +1,6 @@
 -- What the library of a DLL asks for, from the DLL's exports to the bytes of its members and back.
-use Rattle.std.specs.Prelude.{◌≡◌, ℕ, Bool, true, false, ◌&&◌, not, List, [], ◌∷◌, All, Some, bytes_eq, drop, map, reverse}
+use Rattle.std.specs.Prelude.{◌≡◌, ℕ, Bool, true, false, ◌&&◌, not, List, [], ◌∷◌, All, Some}
+use Rattle.std.specs.Prelude.{bytes_eq, drop, map, reverse}
 use Rattle.std.specs.List.{list_any}
 use Rattle.std.specs.Option.{option_and_then}
 use Rattle.implib.specs.declared.flavor.Flavor.{Flavor}
@@ -30,50 +31,59 @@ pub record AsksForWords (options : LibraryOptionsView) : Type 0 where
 -- whether no word stands twice
 abbrev pub are_different : List (List ℕ) → Bool
 are_different [] = true
-are_different (word ∷ words) = not (list_any (λ other. bytes_eq other word) words) && are_different words
+are_different (word ∷ words) =
+    not (list_any (λ other. bytes_eq other word) words) && are_different words
 
 -- whether the exports of a DLL have different words
 abbrev pub words_differ : Exports → Bool
 words_differ e = are_different (map (λ x. x.name) (exports_of e))
 
--- The members for GNU's linker are read, by their bytes alone, as these imports: the first is the tail, the second the
--- head, and the others, read backwards, an import each.
+-- The members for GNU's linker are read, by their bytes alone, as these imports: the first is the
+-- tail, the second the head, and the others, read backwards, an import each.
 pub record GnuReadsAs (members : List MemberView) (imports : List Import) : Type 0 where
   pub tail : File
   pub head : File
   pub tail_read : file_at members 0 ≡ Some tail
   pub head_read : file_at members 1 ≡ Some head
-  pub read : map (λ m. option_and_then (meaning_with head tail) (file_in m.bytes)) (reverse (drop 2 members)) ≡ map (λ i. Some (AnImport i)) imports
+  pub read : map (λ m. option_and_then (meaning_with head tail) (file_in m.bytes))
+      (reverse (drop 2 members)) ≡ map (λ i. Some (AnImport i)) imports
 
--- Members are read, by their bytes alone, as these imports, in order, and nothing else. Of those for Microsoft's linker
--- the first three are the DLL's.
+-- Members are read, by their bytes alone, as these imports, in order, and nothing else. Of those
+-- for Microsoft's linker the first three are the DLL's.
 abbrev pub ReadsAs : Flavor → List MemberView → List Import → Type 0
-ReadsAs Msvc members imports = map (λ m. meaning_in m.bytes) (drop 3 members) ≡ map (λ i. Some (AnImport i)) imports
+ReadsAs Msvc members imports =
+    map (λ m. meaning_in m.bytes) (drop 3 members) ≡ map (λ i. Some (AnImport i)) imports
 ReadsAs Gnu members imports = GnuReadsAs members imports
 
--- members are read as imports of a DLL that ask for exactly what it exports, and a loader finds each ask at once
-pub record AsksForExports (e : Exports) (options : LibraryOptionsView) (members : List MemberView) : Type 0 where
+-- members are read as imports of a DLL that ask for exactly what it exports, and a loader finds
+-- each ask at once
+pub record AsksForExports (e : Exports) (options : LibraryOptionsView)
+    (members : List MemberView) : Type 0 where
   pub imports : List Import
   pub read : ReadsAs options.flavor members imports
   pub dll : map (λ i. i.dll) imports ≡ map (λ i. dll_name options.dll [] false) imports
   pub asks : map (λ i. i.ask) imports ≡ asks_of e
   pub found : All (IsFoundAtOnce e) (map (λ i. i.ask) imports)
 
--- The members of a DLL's library, whose exports have different words, ask for exactly what the DLL exports.
+-- The members of a DLL's library, whose exports have different words, ask for exactly what the DLL
+-- exports.
 abbrev pub LibrariesAskForExports : Type 0
 LibrariesAskForExports =
-    (e : Exports) (options : LibraryOptionsView) (members : List MemberView) → Fits e → AsksForWords options
+    (e : Exports) (options : LibraryOptionsView) (members : List MemberView) → Fits e →
+    AsksForWords options
     → words_differ e ≡ true → MembersOfExports (exports_of e) options members
     → AsksForExports e options members
 
 -- whether the exports of a DLL have different words with the symbols of a file
 abbrev pub decorated_differ : NamingView → List DecorationView → Exports → Bool
-decorated_differ naming decorations e = are_different (map (λ x. x.name) (decorated_exports naming decorations e))
+decorated_differ naming decorations e =
+    are_different (map (λ x. x.name) (decorated_exports naming decorations e))
 
 -- With the symbols of a file, on I386, they ask for the same: only the symbols are others.
 abbrev pub DecoratedLibrariesAskForExports : Type 0
 DecoratedLibrariesAskForExports =
-    (e : Exports) (decorations : List DecorationView) (options : LibraryOptionsView) (members : List MemberView) → Fits e → AsksForWords options
+    (e : Exports) (decorations : List DecorationView) (options : LibraryOptionsView)
+    (members : List MemberView) → Fits e → AsksForWords options
     → options.machine ≡ I386 → decorated_differ options.naming decorations e ≡ true
     → MembersOfExports (decorated_exports options.naming decorations e) options members
     → AsksForExports e options members

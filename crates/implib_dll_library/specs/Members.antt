@@ -7,15 +7,17 @@ use Rattle.implib.specs.Import.{is_empty_text}
 use Rattle.implib.specs.Members.MemberSpec.{MemberView}
 use Rattle.implib_dll.specs.Exports.{Exports}
 use Rattle.implib_dll_library.specs.declared.members.Unmade.{Unmade}
-use Rattle.implib_dll_library.specs.declared.members.Unmade.TheVariants.{NameNotUtf8, Unsaid, NoName, Members, OutOfMemory}
+use Rattle.implib_dll_library.specs.declared.members.Unmade.TheVariants.{NameNotUtf8, Unsaid}
+use Rattle.implib_dll_library.specs.declared.members.Unmade.TheVariants.{NoName, Members}
+use Rattle.implib_dll_library.specs.declared.members.Unmade.TheVariants.{OutOfMemory}
 use Rattle.implib_from_dll.specs.Definition.{exports_of}
 use Rattle.implib_from_dll.specs.Unsaid.{IsUnsaid}
 use Rattle.implib_rules.specs.Exports.{MembersOfExports, RefusesExports}
 use Rattle.implib_rules.specs.Names.{lacks_name}
 use Rattle.implib_rules.specs.Options.{LibraryOptionsView}
 
--- the name of a DLL: the one that is given, or else that of its export directory, or that of its file where
--- that is empty
+-- the name of a DLL: the one that is given, or else that of its export directory, or that of its
+-- file where that is empty
 abbrev pub dll_named : List ℕ → List ℕ → Option (List ℕ) → List ℕ
 dll_named path own (Some given) = given
 dll_named path own None = if is_empty_text own then path else own
@@ -25,8 +27,10 @@ abbrev pub options_for : Exports → List ℕ → LibraryOptionsView → Library
 options_for e path options = record options { dll = Some (dll_named path e.dll options.dll) }
 
 -- The members of the library of these exports of a DLL.
-abbrev pub MembersOfList : List ExportView → Exports → List ℕ → LibraryOptionsView → List MemberView → Type 0
-MembersOfList exports e path options members = MembersOfExports exports (options_for e path options) members
+abbrev pub MembersOfList : List ExportView → Exports → List ℕ → LibraryOptionsView →
+    List MemberView → Type 0
+MembersOfList exports e path options members =
+    MembersOfExports exports (options_for e path options) members
 
 -- The members of the library of a DLL: those of its exports.
 abbrev pub MembersOfDll : Exports → List ℕ → LibraryOptionsView → List MemberView → Type 0
@@ -37,7 +41,8 @@ abbrev pub IsListUnmade : List ExportView → Exports → List ℕ → LibraryOp
 IsListUnmade exports e path options NameNotUtf8 = (options.dll ≡ None) × (¬ (IsUtf8 e.dll))
 IsListUnmade exports e path options (Unsaid why) = ⊥
 IsListUnmade exports e path options NoName = lacks_name (options_for e path options).dll [] ≡ true
-IsListUnmade exports e path options (Members fault) = RefusesExports exports (options_for e path options) (cause_of fault)
+IsListUnmade exports e path options (Members fault) =
+    RefusesExports exports (options_for e path options) (cause_of fault)
 IsListUnmade exports e path options OutOfMemory = Unit {0}
 
 -- Why a DLL has no members.

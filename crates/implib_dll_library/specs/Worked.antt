@@ -16,10 +16,22 @@ usual = record { is_plain = false; kills_at = false; exports_as = false; keeps_d
 
 -- for Microsoft's linker on AMD64, and for GNU's on I386 with symbols as they are written
 abbrev pub for_msvc : LibraryOptionsView
-for_msvc = record { machine = AMD64; flavor = Msvc; dll = Some (codes "w.dll"); naming = usual; additions = no_additions }
+for_msvc = record {
+  machine = AMD64;
+  flavor = Msvc;
+  dll = Some (codes "w.dll");
+  naming = usual;
+  additions = no_additions;
+}
 
 abbrev pub for_gnu : LibraryOptionsView
-for_gnu = record { machine = I386; flavor = Gnu; dll = Some (codes "w.dll"); naming = record usual { is_plain = true }; additions = no_additions }
+for_gnu = record {
+  machine = I386;
+  flavor = Gnu;
+  dll = Some (codes "w.dll");
+  naming = record usual { is_plain = true };
+  additions = no_additions;
+}
 
 -- an import
 abbrev pub an_import : Import
@@ -34,12 +46,16 @@ pub record WorkedPremises : Type 0 where
   pub gnu : AsksForWords for_gnu
   -- `-k`, `--export-as` and `-p`
   pub killing : AsksForWords (record for_msvc { naming = record usual { kills_at = true } }) → ⊥
-  pub third_text : AsksForWords (record for_msvc { naming = record usual { exports_as = true } }) → ⊥
-  pub prefixed : AsksForWords (record for_msvc { additions = record no_additions { prefix = Some (codes "p") } }) → ⊥
-  -- words that differ; a name that stands twice, and one that is the word of an ordinal without a name
+  pub third_text : AsksForWords (record for_msvc { naming = record usual { exports_as = true } }) →
+      ⊥
+  pub prefixed : AsksForWords
+      (record for_msvc { additions = record no_additions { prefix = Some (codes "p") } }) → ⊥
+  -- words that differ; a name that stands twice, and one that is the word of an ordinal without a
+  -- name
   pub differ : words_differ worked_exports ≡ true
   pub differ_unnamed : words_differ (record worked_exports { names = [] }) ≡ true
-  pub twice : words_differ (record worked_exports { names = named (codes "b") 0 ∷ named (codes "b") 1 ∷ [] }) ≡ false
+  pub twice : words_differ
+      (record worked_exports { names = named (codes "b") 0 ∷ named (codes "b") 1 ∷ [] }) ≡ false
   pub taken : words_differ (record worked_exports { names = named (codes "ord_6") 0 ∷ [] }) ≡ false
   -- no members are read as an import, and for GNU's linker none as nothing
   pub unread : ReadsAs Msvc [] (an_import ∷ []) → ⊥

@@ -1,10 +1,13 @@
 //! Parts of the program by themselves.
 //!
-//! - `told COUNT PART END` tells what is said of a path, which has a part this many times and an end.
+//! - `told COUNT PART END` tells what is said of a path, which has a part this many times and an
+//!   end.
 //! - `starved` tells what is said where there is no memory for a line.
 //! - `removed NAME BYTES` begins a file in another's place, writes bytes and removes it.
-//! - `unsynced NAME OTHER` tries to put a file into another's place whose bytes do not reach the disk.
-//! - `unmoded NAME MODE` tries to give a file a mode that it cannot have; without MODE it gets none.
+//! - `unsynced NAME OTHER` tries to put a file into another's place whose bytes do not reach the
+//!   disk.
+//! - `unmoded NAME MODE` tries to give a file a mode that it cannot have; without MODE it gets
+//!   none.
 //! - `beside NAME` tells in which folder new files in a file's place are.
 //! - `hints` tells the options that messages tell, and which are none.
 

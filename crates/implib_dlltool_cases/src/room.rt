@@ -4,9 +4,10 @@
 //! - To what was begun last `line TEXT` appends a line, `part TEXT` a text, `numbered NAME COUNT` a
 //!   line for each number below one, `bytes BYTES` bytes and `copy NAME` the bytes of a file;
 //!   `put OFFSET BYTES` changes bytes of it, and `cut LENGTH` cuts it off.
-//! - `folder NAME`, `link NAME TARGET` and `mode NAME MODE` make a folder and a symbolic link, and set
-//!   a file's mode, in octal digits.
-//! - `program NAME` is what the program is called by from there on, and `process NUMBER` its number.
+//! - `folder NAME`, `link NAME TARGET` and `mode NAME MODE` make a folder and a symbolic link, and
+//!   set a file's mode, in octal digits.
+//! - `program NAME` is what the program is called by from there on, and `process NUMBER` its
+//!   number.
 
 use implib_cases::{Line, bytes_in, number_in, unescaped};
 use std::alloc::AllocError;

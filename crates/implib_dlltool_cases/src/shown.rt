@@ -3,8 +3,8 @@
 //! - `show NAME` tells what is there: of a file its length, and its bytes if they are few.
 //! - `sum NAME` tells a sum of a file's bytes, and `permissions NAME` its mode.
 //! - `at NAME OFFSET COUNT` tells bytes of a file.
-//! - `holds NAME BYTES` tells whether a file has these bytes somewhere, and `same NAME OTHER` whether it
-//!   has just those of another.
+//! - `holds NAME BYTES` tells whether a file has these bytes somewhere, and `same NAME OTHER`
+//!   whether it has just those of another.
 
 use crate::room::word_of;
 use implib_cases::{Line, bytes_in, numbers_in, push_bytes};

@@ -75,7 +75,8 @@ is_equal_sign b = b == 61
 abbrev pub long_word : List ℕ → WordView
 long_word text =
     if length text == 0 then Ends
-    else if nat_lt (position_or_len is_equal_sign text) (length text) then valued (option_named (before_first is_equal_sign text)) (after_first is_equal_sign text)
+    else if nat_lt (position_or_len is_equal_sign text) (length text)
+    then valued (option_named (before_first is_equal_sign text)) (after_first is_equal_sign text)
     else bare (option_named text)
 
 -- `-o` and `-oVALUE`; the text is what follows the letter
@@ -98,7 +99,8 @@ is_switch_letter letter = is_a_switch (option_lettered letter)
 unfoldable pub switches_in : List ℕ → ℕ
 switches_in [] = 0
 switches_in (letter ∷ []) = 0
-switches_in (letter ∷ next ∷ letters) = if is_switch_letter letter then suc (switches_in (next ∷ letters)) else 0
+switches_in (letter ∷ next ∷ letters) =
+    if is_switch_letter letter then suc (switches_in (next ∷ letters)) else 0
 
 -- the option of the letter at this place, with what follows it
 abbrev pub word_at : ℕ → List ℕ → WordView
@@ -213,7 +215,8 @@ first_step (Switches switch) word = Adds (Switched switch)
 first_step Unsupported word = Refuses (IsUnsupported word)
 first_step Unknown word = Refuses (IsUnknown word)
 first_step Ends word = Stops
-first_step File word = if starts_with nat_eq word (codes "@") then Refuses (IsFile word) else Adds (Given Input word)
+first_step File word =
+    if starts_with nat_eq word (codes "@") then Refuses (IsFile word) else Adds (Given Input word)
 
 -- what a word is for, by its last option and by what comes before the word
 abbrev pub step : Before → List ℕ → StepView
@@ -247,7 +250,8 @@ unfoldable pub read_after : Before → List (List ℕ) → Reading
 read_after before.Whole [] = Ok []
 read_after (before.Lacks setting) [] = Err (LacksValue setting)
 read_after before.Ended [] = Ok []
-read_after past (word ∷ words) = with_front (front past word) (stepped (step past word) (λ left. read_after left words))
+read_after past (word ∷ words) =
+    with_front (front past word) (stepped (step past word) (λ left. read_after left words))
 
 -- what the words of a command line are read as
 abbrev pub read_words : List (List ℕ) → Reading
@@ -296,7 +300,8 @@ is_switched switch options = list_any (is_switch switch) options
 
 -- what two options without values that undo each other say after one more option
 abbrev pub last_said : Switch → Switch → Bool → OccurrenceView → Bool
-last_said switch other was option = if is_switch switch option then true else if is_switch other option then false else was
+last_said switch other was option =
+    if is_switch switch option then true else if is_switch other option then false else was
 
 -- whether, of two options without values that undo each other, the first comes last
 abbrev pub is_last : Switch → Switch → List OccurrenceView → Bool

@@ -33,7 +33,8 @@ ReadsDll bytes e = exports_in File bytes ≡ Ok (Some e)
 
 -- the members of the library of these exports of a DLL
 abbrev pub MembersOfDll : Exports → List ExportView → RequestView → List MemberView → Type 0
-MembersOfDll e exports request members = library.MembersOfList exports e request.definition request.library members
+MembersOfDll e exports request members =
+    library.MembersOfList exports e request.definition request.library members
 
 -- why bytes have no export directory
 abbrev pub IsRefusalOfReading : List ℕ → DllRefusal → Type 0
@@ -72,9 +73,12 @@ IsUnlisted e request _ = ⊥
 
 -- why these exports of a DLL have no members
 abbrev pub IsUnmade : Exports → List ExportView → RequestView → DllRefusal → Type 0
-IsUnmade e exports request NameNotUtf8 = library.IsListUnmade exports e request.definition request.library unmade.NameNotUtf8
-IsUnmade e exports request NoName = library.IsListUnmade exports e request.definition request.library unmade.NoName
-IsUnmade e exports request (Members fault) = library.IsListUnmade exports e request.definition request.library (unmade.Members fault)
+IsUnmade e exports request NameNotUtf8 =
+    library.IsListUnmade exports e request.definition request.library unmade.NameNotUtf8
+IsUnmade e exports request NoName =
+    library.IsListUnmade exports e request.definition request.library unmade.NoName
+IsUnmade e exports request (Members fault) =
+    library.IsListUnmade exports e request.definition request.library (unmade.Members fault)
 IsUnmade e exports request OutOfMemory = Unit {0}
 IsUnmade e exports request _ = ⊥
 
@@ -85,7 +89,8 @@ dll_status _ = 1
 
 -- The request for a DLL: its machine is that of the file, whatever the program's name says, and the
 -- flavour goes by it where none is named.
-pub record IsRequested (machines : MachineType → Asked RequestView) (e : Exports) (request : RequestView) : Type 0 where
+pub record IsRequested (machines : MachineType → Asked RequestView) (e : Exports)
+    (request : RequestView) : Type 0 where
   pub machine : MachineType
   pub numbered : machine_numbered e.machine ≡ Some machine
   pub asked : machines machine ≡ Ok request
@@ -112,7 +117,8 @@ pub record NamesArm64ec (machines : MachineType → Asked RequestView) (e : Expo
 -- why there is no such request: the number is of no machine, or the options name another, or
 -- ARM64EC
 abbrev pub IsUnrequested : (MachineType → Asked RequestView) → Exports → DllRefusal → Type 0
-IsUnrequested machines e (UnknownMachine number) = (number ≡ e.machine) × (machine_numbered e.machine ≡ None)
+IsUnrequested machines e (UnknownMachine number) =
+    (number ≡ e.machine) × (machine_numbered e.machine ≡ None)
 IsUnrequested machines e OtherMachine = NamesAnother machines e
 IsUnrequested machines e Arm64ec = NamesArm64ec machines e
 IsUnrequested machines e OutOfMemory = Unit {0}
@@ -120,7 +126,8 @@ IsUnrequested machines e _ = ⊥
 
 -- why a call asks for none: the options do not fit the machine of the DLL, or there is no such
 -- request
-pub record MisfitsMachine (machines : MachineType → Asked RequestView) (e : Exports) (fault : CallFaultView) : Type 0 where
+pub record MisfitsMachine (machines : MachineType → Asked RequestView) (e : Exports)
+    (fault : CallFaultView) : Type 0 where
   pub machine : MachineType
   pub numbered : machine_numbered e.machine ≡ Some machine
   pub asked : machines machine ≡ Err fault

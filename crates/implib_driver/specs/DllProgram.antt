@@ -29,15 +29,16 @@ use Rattle.implib_from_dll.specs.Definition.{exports_of}
 use Rattle.implib_rules.specs.Library.{status_of}
 
 -- the library of members was put, and then the answer was said
-pub record PutsMembers (known : Bool) (members : List MemberView) (request : RequestView) (disk put : DiskView) (before after : Option (List Line)) (status : ℕ)
-    : Type 0 where
+pub record PutsMembers (known : Bool) (members : List MemberView) (request : RequestView)
+    (disk put : DiskView) (before after : Option (List Line)) (status : ℕ) : Type 0 where
   pub answer : Answer
   pub answers : AnswersMembers known disk put members request answer
   pub says : Says before after (verdict request answer)
   pub is_status : status ≡ answer_status answer
 
 -- exports of a DLL have members whose stubs can run, and their library was put
-pub record IsMade (known : Bool) (e : Exports) (exports : List ExportView) (request : RequestView) (disk put : DiskView) (before after : Option (List Line))
+pub record IsMade (known : Bool) (e : Exports) (exports : List ExportView) (request : RequestView)
+    (disk put : DiskView) (before after : Option (List Line))
     (status : ℕ) : Type 0 where
   pub members : List MemberView
   pub made : MembersOfDll e exports request members
@@ -45,7 +46,8 @@ pub record IsMade (known : Bool) (e : Exports) (exports : List ExportView) (requ
   pub puts : PutsMembers known members request disk put before after status
 
 -- exports of a DLL have members whose stubs cannot run; that was said, and nothing was put
-pub record HasDllFailingStub (e : Exports) (exports : List ExportView) (request : RequestView) (disk put : DiskView) (before after : Option (List Line))
+pub record HasDllFailingStub (e : Exports) (exports : List ExportView) (request : RequestView)
+    (disk put : DiskView) (before after : Option (List Line))
     (status : ℕ) : Type 0 where
   pub members : List MemberView
   pub made : MembersOfDll e exports request members
@@ -55,7 +57,8 @@ pub record HasDllFailingStub (e : Exports) (exports : List ExportView) (request 
   pub is_status : status ≡ 1
 
 -- why there is no library was said, and nothing was put
-pub record IsRefused (path : List ℕ) (so : DllRefusal → Type 0) (disk put : DiskView) (before after : Option (List Line)) (status : ℕ) : Type 0 where
+pub record IsRefused (path : List ℕ) (so : DllRefusal → Type 0) (disk put : DiskView)
+    (before after : Option (List Line)) (status : ℕ) : Type 0 where
   pub refusal : DllRefusal
   pub is_so : so refusal
   pub same_disk : put ≡ disk
@@ -73,13 +76,16 @@ call_status (Call fault) = 2
 call_status (Dll refusal) = dll_status refusal
 
 -- what is done for these exports of a DLL
-abbrev pub FinishesList : Bool → Exports → List ExportView → RequestView → DiskView → DiskView → Option (List Line) → Option (List Line) → ℕ → Type 0
+abbrev pub FinishesList : Bool → Exports → List ExportView → RequestView → DiskView → DiskView →
+    Option (List Line) → Option (List Line) → ℕ → Type 0
 FinishesList known e exports request disk put before after status =
-    IsMade known e exports request disk put before after status ⊎ HasDllFailingStub e exports request disk put before after status
+    IsMade known e exports request disk put before after status
+    ⊎ HasDllFailingStub e exports request disk put before after status
     ⊎ IsRefused request.definition (IsUnmade e exports request) disk put before after status
 
 -- the file of symbols could not be read
-pub record HasUnreadFile (path : List ℕ) (disk put : DiskView) (before after : Option (List Line)) (status : ℕ) : Type 0 where
+pub record HasUnreadFile (path : List ℕ) (disk put : DiskView) (before after : Option (List Line))
+    (status : ℕ) : Type 0 where
   pub failed : put ≡ failing disk
   pub says : Says before after (Complains path OfSystem ∷ [])
   pub is_status : status ≡ 3
@@ -105,7 +111,8 @@ SaysIf true path complaint before after = Says before after (Complains path comp
 
 -- The file has these symbols. How many functions it lacks was said, if warnings are asked for; then
 -- this was done with the exports that have them.
-pub record HasSymbols (known : Bool) (e : Exports) (exports : List ExportView) (bytes path : List ℕ) (request : RequestView) (disk put : DiskView) (before after : Option (List Line)) (status : ℕ)
+pub record HasSymbols (known : Bool) (e : Exports) (exports : List ExportView) (bytes path : List ℕ)
+    (request : RequestView) (disk put : DiskView) (before after : Option (List Line)) (status : ℕ)
     : Type 0 where
   pub decorations : List DecorationView
   pub are : AreDecorations bytes decorations
@@ -113,10 +120,13 @@ pub record HasSymbols (known : Bool) (e : Exports) (exports : List ExportView) (
   pub missing : ℕ
   pub counted : missing ≡ count_by (is_missing decorations) exports
   pub warns : SaysIf (tells request missing) path (OfMissing missing) before warned
-  pub finishes : FinishesList known e (with_symbols request.library.naming decorations e.names exports) request disk put warned after status
+  pub finishes : FinishesList known e
+      (with_symbols request.library.naming decorations e.names exports) request disk put warned
+      after status
 
 -- the file has none, which was said, and nothing was put
-pub record LacksSymbols (bytes path : List ℕ) (disk put : DiskView) (before after : Option (List Line)) (status : ℕ) : Type 0 where
+pub record LacksSymbols (bytes path : List ℕ) (disk put : DiskView)
+    (before after : Option (List Line)) (status : ℕ) : Type 0 where
   pub why : NotDecorations
   pub refused : HasNoDecorations bytes why
   pub same_disk : put ≡ disk
@@ -124,68 +134,82 @@ pub record LacksSymbols (bytes path : List ℕ) (disk put : DiskView) (before af
   pub is_status : status ≡ undecorated_status why
 
 -- what is done for exports of a DLL with the bytes of a file of symbols
-abbrev pub FinishesBytes : Bool → Exports → List ExportView → List ℕ → List ℕ → RequestView → DiskView → DiskView → Option (List Line) → Option (List Line) → ℕ → Type 0
+abbrev pub FinishesBytes : Bool → Exports → List ExportView → List ℕ → List ℕ → RequestView →
+    DiskView → DiskView → Option (List Line) → Option (List Line) → ℕ → Type 0
 FinishesBytes known e exports bytes path request disk put before after status =
-    HasSymbols known e exports bytes path request disk put before after status ⊎ LacksSymbols bytes path disk put before after status
+    HasSymbols known e exports bytes path request disk put before after status
+    ⊎ LacksSymbols bytes path disk put before after status
 
 -- the file of symbols was read, and this was done with its bytes
-pub record HasFile (known : Bool) (e : Exports) (exports : List ExportView) (path : List ℕ) (request : RequestView) (disk put : DiskView) (before after : Option (List Line)) (status : ℕ)
+pub record HasFile (known : Bool) (e : Exports) (exports : List ExportView) (path : List ℕ)
+    (request : RequestView) (disk put : DiskView) (before after : Option (List Line)) (status : ℕ)
     : Type 0 where
   pub bytes : List ℕ
   pub read : IfSome (disk.seen path) (λ file. bytes ≡ file)
   pub finishes : FinishesBytes known e exports bytes path request disk put before after status
 
 -- what is done for exports of a DLL, with the symbols of a file where one is given
-abbrev pub FinishesListed : Bool → Exports → List ExportView → Option (List ℕ) → RequestView → DiskView → DiskView → Option (List Line) → Option (List Line) → ℕ → Type 0
-FinishesListed known e exports None request disk put before after status = FinishesList known e exports request disk put before after status
+abbrev pub FinishesListed : Bool → Exports → List ExportView → Option (List ℕ) → RequestView →
+    DiskView → DiskView → Option (List Line) → Option (List Line) → ℕ → Type 0
+FinishesListed known e exports None request disk put before after status =
+    FinishesList known e exports request disk put before after status
 FinishesListed known e exports (Some path) request disk put before after status =
-    HasFile known e exports path request disk put before after status ⊎ HasUnreadFile path disk put before after status
+    HasFile known e exports path request disk put before after status
+    ⊎ HasUnreadFile path disk put before after status
 
 -- The exports of a DLL are of the kinds that they have through those of the folders, and this
 -- number of them are forwarded to nothing there. Then that was said, if warnings are asked for, and
 -- this was done with them.
-pub record HasSearched (known : Bool) (e : Exports) (request : RequestView) (disk put : DiskView) (before after : Option (List Line)) (status : ℕ) : Type 0 where
+pub record HasSearched (known : Bool) (e : Exports) (request : RequestView) (disk put : DiskView)
+    (before after : Option (List Line)) (status : ℕ) : Type 0 where
   pub exports : List ExportView
   pub astray : ℕ
   pub searched : IsSearched disk e request (exports_of e) exports astray
   pub warned : Option (List Line)
   pub warns : SaysIf (tells request astray) request.definition (OfAstray astray) before warned
-  pub finishes : FinishesListed known e exports request.decorations request disk put warned after status
+  pub finishes : FinishesListed known e exports request.decorations request disk put warned after
+      status
 
 -- a folder, or the file of a DLL in one, could not be read
-pub record HasUnreadFolder (disk put : DiskView) (before after : Option (List Line)) (status : ℕ) : Type 0 where
+pub record HasUnreadFolder (disk put : DiskView) (before after : Option (List Line))
+    (status : ℕ) : Type 0 where
   pub path : List ℕ
   pub unread : HasUnreadFile path disk put before after status
 
 -- what is done for a DLL, where the DLLs of folders are searched, and where none is
-abbrev pub FinishesKinds : Bool → Bool → Exports → RequestView → DiskView → DiskView → Option (List Line) → Option (List Line) → ℕ → Type 0
+abbrev pub FinishesKinds : Bool → Bool → Exports → RequestView → DiskView → DiskView →
+    Option (List Line) → Option (List Line) → ℕ → Type 0
 FinishesKinds false known e request disk put before after status =
     FinishesListed known e (exports_of e) request.decorations request disk put before after status
 FinishesKinds true known e request disk put before after status =
-    HasSearched known e request disk put before after status ⊎ HasUnreadFolder disk put before after status
+    HasSearched known e request disk put before after status
+    ⊎ HasUnreadFolder disk put before after status
     ⊎ IsRefused request.definition (λ refusal. refusal ≡ OutOfMemory) disk put before after status
 
 -- what is asked for suits a DLL, and this was done for it
-pub record IsSuited (known : Bool) (e : Exports) (request : RequestView) (disk put : DiskView) (before after : Option (List Line)) (status : ℕ) : Type 0 where
+pub record IsSuited (known : Bool) (e : Exports) (request : RequestView) (disk put : DiskView)
+    (before after : Option (List Line)) (status : ℕ) : Type 0 where
   pub suits : SuitsDll request
-  pub finishes : FinishesKinds (has_values request.search) known e request disk put before after status
+  pub finishes : FinishesKinds (has_values request.search) known e request disk put before after
+      status
 
 -- what is done for a DLL of these exports and a request that fits its machine
-abbrev pub FinishesExports : Bool → Exports → RequestView → DiskView → DiskView → Option (List Line) → Option (List Line) → ℕ → Type 0
+abbrev pub FinishesExports : Bool → Exports → RequestView → DiskView → DiskView →
+    Option (List Line) → Option (List Line) → ℕ → Type 0
 FinishesExports known e request disk put before after status =
     IsSuited known e request disk put before after status
     ⊎ IsRefused request.definition (IsUnlisted e request) disk put before after status
 
 -- a DLL was read, there is a request for its machine, and this was done for it
-pub record IsAsked (known : Bool) (machines : MachineType → Asked RequestView) (e : Exports) (disk put : DiskView) (before after : Option (List Line)) (status : ℕ)
-    : Type 0 where
+pub record IsAsked (known : Bool) (machines : MachineType → Asked RequestView) (e : Exports)
+    (disk put : DiskView) (before after : Option (List Line)) (status : ℕ) : Type 0 where
   pub request : RequestView
   pub requested : IsRequested machines e request
   pub finishes : FinishesExports known e request disk put before after status
 
 -- why there is no request for the machine of the DLL was said, and nothing was put
-pub record IsUnasked (machines : MachineType → Asked RequestView) (path : List ℕ) (e : Exports) (disk put : DiskView) (before after : Option (List Line)) (status : ℕ)
-    : Type 0 where
+pub record IsUnasked (machines : MachineType → Asked RequestView) (path : List ℕ) (e : Exports)
+    (disk put : DiskView) (before after : Option (List Line)) (status : ℕ) : Type 0 where
   pub error : DllCallError
   pub refused : IsRefusalOfRequest machines e error
   pub same_disk : put ≡ disk
@@ -193,15 +217,18 @@ pub record IsUnasked (machines : MachineType → Asked RequestView) (path : List
   pub is_status : status ≡ call_status error
 
 -- a DLL was read, and this was done for it
-pub record IsReadDll (known : Bool) (machines : MachineType → Asked RequestView) (bytes path : List ℕ) (disk put : DiskView) (before after : Option (List Line)) (status : ℕ)
+pub record IsReadDll (known : Bool) (machines : MachineType → Asked RequestView)
+    (bytes path : List ℕ) (disk put : DiskView) (before after : Option (List Line)) (status : ℕ)
     : Type 0 where
   pub exports : Exports
   pub reads : ReadsDll bytes exports
   pub outcome :
-      IsAsked known machines exports disk put before after status ⊎ IsUnasked machines path exports disk put before after status
+      IsAsked known machines exports disk put before after status
+      ⊎ IsUnasked machines path exports disk put before after status
 
 -- what is done with the bytes of a DLL, whose requests are by machine
-abbrev pub FinishesDll : Bool → (MachineType → Asked RequestView) → List ℕ → List ℕ → DiskView → DiskView → Option (List Line) → Option (List Line) → ℕ → Type 0
+abbrev pub FinishesDll : Bool → (MachineType → Asked RequestView) → List ℕ → List ℕ → DiskView →
+    DiskView → Option (List Line) → Option (List Line) → ℕ → Type 0
 FinishesDll known machines bytes path disk put before after status =
     IsReadDll known machines bytes path disk put before after status
     ⊎ IsRefused path (IsRefusalOfReading bytes) disk put before after status

@@ -33,7 +33,8 @@ lines_unless names (Some fault) = Err fault
 -- the DLLs of the members of a library
 abbrev pub named_of : Bool → Option (List MemberRead) → Result (List ℕ) NotIdentified
 named_of is_strict None = Err NoLibrary
-named_of is_strict (Some members) = lines_unless (dlls_of members) (fault_of is_strict (length (dlls_of members)))
+named_of is_strict (Some members) =
+    lines_unless (dlls_of members) (fault_of is_strict (length (dlls_of members)))
 
 -- the names of members
 abbrev pub names_in : List StoredMember → List (List ℕ)

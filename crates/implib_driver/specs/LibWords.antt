@@ -137,13 +137,15 @@ lib_machine_word named.Unknown word = Refuses (NamesNoMachine word)
 -- a full stop (46), and no `=` (61)
 abbrev pub is_path : List ℕ → Bool
 is_path [] = false
-is_path (b ∷ rest) = b == 47 && not (list_any (λ x. x == 61) rest) && (list_any (λ x. x == 47) rest || list_any (λ x. x == 46) rest)
+is_path (b ∷ rest) = b == 47 && not (list_any (λ x. x == 61) rest)
+    && (list_any (λ x. x == 47) rest || list_any (λ x. x == 46) rest)
 
 -- A file, whose members are listed where that is asked for; `@` (64) begins the name of a file of
 -- words.
 abbrev pub lib_file : List ℕ → LibWordView
 lib_file [] = Adds (Given Identify [])
-lib_file (b ∷ rest) = if b == 64 then Refuses (IsFile (b ∷ rest)) else Adds (Given Identify (b ∷ rest))
+lib_file (b ∷ rest) =
+    if b == 64 then Refuses (IsFile (b ∷ rest)) else Adds (Given Identify (b ∷ rest))
 
 -- What a word without a meaning says. For example, `/home/a.lib` is a file, and `/foo` no option.
 abbrev pub lib_unknown : List ℕ → LibWordView
@@ -154,7 +156,8 @@ abbrev pub lib_valued : LibMeaning → List ℕ → List ℕ → LibWordView
 lib_valued (meaning.Takes setting) word value =
     if length value == 0 then Refuses (LacksValueIn word) else Adds (Given setting value)
 lib_valued meaning.Machine word value =
-    if length value == 0 then Refuses (LacksValueIn word) else lib_machine_word (lib_machine_named (small value)) word
+    if length value == 0 then Refuses (LacksValueIn word)
+    else lib_machine_word (lib_machine_named (small value)) word
 lib_valued (meaning.Switches switch) word value = Refuses (IsUnknown word)
 lib_valued meaning.Ignored word value = Refuses (IsUnknown word)
 lib_valued meaning.Unsupported word value = Refuses (IsUnsupported word)
@@ -177,7 +180,8 @@ is_colon b = b == 58
 abbrev pub lib_option : List ℕ → List ℕ → LibWordView
 lib_option word text =
     if nat_lt (position_or_len is_colon text) (length text)
-    then lib_valued (lib_option_named (small (before_first is_colon text))) word (after_first is_colon text)
+    then lib_valued (lib_option_named (small (before_first is_colon text))) word
+    (after_first is_colon text)
     else lib_bare (lib_option_named (small text)) word
 
 -- whether an option begins with the byte: `/` or `-`
@@ -234,13 +238,15 @@ lack_for_making options [] =
 abbrev pub lack_for_listing : List OccurrenceView → List (List ℕ) → Option WordFaultView
 lack_for_listing options [] = Some WantsLibrary
 lack_for_listing options (file ∷ further ∷ files) = Some (IsFurther further)
-lack_for_listing options (file ∷ []) = if is_some (last_given Definition options) then Some ListsDefinition else None
+lack_for_listing options (file ∷ []) =
+    if is_some (last_given Definition options) then Some ListsDefinition else None
 
 -- what options lack, or have too much, unless they ask for the help
 abbrev pub lack_of : List OccurrenceView → Option WordFaultView
 lack_of options =
     if is_switched Help options then None
-    else if is_switched ListsMembers options then lack_for_listing options (all_given Identify options)
+    else if is_switched ListsMembers options
+    then lack_for_listing options (all_given Identify options)
     else lack_for_making options (all_given Identify options)
 
 -- the options, if they lack nothing
@@ -278,4 +284,5 @@ read_by_name program words = if is_lib_name program then read_lib_words words el
 abbrev pub words_read : List ℕ → List (List ℕ) → Reading
 words_read program [] = read_by_name program []
 words_read program (word ∷ words) =
-    if bytes_eq word (codes "--lib") then read_lib_words words else read_by_name program (word ∷ words)
+    if bytes_eq word (codes "--lib") then read_lib_words words
+    else read_by_name program (word ∷ words)

@@ -55,7 +55,8 @@ further_named name =
     else if bytes_eq name (codes "add-stdcall-alias") then Switches AddStdcallAlias
     else if bytes_eq name (codes "compat-implib") then Switches CompatImplib
     else if bytes_eq name (codes "deterministic-libraries") then Switches DeterministicLibraries
-    else if bytes_eq name (codes "non-deterministic-libraries") then Switches NonDeterministicLibraries
+    else if bytes_eq name (codes "non-deterministic-libraries")
+    then Switches NonDeterministicLibraries
     else if bytes_eq name (codes "no-delete") then Switches NoDelete
     else if bytes_eq name (codes "no-export-all-symbols") then Switches ListedAlone
     else if bytes_eq name (codes "identify-strict") then Switches IdentifyStrict

@@ -32,19 +32,22 @@ IsPut known before after None file = after ≡ before
 IsPut known before after (Some path) file = IsPlaced known before after path file
 
 -- the bytes have a library, which is in the place that is asked for
-pub record Puts (known : Bool) (before after : DiskView) (bytes : List ℕ) (request : RequestView) : Type 0 where
+pub record Puts (known : Bool) (before after : DiskView) (bytes : List ℕ)
+    (request : RequestView) : Type 0 where
   pub file : List ℕ
   pub is_library : IsLibraryAsked request.older_symbols bytes request.library file
   pub runs : has_failing_stub request.library is_library.members ≡ false
   pub is_put : IsPut known before after request.output file
 
 -- the bytes have no library for this reason, and the disk is as it was
-pub record PutsNone (before after : DiskView) (bytes : List ℕ) (request : RequestView) (refusal : Refusal) : Type 0 where
+pub record PutsNone (before after : DiskView) (bytes : List ℕ) (request : RequestView)
+    (refusal : Refusal) : Type 0 where
   pub refused : IsRefusalOfBytesAsked request.older_symbols bytes request.library refusal
   pub same : after ≡ before
 
 -- the bytes have a library, which was not written whole or is in no place
-pub record FailsToPut (before after : DiskView) (bytes : List ℕ) (request : RequestView) : Type 0 where
+pub record FailsToPut (before after : DiskView) (bytes : List ℕ)
+    (request : RequestView) : Type 0 where
   pub file : List ℕ
   pub is_library : IsLibraryAsked request.older_symbols bytes request.library file
   pub runs : has_failing_stub request.library is_library.members ≡ false
@@ -57,14 +60,18 @@ Answer = Result (Unit {0}) LibraryError
 -- what an answer says of the library and of the disk
 abbrev pub Answers : Bool → DiskView → DiskView → List ℕ → RequestView → Answer → Type 0
 Answers known before after bytes request (Ok made) = Puts known before after bytes request
-Answers known before after bytes request (Err (Refused refusal)) = PutsNone before after bytes request refusal
-Answers known before after bytes request (Err (Writing cause)) = FailsToPut before after bytes request
+Answers known before after bytes request (Err (Refused refusal)) =
+    PutsNone before after bytes request refusal
+Answers known before after bytes request (Err (Writing cause)) =
+    FailsToPut before after bytes request
 
 -- what an answer says of the library of members, as far as a disk and an archive go
-abbrev pub AnswersMembers : Bool → DiskView → DiskView → List MemberView → RequestView → Answer → Type 0
+abbrev pub AnswersMembers : Bool → DiskView → DiskView → List MemberView → RequestView → Answer →
+    Type 0
 AnswersMembers known before after members request (Ok made) =
     (refusal_of (kind_of request.library.flavor members) members ≡ None)
-    × IsPut known before after request.output (archive_of (kind_of request.library.flavor members) members)
+    × IsPut known before after request.output
+    (archive_of (kind_of request.library.flavor members) members)
 AnswersMembers known before after members request (Err (Refused refusal)) =
     IsRefusalOfArchive request.library.flavor members refusal × (after ≡ before)
 AnswersMembers known before after members request (Err (Writing cause)) =
@@ -72,7 +79,9 @@ AnswersMembers known before after members request (Err (Writing cause)) =
 
 -- what an answer says of the library of any bytes that have these members, whose stubs can run, and
 -- of the disk
-abbrev pub AnswersWith : Bool → DiskView → DiskView → List MemberView → RequestView → Answer → Type 0
+abbrev pub AnswersWith : Bool → DiskView → DiskView → List MemberView → RequestView → Answer →
+    Type 0
 AnswersWith known before after members request answer =
-    (bytes : List ℕ) → MembersAsked request.older_symbols bytes request.library members → has_failing_stub request.library members ≡ false
+    (bytes : List ℕ) → MembersAsked request.older_symbols bytes request.library members →
+    has_failing_stub request.library members ≡ false
     → Answers known before after bytes request answer

@@ -91,8 +91,8 @@ pub record IsAnswered (known : Bool) (bytes : List ℕ) (request : RequestView) 
 
 -- the warnings that are asked for were said, and then that the library would have stubs that cannot
 -- run; nothing was put
-pub record HasFailingStub (bytes : List ℕ) (request : RequestView) (disk put : DiskView) (before after : Option (List Line)) (status : ℕ)
-    : Type 0 where
+pub record HasFailingStub (bytes : List ℕ) (request : RequestView) (disk put : DiskView)
+    (before after : Option (List Line)) (status : ℕ) : Type 0 where
   pub count : ℕ
   pub counted : CountsMembers bytes request.library request.library.flavor count
   pub warned : Option (List Line)
@@ -105,28 +105,37 @@ pub record HasFailingStub (bytes : List ℕ) (request : RequestView) (disk put :
   pub is_status : status ≡ 1
 
 -- what is done with the bytes of a definition
-abbrev pub Finishes : Bool → List ℕ → RequestView → DiskView → DiskView → Option (List Line) → Option (List Line) → ℕ → Type 0
+abbrev pub Finishes : Bool → List ℕ → RequestView → DiskView → DiskView → Option (List Line) →
+    Option (List Line) → ℕ → Type 0
 Finishes known bytes request disk put before after status =
-    IsAnswered known bytes request disk put before after status ⊎ IsUnwarned request disk put before after status
-    ⊎ HasFailingStub bytes request disk put before after status ⊎ IsInUtf16 bytes request disk put before after status
+    IsAnswered known bytes request disk put before after status
+    ⊎ IsUnwarned request disk put before after status
+    ⊎ HasFailingStub bytes request disk put before after status
+    ⊎ IsInUtf16 bytes request disk put before after status
 
 -- what is done with the bytes of a definition that has these members, whose stubs can run
-abbrev pub FinishesWith : Bool → List ℕ → List MemberView → RequestView → DiskView → DiskView → Option (List Line) → Option (List Line) → ℕ → Type 0
+abbrev pub FinishesWith : Bool → List ℕ → List MemberView → RequestView → DiskView → DiskView →
+    Option (List Line) → Option (List Line) → ℕ → Type 0
 FinishesWith known bytes members request disk put before after status =
     begins_utf16 bytes ≡ false → MembersAsked request.older_symbols bytes request.library members
-    → has_failing_stub request.library members ≡ false → Finishes known bytes request disk put before after status
+    → has_failing_stub request.library members ≡ false →
+    Finishes known bytes request disk put before after status
 
 -- what is done with the bytes of a definition that has these members, whose stubs cannot: nothing
 -- with any disk
-abbrev pub FinishesFailing : List ℕ → List MemberView → RequestView → Option (List Line) → Option (List Line) → ℕ → Type 0
+abbrev pub FinishesFailing : List ℕ → List MemberView → RequestView → Option (List Line) →
+    Option (List Line) → ℕ → Type 0
 FinishesFailing bytes members request before after status =
-    MembersAsked request.older_symbols bytes request.library members → has_failing_stub request.library members ≡ true →
+    MembersAsked request.older_symbols bytes request.library members →
+    has_failing_stub request.library members ≡ true →
     (known : Bool) (disk : DiskView) → Finishes known bytes request disk disk before after status
 
 -- what is done with the bytes of a definition that has no members for this: nothing with any disk
-abbrev pub FinishesWithout : List ℕ → Refusal → RequestView → Option (List Line) → Option (List Line) → ℕ → Type 0
+abbrev pub FinishesWithout : List ℕ → Refusal → RequestView → Option (List Line) →
+    Option (List Line) → ℕ → Type 0
 FinishesWithout bytes refusal request before after status =
-    begins_utf16 bytes ≡ false → IsRefusalOfAsked request.older_symbols bytes request.library refusal →
+    begins_utf16 bytes ≡ false →
+    IsRefusalOfAsked request.older_symbols bytes request.library refusal →
     (known : Bool) (disk : DiskView) → Finishes known bytes request disk disk before after status
 
 -- what is said of a definition that has no library of delayed imports, and the exit status then: 3
@@ -142,7 +151,8 @@ delay_status (CannotDelay why) = 1
 -- The other library was put with status 0, if one is asked for, and then that of delayed imports.
 -- The first is there, whole, when the second is begun; what becomes of it when the second takes its
 -- place is not stated, as of all other paths (Disk).
-pub record IsDelayed (known : Bool) (bytes path file : List ℕ) (request : RequestView) (disk put : DiskView)
+pub record IsDelayed (known : Bool) (bytes path file : List ℕ) (request : RequestView)
+    (disk put : DiskView)
     (before after : Option (List Line)) (status : ℕ) : Type 0 where
   pub middle : DiskView
   pub finishes : Finishes known bytes request disk middle before after 0
@@ -151,7 +161,8 @@ pub record IsDelayed (known : Bool) (bytes path file : List ℕ) (request : Requ
 
 -- the other library was put, if one is asked for, and then that of delayed imports was not, which
 -- was said
-pub record FailsToDelay (known : Bool) (bytes path : List ℕ) (request : RequestView) (disk put : DiskView)
+pub record FailsToDelay (known : Bool) (bytes path : List ℕ) (request : RequestView)
+    (disk put : DiskView)
     (before after : Option (List Line)) (status : ℕ) : Type 0 where
   pub middle : DiskView
   pub said : Option (List Line)
@@ -168,21 +179,24 @@ pub record StopsBefore (known : Bool) (bytes : List ℕ) (request : RequestView)
 
 -- what is done with the bytes of a definition whose library of delayed imports is this, for this
 -- path
-abbrev pub FinishesDelayed : Bool → List ℕ → List ℕ → List ℕ → RequestView → DiskView → DiskView → Option (List Line) → Option (List Line) → ℕ → Type 0
+abbrev pub FinishesDelayed : Bool → List ℕ → List ℕ → List ℕ → RequestView → DiskView → DiskView →
+    Option (List Line) → Option (List Line) → ℕ → Type 0
 FinishesDelayed known bytes path file request disk put before after status =
     IsDelayed known bytes path file request disk put before after status
     ⊎ FailsToDelay known bytes path request disk put before after status
     ⊎ StopsBefore known bytes request disk put before after status
 
 -- the definition has a library of delayed imports, and this was done with it
-pub record HasDelayed (known : Bool) (bytes path : List ℕ) (request : RequestView) (disk put : DiskView)
+pub record HasDelayed (known : Bool) (bytes path : List ℕ) (request : RequestView)
+    (disk put : DiskView)
     (before after : Option (List Line)) (status : ℕ) : Type 0 where
   pub file : List ℕ
   pub is_library : IsDelayedLibrary bytes request.library file
   pub finishes : FinishesDelayed known bytes path file request disk put before after status
 
 -- the definition has none, which was said, and nothing was put
-pub record HasNoDelayed (bytes : List ℕ) (request : RequestView) (disk put : DiskView) (before after : Option (List Line))
+pub record HasNoDelayed (bytes : List ℕ) (request : RequestView) (disk put : DiskView)
+    (before after : Option (List Line))
     (status : ℕ) : Type 0 where
   pub refusal : DelayRefusal
   pub refused : IsRefusalOfDelayed bytes request.library refusal
@@ -192,7 +206,8 @@ pub record HasNoDelayed (bytes : List ℕ) (request : RequestView) (disk put : D
 
 -- what is done with the bytes of a definition where a library of delayed imports is asked for, for
 -- this path
-abbrev pub FinishesDelaying : Bool → List ℕ → List ℕ → RequestView → DiskView → DiskView → Option (List Line) → Option (List Line) → ℕ → Type 0
+abbrev pub FinishesDelaying : Bool → List ℕ → List ℕ → RequestView → DiskView → DiskView →
+    Option (List Line) → Option (List Line) → ℕ → Type 0
 FinishesDelaying known bytes path request disk put before after status =
     HasDelayed known bytes path request disk put before after status
     ⊎ HasNoDelayed bytes request disk put before after status
@@ -200,15 +215,19 @@ FinishesDelaying known bytes path request disk put before after status =
 
 -- what is done with the bytes of a definition, where delayed imports are for this path, if one is
 -- given
-abbrev pub FinishesText : Bool → List ℕ → Option (List ℕ) → RequestView → DiskView → DiskView → Option (List Line) → Option (List Line) → ℕ → Type 0
-FinishesText known bytes None request disk put before after status = Finishes known bytes request disk put before after status
+abbrev pub FinishesText : Bool → List ℕ → Option (List ℕ) → RequestView → DiskView → DiskView →
+    Option (List Line) → Option (List Line) → ℕ → Type 0
+FinishesText known bytes None request disk put before after status =
+    Finishes known bytes request disk put before after status
 FinishesText known bytes (Some path) request disk put before after status =
     FinishesDelaying known bytes path request disk put before after status
 
 -- what is done with the bytes of a definition, where a library for ARM64EC is asked for, and where
 -- none is; the bytes that standard input has left are these
-abbrev pub FinishesFor : Bool → Option (List ℕ) → List ℕ → Option (Option (List ℕ)) → RequestView → DiskView → DiskView → Option (List Line) → Option (List Line) → ℕ → Type 0
-FinishesFor known input bytes None request disk put before after status = FinishesText known bytes request.delayed request disk put before after status
+abbrev pub FinishesFor : Bool → Option (List ℕ) → List ℕ → Option (Option (List ℕ)) → RequestView →
+    DiskView → DiskView → Option (List Line) → Option (List Line) → ℕ → Type 0
+FinishesFor known input bytes None request disk put before after status =
+    FinishesText known bytes request.delayed request disk put before after status
 FinishesFor known input bytes (Some native) request disk put before after status =
     FinishesArm64ec known input bytes native request disk put before after status
 
@@ -221,15 +240,19 @@ misuse request =
     else None
 
 -- that was said, and nothing was put
-pub record IsMisused (fault : CallFaultView) (request : RequestView) (disk put : DiskView) (before after : Option (List Line)) (status : ℕ) : Type 0 where
+pub record IsMisused (fault : CallFaultView) (request : RequestView) (disk put : DiskView)
+    (before after : Option (List Line)) (status : ℕ) : Type 0 where
   pub same_disk : put ≡ disk
   pub says : Says before after (Complains request.definition (OfCall fault) ∷ [])
   pub is_status : status ≡ 2
 
 -- what is done with the bytes of a definition, unless a request for one is wrong
-abbrev pub FinishesUnless : Option CallFaultView → Bool → Option (List ℕ) → List ℕ → RequestView → DiskView → DiskView → Option (List Line) → Option (List Line) → ℕ → Type 0
-FinishesUnless None known input bytes request disk put before after status = FinishesFor known input bytes request.arm64ec request disk put before after status
-FinishesUnless (Some fault) known input bytes request disk put before after status = IsMisused fault request disk put before after status
+abbrev pub FinishesUnless : Option CallFaultView → Bool → Option (List ℕ) → List ℕ → RequestView →
+    DiskView → DiskView → Option (List Line) → Option (List Line) → ℕ → Type 0
+FinishesUnless None known input bytes request disk put before after status =
+    FinishesFor known input bytes request.arm64ec request disk put before after status
+FinishesUnless (Some fault) known input bytes request disk put before after status =
+    IsMisused fault request disk put before after status
 
 -- the request that options make for a machine, as the one that a DLL is for
 abbrev pub ForMachine : Type 0
@@ -237,19 +260,24 @@ ForMachine = MachineType → Asked RequestView
 
 -- what is done with bytes: those of a DLL where they begin so, and else of a definition; the bytes
 -- that standard input has left are these
-abbrev pub FinishesRead : Bool → ForMachine → Bool → Option (List ℕ) → List ℕ → RequestView → DiskView → DiskView → Option (List Line) → Option (List Line) → ℕ → Type 0
-FinishesRead known machines true input bytes request disk put before after status = FinishesDll known machines bytes request.definition disk put before after status
+abbrev pub FinishesRead : Bool → ForMachine → Bool → Option (List ℕ) → List ℕ → RequestView →
+    DiskView → DiskView → Option (List Line) → Option (List Line) → ℕ → Type 0
+FinishesRead known machines true input bytes request disk put before after status =
+    FinishesDll known machines bytes request.definition disk put before after status
 FinishesRead known machines false input bytes request disk put before after status =
     FinishesUnless (misuse request) known input bytes request disk put before after status
 
 -- the definition or the DLL was read, and this was done with its bytes
-pub record IsRead (known : Bool) (machines : ForMachine) (request : RequestView) (before after : Devices) (status : ℕ) : Type 0 where
+pub record IsRead (known : Bool) (machines : ForMachine) (request : RequestView)
+    (before after : Devices) (status : ℕ) : Type 0 where
   pub bytes : List ℕ
-  pub read : IfSome (definition_in before.input before.disk request.definition) (λ file. bytes ≡ file)
+  pub read : IfSome (definition_in before.input before.disk request.definition)
+      (λ file. bytes ≡ file)
   -- what standard input has left then: all, if the definition is a file
   pub left : Option (List ℕ)
   pub untouched : bytes_eq request.definition (codes "-") ≡ false → left ≡ before.input
-  pub finishes : FinishesRead known machines (begins_dll bytes) left bytes request before.disk after.disk before.said after.said status
+  pub finishes : FinishesRead known machines (begins_dll bytes) left bytes request before.disk
+      after.disk before.said after.said status
 
 -- the definition or the DLL could not be read
 pub record IsUnread (request : RequestView) (before after : Devices) (status : ℕ) : Type 0 where
@@ -259,7 +287,8 @@ pub record IsUnread (request : RequestView) (before after : Devices) (status : �
 
 -- what is done for a library that is asked for
 abbrev pub Makes : Bool → ForMachine → RequestView → Devices → Devices → ℕ → Type 0
-Makes known machines request before after status = IsRead known machines request before after status ⊎ IsUnread request before after status
+Makes known machines request before after status =
+    IsRead known machines request before after status ⊎ IsUnread request before after status
 
 -- the name of the program in what it says
 abbrev pub own_name : List ℕ
@@ -271,7 +300,8 @@ abbrev pub subject_of : List ℕ → List ℕ
 subject_of program = if is_empty_text (last_part program) then own_name else last_part program
 
 -- one complaint was said, and nothing else was done
-pub record Complained (name : List ℕ) (complaint : ComplaintView) (number : ℕ) (before after : Devices) (printed prints : Option (List ℕ))
+pub record Complained (name : List ℕ) (complaint : ComplaintView) (number : ℕ)
+    (before after : Devices) (printed prints : Option (List ℕ))
     (status : ℕ) : Type 0 where
   pub same_disk : after.disk ≡ before.disk
   pub same_input : after.input ≡ before.input
@@ -280,49 +310,57 @@ pub record Complained (name : List ℕ) (complaint : ComplaintView) (number : �
   pub is_status : status ≡ number
 
 -- the text is on standard output, and nothing was said
-pub record IsPrinted (text : List ℕ) (before after : Option (List Line)) (printed prints : Option (List ℕ)) (status : ℕ)
-    : Type 0 where
+pub record IsPrinted (text : List ℕ) (before after : Option (List Line))
+    (printed prints : Option (List ℕ)) (status : ℕ) : Type 0 where
   pub appends : Appends printed prints text
   pub silent : after ≡ before
   pub is_status : status ≡ 0
 
 -- writing the text failed
-pub record IsUnprinted (name : List ℕ) (before after : Option (List Line)) (status : ℕ) : Type 0 where
+pub record IsUnprinted (name : List ℕ) (before after : Option (List Line))
+    (status : ℕ) : Type 0 where
   pub says : Says before after (Complains name OfSystem ∷ [])
   pub is_status : status ≡ 3
 
 -- what is done for a text that is asked for
-abbrev pub Prints : List ℕ → List ℕ → Option (List Line) → Option (List Line) → Option (List ℕ) → Option (List ℕ) → ℕ → Type 0
+abbrev pub Prints : List ℕ → List ℕ → Option (List Line) → Option (List Line) → Option (List ℕ) →
+    Option (List ℕ) → ℕ → Type 0
 Prints name text before after printed prints status =
     IsPrinted text before after printed prints status ⊎ IsUnprinted name before after status
 
 -- a text was printed, or that failed, and nothing else was done
-pub record OnlyPrints (name text : List ℕ) (before after : Devices) (printed prints : Option (List ℕ)) (status : ℕ) : Type 0 where
+pub record OnlyPrints (name text : List ℕ) (before after : Devices)
+    (printed prints : Option (List ℕ)) (status : ℕ) : Type 0 where
   pub same_disk : after.disk ≡ before.disk
   pub same_input : after.input ≡ before.input
   pub outcome : Prints name text before.said after.said printed prints status
 
 -- what was asked for was made, and nothing printed
-pub record OnlyMakes (known : Bool) (machines : ForMachine) (request : RequestView) (before after : Devices) (printed prints : Option (List ℕ))
+pub record OnlyMakes (known : Bool) (machines : ForMachine) (request : RequestView)
+    (before after : Devices) (printed prints : Option (List ℕ))
     (status : ℕ) : Type 0 where
   pub same_output : prints ≡ printed
   pub outcome : Makes known machines request before after status
 
 -- a complaint of a file was said, and nothing printed
-pub record OnlyComplains (path : List ℕ) (complaint : ComplaintView) (number : ℕ) (before after : Option (List Line))
+pub record OnlyComplains (path : List ℕ) (complaint : ComplaintView) (number : ℕ)
+    (before after : Option (List Line))
     (printed prints : Option (List ℕ)) (status : ℕ) : Type 0 where
   pub same_output : prints ≡ printed
   pub says : Says before after (Complains path complaint ∷ [])
   pub is_status : status ≡ number
 
 -- the DLLs of a library were printed, or that there are none was said
-abbrev pub NamesDlls : List ℕ → List ℕ → Result (List ℕ) NotIdentified → Option (List Line) → Option (List Line) → Option (List ℕ) → Option (List ℕ) → ℕ → Type 0
-NamesDlls name path (Ok lines) before after printed prints status = Prints name lines before after printed prints status
+abbrev pub NamesDlls : List ℕ → List ℕ → Result (List ℕ) NotIdentified → Option (List Line) →
+    Option (List Line) → Option (List ℕ) → Option (List ℕ) → ℕ → Type 0
+NamesDlls name path (Ok lines) before after printed prints status =
+    Prints name lines before after printed prints status
 NamesDlls name path (Err fault) before after printed prints status =
     OnlyComplains path (OfIdentity fault) 1 before after printed prints status
 
 -- a library was read, and its DLLs named, unless memory was refused
-pub record IsIdentified (name path : List ℕ) (wanted : Wanted) (before after : Devices) (printed prints : Option (List ℕ))
+pub record IsIdentified (name path : List ℕ) (wanted : Wanted) (before after : Devices)
+    (printed prints : Option (List ℕ))
     (status : ℕ) : Type 0 where
   pub bytes : List ℕ
   pub read : IfSome (before.disk.seen path) (λ file. bytes ≡ file)
@@ -332,13 +370,14 @@ pub record IsIdentified (name path : List ℕ) (wanted : Wanted) (before after :
       ⊎ OnlyComplains name OfMemory 3 before.said after.said printed prints status
 
 -- a library could not be read
-pub record IsUnidentified (path : List ℕ) (before after : Devices) (printed prints : Option (List ℕ)) (status : ℕ)
-    : Type 0 where
+pub record IsUnidentified (path : List ℕ) (before after : Devices)
+    (printed prints : Option (List ℕ)) (status : ℕ) : Type 0 where
   pub keeps : KeepsFiles before.disk after.disk
   pub complains : OnlyComplains path OfSystem 3 before.said after.said printed prints status
 
 -- what is done for a library whose DLLs are asked for
-pub record Identifies (name path : List ℕ) (wanted : Wanted) (before after : Devices) (printed prints : Option (List ℕ))
+pub record Identifies (name path : List ℕ) (wanted : Wanted) (before after : Devices)
+    (printed prints : Option (List ℕ))
     (status : ℕ) : Type 0 where
   pub same_input : after.input ≡ before.input
   pub outcome :
@@ -354,11 +393,14 @@ abbrev pub texts : List ℕ → List ℕ → Texts
 texts help version = record { help = help; version = version }
 
 -- what is done for what options ask for
-abbrev pub DoesTask : Bool → Texts → List ℕ → ForMachine → Asked TaskView → Devices → Devices → Option (List ℕ) → Option (List ℕ) → ℕ → Type 0
-DoesTask known texts name machines (Ok AsksHelp) before after printed prints status = OnlyPrints name texts.help before after printed prints status
+abbrev pub DoesTask : Bool → Texts → List ℕ → ForMachine → Asked TaskView → Devices → Devices →
+    Option (List ℕ) → Option (List ℕ) → ℕ → Type 0
+DoesTask known texts name machines (Ok AsksHelp) before after printed prints status =
+    OnlyPrints name texts.help before after printed prints status
 DoesTask known texts name machines (Ok AsksVersion) before after printed prints status =
     OnlyPrints name texts.version before after printed prints status
-DoesTask known texts name machines (Ok (AsksIdentity path wanted)) before after printed prints status =
+DoesTask known texts name machines (Ok (AsksIdentity path wanted)) before after printed prints
+    status =
     Identifies name path wanted before after printed prints status
 DoesTask known texts name machines (Ok (Asks request)) before after printed prints status =
     OnlyMakes known machines request before after printed prints status
@@ -366,20 +408,24 @@ DoesTask known texts name machines (Err fault) before after printed prints statu
     Complained name (OfCall fault) 2 before after printed prints status
 
 -- what is done for options, where the program is called so, unless memory is refused
-abbrev pub DoesOptions : Bool → Texts → List ℕ → List OccurrenceView → Devices → Devices → Option (List ℕ) → Option (List ℕ) → ℕ → Type 0
+abbrev pub DoesOptions : Bool → Texts → List ℕ → List OccurrenceView → Devices → Devices →
+    Option (List ℕ) → Option (List ℕ) → ℕ → Type 0
 DoesOptions known texts program options before after printed prints status =
-    DoesTask known texts (subject_of program) (request_for (caller_of program) options) (task_of (caller_of program) options) before after printed prints status
+    DoesTask known texts (subject_of program) (request_for (caller_of program) options)
+    (task_of (caller_of program) options) before after printed prints status
     ⊎ Complained (subject_of program) OfMemory 3 before after printed prints status
 
 -- what is done for words that are read so
-abbrev pub DoesRead : Bool → Texts → List ℕ → Result (List OccurrenceView) WordFaultView → Devices → Devices → Option (List ℕ) → Option (List ℕ) → ℕ → Type 0
+abbrev pub DoesRead : Bool → Texts → List ℕ → Result (List OccurrenceView) WordFaultView → Devices →
+    Devices → Option (List ℕ) → Option (List ℕ) → ℕ → Type 0
 DoesRead known texts program (Ok options) before after printed prints status =
     DoesOptions known texts program options before after printed prints status
 DoesRead known texts program (Err fault) before after printed prints status =
     Complained (subject_of program) (OfWord fault) 2 before after printed prints status
 
 -- what is done for words, where the program is called so, unless memory is refused
-abbrev pub DoesWords : Bool → Texts → List ℕ → List (List ℕ) → Devices → Devices → Option (List ℕ) → Option (List ℕ) → ℕ → Type 0
+abbrev pub DoesWords : Bool → Texts → List ℕ → List (List ℕ) → Devices → Devices → Option (List ℕ) →
+    Option (List ℕ) → ℕ → Type 0
 DoesWords known texts program words before after printed prints status =
     DoesRead known texts program (words_read program words) before after printed prints status
     ⊎ Complained (subject_of program) OfMemory 3 before after printed prints status
@@ -390,18 +436,24 @@ called_by [] = own_name
 called_by (program ∷ words) = program
 
 -- what a run does for a command line
-abbrev pub Runs : Bool → Texts → List (List ℕ) → Devices → Devices → Option (List ℕ) → Option (List ℕ) → ℕ → Type 0
+abbrev pub Runs : Bool → Texts → List (List ℕ) → Devices → Devices → Option (List ℕ) →
+    Option (List ℕ) → ℕ → Type 0
 Runs known texts arguments before after printed prints status =
-    DoesWords known texts (called_by arguments) (drop 1 arguments) before after printed prints status
+    DoesWords known texts (called_by arguments) (drop 1 arguments) before after printed prints
+    status
 
 -- what is done for the arguments of a process: where memory for them is refused, the program goes
 -- by its own name
-abbrev pub Performs : Bool → Texts → List (List ℕ) → Devices → Devices → Option (List ℕ) → Option (List ℕ) → ℕ → Type 0
+abbrev pub Performs : Bool → Texts → List (List ℕ) → Devices → Devices → Option (List ℕ) →
+    Option (List ℕ) → ℕ → Type 0
 Performs known texts arguments before after printed prints status =
     Runs known texts arguments before after printed prints status
     ⊎ Complained own_name OfMemory 3 before after printed prints status
 
 -- the command line cannot be read: an argument, which is told, is not UTF-8, or the system failed
-abbrev pub IsUncalled : ErrorKind → List ℕ → Devices → Devices → Option (List ℕ) → Option (List ℕ) → ℕ → Type 0
-IsUncalled InvalidData unread before after printed prints status = Complained own_name (OfArgument unread) 2 before after printed prints status
-IsUncalled _ unread before after printed prints status = Complained own_name OfSystem 3 before after printed prints status
+abbrev pub IsUncalled : ErrorKind → List ℕ → Devices → Devices → Option (List ℕ) → Option (List ℕ) →
+    ℕ → Type 0
+IsUncalled InvalidData unread before after printed prints status =
+    Complained own_name (OfArgument unread) 2 before after printed prints status
+IsUncalled _ unread before after printed prints status =
+    Complained own_name OfSystem 3 before after printed prints status

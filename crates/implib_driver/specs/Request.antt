@@ -245,7 +245,8 @@ is_minus b = b == 45
 -- aarch64-w64-mingw32-dlltool; AMD64 without a `-`
 abbrev pub machine_of_name : List ℕ → Option LibraryMachine
 machine_of_name name =
-    if nat_lt (position_or_len is_minus name) (length name) then machine_of_architecture (before_first is_minus name)
+    if nat_lt (position_or_len is_minus name) (length name)
+    then machine_of_architecture (before_first is_minus name)
     else Some (Ordinary AMD64)
 
 -- whether a text, which is not empty, is within another
@@ -257,18 +258,23 @@ holds_text (b ∷ bytes) text = begins_with (b ∷ bytes) text || holds_text byt
 abbrev pub called_as : List ℕ → CalledAs
 called_as name =
     if holds_text name (codes "llvm-dlltool") then Llvm
-    else if holds_text name (codes "dlltool") && not (holds_text name (codes "implib_dlltool")) then called.Gnu
+    else if holds_text name (codes "dlltool") && not (holds_text name (codes "implib_dlltool"))
+    then called.Gnu
     else Itself
 
 -- what the name that the program is called by says
 abbrev pub caller_of : List ℕ → Caller
-caller_of program = record { machine = machine_of_name (last_part program); called_as = called_as (last_part program) }
+caller_of program = record {
+  machine = machine_of_name (last_part program);
+  called_as = called_as (last_part program);
+}
 
 -- whether an option is given that only GNU dlltool has a use for: those who do link by GNU's
 -- linker, whatever the ending of the library's name (rustc ends it in .lib)
 abbrev pub has_gnu_habits : List OccurrenceView → Bool
 has_gnu_habits options =
-    is_some (last_given Assembler options) || is_some (last_given AssemblerFlags options) || is_some (last_given TemporaryPrefix options)
+    is_some (last_given Assembler options) || is_some (last_given AssemblerFlags options)
+    || is_some (last_given TemporaryPrefix options)
     || is_some (last_given DelayedOutput options)
 
 -- the flavour by the ending of a file's name
@@ -326,7 +332,8 @@ flavor_or unnamed (Some name) = known_flavor name (flavor_named name)
 -- the flavour for a machine and a library of this file
 abbrev pub flavor_in : CalledAs → MachineType → Option (List ℕ) → List OccurrenceView → Asked Flavor
 flavor_in called machine output options =
-    flavor_or (default_flavor called machine (has_gnu_habits options) output) (last_given FlavorSetting options)
+    flavor_or (default_flavor called machine (has_gnu_habits options) output)
+    (last_given FlavorSetting options)
 
 -- the DLL's name, unless it is empty or ends in a directory
 abbrev pub dll_or : Option (List ℕ) → Asked (Option (List ℕ))
@@ -354,12 +361,14 @@ output_in definition options = output_or definition (last_given Output options)
 abbrev pub delayed_apart : Option (List ℕ) → Option (List ℕ) → Asked (Option (List ℕ))
 delayed_apart None delayed = Ok delayed
 delayed_apart (Some path) None = Ok None
-delayed_apart (Some path) (Some other) = if bytes_eq other path then Err HasOneOutput else Ok (Some other)
+delayed_apart (Some path) (Some other) =
+    if bytes_eq other path then Err HasOneOutput else Ok (Some other)
 
 -- the file of the library of delayed imports that options give
 abbrev pub delayed_in : List ℕ → Option (List ℕ) → List OccurrenceView → Asked (Option (List ℕ))
 delayed_in definition output options =
-    with (output_or definition (last_given DelayedOutput options)) (λ delayed. delayed_apart output delayed)
+    with (output_or definition (last_given DelayedOutput options))
+    (λ delayed. delayed_apart output delayed)
 
 -- whether this is the file of the library
 abbrev pub is_output : Option (List ℕ) → List ℕ → Bool
@@ -378,15 +387,19 @@ native_or definition output (Some path) =
 
 -- what is asked for beside a library for ARM64EC, which is for Microsoft's linkers; for other
 -- machines there is no native definition
-abbrev pub arm64ec_or : LibraryMachine → Flavor → List ℕ → Option (List ℕ) → Option (List ℕ) → Asked (Option (Option (List ℕ)))
+abbrev pub arm64ec_or : LibraryMachine → Flavor → List ℕ → Option (List ℕ) → Option (List ℕ) →
+    Asked (Option (Option (List ℕ)))
 arm64ec_or (Ordinary machine) flavor definition output None = Ok None
 arm64ec_or (Ordinary machine) flavor definition output (Some path) = Err HasNativeElsewhere
 arm64ec_or Arm64ec Gnu definition output given = Err IsArm64ecForGnu
-arm64ec_or Arm64ec Msvc definition output given = with (native_or definition output given) (λ native. Ok (Some native))
+arm64ec_or Arm64ec Msvc definition output given =
+    with (native_or definition output given) (λ native. Ok (Some native))
 
 -- what options ask for beside a library for ARM64EC, if the machine is that
-abbrev pub arm64ec_in : LibraryMachine → Flavor → List ℕ → Option (List ℕ) → List OccurrenceView → Asked (Option (Option (List ℕ)))
-arm64ec_in machine flavor definition output options = arm64ec_or machine flavor definition output (last_given NativeDefinition options)
+abbrev pub arm64ec_in : LibraryMachine → Flavor → List ℕ → Option (List ℕ) → List OccurrenceView →
+    Asked (Option (Option (List ℕ)))
+arm64ec_in machine flavor definition output options =
+    arm64ec_or machine flavor definition output (last_given NativeDefinition options)
 
 -- Whether imports can be delayed: I386 and AMD64 have the code, and Microsoft's linkers delay the
 -- imports of an ordinary library by their option `/delayload`.
@@ -407,7 +420,8 @@ delay_for machine flavor (Some path) = can_delay machine flavor
 -- asked for only where there is one.
 abbrev pub naming_in : MachineType → List OccurrenceView → Asked NamingView
 naming_in machine options =
-    if is_last LeadingUnderscore NoLeadingUnderscore options && not (has_leading_underscore machine) then Err HasNoUnderscore
+    if is_last LeadingUnderscore NoLeadingUnderscore options && not (has_leading_underscore machine)
+    then Err HasNoUnderscore
     else Ok (record {
       is_plain = is_last NoLeadingUnderscore LeadingUnderscore options;
       kills_at = is_switched KillAt options;
@@ -455,7 +469,13 @@ request_of caller options given =
       definition = definition;
       output = output;
       delayed = delayed;
-      library = record { machine = machine_type machine; flavor = flavor; dll = dll; naming = naming; additions = additions_in options };
+      library = record {
+        machine = machine_type machine;
+        flavor = flavor;
+        dll = dll;
+        naming = naming;
+        additions = additions_in options;
+      };
       arm64ec = arm64ec;
       decorations = last_given Decorations options;
       search = all_given Search options;
@@ -481,7 +501,8 @@ request_in caller options = with (input_in options) (request_of caller options)
 
 -- the library that options ask for where it is one of a DLL for this machine
 abbrev pub request_for : Caller → List OccurrenceView → MachineType → Asked RequestView
-request_for caller options machine = request_in (record caller { machine = Some (Ordinary machine) }) options
+request_for caller options machine =
+    request_in (record caller { machine = Some (Ordinary machine) }) options
 
 -- a library, as what is asked for
 abbrev pub made : Asked RequestView → Asked TaskView
@@ -505,4 +526,5 @@ abbrev pub task_of : Caller → List OccurrenceView → Asked TaskView
 task_of caller options =
     if is_switched Help options then Ok AsksHelp
     else if is_switched Version options then Ok AsksVersion
-    else identity_or (made (request_in caller options)) (wanted_of options) (last_given Identify options)
+    else identity_or (made (request_in caller options)) (wanted_of options)
+    (last_given Identify options)

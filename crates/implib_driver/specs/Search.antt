@@ -16,12 +16,14 @@ use Rattle.implib_rules.specs.Names.{last_part}
 
 -- the names by which loaders know the DLL of a request
 abbrev pub own_names : RequestView → Exports → List (List ℕ)
-own_names request e = names_of (option_map last_part request.library.dll) (last_part request.definition) e.dll
+own_names request e =
+    names_of (option_map last_part request.library.dll) (last_part request.definition) e.dll
 
 -- a DLL that loaders know by some names, beside those of folders, of which each file has these
 -- bytes
 abbrev pub beside_folders : (List ℕ → List ℕ) → List Listing → List (List ℕ) → Exports → Beside
-beside_folders file folders names e = record { exports = e; names = names; others = λ name. Some (content_at file folders name) }
+beside_folders file folders names e =
+    record { exports = e; names = names; others = λ name. Some (content_at file folders name) }
 
 -- exports have the kinds that others have beside other DLLs, and this number of those are forwarded
 -- to nothing
@@ -31,10 +33,13 @@ pub record AreFollowed (b : Beside) (before after : List ExportView) (astray : �
 
 -- Exports of a DLL have the kinds that others have through the DLLs of the folders of a request,
 -- where the bytes of files and the names in folders are known.
-abbrev pub IsSearched : DiskView → Exports → RequestView → List ExportView → List ExportView → ℕ → Type 0
+abbrev pub IsSearched : DiskView → Exports → RequestView → List ExportView → List ExportView → ℕ →
+    Type 0
 IsSearched disk e request before after astray =
-    (file : List ℕ → List ℕ) (names : List ℕ → List (List ℕ)) → AreKnown disk.seen file → AreKnown disk.listed names
-    → AreFollowed (beside_folders file (listings names request.search) (own_names request e) e) before after astray
+    (file : List ℕ → List ℕ) (names : List ℕ → List (List ℕ)) → AreKnown disk.seen file →
+    AreKnown disk.listed names
+    → AreFollowed (beside_folders file (listings names request.search) (own_names request e) e)
+    before after astray
 
 -- what a disk is where folders were not searched: as after a call that failed, or as before where
 -- memory was refused

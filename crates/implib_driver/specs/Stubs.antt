@@ -31,7 +31,8 @@ stubs_fail Gnu ARM64 = false
 
 -- whether members for this have a stub that cannot run
 abbrev pub has_failing_stub : LibraryOptionsView → List MemberView → Bool
-has_failing_stub options members = stubs_fail options.flavor options.machine && list_any has_stub members
+has_failing_stub options members =
+    stubs_fail options.flavor options.machine && list_any has_stub members
 
 -- Worked by hand: a function, a function with an older symbol, data, data with one, a head, a
 -- member without symbols, and a function whose name begins as that of an address; and the machines.
@@ -49,5 +50,7 @@ pub record StubsTold : Type 0 where
       ∷ (codes "bar" ∷ codes "___impbar" ∷ [])
       ∷ [])
       ≡ true ∷ true ∷ false ∷ false ∷ false ∷ false ∷ true ∷ false ∷ false ∷ false ∷ []
-  pub machines : map (stubs_fail Gnu) (I386 ∷ ARMNT ∷ AMD64 ∷ ARM64 ∷ []) ≡ false ∷ true ∷ false ∷ false ∷ []
-  pub microsofts : map (stubs_fail Msvc) (I386 ∷ ARMNT ∷ AMD64 ∷ ARM64 ∷ []) ≡ false ∷ false ∷ false ∷ false ∷ []
+  pub machines : map (stubs_fail Gnu) (I386 ∷ ARMNT ∷ AMD64 ∷ ARM64 ∷ [])
+      ≡ false ∷ true ∷ false ∷ false ∷ []
+  pub microsofts : map (stubs_fail Msvc) (I386 ∷ ARMNT ∷ AMD64 ∷ ARM64 ∷ [])
+      ≡ false ∷ false ∷ false ∷ false ∷ []

@@ -25,16 +25,20 @@ warning_lines path lines warnings = map (λ w. Warns path w lines) warnings
 -- the warnings of a definition of these exports and places and this number of members, where they
 -- are asked for
 abbrev pub warnings_for : RequestView → List ExportView → List Place → ℕ → List WarningView
-warnings_for request exports places count = if request.is_verbose then warnings_of request.library exports places count else []
+warnings_for request exports places count =
+    if request.is_verbose then warnings_of request.library exports places count else []
 
 -- the warnings of a definition with these places and this number of members were said
-pub record SaysWarnings (count : ℕ) (bytes : List ℕ) (definition : DefinitionView) (places : List Place) (request : RequestView)
+pub record SaysWarnings (count : ℕ) (bytes : List ℕ) (definition : DefinitionView)
+    (places : List Place) (request : RequestView)
     (before after : Option (List Line)) : Type 0 where
   pub says : Says before after
-      (warning_lines request.definition (export_lines places) (text_warnings bytes ++ warnings_for request definition.exports places count))
+      (warning_lines request.definition (export_lines places)
+      (text_warnings bytes ++ warnings_for request definition.exports places count))
 
 -- the bytes are a definition, and its warnings were said
-pub record WarnsOf (count : ℕ) (bytes : List ℕ) (request : RequestView) (before after : Option (List Line)) : Type 0 where
+pub record WarnsOf (count : ℕ) (bytes : List ℕ) (request : RequestView)
+    (before after : Option (List Line)) : Type 0 where
   pub utf8 : IsUtf8 (definition_text bytes)
   pub definition : DefinitionView
   pub parses : Parses (definition_text bytes) AMD64 definition
@@ -54,19 +58,25 @@ pub record IsNoDefinition (bytes : List ℕ) (before after : Option (List Line))
   pub silent : after ≡ before
 
 -- the bytes are a definition, and it was said if it has no export though something follows EXPORTS
-pub record WarnsOfNone (bytes : List ℕ) (request : RequestView) (before after : Option (List Line)) : Type 0 where
+pub record WarnsOfNone (bytes : List ℕ) (request : RequestView)
+    (before after : Option (List Line)) : Type 0 where
   pub utf8 : IsUtf8 (definition_text bytes)
   pub definition : DefinitionView
   pub parses : Parses (definition_text bytes) AMD64 definition
-  pub says : Says before after (warning_lines request.definition [] (none_warnings (definition_text bytes) definition.exports))
+  pub says : Says before after
+      (warning_lines request.definition []
+      (none_warnings (definition_text bytes) definition.exports))
 
 -- the warnings of bytes, with this number of members, were said, if they are asked for; of a
 -- library that has the members of its DLL alone, that its definition has no export is said without
 -- that
-abbrev pub Warned : Bool → Bool → ℕ → List ℕ → RequestView → Option (List Line) → Option (List Line) → Type 0
+abbrev pub Warned : Bool → Bool → ℕ → List ℕ → RequestView → Option (List Line) →
+    Option (List Line) → Type 0
 Warned false false count bytes request before after = after ≡ before
-Warned false true count bytes request before after = WarnsOfNone bytes request before after ⊎ IsNoDefinition bytes before after
-Warned true bare count bytes request before after = WarnsOf count bytes request before after ⊎ IsNoDefinition bytes before after
+Warned false true count bytes request before after =
+    WarnsOfNone bytes request before after ⊎ IsNoDefinition bytes before after
+Warned true bare count bytes request before after =
+    WarnsOf count bytes request before after ⊎ IsNoDefinition bytes before after
 
 -- whether a library of this many members has no more than those of its DLL, of which each flavour
 -- has at most three
@@ -76,18 +86,20 @@ is_bare count = nat_lt count 4
 -- whether bytes begin as a text in UTF-16 with a byte order mark (the Unicode Standard, "Byte Order
 -- Mark")
 abbrev pub begins_utf16 : List ℕ → Bool
-begins_utf16 bytes = starts_with nat_eq bytes (0xFF ∷ 0xFE ∷ []) || starts_with nat_eq bytes (0xFE ∷ 0xFF ∷ [])
+begins_utf16 bytes =
+    starts_with nat_eq bytes (0xFF ∷ 0xFE ∷ []) || starts_with nat_eq bytes (0xFE ∷ 0xFF ∷ [])
 
 -- that the definition is in UTF-16 was said, and nothing else was done
-pub record IsInUtf16 (bytes : List ℕ) (request : RequestView) (disk put : DiskView) (before after : Option (List Line)) (status : ℕ)
-    : Type 0 where
+pub record IsInUtf16 (bytes : List ℕ) (request : RequestView) (disk put : DiskView)
+    (before after : Option (List Line)) (status : ℕ) : Type 0 where
   pub begins : begins_utf16 bytes ≡ true
   pub same_disk : put ≡ disk
   pub says : Says before after (Complains request.definition OfUtf16 ∷ [])
   pub is_status : status ≡ 1
 
 -- memory was refused before a warning was said
-pub record IsUnwarned (request : RequestView) (disk put : DiskView) (before after : Option (List Line)) (status : ℕ) : Type 0 where
+pub record IsUnwarned (request : RequestView) (disk put : DiskView)
+    (before after : Option (List Line)) (status : ℕ) : Type 0 where
   pub same_disk : put ≡ disk
   pub says : Says before after (Refuses request.definition OutOfMemory ∷ [])
   pub is_status : status ≡ 3

@@ -46,32 +46,49 @@ ways_for program = (caller_of program).called_as
 
 -- what programs' names ask for
 pub record CallersNamed : Type 0 where
-  pub i386 : map machine_for (codes "/bin/i386-pc-mingw32-dlltool" ∷ codes "i486-x-dlltool" ∷ codes "i586-x-dlltool"
-      ∷ codes "i686-w64-mingw32-dlltool" ∷ codes "i786-x-dlltool" ∷ codes "i886-x-dlltool" ∷ codes "i986-x-dlltool" ∷ [])
+  pub i386 : map machine_for
+      (codes "/bin/i386-pc-mingw32-dlltool" ∷ codes "i486-x-dlltool" ∷ codes "i586-x-dlltool"
+      ∷ codes "i686-w64-mingw32-dlltool" ∷ codes "i786-x-dlltool" ∷ codes "i886-x-dlltool"
+      ∷ codes "i986-x-dlltool" ∷ [])
       ≡ Some (Ordinary I386) ∷ Some (Ordinary I386) ∷ Some (Ordinary I386) ∷ Some (Ordinary I386)
       ∷ Some (Ordinary I386) ∷ Some (Ordinary I386) ∷ Some (Ordinary I386) ∷ []
-  pub armnt : map machine_for (codes "arm-x-dlltool" ∷ codes "armv7-w64-mingw32-dlltool" ∷ codes "armv7a-dlltool" ∷ [])
+  pub armnt : map machine_for
+      (codes "arm-x-dlltool" ∷ codes "armv7-w64-mingw32-dlltool" ∷ codes "armv7a-dlltool" ∷ [])
       ≡ Some (Ordinary ARMNT) ∷ Some (Ordinary ARMNT) ∷ Some (Ordinary ARMNT) ∷ []
   pub arm64 : map machine_for (codes "aarch64-w64-mingw32-dlltool" ∷ codes "arm64-x-dlltool" ∷ [])
       ≡ Some (Ordinary ARM64) ∷ Some (Ordinary ARM64) ∷ []
-  pub arm64ec : map machine_for (codes "/bin/arm64ec-w64-mingw32-dlltool" ∷ codes "arm64ec-x" ∷ []) ≡ Some Arm64ec ∷ Some Arm64ec ∷ []
-  pub amd64 : map machine_for (codes "x86_64-w64-mingw32-dlltool" ∷ codes "amd64-x-dlltool" ∷ codes "llvm-dlltool"
-      ∷ codes "dlltool" ∷ codes "i686-/dlltool" ∷ codes "i686x-dlltool" ∷ codes "i68-dlltool" ∷ codes "i686" ∷ [])
-      ≡ Some (Ordinary AMD64) ∷ Some (Ordinary AMD64) ∷ Some (Ordinary AMD64) ∷ Some (Ordinary AMD64)
-      ∷ Some (Ordinary AMD64) ∷ Some (Ordinary AMD64) ∷ Some (Ordinary AMD64) ∷ Some (Ordinary AMD64) ∷ []
+  pub arm64ec : map machine_for (codes "/bin/arm64ec-w64-mingw32-dlltool" ∷ codes "arm64ec-x" ∷ [])
+      ≡ Some Arm64ec ∷ Some Arm64ec ∷ []
+  pub amd64 : map machine_for
+      (codes "x86_64-w64-mingw32-dlltool" ∷ codes "amd64-x-dlltool" ∷ codes "llvm-dlltool"
+      ∷ codes "dlltool" ∷ codes "i686-/dlltool" ∷ codes "i686x-dlltool" ∷ codes "i68-dlltool"
+      ∷ codes "i686" ∷ [])
+      ≡ Some (Ordinary AMD64) ∷ Some (Ordinary AMD64) ∷ Some (Ordinary AMD64)
+      ∷ Some (Ordinary AMD64)
+      ∷ Some (Ordinary AMD64) ∷ Some (Ordinary AMD64) ∷ Some (Ordinary AMD64)
+      ∷ Some (Ordinary AMD64) ∷ []
   pub others : map machine_for (codes "arm64e-x" ∷ codes "aarch64_be-x" ∷ codes "armeb-x"
-      ∷ codes "thumb-x" ∷ codes "thumbeb-x" ∷ codes "riscv32-x" ∷ codes "riscv64-x" ∷ codes "loongarch32-x" ∷ codes "loongarch64-x"
-      ∷ codes "ia64-x" ∷ codes "alpha-x" ∷ codes "mips-x" ∷ codes "mipsel-x" ∷ codes "mips64-x" ∷ codes "mips64el-x"
-      ∷ codes "sh3-x" ∷ codes "sh4-x" ∷ codes "sparc-x" ∷ codes "sparc64-x" ∷ codes "powerpc-x" ∷ codes "powerpc64-x"
-      ∷ codes "powerpc64le-x" ∷ codes "ppc-x" ∷ codes "ppc64-x" ∷ codes "ppc64le-x" ∷ codes "s390x-x" ∷ codes "wasm32-x"
+      ∷ codes "thumb-x" ∷ codes "thumbeb-x" ∷ codes "riscv32-x" ∷ codes "riscv64-x"
+      ∷ codes "loongarch32-x" ∷ codes "loongarch64-x"
+      ∷ codes "ia64-x" ∷ codes "alpha-x" ∷ codes "mips-x" ∷ codes "mipsel-x" ∷ codes "mips64-x"
+      ∷ codes "mips64el-x"
+      ∷ codes "sh3-x" ∷ codes "sh4-x" ∷ codes "sparc-x" ∷ codes "sparc64-x" ∷ codes "powerpc-x"
+      ∷ codes "powerpc64-x"
+      ∷ codes "powerpc64le-x" ∷ codes "ppc-x" ∷ codes "ppc64-x" ∷ codes "ppc64le-x"
+      ∷ codes "s390x-x" ∷ codes "wasm32-x"
       ∷ codes "wasm64-x" ∷ codes "mcore-x" ∷ [])
-      ≡ None ∷ None ∷ None ∷ None ∷ None ∷ None ∷ None ∷ None ∷ None ∷ None ∷ None ∷ None ∷ None ∷ None
-      ∷ None ∷ None ∷ None ∷ None ∷ None ∷ None ∷ None ∷ None ∷ None ∷ None ∷ None ∷ None ∷ None ∷ None ∷ None ∷ []
-  pub llvm : map ways_for (codes "llvm-dlltool" ∷ codes "/usr/bin/llvm-dlltool-19" ∷ codes "i686-w64-mingw32-llvm-dlltool.exe" ∷ [])
+      ≡ None ∷ None ∷ None ∷ None ∷ None ∷ None ∷ None ∷ None ∷ None ∷ None ∷ None ∷ None ∷ None
+      ∷ None
+      ∷ None ∷ None ∷ None ∷ None ∷ None ∷ None ∷ None ∷ None ∷ None ∷ None ∷ None ∷ None ∷ None
+      ∷ None ∷ None ∷ []
+  pub llvm : map ways_for (codes "llvm-dlltool" ∷ codes "/usr/bin/llvm-dlltool-19"
+      ∷ codes "i686-w64-mingw32-llvm-dlltool.exe" ∷ [])
       ≡ called.Llvm ∷ called.Llvm ∷ called.Llvm ∷ []
-  pub gnu : map ways_for (codes "dlltool" ∷ codes "x86_64-w64-mingw32-dlltool" ∷ codes "llvm-dlltool/dlltool.exe" ∷ [])
+  pub gnu : map ways_for
+      (codes "dlltool" ∷ codes "x86_64-w64-mingw32-dlltool" ∷ codes "llvm-dlltool/dlltool.exe" ∷ [])
       ≡ called.Gnu ∷ called.Gnu ∷ called.Gnu ∷ []
-  pub own : map ways_for (codes "implib_dlltool" ∷ codes "x/implib_dlltool-1.0" ∷ codes "implib" ∷ codes "llvm_dlltoo" ∷ [] ∷ [])
+  pub own : map ways_for (codes "implib_dlltool" ∷ codes "x/implib_dlltool-1.0" ∷ codes "implib"
+      ∷ codes "llvm_dlltoo" ∷ [] ∷ [])
       ≡ called.Itself ∷ called.Itself ∷ called.Itself ∷ called.Itself ∷ called.Itself ∷ []
 
 -- the flavour for a library, of an option and its value that GNU dlltool alone has a use for
@@ -109,44 +126,69 @@ given = Given Definition (codes "a")
 pub record FaultsOrdered : Type 0 where
   pub help_first : task_of itself (Switched Version ∷ Switched Help ∷ []) ≡ Ok AsksHelp
   pub version_before_faults : task_of itself (Switched Version ∷ []) ≡ Ok AsksVersion
-  pub version_before_identity : task_of itself (Given Identify (codes "a") ∷ Switched Version ∷ []) ≡ Ok AsksVersion
-  pub identity_asked : task_of itself (Given Identify (codes "a") ∷ Given Identify (codes "b") ∷ []) ≡ Ok (AsksIdentity (codes "b") Dlls)
-  pub identity_strict : task_of itself (Switched IdentifyStrict ∷ Given Identify (codes "b") ∷ []) ≡ Ok (AsksIdentity (codes "b") OneDll)
-  pub identity_before_a_library : task_of itself (given ∷ Given Identify (codes "b") ∷ []) ≡ Ok (AsksIdentity (codes "b") Dlls)
+  pub version_before_identity : task_of itself (Given Identify (codes "a") ∷ Switched Version ∷ [])
+      ≡ Ok AsksVersion
+  pub identity_asked : task_of itself (Given Identify (codes "a") ∷ Given Identify (codes "b") ∷ [])
+      ≡ Ok (AsksIdentity (codes "b") Dlls)
+  pub identity_strict : task_of itself (Switched IdentifyStrict ∷ Given Identify (codes "b") ∷ [])
+      ≡ Ok (AsksIdentity (codes "b") OneDll)
+  pub identity_before_a_library : task_of itself (given ∷ Given Identify (codes "b") ∷ [])
+      ≡ Ok (AsksIdentity (codes "b") Dlls)
   pub strict_alone : task_of itself (Switched IdentifyStrict ∷ []) ≡ Err LacksDefinition
   pub two_dlls : lines_unless (codes "a.dll" ∷ codes "b.dll" ∷ []) (fault_of false 2)
       ≡ Ok (0x61 ∷ 0x2E ∷ 0x64 ∷ 0x6C ∷ 0x6C ∷ 0x0A ∷ 0x62 ∷ 0x2E ∷ 0x64 ∷ 0x6C ∷ 0x6C ∷ 0x0A ∷ [])
-  pub two_dlls_strictly : lines_unless (codes "a.dll" ∷ codes "b.dll" ∷ []) (fault_of true 2) ≡ Err SeveralDlls
+  pub two_dlls_strictly : lines_unless (codes "a.dll" ∷ codes "b.dll" ∷ []) (fault_of true 2)
+      ≡ Err SeveralDlls
   pub one_dll_strictly : lines_unless (codes "a" ∷ []) (fault_of true 1) ≡ Ok (0x61 ∷ 0x0A ∷ [])
   pub no_dll : lines_unless [] (fault_of false 0) ≡ Err NoDll
   pub no_library : named_of false None ≡ Err NoLibrary
   pub definition_first : task_of itself (Given Output (codes "-") ∷ []) ≡ Err LacksDefinition
-  pub empty_output : task_of itself (given ∷ Given Output [] ∷ Given Machine (codes "mips") ∷ []) ≡ Err HasEmptyOutput
-  pub definition_replaced : task_of itself (given ∷ Given Output (codes "a") ∷ []) ≡ Err ReplacesDefinition
-  pub output_first : task_of itself (given ∷ Given Output (codes "-") ∷ Given Machine (codes "mips") ∷ []) ≡ Err GoesToStandard
-  pub machine_first : task_of itself (given ∷ Given FlavorSetting (codes "x") ∷ Given Machine (codes "mips") ∷ [])
+  pub empty_output : task_of itself (given ∷ Given Output [] ∷ Given Machine (codes "mips") ∷ [])
+      ≡ Err HasEmptyOutput
+  pub definition_replaced : task_of itself (given ∷ Given Output (codes "a") ∷ [])
+      ≡ Err ReplacesDefinition
+  pub output_first : task_of itself
+      (given ∷ Given Output (codes "-") ∷ Given Machine (codes "mips") ∷ []) ≡ Err GoesToStandard
+  pub machine_first : task_of itself
+      (given ∷ Given FlavorSetting (codes "x") ∷ Given Machine (codes "mips") ∷ [])
       ≡ Err (IsUnknownMachine (codes "mips"))
-  pub flavor_first : task_of itself (given ∷ Given Dll [] ∷ Given FlavorSetting (codes "x") ∷ []) ≡ Err (IsUnknownFlavor (codes "x"))
-  pub dll_first : task_of itself (given ∷ Switched LeadingUnderscore ∷ Given Dll [] ∷ []) ≡ Err HasEmptyDll
+  pub flavor_first : task_of itself (given ∷ Given Dll [] ∷ Given FlavorSetting (codes "x") ∷ [])
+      ≡ Err (IsUnknownFlavor (codes "x"))
+  pub dll_first : task_of itself (given ∷ Switched LeadingUnderscore ∷ Given Dll [] ∷ [])
+      ≡ Err HasEmptyDll
   pub no_underscore : task_of itself (given ∷ Switched LeadingUnderscore ∷ []) ≡ Err HasNoUnderscore
-  pub underscore_first : task_of itself (given ∷ Switched CompatImplib ∷ Given FlavorSetting (codes "msvc") ∷ Switched LeadingUnderscore ∷ [])
+  pub underscore_first : task_of itself
+      (given ∷ Switched CompatImplib ∷ Given FlavorSetting (codes "msvc")
+      ∷ Switched LeadingUnderscore ∷ [])
       ≡ Err HasNoUnderscore
-  pub no_older_symbols : task_of itself (given ∷ Given FlavorSetting (codes "msvc") ∷ Switched CompatImplib ∷ []) ≡ Err HasNoOlderSymbols
-  pub no_older_symbols_by_ending : task_of itself (Switched CompatImplib ∷ given ∷ Given Output (codes "b.lib") ∷ []) ≡ Err HasNoOlderSymbols
-  pub no_older_symbols_by_machine : task_of itself (given ∷ Switched CompatImplib ∷ Given Machine (codes "arm64") ∷ []) ≡ Err HasNoOlderSymbols
+  pub no_older_symbols : task_of itself
+      (given ∷ Given FlavorSetting (codes "msvc") ∷ Switched CompatImplib ∷ [])
+      ≡ Err HasNoOlderSymbols
+  pub no_older_symbols_by_ending : task_of itself
+      (Switched CompatImplib ∷ given ∷ Given Output (codes "b.lib") ∷ []) ≡ Err HasNoOlderSymbols
+  pub no_older_symbols_by_machine : task_of itself
+      (given ∷ Switched CompatImplib ∷ Given Machine (codes "arm64") ∷ []) ≡ Err HasNoOlderSymbols
   pub other_architecture : machine_in None [] ≡ Err IsOtherArchitecture
   pub named_machine : machine_in None (Given Machine (codes "arm64") ∷ []) ≡ Ok (Ordinary ARM64)
-  pub plain_by_the_last : naming_in I386 (Switched LeadingUnderscore ∷ Switched NoLeadingUnderscore ∷ []) ≡ Ok plain
-  pub usual_by_the_last : naming_in I386 (Switched NoLeadingUnderscore ∷ Switched LeadingUnderscore ∷ []) ≡ Ok usual
-  pub plain_elsewhere : naming_in AMD64 (Switched LeadingUnderscore ∷ Switched NoLeadingUnderscore ∷ []) ≡ Ok plain
+  pub plain_by_the_last : naming_in I386
+      (Switched LeadingUnderscore ∷ Switched NoLeadingUnderscore ∷ []) ≡ Ok plain
+  pub usual_by_the_last : naming_in I386
+      (Switched NoLeadingUnderscore ∷ Switched LeadingUnderscore ∷ []) ≡ Ok usual
+  pub plain_elsewhere : naming_in AMD64
+      (Switched LeadingUnderscore ∷ Switched NoLeadingUnderscore ∷ []) ≡ Ok plain
   pub usual_elsewhere : naming_in ARMNT [] ≡ Ok usual
-  pub prefix_added : additions_in (Given FurtherPrefix (codes "p") ∷ Given FurtherPrefix (codes "q") ∷ [])
+  pub prefix_added : additions_in
+      (Given FurtherPrefix (codes "p") ∷ Given FurtherPrefix (codes "q") ∷ [])
       ≡ record { prefix = Some (codes "q"); underscore = false; stdcall_underscore = false }
-  pub underscore_added : additions_in (Switched AddUnderscore ∷ []) ≡ record { prefix = None; underscore = true; stdcall_underscore = false }
+  pub underscore_added : additions_in (Switched AddUnderscore ∷ [])
+      ≡ record { prefix = None; underscore = true; stdcall_underscore = false }
   pub stdcall_underscore_added : additions_in (Switched AddStdcallUnderscore ∷ [])
       ≡ record { prefix = None; underscore = false; stdcall_underscore = true }
   pub nothing_added : additions_in (Switched AddStdcallAlias ∷ []) ≡ no_additions
-  pub older_symbols : map (λ flavor. older_symbols_in flavor (Switched CompatImplib ∷ [])) (Msvc ∷ Gnu ∷ []) ≡ Err HasNoOlderSymbols ∷ Ok true ∷ []
-  pub no_symbols_more : map (λ flavor. older_symbols_in flavor (Switched ExportAs ∷ [])) (Msvc ∷ Gnu ∷ []) ≡ Ok false ∷ Ok false ∷ []
+  pub older_symbols : map (λ flavor. older_symbols_in flavor (Switched CompatImplib ∷ []))
+      (Msvc ∷ Gnu ∷ []) ≡ Err HasNoOlderSymbols ∷ Ok true ∷ []
+  pub no_symbols_more : map (λ flavor. older_symbols_in flavor (Switched ExportAs ∷ []))
+      (Msvc ∷ Gnu ∷ []) ≡ Ok false ∷ Ok false ∷ []
   pub exports_as_anywhere : naming_in AMD64 (Switched ExportAs ∷ []) ≡ Ok exporting
-  pub exports_as_and_kills : naming_in I386 (Switched ExportAs ∷ Switched KillAt ∷ []) ≡ Ok killing_and_exporting
+  pub exports_as_and_kills : naming_in I386 (Switched ExportAs ∷ Switched KillAt ∷ [])
+      ≡ Ok killing_and_exporting

@@ -46,7 +46,13 @@ pub record CallsAnswered : Type 0 where
     definition = codes "F.def";
     output = Some (codes "F.lib");
     delayed = None;
-    library = record { machine = I386; flavor = Gnu; dll = Some (codes "zoo.dll"); naming = plain; additions = no_additions };
+    library = record {
+      machine = I386;
+      flavor = Gnu;
+      dll = Some (codes "zoo.dll");
+      naming = plain;
+      additions = no_additions;
+    };
     arm64ec = None;
     decorations = None;
     search = [];
@@ -57,63 +63,102 @@ pub record CallsAnswered : Type 0 where
     definition = codes "X.def";
     output = Some (codes "X.a");
     delayed = None;
-    library = record { machine = AMD64; flavor = Gnu; dll = None; naming = killing; additions = no_additions };
+    library = record {
+      machine = AMD64;
+      flavor = Gnu;
+      dll = None;
+      naming = killing;
+      additions = no_additions;
+    };
     arm64ec = None;
     decorations = None;
     search = [];
     older_symbols = false;
     is_verbose = false;
   }))
-  pub by_ending : task_of itself (Given Definition (codes "-") ∷ Given Output (codes "a.lib") ∷ []) ≡ Ok (Asks (record {
-    definition = codes "-";
-    output = Some (codes "a.lib");
-    delayed = None;
-    library = record { machine = AMD64; flavor = Msvc; dll = None; naming = usual; additions = no_additions };
-    arm64ec = None;
-    decorations = None;
-    search = [];
-    older_symbols = false;
-    is_verbose = false;
-  }))
-  pub arm64 : task_of itself (Given Definition (codes "a") ∷ Given Machine (codes "AArch64") ∷ []) ≡ Ok (Asks (record {
-    definition = codes "a";
-    output = None;
-    delayed = None;
-    library = record { machine = ARM64; flavor = Msvc; dll = None; naming = usual; additions = no_additions };
-    arm64ec = None;
-    decorations = None;
-    search = [];
-    older_symbols = false;
-    is_verbose = false;
-  }))
-  pub verbose : task_of itself (Given Definition (codes "a") ∷ Switched Verbose ∷ []) ≡ Ok (Asks (record {
-    definition = codes "a";
-    output = None;
-    delayed = None;
-    library = record { machine = AMD64; flavor = Gnu; dll = None; naming = usual; additions = no_additions };
-    arm64ec = None;
-    decorations = None;
-    search = [];
-    older_symbols = false;
-    is_verbose = true;
-  }))
-  pub older_symbols : task_of itself (Given Definition (codes "a") ∷ Switched CompatImplib ∷ []) ≡ Ok (Asks (record {
-    definition = codes "a";
-    output = None;
-    delayed = None;
-    library = record { machine = AMD64; flavor = Gnu; dll = None; naming = usual; additions = no_additions };
-    arm64ec = None;
-    decorations = None;
-    search = [];
-    older_symbols = true;
-    is_verbose = false;
-  }))
+  pub by_ending : task_of itself (Given Definition (codes "-") ∷ Given Output (codes "a.lib") ∷ [])
+      ≡ Ok (Asks (record {
+        definition = codes "-";
+        output = Some (codes "a.lib");
+        delayed = None;
+        library = record {
+          machine = AMD64;
+          flavor = Msvc;
+          dll = None;
+          naming = usual;
+          additions = no_additions;
+        };
+        arm64ec = None;
+        decorations = None;
+        search = [];
+        older_symbols = false;
+        is_verbose = false;
+      }))
+  pub arm64 : task_of itself (Given Definition (codes "a") ∷ Given Machine (codes "AArch64") ∷ [])
+      ≡ Ok (Asks (record {
+        definition = codes "a";
+        output = None;
+        delayed = None;
+        library = record {
+          machine = ARM64;
+          flavor = Msvc;
+          dll = None;
+          naming = usual;
+          additions = no_additions;
+        };
+        arm64ec = None;
+        decorations = None;
+        search = [];
+        older_symbols = false;
+        is_verbose = false;
+      }))
+  pub verbose : task_of itself (Given Definition (codes "a") ∷ Switched Verbose ∷ [])
+      ≡ Ok (Asks (record {
+        definition = codes "a";
+        output = None;
+        delayed = None;
+        library = record {
+          machine = AMD64;
+          flavor = Gnu;
+          dll = None;
+          naming = usual;
+          additions = no_additions;
+        };
+        arm64ec = None;
+        decorations = None;
+        search = [];
+        older_symbols = false;
+        is_verbose = true;
+      }))
+  pub older_symbols : task_of itself (Given Definition (codes "a") ∷ Switched CompatImplib ∷ [])
+      ≡ Ok (Asks (record {
+        definition = codes "a";
+        output = None;
+        delayed = None;
+        library = record {
+          machine = AMD64;
+          flavor = Gnu;
+          dll = None;
+          naming = usual;
+          additions = no_additions;
+        };
+        arm64ec = None;
+        decorations = None;
+        search = [];
+        older_symbols = true;
+        is_verbose = false;
+      }))
   pub help : task_of itself (Switched Help ∷ []) ≡ Ok AsksHelp
   pub no_definition : task_of itself (Given Output (codes "a.lib") ∷ []) ≡ Err LacksDefinition
-  pub to_standard : task_of itself (Given Definition (codes "a") ∷ Given Output (codes "-") ∷ []) ≡ Err GoesToStandard
-  pub mips : task_of itself (Given Definition (codes "a") ∷ Given Machine (codes "mips") ∷ []) ≡ Err (IsUnknownMachine (codes "mips"))
-  pub borland : task_of itself (Given Definition (codes "a") ∷ Given FlavorSetting (codes "borland") ∷ []) ≡ Err (IsUnknownFlavor (codes "borland"))
-  pub empty_dll : task_of itself (Given Definition (codes "a") ∷ Given Dll (codes "d/") ∷ []) ≡ Err HasEmptyDll
+  pub to_standard : task_of itself (Given Definition (codes "a") ∷ Given Output (codes "-") ∷ [])
+      ≡ Err GoesToStandard
+  pub mips : task_of itself (Given Definition (codes "a") ∷ Given Machine (codes "mips") ∷ [])
+      ≡ Err (IsUnknownMachine (codes "mips"))
+  pub borland : task_of itself
+      (Given Definition (codes "a") ∷ Given FlavorSetting (codes "borland") ∷ [])
+      ≡ Err (IsUnknownFlavor (codes "borland"))
+  pub empty_dll : task_of itself (Given Definition (codes "a") ∷ Given Dll (codes "d/") ∷ [])
+      ≡ Err HasEmptyDll
 
 -- a library of a.def for a file, or for none
 abbrev pub asked_for : Option (List ℕ) → RequestView
@@ -121,7 +166,13 @@ asked_for output = record {
   definition = codes "a.def";
   output = output;
   delayed = None;
-  library = record { machine = AMD64; flavor = Gnu; dll = None; naming = usual; additions = no_additions };
+  library = record {
+    machine = AMD64;
+    flavor = Gnu;
+    dll = None;
+    naming = usual;
+    additions = no_additions;
+  };
   arm64ec = None;
   decorations = None;
   search = [];
@@ -131,31 +182,42 @@ asked_for output = record {
 
 -- a place in a line
 abbrev pub in_line : Site → ℕ → Place
-in_line site line = record { site = site; position = record { offset = 0; line = line; column = 1 } }
+in_line site line =
+    record { site = site; position = record { offset = 0; line = line; column = 1 } }
 
 -- which bytes are read, which lines exports are in, and what is said of an answer, and its exit
 -- status
 pub record AnswersTold : Type 0 where
-  pub from_input : (disk : DiskView) → definition_in (Some (codes "x")) disk (codes "-") ≡ Some (codes "x")
-  pub from_file : (disk : DiskView) → definition_in (Some (codes "x")) disk (codes "--") ≡ disk.seen (codes "--")
-  pub lines : export_lines (in_line site.Export 3 ∷ in_line (site.Attribute Data) 4 ∷ in_line site.Heading 5 ∷ in_line site.Export 6 ∷ [])
+  pub from_input : (disk : DiskView) →
+      definition_in (Some (codes "x")) disk (codes "-") ≡ Some (codes "x")
+  pub from_file : (disk : DiskView) →
+      definition_in (Some (codes "x")) disk (codes "--") ≡ disk.seen (codes "--")
+  pub lines : export_lines
+      (in_line site.Export 3 ∷ in_line (site.Attribute Data) 4 ∷ in_line site.Heading 5
+      ∷ in_line site.Export 6 ∷ [])
       ≡ 3 ∷ 6 ∷ []
   pub made : answer_status (Ok tt) ≡ 0
   pub refused : answer_status (Err (Refused NoName)) ≡ 1
   pub out_of_memory : answer_status (Err (Refused OutOfMemory)) ≡ 3
   pub unwritten : (cause : WriteError) → answer_status (Err (Writing cause)) ≡ 3
   pub nothing_said : verdict (asked_for (Some (codes "b.lib"))) (Ok tt) ≡ []
-  pub refusal_said : (position : Position) → verdict (asked_for (Some (codes "b.lib"))) (Err (Refused (NotUtf8 position)))
+  pub refusal_said : (position : Position) →
+      verdict (asked_for (Some (codes "b.lib"))) (Err (Refused (NotUtf8 position)))
       ≡ Refuses (codes "a.def") (NotUtf8 position) ∷ []
-  pub failure_said : (cause : WriteError) → verdict (asked_for (Some (codes "b.lib"))) (Err (Writing cause))
+  pub failure_said : (cause : WriteError) →
+      verdict (asked_for (Some (codes "b.lib"))) (Err (Writing cause))
       ≡ Complains (codes "b.lib") OfWriting ∷ []
   pub no_text : (before after : Devices) (printed prints : Option (List ℕ)) (status : ℕ)
       → IsUncalled InvalidData (codes "x") before after printed prints status → status ≡ 2
   pub no_text_said : (before after : Devices) (printed prints : Option (List ℕ)) (status : ℕ)
       → IsUncalled InvalidData (codes "x") before after printed prints status
-      → Says before.said after.said (Complains (codes "implib_dlltool") (OfArgument (codes "x")) ∷ [])
+      → Says before.said after.said
+      (Complains (codes "implib_dlltool") (OfArgument (codes "x")) ∷ [])
   pub no_arguments : (before after : Devices) (printed prints : Option (List ℕ)) (status : ℕ)
       → IsUncalled NotFound [] before after printed prints status → status ≡ 3
-  pub unread : (before after : Devices) (status : ℕ) → IsUnread (asked_for None) before after status → status ≡ 3
-  pub nothing_left : (before after : DiskView) → IsUnplaced before after → after.is_stuck ≡ false → after.left ≡ None
-  pub failure_of_none_said : (cause : WriteError) → verdict (asked_for None) (Err (Writing cause)) ≡ Complains (codes "-") OfWriting ∷ []
+  pub unread : (before after : Devices) (status : ℕ) →
+      IsUnread (asked_for None) before after status → status ≡ 3
+  pub nothing_left : (before after : DiskView) → IsUnplaced before after → after.is_stuck ≡ false →
+      after.left ≡ None
+  pub failure_of_none_said : (cause : WriteError) →
+      verdict (asked_for None) (Err (Writing cause)) ≡ Complains (codes "-") OfWriting ∷ []

@@ -21,19 +21,28 @@ pub record DllsAsked : Type 0 where
   pub first_byte : begins_dll (codes "M") ≡ false
   pub definition : begins_dll (codes "LIBRARY MZ") ≡ false
   -- one file without an option, and two; one beside a definition; none
-  pub operand : task_of itself (Given Output (codes "a.lib") ∷ Given Input (codes "a.dll") ∷ []) ≡ Ok (Asks (record {
-    definition = codes "a.dll";
-    output = Some (codes "a.lib");
-    delayed = None;
-    library = record { machine = AMD64; flavor = Msvc; dll = None; naming = usual; additions = no_additions };
-    arm64ec = None;
-    decorations = None;
-    search = [];
-    older_symbols = false;
-    is_verbose = false;
-  }))
-  pub two_operands : task_of itself (Given Input (codes "a") ∷ Given Input (codes "b") ∷ []) ≡ Err HasTwoInputs
-  pub beside_definition : task_of itself (Given Input (codes "a") ∷ Given Definition (codes "b") ∷ []) ≡ Err HasTwoInputs
+  pub operand : task_of itself (Given Output (codes "a.lib") ∷ Given Input (codes "a.dll") ∷ [])
+      ≡ Ok (Asks (record {
+        definition = codes "a.dll";
+        output = Some (codes "a.lib");
+        delayed = None;
+        library = record {
+          machine = AMD64;
+          flavor = Msvc;
+          dll = None;
+          naming = usual;
+          additions = no_additions;
+        };
+        arm64ec = None;
+        decorations = None;
+        search = [];
+        older_symbols = false;
+        is_verbose = false;
+      }))
+  pub two_operands : task_of itself (Given Input (codes "a") ∷ Given Input (codes "b") ∷ [])
+      ≡ Err HasTwoInputs
+  pub beside_definition : task_of itself
+      (Given Input (codes "a") ∷ Given Definition (codes "b") ∷ []) ≡ Err HasTwoInputs
   pub none : task_of itself (Given Output (codes "a") ∷ []) ≡ Err LacksDefinition
   -- the machine of the DLL is that of the library, whatever the program's name says, and the
   -- flavour goes by it
@@ -41,7 +50,13 @@ pub record DllsAsked : Type 0 where
     definition = codes "a.dll";
     output = None;
     delayed = None;
-    library = record { machine = ARM64; flavor = Msvc; dll = None; naming = usual; additions = no_additions };
+    library = record {
+      machine = ARM64;
+      flavor = Msvc;
+      dll = None;
+      naming = usual;
+      additions = no_additions;
+    };
     arm64ec = None;
     decorations = None;
     search = [];
@@ -49,35 +64,51 @@ pub record DllsAsked : Type 0 where
     is_verbose = false;
   })
   -- a file of symbols, which is for I386 alone
-  pub decorated : request_for itself (Given Input (codes "a.dll") ∷ Given Decorations (codes "b.a") ∷ []) I386 ≡ Ok (record {
-    definition = codes "a.dll";
-    output = None;
-    delayed = None;
-    library = record { machine = I386; flavor = Gnu; dll = None; naming = usual; additions = no_additions };
-    arm64ec = None;
-    decorations = Some (codes "b.a");
-    search = [];
-    older_symbols = false;
-    is_verbose = false;
-  })
+  pub decorated : request_for itself
+      (Given Input (codes "a.dll") ∷ Given Decorations (codes "b.a") ∷ []) I386 ≡ Ok (record {
+        definition = codes "a.dll";
+        output = None;
+        delayed = None;
+        library = record {
+          machine = I386;
+          flavor = Gnu;
+          dll = None;
+          naming = usual;
+          additions = no_additions;
+        };
+        arm64ec = None;
+        decorations = Some (codes "b.a");
+        search = [];
+        older_symbols = false;
+        is_verbose = false;
+      })
   pub i386_can : can_decorate I386 (Some (codes "b.a")) ≡ true
   pub amd64_cannot : can_decorate AMD64 (Some (codes "b.a")) ≡ false
   pub none_can : can_decorate AMD64 None ≡ true
   -- another machine that is named stays, and is refused later
-  pub other_machine : request_for itself (Given Input (codes "a.dll") ∷ Given Machine (codes "i386") ∷ []) AMD64 ≡ Ok (record {
-    definition = codes "a.dll";
-    output = None;
-    delayed = None;
-    library = record { machine = I386; flavor = Gnu; dll = None; naming = usual; additions = no_additions };
-    arm64ec = None;
-    decorations = None;
-    search = [];
-    older_symbols = false;
-    is_verbose = false;
-  })
+  pub other_machine : request_for itself
+      (Given Input (codes "a.dll") ∷ Given Machine (codes "i386") ∷ []) AMD64 ≡ Ok (record {
+        definition = codes "a.dll";
+        output = None;
+        delayed = None;
+        library = record {
+          machine = I386;
+          flavor = Gnu;
+          dll = None;
+          naming = usual;
+          additions = no_additions;
+        };
+        arm64ec = None;
+        decorations = None;
+        search = [];
+        older_symbols = false;
+        is_verbose = false;
+      })
   -- options that fit I386, and not another machine
-  pub no_underscore : request_for for_i386 (Given Input (codes "a.dll") ∷ Switched LeadingUnderscore ∷ []) AMD64 ≡ Err HasNoUnderscore
-  pub no_older_symbols : request_for for_i386 (Given Input (codes "a.dll") ∷ Switched CompatImplib ∷ []) ARM64 ≡ Err HasNoOlderSymbols
+  pub no_underscore : request_for for_i386
+      (Given Input (codes "a.dll") ∷ Switched LeadingUnderscore ∷ []) AMD64 ≡ Err HasNoUnderscore
+  pub no_older_symbols : request_for for_i386
+      (Given Input (codes "a.dll") ∷ Switched CompatImplib ∷ []) ARM64 ≡ Err HasNoOlderSymbols
   -- the name of a DLL
   pub given : dll_named (codes "d/f.dll") (codes "own.dll") (Some (codes "given")) ≡ codes "given"
   pub own : dll_named (codes "d/f.dll") (codes "own.dll") None ≡ codes "own.dll"

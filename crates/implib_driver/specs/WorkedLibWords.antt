@@ -25,49 +25,65 @@ use Rattle.implib_rules.specs.WorkedNames.{decorated}
 -- each option, with either mark and in letters of any case
 abbrev pub said : List (List ℕ)
 said =
-    codes "/def:a.def" ∷ codes "-DEF:A.Def" ∷ codes "/Def:-" ∷ codes "/defArm64Native:b.def" ∷ codes "-DEFARM64NATIVE:-"
+    codes "/def:a.def" ∷ codes "-DEF:A.Def" ∷ codes "/Def:-" ∷ codes "/defArm64Native:b.def"
+    ∷ codes "-DEFARM64NATIVE:-"
     ∷ codes "/out:a.lib" ∷ codes "-Out:c:\\a.lib" ∷ codes "/NAME:zoo.dll"
-    ∷ codes "-name:Zoo" ∷ codes "/verbose" ∷ codes "-VERBOSE" ∷ codes "/list" ∷ codes "-List" ∷ codes "/help" ∷ codes "-Help" ∷ codes "/?" ∷ codes "-?" ∷ []
+    ∷ codes "-name:Zoo" ∷ codes "/verbose" ∷ codes "-VERBOSE" ∷ codes "/list" ∷ codes "-List"
+    ∷ codes "/help" ∷ codes "-Help" ∷ codes "/?" ∷ codes "-?" ∷ []
 
 -- what they add
 abbrev pub added : List OccurrenceView
 added =
-    Given Definition (codes "a.def") ∷ Given Definition (codes "A.Def") ∷ Given Definition (codes "-")
-    ∷ Given NativeDefinition (codes "b.def") ∷ Given NativeDefinition (codes "-") ∷ Given Output (codes "a.lib")
-    ∷ Given Output (codes "c:\\a.lib") ∷ Given Dll (codes "zoo.dll") ∷ Given Dll (codes "Zoo") ∷ Switched Verbose ∷ Switched Verbose
-    ∷ Switched ListsMembers ∷ Switched ListsMembers ∷ Switched Help ∷ Switched Help ∷ Switched Help ∷ Switched Help ∷ []
+    Given Definition (codes "a.def") ∷ Given Definition (codes "A.Def")
+    ∷ Given Definition (codes "-")
+    ∷ Given NativeDefinition (codes "b.def") ∷ Given NativeDefinition (codes "-")
+    ∷ Given Output (codes "a.lib")
+    ∷ Given Output (codes "c:\\a.lib") ∷ Given Dll (codes "zoo.dll") ∷ Given Dll (codes "Zoo")
+    ∷ Switched Verbose ∷ Switched Verbose
+    ∷ Switched ListsMembers ∷ Switched ListsMembers ∷ Switched Help ∷ Switched Help ∷ Switched Help
+    ∷ Switched Help ∷ []
 
 -- each machine
 abbrev pub machine_words : List (List ℕ)
 machine_words =
-    codes "/machine:x64" ∷ codes "-MACHINE:X64" ∷ codes "/Machine:AMD64" ∷ codes "/machine:x86" ∷ codes "/machine:X86" ∷ codes "/machine:I386"
+    codes "/machine:x64" ∷ codes "-MACHINE:X64" ∷ codes "/Machine:AMD64" ∷ codes "/machine:x86"
+    ∷ codes "/machine:X86" ∷ codes "/machine:I386"
     ∷ codes "/machine:arm" ∷ codes "-machine:ARM" ∷ codes "/machine:arm64" ∷ codes "/MACHINE:Arm64"
     ∷ codes "/machine:arm64ec" ∷ codes "-Machine:ARM64EC" ∷ codes "/machine:Arm64X" ∷ []
 
 -- what they add
 abbrev pub machines_added : List OccurrenceView
 machines_added =
-    Given Machine (codes "i386:x86-64") ∷ Given Machine (codes "i386:x86-64") ∷ Given Machine (codes "i386:x86-64") ∷ Given Machine (codes "i386")
-    ∷ Given Machine (codes "i386") ∷ Given Machine (codes "i386") ∷ Given Machine (codes "arm") ∷ Given Machine (codes "arm")
-    ∷ Given Machine (codes "arm64") ∷ Given Machine (codes "arm64") ∷ Given Machine (codes "arm64ec") ∷ Given Machine (codes "arm64ec")
+    Given Machine (codes "i386:x86-64") ∷ Given Machine (codes "i386:x86-64")
+    ∷ Given Machine (codes "i386:x86-64") ∷ Given Machine (codes "i386")
+    ∷ Given Machine (codes "i386") ∷ Given Machine (codes "i386") ∷ Given Machine (codes "arm")
+    ∷ Given Machine (codes "arm")
+    ∷ Given Machine (codes "arm64") ∷ Given Machine (codes "arm64")
+    ∷ Given Machine (codes "arm64ec") ∷ Given Machine (codes "arm64ec")
     ∷ Given Machine (codes "arm64ec") ∷ []
 
 -- what LIB or llvm-lib knows and is not done here, and machines that are not supported
 abbrev pub unsupported : List (List ℕ)
 unsupported =
-    codes "/extract:a.obj" ∷ codes "/remove:a.obj" ∷ codes "/libpath:d" ∷ codes "/export:f" ∷ codes "/include:f"
-    ∷ codes "/subsystem:console" ∷ codes "/ltcg" ∷ codes "/wx" ∷ codes "/WX:NO" ∷ codes "/errorreport:none" ∷ codes "/nodefaultlib"
-    ∷ codes "/linkrepro:d" ∷ codes "/linkreprotarget:f" ∷ codes "/ignore:4197" ∷ codes "/llvmlibempty"
+    codes "/extract:a.obj" ∷ codes "/remove:a.obj" ∷ codes "/libpath:d" ∷ codes "/export:f"
+    ∷ codes "/include:f"
+    ∷ codes "/subsystem:console" ∷ codes "/ltcg" ∷ codes "/wx" ∷ codes "/WX:NO"
+    ∷ codes "/errorreport:none" ∷ codes "/nodefaultlib"
+    ∷ codes "/linkrepro:d" ∷ codes "/linkreprotarget:f" ∷ codes "/ignore:4197"
+    ∷ codes "/llvmlibempty"
     ∷ codes "/llvmlibthin"
     ∷ codes "/machine:ebc" ∷ codes "/machine:ia64" ∷ codes "/machine:thumb"
-    ∷ codes "/machine:am33" ∷ codes "/machine:m32r" ∷ codes "/machine:ppc" ∷ codes "/machine:mips" ∷ codes "/machine:mips16"
-    ∷ codes "/machine:mipsfpu" ∷ codes "/machine:mipsfpu16" ∷ codes "/machine:mipsr41xx" ∷ codes "/machine:sh3" ∷ codes "/machine:sh3dsp"
+    ∷ codes "/machine:am33" ∷ codes "/machine:m32r" ∷ codes "/machine:ppc" ∷ codes "/machine:mips"
+    ∷ codes "/machine:mips16"
+    ∷ codes "/machine:mipsfpu" ∷ codes "/machine:mipsfpu16" ∷ codes "/machine:mipsr41xx"
+    ∷ codes "/machine:sh3" ∷ codes "/machine:sh3dsp"
     ∷ codes "/machine:sh4" ∷ codes "/machine:sh5" ∷ []
 
 -- near misses of options: other names, a value where none is taken, and the words of dlltool
 abbrev pub unknown : List (List ℕ)
 unknown =
-    codes "/outx:a.lib" ∷ codes "/de:a.def" ∷ codes "/" ∷ codes "-" ∷ codes "/:a" ∷ codes "/verbose:a" ∷ codes "/list:a" ∷ codes "/nologo:" ∷ codes "/help:" ∷ codes "--def:a.def"
+    codes "/outx:a.lib" ∷ codes "/de:a.def" ∷ codes "/" ∷ codes "-" ∷ codes "/:a"
+    ∷ codes "/verbose:a" ∷ codes "/list:a" ∷ codes "/nologo:" ∷ codes "/help:" ∷ codes "--def:a.def"
     ∷ codes "-d" ∷ codes "--lib" ∷ codes "/out=a.lib" ∷ codes "/out=d/a.lib" ∷ codes "-home/a.obj"
     ∷ codes "/defArm64Natives:b.def" ∷ codes "/defArm64" ∷ []
 
@@ -78,12 +94,14 @@ paths = codes "/home/a.obj" ∷ codes "/a.obj" ∷ codes "//a" ∷ []
 -- options that lack their colon or their value
 abbrev pub lacking : List (List ℕ)
 lacking =
-    codes "/def" ∷ codes "/def:" ∷ codes "-OUT" ∷ codes "-out:" ∷ codes "/name" ∷ codes "/name:" ∷ codes "/machine" ∷ codes "/MACHINE:"
+    codes "/def" ∷ codes "/def:" ∷ codes "-OUT" ∷ codes "-out:" ∷ codes "/name" ∷ codes "/name:"
+    ∷ codes "/machine" ∷ codes "/MACHINE:"
     ∷ codes "/defArm64Native" ∷ codes "/defarm64native:" ∷ []
 
 -- words that name no machine of LIB's
 abbrev pub no_machines : List (List ℕ)
-no_machines = codes "/machine:i386:x86-64" ∷ codes "/machine:x86_64" ∷ codes "/machine:armnt" ∷ codes "/machine:aarch64" ∷ codes "/machine:x" ∷ codes "/machine:arm64xx" ∷ []
+no_machines = codes "/machine:i386:x86-64" ∷ codes "/machine:x86_64" ∷ codes "/machine:armnt"
+    ∷ codes "/machine:aarch64" ∷ codes "/machine:x" ∷ codes "/machine:arm64xx" ∷ []
 
 -- what begins with neither mark
 abbrev pub files : List (List ℕ)
@@ -91,12 +109,14 @@ files = codes "a.lib" ∷ codes "a@b" ∷ codes "def:a.def" ∷ [] ∷ []
 
 -- words for a library of a definition
 abbrev pub usual_words : List (List ℕ)
-usual_words = codes "/NOLOGO" ∷ codes "/def:a.def" ∷ codes "-machine:X86" ∷ codes "/out:b.a" ∷ codes "/name:zoo.dll" ∷ []
+usual_words = codes "/NOLOGO" ∷ codes "/def:a.def" ∷ codes "-machine:X86" ∷ codes "/out:b.a"
+    ∷ codes "/name:zoo.dll" ∷ []
 
 -- what they are read as
 abbrev pub usual_options : List OccurrenceView
 usual_options =
-    Given FlavorSetting (codes "msvc") ∷ Switched ExportAs ∷ Switched KeepsDecorated ∷ Given Definition (codes "a.def") ∷ Given Machine (codes "i386") ∷ Given Output (codes "b.a")
+    Given FlavorSetting (codes "msvc") ∷ Switched ExportAs ∷ Switched KeepsDecorated
+    ∷ Given Definition (codes "a.def") ∷ Given Machine (codes "i386") ∷ Given Output (codes "b.a")
     ∷ Given Dll (codes "zoo.dll") ∷ []
 
 -- what is asked for by words that are read so, where the program is called so
@@ -107,51 +127,73 @@ asked_by program (Err fault) = Ok AsksHelp
 -- names that are LIB's
 abbrev pub lib_names : List (List ℕ)
 lib_names =
-    codes "lib" ∷ codes "lib.exe" ∷ codes "LIB.EXE" ∷ codes "lib.Exe" ∷ codes "/usr/bin/llvm-lib" ∷ codes "llvm-lib.exe"
-    ∷ codes "x86_64-pc-windows-msvc-lib" ∷ codes "c:\\bin\\Lib.exe" ∷ codes "implib_dlltool/lib" ∷ codes "-lib" ∷ []
+    codes "lib" ∷ codes "lib.exe" ∷ codes "LIB.EXE" ∷ codes "lib.Exe" ∷ codes "/usr/bin/llvm-lib"
+    ∷ codes "llvm-lib.exe"
+    ∷ codes "x86_64-pc-windows-msvc-lib" ∷ codes "c:\\bin\\Lib.exe" ∷ codes "implib_dlltool/lib"
+    ∷ codes "-lib" ∷ []
 
 -- names that are not
 abbrev pub other_names : List (List ℕ)
 other_names =
-    codes "implib" ∷ codes "implib.exe" ∷ codes "implib_dlltool" ∷ codes "dlltool-lib" ∷ codes "llvm-dlltool-lib.exe" ∷ codes "ranlib" ∷ codes "lib.exe.exe"
+    codes "implib" ∷ codes "implib.exe" ∷ codes "implib_dlltool" ∷ codes "dlltool-lib"
+    ∷ codes "llvm-dlltool-lib.exe" ∷ codes "ranlib" ∷ codes "lib.exe.exe"
     ∷ codes "libx" ∷ codes "llvm-lib-19" ∷ codes "lib/implib_dlltool" ∷ codes ".exe" ∷ [] ∷ []
 
 -- LIB's words, whole command lines of them, and who is called as LIB is
 pub record LibWordsRead : Type 0 where
   pub options : map lib_word_of said ≡ map Adds added
   pub machines : map lib_word_of machine_words ≡ map Adds machines_added
-  pub machines_are_named : (machine : LibraryMachine) → machine_named (machine_text machine) ≡ Some machine
+  pub machines_are_named : (machine : LibraryMachine) →
+      machine_named (machine_text machine) ≡ Some machine
   pub ignored : map lib_word_of (codes "/nologo" ∷ codes "-NoLogo" ∷ []) ≡ Nothing ∷ Nothing ∷ []
   pub refused : map lib_word_of unsupported ≡ map (λ word. Refuses (IsUnsupported word)) unsupported
   pub near_misses : map lib_word_of unknown ≡ map (λ word. Refuses (IsUnknown word)) unknown
   pub without_values : map lib_word_of lacking ≡ map (λ word. Refuses (LacksValueIn word)) lacking
-  pub without_machines : map lib_word_of no_machines ≡ map (λ word. Refuses (NamesNoMachine word)) no_machines
+  pub without_machines : map lib_word_of no_machines
+      ≡ map (λ word. Refuses (NamesNoMachine word)) no_machines
   pub no_options : map lib_word_of files ≡ map (λ word. Adds (Given Identify word)) files
   pub paths_are_files : map lib_word_of paths ≡ map (λ word. Adds (Given Identify word)) paths
   pub file_of_words : lib_word_of (codes "@words") ≡ Refuses (IsFile (codes "@words"))
   pub usual : read_lib_words usual_words ≡ Ok usual_options
-  pub first_fault : read_lib_words (codes "/def:a" ∷ codes "/wx" ∷ codes "@b" ∷ []) ≡ Err (IsUnsupported (codes "/wx"))
-  pub fault_before_file : read_lib_words (codes "a.obj" ∷ codes "/wx" ∷ []) ≡ Err (IsUnsupported (codes "/wx"))
-  pub first_file : read_lib_words (codes "/def:a" ∷ codes "/b.obj" ∷ codes "c.obj" ∷ codes "/out:d" ∷ []) ≡ Err (IsFile (codes "/b.obj"))
+  pub first_fault : read_lib_words (codes "/def:a" ∷ codes "/wx" ∷ codes "@b" ∷ [])
+      ≡ Err (IsUnsupported (codes "/wx"))
+  pub fault_before_file : read_lib_words (codes "a.obj" ∷ codes "/wx" ∷ [])
+      ≡ Err (IsUnsupported (codes "/wx"))
+  pub first_file : read_lib_words
+      (codes "/def:a" ∷ codes "/b.obj" ∷ codes "c.obj" ∷ codes "/out:d" ∷ [])
+      ≡ Err (IsFile (codes "/b.obj"))
   pub file_before_lack : read_lib_words (codes "b.obj" ∷ []) ≡ Err (IsFile (codes "b.obj"))
-  pub fault_before_help : read_lib_words (codes "/help" ∷ codes "/x" ∷ []) ≡ Err (IsUnknown (codes "/x"))
+  pub fault_before_help : read_lib_words (codes "/help" ∷ codes "/x" ∷ [])
+      ≡ Err (IsUnknown (codes "/x"))
   pub no_words : read_lib_words [] ≡ Err WantsDefinition
   pub no_definition : read_lib_words (codes "/out:a.lib" ∷ []) ≡ Err WantsDefinition
   pub no_output : read_lib_words (codes "/def:a" ∷ codes "/machine:x64" ∷ []) ≡ Err WantsOutput
   pub listed : read_lib_words (codes "a.lib" ∷ codes "/out:b" ∷ codes "/LIST" ∷ [])
-      ≡ Ok (Given FlavorSetting (codes "msvc") ∷ Switched ExportAs ∷ Switched KeepsDecorated ∷ Given Identify (codes "a.lib") ∷ Given Output (codes "b") ∷ Switched ListsMembers ∷ [])
+      ≡ Ok (Given FlavorSetting (codes "msvc") ∷ Switched ExportAs ∷ Switched KeepsDecorated
+      ∷ Given Identify (codes "a.lib") ∷ Given Output (codes "b") ∷ Switched ListsMembers ∷ [])
   pub no_library : read_lib_words (codes "/list" ∷ codes "/out:b" ∷ []) ≡ Err WantsLibrary
-  pub further_library : read_lib_words (codes "a" ∷ codes "/list" ∷ codes "b" ∷ codes "c" ∷ []) ≡ Err (IsFurther (codes "b"))
-  pub definition_listed : read_lib_words (codes "/def:a" ∷ codes "/list" ∷ codes "b" ∷ codes "/out:c" ∷ []) ≡ Err ListsDefinition
-  pub list_asked : asked_by (codes "lib") (read_lib_words (codes "/nologo" ∷ codes "/list" ∷ codes "/d/a.lib" ∷ [])) ≡ Ok (AsksIdentity (codes "/d/a.lib") Members)
-  pub help_before_list : asked_by (codes "lib") (read_lib_words (codes "/list" ∷ codes "-?" ∷ [])) ≡ Ok AsksHelp
+  pub further_library : read_lib_words (codes "a" ∷ codes "/list" ∷ codes "b" ∷ codes "c" ∷ [])
+      ≡ Err (IsFurther (codes "b"))
+  pub definition_listed : read_lib_words
+      (codes "/def:a" ∷ codes "/list" ∷ codes "b" ∷ codes "/out:c" ∷ []) ≡ Err ListsDefinition
+  pub list_asked : asked_by (codes "lib")
+      (read_lib_words (codes "/nologo" ∷ codes "/list" ∷ codes "/d/a.lib" ∷ []))
+      ≡ Ok (AsksIdentity (codes "/d/a.lib") Members)
+  pub help_before_list : asked_by (codes "lib") (read_lib_words (codes "/list" ∷ codes "-?" ∷ []))
+      ≡ Ok AsksHelp
   pub help_lacks_nothing : asked_by (codes "lib") (read_lib_words (codes "/?" ∷ [])) ≡ Ok AsksHelp
   -- the flavour is Microsoft's, whatever the ending
   pub asked : asked_by (codes "implib_dlltool") (read_lib_words usual_words) ≡ Ok (Asks (record {
     definition = codes "a.def";
     output = Some (codes "b.a");
     delayed = None;
-    library = record { machine = I386; flavor = Msvc; dll = Some (codes "zoo.dll"); naming = decorated; additions = no_additions };
+    library = record {
+      machine = I386;
+      flavor = Msvc;
+      dll = Some (codes "zoo.dll");
+      naming = decorated;
+      additions = no_additions;
+    };
     arm64ec = None;
     decorations = None;
     search = [];
@@ -159,25 +201,39 @@ pub record LibWordsRead : Type 0 where
     is_verbose = false;
   }))
   -- without a machine it is that of the program's name
-  pub by_name : asked_by (codes "aarch64-pc-windows-msvc-lib") (words_read (codes "aarch64-pc-windows-msvc-lib") (codes "/def:a" ∷ codes "/out:b" ∷ codes "/verbose" ∷ [])) ≡ Ok (Asks (record {
-    definition = codes "a";
-    output = Some (codes "b");
-    delayed = None;
-    library = record { machine = ARM64; flavor = Msvc; dll = None; naming = decorated; additions = no_additions };
-    arm64ec = None;
-    decorations = None;
-    search = [];
-    older_symbols = false;
-    is_verbose = true;
-  }))
+  pub by_name : asked_by (codes "aarch64-pc-windows-msvc-lib")
+      (words_read (codes "aarch64-pc-windows-msvc-lib")
+      (codes "/def:a" ∷ codes "/out:b" ∷ codes "/verbose" ∷ [])) ≡ Ok (Asks (record {
+        definition = codes "a";
+        output = Some (codes "b");
+        delayed = None;
+        library = record {
+          machine = ARM64;
+          flavor = Msvc;
+          dll = None;
+          naming = decorated;
+          additions = no_additions;
+        };
+        arm64ec = None;
+        decorations = None;
+        search = [];
+        older_symbols = false;
+        is_verbose = true;
+      }))
   pub called : map is_lib_name lib_names ≡ map (λ name. true) lib_names
   pub not_called : map is_lib_name other_names ≡ map (λ name. false) other_names
-  pub after_the_word : words_read (codes "implib_dlltool") (codes "--lib" ∷ usual_words) ≡ Ok usual_options
+  pub after_the_word : words_read (codes "implib_dlltool") (codes "--lib" ∷ usual_words)
+      ≡ Ok usual_options
   pub word_and_name : words_read (codes "lib") (codes "--lib" ∷ usual_words) ≡ Ok usual_options
-  pub word_later : words_read (codes "implib_dlltool") (codes "-k" ∷ codes "--lib" ∷ []) ≡ Err (IsUnknown (codes "--lib"))
-  pub word_in_capitals : words_read (codes "implib_dlltool") (codes "--LIB" ∷ usual_words) ≡ Err (IsUnknown (codes "--LIB"))
-  pub lib_has_no_letters : words_read (codes "lib") (codes "-d" ∷ codes "a" ∷ []) ≡ Err (IsUnknown (codes "-d"))
+  pub word_later : words_read (codes "implib_dlltool") (codes "-k" ∷ codes "--lib" ∷ [])
+      ≡ Err (IsUnknown (codes "--lib"))
+  pub word_in_capitals : words_read (codes "implib_dlltool") (codes "--LIB" ∷ usual_words)
+      ≡ Err (IsUnknown (codes "--LIB"))
+  pub lib_has_no_letters : words_read (codes "lib") (codes "-d" ∷ codes "a" ∷ [])
+      ≡ Err (IsUnknown (codes "-d"))
   -- all else is read as before
-  pub as_before : (program word : List ℕ) (words : List (List ℕ)) → is_lib_name program ≡ false → bytes_eq word (codes "--lib") ≡ false
+  pub as_before : (program word : List ℕ) (words : List (List ℕ)) → is_lib_name program ≡ false →
+      bytes_eq word (codes "--lib") ≡ false
       → words_read program (word ∷ words) ≡ read_words (word ∷ words)
-  pub as_before_without_words : (program : List ℕ) → is_lib_name program ≡ false → words_read program [] ≡ read_words []
+  pub as_before_without_words : (program : List ℕ) → is_lib_name program ≡ false →
+      words_read program [] ≡ read_words []

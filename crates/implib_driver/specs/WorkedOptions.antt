@@ -31,49 +31,68 @@ use Rattle.implib_driver.specs.Request.{machine_named}
 -- each option with a value, by its letter and by its long name
 abbrev pub words_with_values : List (List ℕ)
 words_with_values =
-    codes "-d" ∷ codes "a" ∷ codes "--input-def" ∷ codes "b" ∷ codes "-l" ∷ codes "c" ∷ codes "--output-lib" ∷ codes "d"
-    ∷ codes "-m" ∷ codes "e" ∷ codes "--machine" ∷ codes "f" ∷ codes "-D" ∷ codes "g" ∷ codes "--dllname" ∷ codes "h"
-    ∷ codes "--flavor" ∷ codes "i" ∷ codes "-S" ∷ codes "j" ∷ codes "--as" ∷ codes "k" ∷ codes "-f" ∷ codes "l"
+    codes "-d" ∷ codes "a" ∷ codes "--input-def" ∷ codes "b" ∷ codes "-l" ∷ codes "c"
+    ∷ codes "--output-lib" ∷ codes "d"
+    ∷ codes "-m" ∷ codes "e" ∷ codes "--machine" ∷ codes "f" ∷ codes "-D" ∷ codes "g"
+    ∷ codes "--dllname" ∷ codes "h"
+    ∷ codes "--flavor" ∷ codes "i" ∷ codes "-S" ∷ codes "j" ∷ codes "--as" ∷ codes "k" ∷ codes "-f"
+    ∷ codes "l"
     ∷ codes "--as-flags" ∷ codes "m" ∷ codes "-t" ∷ codes "n" ∷ codes "--temp-prefix" ∷ codes "o"
     ∷ codes "--def" ∷ codes "p" ∷ codes "-p" ∷ codes "q" ∷ codes "--ext-prefix-alias" ∷ codes "r"
-    ∷ codes "-I" ∷ codes "s" ∷ codes "--identify" ∷ codes "t" ∷ codes "--dll" ∷ codes "u" ∷ codes "v"
+    ∷ codes "-I" ∷ codes "s" ∷ codes "--identify" ∷ codes "t" ∷ codes "--dll" ∷ codes "u"
+    ∷ codes "v"
     ∷ codes "-y" ∷ codes "w" ∷ codes "--output-delaylib" ∷ codes "x"
     ∷ codes "--decorations" ∷ codes "y" ∷ codes "--decorations=z" ∷ codes "--search" ∷ codes "A"
-    ∷ codes "--search=B" ∷ codes "-N" ∷ codes "C" ∷ codes "-ND" ∷ codes "--input-native-def" ∷ codes "E"
+    ∷ codes "--search=B" ∷ codes "-N" ∷ codes "C" ∷ codes "-ND" ∷ codes "--input-native-def"
+    ∷ codes "E"
     ∷ codes "--input-native-def=F" ∷ []
 
 -- what they give
 abbrev pub given : List OccurrenceView
 given =
-    Given Definition (codes "a") ∷ Given Definition (codes "b") ∷ Given Output (codes "c") ∷ Given Output (codes "d")
-    ∷ Given Machine (codes "e") ∷ Given Machine (codes "f") ∷ Given Dll (codes "g") ∷ Given Dll (codes "h")
-    ∷ Given Flavor (codes "i") ∷ Given Assembler (codes "j") ∷ Given Assembler (codes "k") ∷ Given AssemblerFlags (codes "l")
-    ∷ Given AssemblerFlags (codes "m") ∷ Given TemporaryPrefix (codes "n") ∷ Given TemporaryPrefix (codes "o")
-    ∷ Given Definition (codes "p") ∷ Given FurtherPrefix (codes "q") ∷ Given FurtherPrefix (codes "r")
-    ∷ Given Identify (codes "s") ∷ Given Identify (codes "t") ∷ Given Definition (codes "u") ∷ Given Input (codes "v")
+    Given Definition (codes "a") ∷ Given Definition (codes "b") ∷ Given Output (codes "c")
+    ∷ Given Output (codes "d")
+    ∷ Given Machine (codes "e") ∷ Given Machine (codes "f") ∷ Given Dll (codes "g")
+    ∷ Given Dll (codes "h")
+    ∷ Given Flavor (codes "i") ∷ Given Assembler (codes "j") ∷ Given Assembler (codes "k")
+    ∷ Given AssemblerFlags (codes "l")
+    ∷ Given AssemblerFlags (codes "m") ∷ Given TemporaryPrefix (codes "n")
+    ∷ Given TemporaryPrefix (codes "o")
+    ∷ Given Definition (codes "p") ∷ Given FurtherPrefix (codes "q")
+    ∷ Given FurtherPrefix (codes "r")
+    ∷ Given Identify (codes "s") ∷ Given Identify (codes "t") ∷ Given Definition (codes "u")
+    ∷ Given Input (codes "v")
     ∷ Given DelayedOutput (codes "w") ∷ Given DelayedOutput (codes "x")
     ∷ Given Decorations (codes "y") ∷ Given Decorations (codes "z") ∷ Given Search (codes "A")
-    ∷ Given Search (codes "B") ∷ Given NativeDefinition (codes "C") ∷ Given NativeDefinition (codes "D")
+    ∷ Given Search (codes "B") ∷ Given NativeDefinition (codes "C")
+    ∷ Given NativeDefinition (codes "D")
     ∷ Given NativeDefinition (codes "E") ∷ Given NativeDefinition (codes "F") ∷ []
 
 -- each option without a value, by its letter, where it has one, and by its long name
 abbrev pub words_of_switches : List (List ℕ)
 words_of_switches =
-    codes "-k" ∷ codes "--kill-at" ∷ codes "--no-leading-underscore" ∷ codes "--deterministic-libraries" ∷ codes "-v"
-    ∷ codes "--verbose" ∷ codes "-h" ∷ codes "--help" ∷ codes "-V" ∷ codes "--version" ∷ codes "--leading-underscore"
+    codes "-k" ∷ codes "--kill-at" ∷ codes "--no-leading-underscore"
+    ∷ codes "--deterministic-libraries" ∷ codes "-v"
+    ∷ codes "--verbose" ∷ codes "-h" ∷ codes "--help" ∷ codes "-V" ∷ codes "--version"
+    ∷ codes "--leading-underscore"
     ∷ codes "--non-deterministic-libraries" ∷ codes "-n" ∷ codes "--no-delete" ∷ codes "--export-as"
-    ∷ codes "-U" ∷ codes "--add-underscore" ∷ codes "--add-stdcall-underscore" ∷ codes "-A" ∷ codes "--add-stdcall-alias"
+    ∷ codes "-U" ∷ codes "--add-underscore" ∷ codes "--add-stdcall-underscore" ∷ codes "-A"
+    ∷ codes "--add-stdcall-alias"
     ∷ codes "--identify-strict" ∷ codes "-C" ∷ codes "--compat-implib"
     ∷ codes "-u" ∷ codes "--no-export-all-symbols" ∷ []
 
 -- what they give
 abbrev pub switched : List OccurrenceView
 switched =
-    Switched KillAt ∷ Switched KillAt ∷ Switched NoLeadingUnderscore ∷ Switched DeterministicLibraries ∷ Switched Verbose
-    ∷ Switched Verbose ∷ Switched Help ∷ Switched Help ∷ Switched Version ∷ Switched Version ∷ Switched LeadingUnderscore
+    Switched KillAt ∷ Switched KillAt ∷ Switched NoLeadingUnderscore
+    ∷ Switched DeterministicLibraries ∷ Switched Verbose
+    ∷ Switched Verbose ∷ Switched Help ∷ Switched Help ∷ Switched Version ∷ Switched Version
+    ∷ Switched LeadingUnderscore
     ∷ Switched NonDeterministicLibraries ∷ Switched NoDelete ∷ Switched NoDelete ∷ Switched ExportAs
-    ∷ Switched AddUnderscore ∷ Switched AddUnderscore ∷ Switched AddStdcallUnderscore ∷ Switched AddStdcallAlias
-    ∷ Switched AddStdcallAlias ∷ Switched IdentifyStrict ∷ Switched CompatImplib ∷ Switched CompatImplib
+    ∷ Switched AddUnderscore ∷ Switched AddUnderscore ∷ Switched AddStdcallUnderscore
+    ∷ Switched AddStdcallAlias
+    ∷ Switched AddStdcallAlias ∷ Switched IdentifyStrict ∷ Switched CompatImplib
+    ∷ Switched CompatImplib
     ∷ Switched ListedAlone ∷ Switched ListedAlone ∷ []
 
 -- the options of GNU dlltool without a meaning here
@@ -84,13 +103,16 @@ unsupported =
     ∷ codes "--base-file"
     ∷ codes "--no-idata4" ∷ codes "--no-idata5" ∷ codes "--add-indirect"
     ∷ codes "--export-all-symbols"
-    ∷ codes "--exclude-symbols" ∷ codes "--no-default-excludes" ∷ codes "--use-nul-prefixed-import-tables" ∷ []
+    ∷ codes "--exclude-symbols" ∷ codes "--no-default-excludes"
+    ∷ codes "--use-nul-prefixed-import-tables" ∷ []
 
 -- the options without a value
 abbrev pub switches : List Switch
 switches =
-    KillAt ∷ NoLeadingUnderscore ∷ DeterministicLibraries ∷ Verbose ∷ Help ∷ Version ∷ LeadingUnderscore
-    ∷ NonDeterministicLibraries ∷ NoDelete ∷ ExportAs ∷ AddUnderscore ∷ AddStdcallUnderscore ∷ AddStdcallAlias
+    KillAt ∷ NoLeadingUnderscore ∷ DeterministicLibraries ∷ Verbose ∷ Help ∷ Version
+    ∷ LeadingUnderscore
+    ∷ NonDeterministicLibraries ∷ NoDelete ∷ ExportAs ∷ AddUnderscore ∷ AddStdcallUnderscore
+    ∷ AddStdcallAlias
     ∷ IdentifyStrict ∷ KeepsDecorated ∷ CompatImplib ∷ ListedAlone ∷ ListsMembers ∷ []
 
 -- which of them is switched where this one alone stands
@@ -101,7 +123,8 @@ told_of switch = map (λ s. is_switched s (Switched switch ∷ [])) switches
 pub record OptionsNamed : Type 0 where
   pub values : read_words words_with_values ≡ Ok given
   pub no_values : read_words words_of_switches ≡ Ok switched
-  pub refused : map (λ word. read_words (word ∷ [])) unsupported ≡ map (λ word. Err (IsUnsupported word)) unsupported
+  pub refused : map (λ word. read_words (word ∷ [])) unsupported
+      ≡ map (λ word. Err (IsUnsupported word)) unsupported
   pub definition : last_given Definition given ≡ Some (codes "u")
   pub input : last_given Input given ≡ Some (codes "v")
   pub output : last_given Output given ≡ Some (codes "d")
@@ -118,47 +141,72 @@ pub record OptionsNamed : Type 0 where
   pub search : all_given Search given ≡ codes "A" ∷ codes "B" ∷ []
   pub native_definition : last_given NativeDefinition given ≡ Some (codes "F")
   pub kill_at : told_of KillAt
-      ≡ true ∷ false ∷ false ∷ false ∷ false ∷ false ∷ false ∷ false ∷ false ∷ false ∷ false ∷ false ∷ false ∷ false ∷ false ∷ false ∷ false ∷ false ∷ []
+      ≡ true ∷ false ∷ false ∷ false ∷ false ∷ false ∷ false ∷ false ∷ false ∷ false ∷ false ∷ false
+      ∷ false ∷ false ∷ false ∷ false ∷ false ∷ false ∷ []
   pub no_leading_underscore : told_of NoLeadingUnderscore
-      ≡ false ∷ true ∷ false ∷ false ∷ false ∷ false ∷ false ∷ false ∷ false ∷ false ∷ false ∷ false ∷ false ∷ false ∷ false ∷ false ∷ false ∷ false ∷ []
+      ≡ false ∷ true ∷ false ∷ false ∷ false ∷ false ∷ false ∷ false ∷ false ∷ false ∷ false ∷ false
+      ∷ false ∷ false ∷ false ∷ false ∷ false ∷ false ∷ []
   pub deterministic : told_of DeterministicLibraries
-      ≡ false ∷ false ∷ true ∷ false ∷ false ∷ false ∷ false ∷ false ∷ false ∷ false ∷ false ∷ false ∷ false ∷ false ∷ false ∷ false ∷ false ∷ false ∷ []
+      ≡ false ∷ false ∷ true ∷ false ∷ false ∷ false ∷ false ∷ false ∷ false ∷ false ∷ false ∷ false
+      ∷ false ∷ false ∷ false ∷ false ∷ false ∷ false ∷ []
   pub verbose : told_of Verbose
-      ≡ false ∷ false ∷ false ∷ true ∷ false ∷ false ∷ false ∷ false ∷ false ∷ false ∷ false ∷ false ∷ false ∷ false ∷ false ∷ false ∷ false ∷ false ∷ []
+      ≡ false ∷ false ∷ false ∷ true ∷ false ∷ false ∷ false ∷ false ∷ false ∷ false ∷ false ∷ false
+      ∷ false ∷ false ∷ false ∷ false ∷ false ∷ false ∷ []
   pub help : told_of Help
-      ≡ false ∷ false ∷ false ∷ false ∷ true ∷ false ∷ false ∷ false ∷ false ∷ false ∷ false ∷ false ∷ false ∷ false ∷ false ∷ false ∷ false ∷ false ∷ []
+      ≡ false ∷ false ∷ false ∷ false ∷ true ∷ false ∷ false ∷ false ∷ false ∷ false ∷ false ∷ false
+      ∷ false ∷ false ∷ false ∷ false ∷ false ∷ false ∷ []
   pub version : told_of Version
-      ≡ false ∷ false ∷ false ∷ false ∷ false ∷ true ∷ false ∷ false ∷ false ∷ false ∷ false ∷ false ∷ false ∷ false ∷ false ∷ false ∷ false ∷ false ∷ []
+      ≡ false ∷ false ∷ false ∷ false ∷ false ∷ true ∷ false ∷ false ∷ false ∷ false ∷ false ∷ false
+      ∷ false ∷ false ∷ false ∷ false ∷ false ∷ false ∷ []
   pub leading_underscore : told_of LeadingUnderscore
-      ≡ false ∷ false ∷ false ∷ false ∷ false ∷ false ∷ true ∷ false ∷ false ∷ false ∷ false ∷ false ∷ false ∷ false ∷ false ∷ false ∷ false ∷ false ∷ []
+      ≡ false ∷ false ∷ false ∷ false ∷ false ∷ false ∷ true ∷ false ∷ false ∷ false ∷ false ∷ false
+      ∷ false ∷ false ∷ false ∷ false ∷ false ∷ false ∷ []
   pub non_deterministic : told_of NonDeterministicLibraries
-      ≡ false ∷ false ∷ false ∷ false ∷ false ∷ false ∷ false ∷ true ∷ false ∷ false ∷ false ∷ false ∷ false ∷ false ∷ false ∷ false ∷ false ∷ false ∷ []
+      ≡ false ∷ false ∷ false ∷ false ∷ false ∷ false ∷ false ∷ true ∷ false ∷ false ∷ false ∷ false
+      ∷ false ∷ false ∷ false ∷ false ∷ false ∷ false ∷ []
   pub no_delete : told_of NoDelete
-      ≡ false ∷ false ∷ false ∷ false ∷ false ∷ false ∷ false ∷ false ∷ true ∷ false ∷ false ∷ false ∷ false ∷ false ∷ false ∷ false ∷ false ∷ false ∷ []
+      ≡ false ∷ false ∷ false ∷ false ∷ false ∷ false ∷ false ∷ false ∷ true ∷ false ∷ false ∷ false
+      ∷ false ∷ false ∷ false ∷ false ∷ false ∷ false ∷ []
   pub export_as : told_of ExportAs
-      ≡ false ∷ false ∷ false ∷ false ∷ false ∷ false ∷ false ∷ false ∷ false ∷ true ∷ false ∷ false ∷ false ∷ false ∷ false ∷ false ∷ false ∷ false ∷ []
+      ≡ false ∷ false ∷ false ∷ false ∷ false ∷ false ∷ false ∷ false ∷ false ∷ true ∷ false ∷ false
+      ∷ false ∷ false ∷ false ∷ false ∷ false ∷ false ∷ []
   pub add_underscore : told_of AddUnderscore
-      ≡ false ∷ false ∷ false ∷ false ∷ false ∷ false ∷ false ∷ false ∷ false ∷ false ∷ true ∷ false ∷ false ∷ false ∷ false ∷ false ∷ false ∷ false ∷ []
+      ≡ false ∷ false ∷ false ∷ false ∷ false ∷ false ∷ false ∷ false ∷ false ∷ false ∷ true ∷ false
+      ∷ false ∷ false ∷ false ∷ false ∷ false ∷ false ∷ []
   pub add_stdcall_underscore : told_of AddStdcallUnderscore
-      ≡ false ∷ false ∷ false ∷ false ∷ false ∷ false ∷ false ∷ false ∷ false ∷ false ∷ false ∷ true ∷ false ∷ false ∷ false ∷ false ∷ false ∷ false ∷ []
+      ≡ false ∷ false ∷ false ∷ false ∷ false ∷ false ∷ false ∷ false ∷ false ∷ false ∷ false ∷ true
+      ∷ false ∷ false ∷ false ∷ false ∷ false ∷ false ∷ []
   pub add_stdcall_alias : told_of AddStdcallAlias
-      ≡ false ∷ false ∷ false ∷ false ∷ false ∷ false ∷ false ∷ false ∷ false ∷ false ∷ false ∷ false ∷ true ∷ false ∷ false ∷ false ∷ false ∷ false ∷ []
+      ≡ false ∷ false ∷ false ∷ false ∷ false ∷ false ∷ false ∷ false ∷ false ∷ false ∷ false
+      ∷ false ∷ true ∷ false ∷ false ∷ false ∷ false ∷ false ∷ []
   pub identify_strict : told_of IdentifyStrict
-      ≡ false ∷ false ∷ false ∷ false ∷ false ∷ false ∷ false ∷ false ∷ false ∷ false ∷ false ∷ false ∷ false ∷ true ∷ false ∷ false ∷ false ∷ false ∷ []
+      ≡ false ∷ false ∷ false ∷ false ∷ false ∷ false ∷ false ∷ false ∷ false ∷ false ∷ false
+      ∷ false ∷ false ∷ true ∷ false ∷ false ∷ false ∷ false ∷ []
   pub keeps_decorated : told_of KeepsDecorated
-      ≡ false ∷ false ∷ false ∷ false ∷ false ∷ false ∷ false ∷ false ∷ false ∷ false ∷ false ∷ false ∷ false ∷ false ∷ true ∷ false ∷ false ∷ false ∷ []
+      ≡ false ∷ false ∷ false ∷ false ∷ false ∷ false ∷ false ∷ false ∷ false ∷ false ∷ false
+      ∷ false ∷ false ∷ false ∷ true ∷ false ∷ false ∷ false ∷ []
   pub compat_implib : told_of CompatImplib
-      ≡ false ∷ false ∷ false ∷ false ∷ false ∷ false ∷ false ∷ false ∷ false ∷ false ∷ false ∷ false ∷ false ∷ false ∷ false ∷ true ∷ false ∷ false ∷ []
+      ≡ false ∷ false ∷ false ∷ false ∷ false ∷ false ∷ false ∷ false ∷ false ∷ false ∷ false
+      ∷ false ∷ false ∷ false ∷ false ∷ true ∷ false ∷ false ∷ []
   pub listed_alone : told_of ListedAlone
-      ≡ false ∷ false ∷ false ∷ false ∷ false ∷ false ∷ false ∷ false ∷ false ∷ false ∷ false ∷ false ∷ false ∷ false ∷ false ∷ false ∷ true ∷ false ∷ []
+      ≡ false ∷ false ∷ false ∷ false ∷ false ∷ false ∷ false ∷ false ∷ false ∷ false ∷ false
+      ∷ false ∷ false ∷ false ∷ false ∷ false ∷ true ∷ false ∷ []
   pub lists_members : told_of ListsMembers
-      ≡ false ∷ false ∷ false ∷ false ∷ false ∷ false ∷ false ∷ false ∷ false ∷ false ∷ false ∷ false ∷ false ∷ false ∷ false ∷ false ∷ false ∷ true ∷ []
+      ≡ false ∷ false ∷ false ∷ false ∷ false ∷ false ∷ false ∷ false ∷ false ∷ false ∷ false
+      ∷ false ∷ false ∷ false ∷ false ∷ false ∷ false ∷ true ∷ []
   pub i386 : map machine_named (codes "i386" ∷ codes "I386" ∷ codes "x86" ∷ [])
       ≡ Some (Ordinary I386) ∷ Some (Ordinary I386) ∷ Some (Ordinary I386) ∷ []
-  pub amd64 : map machine_named (codes "i386:x86-64" ∷ codes "AMD64" ∷ codes "x64" ∷ codes "x86_64" ∷ [])
-      ≡ Some (Ordinary AMD64) ∷ Some (Ordinary AMD64) ∷ Some (Ordinary AMD64) ∷ Some (Ordinary AMD64) ∷ []
-  pub armnt : map machine_named (codes "arm" ∷ codes "ArmNT" ∷ []) ≡ Some (Ordinary ARMNT) ∷ Some (Ordinary ARMNT) ∷ []
-  pub arm64 : map machine_named (codes "arm64" ∷ codes "AArch64" ∷ []) ≡ Some (Ordinary ARM64) ∷ Some (Ordinary ARM64) ∷ []
-  pub arm64ec : map machine_named (codes "arm64ec" ∷ codes "Arm64EC" ∷ []) ≡ Some Arm64ec ∷ Some Arm64ec ∷ []
-  pub no_machine : map machine_named (codes "i686" ∷ codes "arm64x" ∷ codes "arm64ecx" ∷ []) ≡ None ∷ None ∷ None ∷ []
-  pub flavors : map flavor_named (codes "msvc" ∷ codes "gnu" ∷ codes "GNU" ∷ []) ≡ Some Msvc ∷ Some Gnu ∷ None ∷ []
+  pub amd64 : map machine_named
+      (codes "i386:x86-64" ∷ codes "AMD64" ∷ codes "x64" ∷ codes "x86_64" ∷ [])
+      ≡ Some (Ordinary AMD64) ∷ Some (Ordinary AMD64) ∷ Some (Ordinary AMD64)
+      ∷ Some (Ordinary AMD64) ∷ []
+  pub armnt : map machine_named (codes "arm" ∷ codes "ArmNT" ∷ [])
+      ≡ Some (Ordinary ARMNT) ∷ Some (Ordinary ARMNT) ∷ []
+  pub arm64 : map machine_named (codes "arm64" ∷ codes "AArch64" ∷ [])
+      ≡ Some (Ordinary ARM64) ∷ Some (Ordinary ARM64) ∷ []
+  pub arm64ec : map machine_named (codes "arm64ec" ∷ codes "Arm64EC" ∷ [])
+      ≡ Some Arm64ec ∷ Some Arm64ec ∷ []
+  pub no_machine : map machine_named (codes "i686" ∷ codes "arm64x" ∷ codes "arm64ecx" ∷ [])
+      ≡ None ∷ None ∷ None ∷ []
+  pub flavors : map flavor_named (codes "msvc" ∷ codes "gnu" ∷ codes "GNU" ∷ [])
+      ≡ Some Msvc ∷ Some Gnu ∷ None ∷ []

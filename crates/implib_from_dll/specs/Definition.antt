@@ -1,6 +1,7 @@
--- The exports that a definition has of a DLL, so that its library imports what the DLL exports (this
--- project's own; docs/DLLTOOL.md, "From a DLL").
-use Rattle.std.specs.Prelude.{ℕ, ◌+◌, ◌++◌, Bool, true, false, List, [], ◌∷◌, codes, decimal, Option, None, Some}
+-- The exports that a definition has of a DLL, so that its library imports what the DLL exports
+-- (this project's own; docs/DLLTOOL.md, "From a DLL").
+use Rattle.std.specs.Prelude.{ℕ, ◌+◌, ◌++◌, Bool, true, false, List, [], ◌∷◌, codes, decimal}
+use Rattle.std.specs.Prelude.{Option, None, Some}
 use Rattle.std.specs.List.{flat_map}
 use Rattle.implib.specs.Definition.{ExportView, empty_export}
 use Rattle.implib_dll.specs.declared.section.AddressKind.TheVariants.{Code, Data, Outside}

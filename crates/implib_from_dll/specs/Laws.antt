@@ -1,10 +1,12 @@
 -- What the imports that are made of a DLL come to, looked up in the DLL as a loader does.
-use Rattle.std.specs.Prelude.{◌≡◌, ℕ, ◌<◌, ◌≤◌, ◌^◌, true, List, map, length, All, Contains, Option, Some, slice_get, if◌then◌else◌, option_map}
+use Rattle.std.specs.Prelude.{◌≡◌, ℕ, ◌<◌, ◌≤◌, ◌^◌, true, List, map, length, All, Contains, Option}
+use Rattle.std.specs.Prelude.{Some, slice_get, if◌then◌else◌, option_map}
 use Rattle.std.specs.Option.{is_some, option_and_then}
 use Rattle.implib.specs.Definition.{ExportView}
 use Rattle.implib.specs.Import.{Ask, Ordinal, Name}
 use Rattle.implib_dll.specs.Exports.{Exports, NameEntry, Target}
-use Rattle.implib_dll.specs.Lookup.{by_name, by_ordinal, ordinal_index, position_of, target_at, text_at}
+use Rattle.implib_dll.specs.Lookup.{by_name, by_ordinal, ordinal_index, position_of, target_at}
+use Rattle.implib_dll.specs.Lookup.{text_at}
 use Rattle.implib_from_dll.specs.Definition.{exports_of}
 
 -- what is asked of the DLL for an export: its ordinal, or its word with its hint
@@ -23,7 +25,8 @@ found e (Name name hint) = by_name e name hint
 -- the index of the export address table that a loader comes to for an ask
 abbrev pub index_found : Exports → Ask → Option ℕ
 index_found e (Ordinal ordinal) = Some (ordinal_index e.base ordinal)
-index_found e (Name name hint) = option_and_then (λ position. option_map (λ n. n.index) (slice_get e.names position))
+index_found e (Name name hint) =
+    option_and_then (λ position. option_map (λ n. n.index) (slice_get e.names position))
     (position_of e.names name hint)
 
 -- A loader needs no search for an ask: the name stands at its hint.

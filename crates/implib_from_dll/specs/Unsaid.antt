@@ -6,7 +6,8 @@ use Rattle.implib_dll.specs.Lookup.{target_at}
 use Rattle.implib_dll.specs.Rows.{Row, rows_of}
 use Rattle.implib_from_dll.specs.declared.exports.Unsaid.{Unsaid}
 use Rattle.implib_from_dll.specs.Definition.{target_unnamed}
-use Rattle.implib_from_dll.specs.declared.exports.Unsaid.TheVariants.{NotUtf8, LargeHint, LargeOrdinal, OutOfMemory}
+use Rattle.implib_from_dll.specs.declared.exports.Unsaid.TheVariants.{NotUtf8, LargeHint}
+use Rattle.implib_from_dll.specs.declared.exports.Unsaid.TheVariants.{LargeOrdinal, OutOfMemory}
 
 -- why a name at a position has no place in a definition: it is not UTF-8, or its position is past
 -- those of 16 bits; or memory was refused

@@ -2,10 +2,12 @@
 
 ghost use Rattle.implib.specs.Definition.{export_view};
 ghost use Rattle.implib_dll.specs.Views.{exports_view, row_view, target_view};
-ghost use Rattle.implib_from_dll.specs.Definition.{exports_of, is_data, named_export, named_from, named_of};
-ghost use Rattle.implib_from_dll.specs.Definition.{numbered_export, numbered_of, ordinal_name, target_unnamed};
-ghost use Rattle.implib_from_dll.specs.Unsaid.{IsUnsaid, IsUnsaidName, IsUnsaidNamed, IsUnsaidNumber};
-ghost use Rattle.implib_from_dll.specs.Unsaid.{IsUnsaidRow, RefusesName, RefusesRow};
+ghost use Rattle.implib_from_dll.specs.Definition.{exports_of, is_data, named_export, named_from};
+ghost use Rattle.implib_from_dll.specs.Definition.{named_of, numbered_export, numbered_of};
+ghost use Rattle.implib_from_dll.specs.Definition.{ordinal_name, target_unnamed};
+ghost use Rattle.implib_from_dll.specs.Unsaid.{IsUnsaid, IsUnsaidName, IsUnsaidNamed};
+ghost use Rattle.implib_from_dll.specs.Unsaid.{IsUnsaidNumber, IsUnsaidRow, RefusesName};
+ghost use Rattle.implib_from_dll.specs.Unsaid.{RefusesRow};
 ghost use Rattle.implib_from_dll.specs.declared.exports.Unsaid.TheVariants.{OutOfMemory};
 ghost use Rattle.std.specs.List.{flat_map};
 ghost use Rattle.std.specs.Option.{option_map};
@@ -205,10 +207,10 @@ fn push_rows(alloc: Global, rows: &[Row<'_>], list: &mut Vec<ShortExport>) -> Re
 }
 
 /// The exports of a definition whose library imports what a DLL exports: first those of its names,
-/// in the order of the name table, each with its position there as the hint, but for names that lead
-/// to no target; then, in the order of ordinals, the targets without a name, by ordinal. Their words
-/// are as a text has them: without an underscore in front for I386. An address in no section of
-/// code is data, and a forwarder code.
+/// in the order of the name table, each with its position there as the hint, but for names that
+/// lead to no target; then, in the order of ordinals, the targets without a name, by ordinal. Their
+/// words are as a text has them: without an underscore in front for I386. An address in no section
+/// of code is data, and a forwarder code.
 ///
 /// # Errors
 ///

@@ -2,7 +2,8 @@
 -- its sections are in the file and in memory, its base, and by data directories where its import
 -- directory and its address tables are (PE/COFF specification, "Optional Header (Image Only)",
 -- "Section Table (Section Headers)"). Addresses count from the base.
-use Rattle.std.specs.Prelude.{◌≡◌, ℕ, ◌+◌, ◌-◌, ◌*◌, ◌^◌, ◌==◌, ◌&&◌, nat_le, nat_lt, List, [], ◌++◌, length, map, Option, Some, None, Ok, if◌then◌else◌}
+use Rattle.std.specs.Prelude.{◌≡◌, ℕ, ◌+◌, ◌-◌, ◌*◌, ◌^◌, ◌==◌, ◌&&◌, nat_le, nat_lt, List, []}
+use Rattle.std.specs.Prelude.{◌++◌, length, map, Option, Some, None, Ok, if◌then◌else◌}
 use Rattle.implib.specs.Import.{Ask}
 use Rattle.implib.specs.Link.Image.{Range}
 use Rattle.implib.specs.Members.ImportTables.{zeros}

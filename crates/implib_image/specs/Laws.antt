@@ -1,5 +1,6 @@
 -- What holds of the files of linked programs.
-use Rattle.std.specs.Prelude.{◌≡◌, ℕ, ◌+◌, ◌*◌, ◌^◌, ◌<◌, ◌≤◌, List, [], ◌∷◌, ◌++◌, Some, Ok, length, map, slice_get}
+use Rattle.std.specs.Prelude.{◌≡◌, ℕ, ◌+◌, ◌*◌, ◌^◌, ◌<◌, ◌≤◌, List, [], ◌∷◌, ◌++◌, Some, Ok}
+use Rattle.std.specs.Prelude.{length, map, slice_get}
 use Rattle.std.specs.List.{AllByRecursion, Contains}
 use Rattle.implib.specs.Formats.Object.{ObjectSymbol}
 use Rattle.implib.specs.Import.{Ask}
@@ -13,7 +14,8 @@ use Rattle.implib_link.specs.Gnu.Fields.{AreLinkedBeside, DefinesIn, LinkedCode,
 use Rattle.implib_link.specs.Gnu.Loaded.{Writes}
 use Rattle.implib_link.specs.Gnu.Operands.{AllLead, AreKept}
 use Rattle.implib_link.specs.Gnu.Stored.{AreFurtherHeld, HoldAddress}
-use Rattle.implib_link.specs.Tables.{AreSteady, AreTables, AreTablesLoaded, Block, CanReadFrom, Table, TableEntry, Tables, imported_by_table, packed_tables}
+use Rattle.implib_link.specs.Tables.{AreSteady, AreTables, AreTablesLoaded, Block, CanReadFrom}
+use Rattle.implib_link.specs.Tables.{Table, TableEntry, Tables, imported_by_table, packed_tables}
 
 -- A file is that of what was linked:
 -- `mapped`: its headers are read, and its sections are in it;

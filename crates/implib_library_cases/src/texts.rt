@@ -6,8 +6,8 @@
 //! - `tokens TEXT` asks for the tokens, with their offsets; `fresh` for a token kind by default.
 //! - `word OFFSET BYTES` asks where the word at an offset of bytes ends.
 //! - `place OFFSET TEXT` asks for the line and column of an offset.
-//! - `named WORD` and `numbered NUMBER` ask for the machine and the flavour of a name, and the machine of
-//!   a number.
+//! - `named WORD` and `numbered NUMBER` ask for the machine and the flavour of a name, and the
+//!   machine of a number.
 //! - `faults` asks for what each fault says, and for the export that it tells.
 
 mod faults;

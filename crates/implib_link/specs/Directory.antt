@@ -1,5 +1,5 @@
--- The import directory of an image (PE/COFF specification, "Import Directory Table"): a descriptor for
--- each DLL, one after another, and the null descriptor.
+-- The import directory of an image (PE/COFF specification, "Import Directory Table"): a descriptor
+-- for each DLL, one after another, and the null descriptor.
 use Rattle.std.specs.Prelude.{ℕ, ◌+◌, ◌<◌, ◌⊎◌, List, [], ◌∷◌, map}
 use Rattle.implib.specs.declared.machine.MachineType.{MachineType}
 use Rattle.implib.specs.Link.Image.{Range}
@@ -27,8 +27,9 @@ DirectoryAt image width address [] = BytesAt image address (zeros 20)
 DirectoryAt image width address (i ∷ others) =
     LoadsStrictly image width address i.dll i.asks × DirectoryAt image width (address + 20) others
 
--- A descriptor by which a loader goes on: the addresses of its name and of its address table are not 0. Of
--- the two tables the loader reads one, whichever it likes: that of the field at 0, or that of the field at 16.
+-- A descriptor by which a loader goes on: the addresses of its name and of its address table are
+-- not 0. Of the two tables the loader reads one, whichever it likes: that of the field at 0, or
+-- that of the field at 16.
 pub record FindsBy (image : List Range) (width : ℕ) (address : ℕ) (i : Imported) : Type 0 where
   pub name : ℕ
   pub name_field : NumberAt image 4 (address + 12) name

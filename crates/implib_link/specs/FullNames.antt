@@ -1,9 +1,11 @@
--- The full names of sections. The header of a section has room for 8 bytes of its name; a longer name is in
--- the string table, and the header has a slash and the digits of its offset there (PE/COFF specification,
--- "Section Table"). Image files have no such names.
-use Rattle.std.specs.Prelude.{ℕ, ◌+◌, ◌-◌, ◌*◌, ◌&&◌, ◌==◌, nat_le, List, [], ◌∷◌, drop, Option, Some, None, if◌then◌else◌}
+-- The full names of sections. The header of a section has room for 8 bytes of its name; a longer
+-- name is in the string table, and the header has a slash and the digits of its offset there
+-- (PE/COFF specification, "Section Table"). Image files have no such names.
+use Rattle.std.specs.Prelude.{ℕ, ◌+◌, ◌-◌, ◌*◌, ◌&&◌, ◌==◌, nat_le, List, [], ◌∷◌, drop, Option}
+use Rattle.std.specs.Prelude.{Some, None, if◌then◌else◌}
 use Rattle.std.specs.Option.{option_and_then, option_map}
-use Rattle.implib.specs.Formats.Object.{Object, ObjectSection, before_nul, bytes_at, object_in, strings_at, u32_at, up_to_nul}
+use Rattle.implib.specs.Formats.Object.{Object, ObjectSection, before_nul, bytes_at, object_in}
+use Rattle.implib.specs.Formats.Object.{strings_at, u32_at, up_to_nul}
 
 abbrev pub slash : ℕ
 slash = 0x2F
@@ -24,17 +26,19 @@ decimal_in (digit ∷ digits) = digits_behind 0 (digit ∷ digits)
 abbrev pub text_in : List ℕ → ℕ → Option (List ℕ)
 text_in strings offset = before_nul (drop offset strings)
 
--- the full name of the section whose header has these bytes for it; none, where a slash is in front and
--- no such offset follows
+-- the full name of the section whose header has these bytes for it; none, where a slash is in front
+-- and no such offset follows
 unfoldable pub full_name : Option (List ℕ) → List ℕ → Option (List ℕ)
 full_name strings [] = Some []
 full_name strings (first ∷ others) =
     if first == slash
-    then option_and_then (λ table. option_and_then (text_in table) (decimal_in (up_to_nul others))) strings
+    then option_and_then (λ table. option_and_then (text_in table) (decimal_in (up_to_nul others)))
+    strings
     else Some (first ∷ others)
 
 -- sections by their full names
-unfoldable pub sections_by_full_names : Option (List ℕ) → List ObjectSection → Option (List ObjectSection)
+unfoldable pub sections_by_full_names : Option (List ℕ) → List ObjectSection →
+    Option (List ObjectSection)
 sections_by_full_names strings [] = Some []
 sections_by_full_names strings (s ∷ sections) =
     option_and_then
@@ -45,7 +49,8 @@ sections_by_full_names strings (s ∷ sections) =
 
 abbrev pub by_full_names : Option (List ℕ) → Object → Option Object
 by_full_names strings o =
-    option_map (λ sections. record o { sections = sections }) (sections_by_full_names strings o.sections)
+    option_map (λ sections. record o { sections = sections })
+    (sections_by_full_names strings o.sections)
 
 -- the string table of a file, which is after the records of 18 bytes of the symbol table
 unfoldable pub strings_of : List ℕ → Option (List ℕ)

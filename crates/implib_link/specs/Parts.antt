@@ -1,8 +1,12 @@
--- Parts of the import tables of a program, each the objects of one DLL's import library, of whatever maker, and the
--- table that is read of them: a head with the descriptor, objects with an entry each, and a tail that ends both tables,
--- as GNU dlltool's libraries have them, and those that are made here for GNU's linker.
-use Rattle.std.specs.Prelude.{◌≡◌, ℕ, ◌+◌, ◌*◌, ◌-◌, ◌^◌, Bool, ◌&&◌, ◌||◌, ◌==◌, nat_lt, not, true, false, List, [], ◌∷◌, ◌++◌, bytes_eq, drop, map, slice_get, take, Option, Some, None, if◌then◌else◌}
-use Rattle.std.specs.List.{AllByRecursion, IsDistinct, filter, filter_map, flat_map, list_all, list_any}
+-- Parts of the import tables of a program, each the objects of one DLL's import library, of
+-- whatever maker, and the table that is read of them: a head with the descriptor, objects with an
+-- entry each, and a tail that ends both tables, as GNU dlltool's libraries have them, and those
+-- that are made here for GNU's linker.
+use Rattle.std.specs.Prelude.{◌≡◌, ℕ, ◌+◌, ◌*◌, ◌-◌, ◌^◌, Bool, ◌&&◌, ◌||◌, ◌==◌, nat_lt, not, true}
+use Rattle.std.specs.Prelude.{false, List, [], ◌∷◌, ◌++◌, bytes_eq, drop, map, slice_get, take}
+use Rattle.std.specs.Prelude.{Option, Some, None, if◌then◌else◌}
+use Rattle.std.specs.List.{AllByRecursion, IsDistinct, filter, filter_map, flat_map, list_all}
+use Rattle.std.specs.List.{list_any}
 use Rattle.std.specs.Option.{option_and_then, option_map}
 use Rattle.implib.specs.declared.coff.object.Relocation.{Relocation}
 use Rattle.implib.specs.declared.flavor.Flavor.TheVariants.{Gnu}
@@ -11,13 +15,16 @@ use Rattle.implib.specs.Definition.{DefinitionView, ExportView}
 use Rattle.implib.specs.Formats.Bytes.{u16_bytes}
 use Rattle.implib.specs.Formats.Constants.{image_relative}
 use Rattle.implib.specs.Formats.File.{is_defined_external}
-use Rattle.implib.specs.Formats.Object.{ASymbol, Auxiliary, Entry, Object, ObjectSection, ObjectSymbol, before_nul, section_numbered}
+use Rattle.implib.specs.Formats.Object.{ASymbol, Auxiliary, Entry, Object, ObjectSection}
+use Rattle.implib.specs.Formats.Object.{ObjectSymbol, before_nul, section_numbered}
 use Rattle.implib.specs.Import.{Ask, Name, Ordinal, expected_ask, imp_symbol, public_exports}
 use Rattle.implib.specs.LibraryName.{linked_name, names_for}
 use Rattle.implib.specs.Link.Image.{IsAdmissible}
 use Rattle.implib.specs.Link.LinkedMembers.{LinkInput, chosen_exports, linked_members, objects_in}
 use Rattle.implib.specs.Link.Load.{number_in}
-use Rattle.implib.specs.Link.Placement.{Addresses, Bases, Descriptors, DirectoryEnds, DllNames, Group, HintNames, Lookups, alignment, group_named, same_group}
+use Rattle.implib.specs.Link.Placement.{Addresses, Bases, Descriptors, DirectoryEnds, DllNames}
+use Rattle.implib.specs.Link.Placement.{Group, HintNames, Lookups, alignment, group_named}
+use Rattle.implib.specs.Link.Placement.{same_group}
 use Rattle.implib.specs.Link.Resolution.{is_undefined_external}
 use Rattle.implib.specs.Members.GnuMembers.{head_spec, tail_spec}
 use Rattle.implib.specs.Members.ImportTables.{thunk_width, zeros}
@@ -26,7 +33,8 @@ use Rattle.implib.specs.Members.OlderSymbols.{older_spec, older_symbol}
 use Rattle.implib.specs.Renaming.{renamed}
 use Rattle.implib_link.specs.Flavors.Program.{gnu_input}
 use Rattle.implib_link.specs.Gnu.OtherLibraries.{HoldsFields}
-use Rattle.implib_link.specs.Gnu.Program.{ClaimsNone, claimed_names, has_tables, is_table, null_descriptor}
+use Rattle.implib_link.specs.Gnu.Program.{ClaimsNone, claimed_names, has_tables, is_table}
+use Rattle.implib_link.specs.Gnu.Program.{null_descriptor}
 use Rattle.implib_link.specs.Gnu.Rebased.{absolute_width}
 use Rattle.implib_link.specs.Tables.{Block, TableEntry, block_of_flavor}
 
@@ -44,7 +52,8 @@ is_of group (Some other) = same_group group other
 abbrev pub sections_of : Group → List ObjectSection → List ObjectSection
 sections_of group sections = filter (λ s. is_of group (group_named s.name)) sections
 
--- whether a section is aligned at 4 bytes at most, so that it begins where one before it ends at a multiple of 4
+-- whether a section is aligned at 4 bytes at most, so that it begins where one before it ends at a
+-- multiple of 4
 abbrev pub fits_four : ObjectSection → Bool
 fits_four s = (alignment s.flags == 1) || ((alignment s.flags == 2) || (alignment s.flags == 4))
 
@@ -75,25 +84,29 @@ holds_texts (Some DllNames) = true
 
 -- the bytes of such a section from an offset on, which no relocation changes
 abbrev pub bytes_from : ObjectSection → List Relocation → ℕ → Option (List ℕ)
-bytes_from s [] offset = if holds_texts (group_named s.name) then Some (drop offset s.bytes) else None
+bytes_from s [] offset =
+    if holds_texts (group_named s.name) then Some (drop offset s.bytes) else None
 bytes_from s (r ∷ relocations) offset = None
 
 -- those at a symbol that an object defines
 abbrev pub bytes_at_symbol : Object → ObjectSymbol → Option (List ℕ)
 bytes_at_symbol o s =
-    option_and_then (λ section. bytes_from section section.relocations s.value) (section_numbered o.sections s.section)
+    option_and_then (λ section. bytes_from section section.relocations s.value)
+    (section_numbered o.sections s.section)
 
 abbrev pub own_bytes : Object → Option Entry → Option (List ℕ)
 own_bytes o None = None
 own_bytes o (Some (Auxiliary bytes)) = None
 own_bytes o (Some (ASymbol s)) = if is_undefined_external s then None else bytes_at_symbol o s
 
--- those at the symbol of a name that an object defines for others, and that the last of several objects does
+-- those at the symbol of a name that an object defines for others, and that the last of several
+-- objects does
 abbrev pub named_bytes_in : Object → List ℕ → List Entry → Option (List ℕ)
 named_bytes_in o name [] = None
 named_bytes_in o name (Auxiliary bytes ∷ entries) = named_bytes_in o name entries
 named_bytes_in o name (ASymbol s ∷ entries) =
-    if is_defined_external s && bytes_eq name s.name then bytes_at_symbol o s else named_bytes_in o name entries
+    if is_defined_external s && bytes_eq name s.name then bytes_at_symbol o s
+    else named_bytes_in o name entries
 
 abbrev pub named_bytes : List ℕ → List Object → Option (List ℕ)
 named_bytes name [] = None
@@ -118,12 +131,13 @@ hint_and_name (low ∷ high ∷ bytes) =
 -- a thunk of an ordinal, written whole
 abbrev pub ordinal_with : MachineType → List ℕ → ℕ → Option Ask
 ordinal_with machine bytes n =
-    if bytes_eq bytes (u16_bytes n ++ (zeros (thunk_width machine - 3) ++ 0x80 ∷ [])) && nat_lt n (2 ^ 16)
+    if bytes_eq bytes (u16_bytes n ++ (zeros (thunk_width machine - 3) ++ 0x80 ∷ []))
+    && nat_lt n (2 ^ 16)
     then Some (Ordinal n)
     else None
 
--- What a thunk asks for: by its own bytes for an ordinal; by its one relocation, zeros otherwise, for the hint and name
--- where that leads.
+-- What a thunk asks for: by its own bytes for an ordinal; by its one relocation, zeros otherwise,
+-- for the hint and name where that leads.
 abbrev pub ask_of : MachineType → Object → List ℕ → List Relocation → Option Ask
 ask_of machine o bytes [] = ordinal_with machine bytes (number_in (take 2 bytes))
 ask_of machine o bytes (r ∷ []) =
@@ -134,7 +148,8 @@ ask_of machine o bytes (r ∷ q ∷ relocations) = None
 
 -- what an object's thunk in a table asks for
 abbrev pub thunk_ask : MachineType → Group → Object → Option Ask
-thunk_ask machine group o = option_and_then (λ s. ask_of machine o s.bytes s.relocations) (only_section group o)
+thunk_ask machine group o =
+    option_and_then (λ s. ask_of machine o s.bytes s.relocations) (only_section group o)
 
 abbrev pub has_none : List Relocation → Bool
 has_none [] = true
@@ -142,7 +157,8 @@ has_none (r ∷ relocations) = false
 
 abbrev pub null_thunk_of : MachineType → Option ObjectSection → Bool
 null_thunk_of machine None = false
-null_thunk_of machine (Some s) = bytes_eq s.bytes (zeros (thunk_width machine)) && has_none s.relocations
+null_thunk_of machine (Some s) =
+    bytes_eq s.bytes (zeros (thunk_width machine)) && has_none s.relocations
 
 -- whether an object's thunk in a table is the null thunk
 abbrev pub is_null_thunk : MachineType → Group → Object → Bool
@@ -152,7 +168,8 @@ is_null_thunk machine group o = null_thunk_of machine (only_section group o)
 abbrev pub entry_name : List ObjectSection → Entry → Option (List ℕ)
 entry_name sections (Auxiliary bytes) = None
 entry_name sections (ASymbol s) =
-    if is_defined_external s && ((s.value == 0) && is_in_group Addresses (section_numbered sections s.section))
+    if is_defined_external s
+    && ((s.value == 0) && is_in_group Addresses (section_numbered sections s.section))
     then Some s.name
     else None
 
@@ -180,7 +197,8 @@ pub record IsTail (machine : MachineType) (o : Object) : Type 0 where
 -- objects are those of entries, and the tail
 unfoldable pub AreEntries : MachineType → List Object → List TableEntry → Type 0
 AreEntries machine [] entries = ⊥
-AreEntries machine (o ∷ objects) (e ∷ entries) = IsEntry machine o e × AreEntries machine objects entries
+AreEntries machine (o ∷ objects) (e ∷ entries) =
+    IsEntry machine o e × AreEntries machine objects entries
 AreEntries machine (o ∷ []) [] = IsTail machine o
 AreEntries machine (o ∷ q ∷ objects) [] = ⊥
 
@@ -192,7 +210,8 @@ pub record Row : Type 0 where
   pub name : ℕ
   pub addresses : ℕ
 
--- those of a descriptor's relocations: of the field at 0, and of those at 12 and 16, in either order
+-- those of a descriptor's relocations: of the field at 0, and of those at 12 and 16, in either
+-- order
 abbrev pub row_of : MachineType → List Relocation → Option Row
 row_of machine [] = None
 row_of machine (r ∷ []) = None
@@ -215,28 +234,34 @@ abbrev pub leads_to : Group → Object → Option Entry → Bool
 leads_to group o None = false
 leads_to group o (Some (Auxiliary bytes)) = false
 leads_to group o (Some (ASymbol s)) =
-    not (is_undefined_external s) && ((s.value == 0) && is_in_group group (section_numbered o.sections s.section))
+    not (is_undefined_external s)
+    && ((s.value == 0) && is_in_group group (section_numbered o.sections s.section))
 
 abbrev pub is_empty : Option ObjectSection → Bool
 is_empty None = false
 is_empty (Some s) = bytes_eq s.bytes [] && has_none s.relocations
 
--- whether an object's symbol is where a table begins: it has one section of it, without bytes, and the symbol is there
+-- whether an object's symbol is where a table begins: it has one section of it, without bytes, and
+-- the symbol is there
 abbrev pub begins : Group → Object → ℕ → Bool
-begins group o symbol = is_empty (only_section group o) && leads_to group o (slice_get o.entries symbol)
+begins group o symbol =
+    is_empty (only_section group o) && leads_to group o (slice_get o.entries symbol)
 
--- the DLL's name: the text at a symbol that is left to other objects, which the last of these defines
+-- the DLL's name: the text at a symbol that is left to other objects, which the last of these
+-- defines
 abbrev pub dll_text : List Object → Option Entry → Option (List ℕ)
 dll_text objects None = None
 dll_text objects (Some (Auxiliary bytes)) = None
 dll_text objects (Some (ASymbol s)) =
-    if is_undefined_external s then option_and_then before_nul (named_bytes s.name objects) else None
+    if is_undefined_external s then option_and_then before_nul (named_bytes s.name objects)
+    else None
 
 -- A head, before other objects:
 -- `fields`: it has one descriptor, whose fields are these symbols' addresses;
 -- `lookups`, `addresses`: those of the tables are where the tables begin;
 -- `name`: that of the name leads to the DLL's.
-pub record IsHead (machine : MachineType) (o : Object) (others : List Object) (dll : List ℕ) : Type 0 where
+pub record IsHead (machine : MachineType) (o : Object) (others : List Object)
+    (dll : List ℕ) : Type 0 where
   pub row : Row
   pub fields : row_in machine o ≡ Some row
   pub lookups : begins Lookups o row.lookups ≡ true
@@ -261,21 +286,23 @@ is_whole (Some width) = true
 
 abbrev pub stores_none : MachineType → Object → Bool
 stores_none machine o = list_all
-    (λ s. not (is_table s) || list_all (λ r. not (is_whole (absolute_width machine r.kind))) s.relocations)
+    (λ s. not (is_table s)
+    || list_all (λ r. not (is_whole (absolute_width machine r.kind))) s.relocations)
     o.sections
 
--- The part that is linked of a definition for GNU's linker: the head, the chosen exports' members and the tail, and the
--- exports' entries.
+-- The part that is linked of a definition for GNU's linker: the head, the chosen exports' members
+-- and the tail, and the exports' entries.
 abbrev pub part_of : MachineType → LinkInput → Part
 part_of machine p = record {
   objects = objects_in (linked_members p.definition machine p.chosen);
   table = block_of_flavor machine (gnu_input p);
 }
 
--- The same of members that have older symbols of addresses beside those of today: what is linked, and the part, whose
--- entries have the one symbol or the other.
+-- The same of members that have older symbols of addresses beside those of today: what is linked,
+-- and the part, whose entries have the one symbol or the other.
 abbrev pub older_numbered : MachineType → List ℕ → List ExportView → ℕ → Option MemberSpec
-older_numbered machine dll exports number = option_map (older_spec machine dll number) (slice_get exports number)
+older_numbered machine dll exports number =
+    option_map (older_spec machine dll number) (slice_get exports number)
 
 abbrev pub older_linked : DefinitionView → MachineType → List ℕ → List MemberView
 older_linked d machine chosen = map member_of
@@ -305,13 +332,15 @@ abbrev pub names_of_parts : List Part → List (List ℕ)
 names_of_parts parts = flat_map claimed_names (objects_of_parts parts)
 
 -- A program of parts and of other objects:
--- `tables`: the objects with import tables are those of the parts, and after them the linker's null descriptor;
+-- `tables`: the objects with import tables are those of the parts, and after them the linker's null
+-- descriptor;
 -- `distinct`: no name is claimed twice by the parts' objects;
 -- `others`: the other objects claim none of these names;
 -- `admissible`: the bases are.
-pub record IsProgramOfParts (machine : MachineType) (bases : Bases) (parts : List Part) (objects : List Object)
-    : Type 0 where
+pub record IsProgramOfParts (machine : MachineType) (bases : Bases) (parts : List Part)
+    (objects : List Object) : Type 0 where
   pub tables : filter has_tables objects ≡ objects_of_parts parts ++ null_descriptor ∷ []
   pub distinct : IsDistinct bytes_eq (names_of_parts parts)
-  pub others : AllByRecursion (ClaimsNone (names_of_parts parts)) (filter (λ o. not (has_tables o)) objects)
+  pub others : AllByRecursion (ClaimsNone (names_of_parts parts))
+      (filter (λ o. not (has_tables o)) objects)
   pub admissible : IsAdmissible machine bases objects

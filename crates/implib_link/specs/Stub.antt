@@ -1,13 +1,17 @@
--- The stubs, by which a call of an export goes through its entry of the address table: how their code is
--- relocated (PE/COFF specification, "Type Indicators") and what their jump reads, by the processors' rules.
+-- The stubs, by which a call of an export goes through its entry of the address table: how their
+-- code is relocated (PE/COFF specification, "Type Indicators") and what their jump reads, by the
+-- processors' rules.
 -- Addresses of code and of its targets count from the image's base.
-use Rattle.std.specs.Prelude.{◌≡◌, ℕ, ◌+◌, ◌-◌, ◌*◌, ◌/◌, ◌%◌, ◌^◌, ◌≤◌, ◌&&◌, ◌==◌, nat_lt, List, [], ◌∷◌, ◌++◌, bytes_eq, drop, slice_get, take, Option, Some, None, if◌then◌else◌}
+use Rattle.std.specs.Prelude.{◌≡◌, ℕ, ◌+◌, ◌-◌, ◌*◌, ◌/◌, ◌%◌, ◌^◌, ◌≤◌, ◌&&◌, ◌==◌, nat_lt, List}
+use Rattle.std.specs.Prelude.{[], ◌∷◌, ◌++◌, bytes_eq, drop, slice_get, take, Option, Some, None}
+use Rattle.std.specs.Prelude.{if◌then◌else◌}
 use Rattle.std.specs.List.{Contains}
 use Rattle.implib.specs.declared.coff.object.Relocation.{Relocation}
 use Rattle.implib.specs.declared.machine.MachineType.{MachineType}
 use Rattle.implib.specs.declared.machine.MachineType.TheVariants.{I386, ARMNT, AMD64, ARM64}
 use Rattle.implib.specs.Formats.Bytes.{u32_bytes}
-use Rattle.implib.specs.Formats.Constants.{amd64_rel32, arm64_pagebase_rel21, arm64_pageoffset_12l, class_external, i386_dir32}
+use Rattle.implib.specs.Formats.Constants.{amd64_rel32, arm64_pagebase_rel21, arm64_pageoffset_12l}
+use Rattle.implib.specs.Formats.Constants.{class_external, i386_dir32}
 use Rattle.implib.specs.Link.Linked.{IsDefinedOnce}
 use Rattle.implib.specs.Link.Load.{number_in}
 use Rattle.implib.specs.Formats.Object.{ASymbol, ObjectSection, ObjectSymbol}
@@ -39,7 +43,8 @@ adrp_immediate word = bits_of 5 19 word * 4 + bits_of 29 2 word
 abbrev pub with_adrp : ℕ → ℕ → ℕ
 with_adrp n word = with_bits 29 2 n (with_bits 5 19 (n / 4) word)
 
--- the 12 bits of an `ldr` from bit 10 on, which count in what it loads: 8 bytes where its top bits are 3
+-- the 12 bits of an `ldr` from bit 10 on, which count in what it loads: 8 bytes where its top bits
+-- are 3
 abbrev pub ldr_immediate : ℕ → ℕ
 ldr_immediate word = bits_of 10 12 word * 2 ^ bits_of 30 2 word
 
@@ -47,25 +52,28 @@ abbrev pub with_ldr : ℕ → ℕ → ℕ
 with_ldr n word = with_bits 10 12 (n / 2 ^ bits_of 30 2 word) word
 
 -- A word of code that a relocation of this type changes, at an address, for a target:
--- I386 type 6, the target's address; AMD64 type 4, the target relative to the byte after the field; ARM64
--- type 4, the target's page relative to its own, and type 7, the target's offset in its page.
+-- I386 type 6, the target's address; AMD64 type 4, the target relative to the byte after the field;
+-- ARM64 type 4, the target's page relative to its own, and type 7, the target's offset in its page.
 abbrev pub code_word : MachineType → ℕ → ℕ → ℕ → ℕ → ℕ → ℕ
 code_word I386 type image_base position target word =
     if type == i386_dir32 then (word + (image_base + target)) % 2 ^ 32 else word
 code_word ARMNT type image_base position target word = word
 code_word AMD64 type image_base position target word =
-    if type == amd64_rel32 then (word + target + (2 ^ 32 - (position + 4) % 2 ^ 32)) % 2 ^ 32 else word
+    if type == amd64_rel32 then (word + target + (2 ^ 32 - (position + 4) % 2 ^ 32)) % 2 ^ 32
+    else word
 code_word ARM64 type image_base position target word =
     if type == arm64_pagebase_rel21 then
     with_adrp
-    (page (image_base + target + adrp_immediate word) + (2 ^ 21 - page (image_base + position) % 2 ^ 21))
+    (page (image_base + target + adrp_immediate word)
+    + (2 ^ 21 - page (image_base + position) % 2 ^ 21))
     word
     else if type == arm64_pageoffset_12l then
     with_ldr ((image_base + target + ldr_immediate word) % 4096) word
     else word
 
 -- the code of a placed object's section at an address, relocated
-abbrev pub code_relocated : MachineType → ℕ → List Placed → Placed → ℕ → List Relocation → List ℕ → List ℕ
+abbrev pub code_relocated : MachineType → ℕ → List Placed → Placed → ℕ → List Relocation → List ℕ →
+    List ℕ
 code_relocated machine image_base linked p position [] bytes = bytes
 code_relocated machine image_base linked p position (r ∷ relocations) bytes =
     code_relocated machine image_base linked p position relocations
@@ -78,9 +86,10 @@ abbrev pub plus_signed : ℕ → ℕ → ℕ → ℕ → ℕ
 plus_signed width step n address =
     if nat_lt n (2 ^ (width - 1)) then address + n * step else address + n * step - 2 ^ width * step
 
--- Where the jump that code at an address begins with reads its target, by the rule of its instructions:
--- I386 `jmp [disp32]`, at the displacement; AMD64 `jmp [rip + disp32]`, that far after the jump; ARM64
--- `adrp x16, page`, `ldr x16, [x16, offset]`, `br x16`.
+-- Where the jump that code at an address begins with reads its target, by the rule of its
+-- instructions:
+-- I386 `jmp [disp32]`, at the displacement; AMD64 `jmp [rip + disp32]`, that far after the jump;
+-- ARM64 `adrp x16, page`, `ldr x16, [x16, offset]`, `br x16`.
 abbrev pub jump_reads : MachineType → ℕ → List ℕ → Option ℕ
 jump_reads I386 address bytes =
     if bytes_eq (take 2 bytes) (0xFF ∷ 0x25 ∷ []) then Some (word_at bytes 2) else None
@@ -90,25 +99,29 @@ jump_reads AMD64 address bytes =
     then Some (plus_signed 32 1 (word_at bytes 2) (address + 6))
     else None
 jump_reads ARM64 address bytes =
-    if (with_adrp 0 (word_at bytes 0) == 0x9000_0010) && (with_bits 10 12 0 (word_at bytes 4) == 0xF940_0210)
+    if (with_adrp 0 (word_at bytes 0) == 0x9000_0010)
+    && (with_bits 10 12 0 (word_at bytes 4) == 0xF940_0210)
     && (word_at bytes 8 == 0xD61F_0200) then
     Some (plus_signed 21 4096 (adrp_immediate (word_at bytes 0)) (page address * 4096)
     + ldr_immediate (word_at bytes 4))
     else None
 
--- What a machine asks so that its stubs can jump: I386, that the image's base is at most 2^31, so that all of
--- it is below 2^32; ARM64, that the image's base and the address tables' are multiples of 8, as thunks are.
--- ARMNT's stubs cannot: they are A32 code with a relative field where they load an address, so they jump elsewhere (Gnu/A32).
+-- What a machine asks so that its stubs can jump: I386, that the image's base is at most 2^31, so
+-- that all of it is below 2^32; ARM64, that the image's base and the address tables' are multiples
+-- of 8, as thunks are.
+-- ARMNT's stubs cannot: they are A32 code with a relative field where they load an address, so they
+-- jump elsewhere (Gnu/A32).
 abbrev pub CanJump : MachineType → ℕ → Bases → Type 0
 CanJump I386 image_base bases = image_base + 2 ^ 31 ≤ 2 ^ 32
 CanJump ARMNT image_base bases = ⊥
 CanJump AMD64 image_base bases = Unit {0}
 CanJump ARM64 image_base bases = (image_base % 8 ≡ 0) × (bases.addresses % 8 ≡ 0)
 
--- A name is that of code which jumps through an entry: exactly one object defines it, once, at the beginning of
--- its first section, and wherever this section is placed below 2^31, the jump that it begins with reads the
--- entry.
-pub record JumpsThrough (machine : MachineType) (image_base : ℕ) (linked : List Placed) (name : List ℕ)
+-- A name is that of code which jumps through an entry: exactly one object defines it, once, at the
+-- beginning of its first section, and wherever this section is placed below 2^31, the jump that it
+-- begins with reads the entry.
+pub record JumpsThrough (machine : MachineType) (image_base : ℕ) (linked : List Placed)
+    (name : List ℕ)
     (entry : ℕ) : Type 0 where
   pub once : IsDefinedOnce linked name
   pub from : Placed

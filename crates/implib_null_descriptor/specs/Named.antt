@@ -1,6 +1,6 @@
--- A null descriptor whose symbol is named after its library (this project's option; rustc's writer of import libraries
--- has the same form). Under the usual symbol all libraries define one name, which a link of whole archives takes for a
--- repeated definition.
+-- A null descriptor whose symbol is named after its library (this project's option; rustc's writer
+-- of import libraries has the same form). Under the usual symbol all libraries define one name,
+-- which a link of whole archives takes for a repeated definition.
 use Rattle.std.specs.Prelude.{ℕ, List, [], ◌∷◌, ◌++◌, codes}
 use Rattle.implib.specs.declared.coff.object.Place.TheVariants.{Section, Undefined}
 use Rattle.implib.specs.declared.machine.MachineType.{MachineType}
@@ -9,14 +9,15 @@ use Rattle.implib.specs.Formats.Writer.{AddedSymbol, WriterState, layout_of}
 use Rattle.implib.specs.LibraryName.{NamesOfDll}
 use Rattle.implib.specs.Members.Gnu.{added}
 use Rattle.implib.specs.Members.MemberSpec.{AnObject, MemberSpec}
-use Rattle.implib.specs.Members.MsvcObjects.{base_name, descriptor_sections, descriptor_symbol, null_descriptor_section}
-use Rattle.implib.specs.Members.MsvcObjects.{null_thunk_symbol}
+use Rattle.implib.specs.Members.MsvcObjects.{base_name, descriptor_sections, descriptor_symbol}
+use Rattle.implib.specs.Members.MsvcObjects.{null_descriptor_section, null_thunk_symbol}
 
 -- The symbol. For example, `__NULL_IMPORT_DESCRIPTOR_foo` of foo.dll.
 unfoldable pub named_null_symbol : List ℕ → List ℕ
 named_null_symbol library = codes "__NULL_IMPORT_DESCRIPTOR_" ++ base_name library
 
--- the symbols of the import descriptor: its own, those of its sections, the null descriptor's and the null thunk's
+-- the symbols of the import descriptor: its own, those of its sections, the null descriptor's and
+-- the null thunk's
 abbrev pub descriptor_symbols : List ℕ → List ℕ → List ℕ → List AddedSymbol
 descriptor_symbols own null null_thunk =
     added own (Section 1) class_external  -- 0
@@ -33,7 +34,8 @@ unfoldable pub named_descriptor : MachineType → NamesOfDll → WriterState
 named_descriptor machine dll = record {
   machine = machine;
   sections = descriptor_sections machine dll.text;
-  symbols = descriptor_symbols (descriptor_symbol dll.linked) (named_null_symbol dll.linked) (null_thunk_symbol dll.linked);
+  symbols = descriptor_symbols (descriptor_symbol dll.linked) (named_null_symbol dll.linked)
+      (null_thunk_symbol dll.linked);
 }
 
 -- the null descriptor, which defines it
@@ -60,4 +62,5 @@ named_null_spec machine library = record {
 }
 
 abbrev pub named_specs : MachineType → NamesOfDll → List MemberSpec
-named_specs machine dll = named_descriptor_spec machine dll ∷ named_null_spec machine dll.linked ∷ []
+named_specs machine dll =
+    named_descriptor_spec machine dll ∷ named_null_spec machine dll.linked ∷ []

@@ -1,5 +1,5 @@
--- The two objects worked by hand, with all their numbers: of foo.dll on AMD64, of bar.exe on I386 and of a.drv, whose
--- ending stays, on ARM64.
+-- The two objects worked by hand, with all their numbers: of foo.dll on AMD64, of bar.exe on I386
+-- and of a.drv, whose ending stays, on ARM64.
 use Rattle.std.specs.Prelude.{◌≡◌, ℕ, List, [], ◌∷◌, ◌++◌, codes}
 use Rattle.implib.specs.declared.machine.MachineType.TheVariants.{I386, AMD64, ARM64}
 use Rattle.implib.specs.Formats.Layout.{InRecord, InStringTable, LayoutSymbol, ObjectLayout}
@@ -7,7 +7,8 @@ use Rattle.implib.specs.Formats.Writer.{layout_of}
 use Rattle.implib.specs.LibraryName.{own_names}
 use Rattle.implib.specs.Worked.Machines.{at}
 use Rattle.implib.specs.Worked.Objects.{section, symbol, zeros}
-use Rattle.implib_null_descriptor.specs.Named.{named_descriptor, named_descriptor_spec, named_null, named_null_spec}
+use Rattle.implib_null_descriptor.specs.Named.{named_descriptor, named_descriptor_spec, named_null}
+use Rattle.implib_null_descriptor.specs.Named.{named_null_spec}
 
 -- the symbols of an import descriptor
 abbrev pub symbols : List LayoutSymbol
@@ -31,7 +32,8 @@ descriptor_on_amd64 = record {
       ∷ [];
   symbols = symbols;
   strings =
-      codes "__IMPORT_DESCRIPTOR_foo" ∷ codes "__NULL_IMPORT_DESCRIPTOR_foo" ∷ (0x7F ∷ codes "foo_NULL_THUNK_DATA") ∷ [];
+      codes "__IMPORT_DESCRIPTOR_foo" ∷ codes "__NULL_IMPORT_DESCRIPTOR_foo"
+      ∷ (0x7F ∷ codes "foo_NULL_THUNK_DATA") ∷ [];
 }
 
 unfoldable pub descriptor_on_i386 : ObjectLayout
@@ -44,7 +46,8 @@ descriptor_on_i386 = record {
       ∷ [];
   symbols = symbols;
   strings =
-      codes "__IMPORT_DESCRIPTOR_bar" ∷ codes "__NULL_IMPORT_DESCRIPTOR_bar" ∷ (0x7F ∷ codes "bar_NULL_THUNK_DATA") ∷ [];
+      codes "__IMPORT_DESCRIPTOR_bar" ∷ codes "__NULL_IMPORT_DESCRIPTOR_bar"
+      ∷ (0x7F ∷ codes "bar_NULL_THUNK_DATA") ∷ [];
 }
 
 -- a null descriptor with this symbol
@@ -59,8 +62,10 @@ null_on machine name = record {
 
 -- what was worked
 pub record WorkedHeaders : Type 0 where
-  pub descriptor_on_amd64 : layout_of (named_descriptor AMD64 (own_names (codes "foo.dll"))) ≡ descriptor_on_amd64
-  pub descriptor_on_i386 : layout_of (named_descriptor I386 (own_names (codes "bar.exe"))) ≡ descriptor_on_i386
+  pub descriptor_on_amd64 : layout_of (named_descriptor AMD64 (own_names (codes "foo.dll")))
+      ≡ descriptor_on_amd64
+  pub descriptor_on_i386 : layout_of (named_descriptor I386 (own_names (codes "bar.exe")))
+      ≡ descriptor_on_i386
   pub null_on_amd64 : layout_of (named_null AMD64 (codes "foo.dll"))
       ≡ null_on 0x8664 (codes "__NULL_IMPORT_DESCRIPTOR_foo")
   pub null_on_i386 : layout_of (named_null I386 (codes "bar.exe"))
@@ -70,4 +75,5 @@ pub record WorkedHeaders : Type 0 where
   -- the archive lists for each what it defines
   pub listed_descriptor : (named_descriptor_spec AMD64 (own_names (codes "foo.dll"))).symbols
       ≡ codes "__IMPORT_DESCRIPTOR_foo" ∷ []
-  pub listed_null : (named_null_spec AMD64 (codes "foo.dll")).symbols ≡ codes "__NULL_IMPORT_DESCRIPTOR_foo" ∷ []
+  pub listed_null : (named_null_spec AMD64 (codes "foo.dll")).symbols
+      ≡ codes "__NULL_IMPORT_DESCRIPTOR_foo" ∷ []

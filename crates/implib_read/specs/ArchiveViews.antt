@@ -1,6 +1,7 @@
 -- What a caller sees of the values that borrow an archive's bytes.
 use Rattle.std.specs.Prelude.{map}
-use Rattle.implib_read.specs.Archives.{Archive as SeenArchive, Part as SeenPart, StoredMember as SeenMember}
+use Rattle.implib_read.specs.Archives.{Archive as SeenArchive, Part as SeenPart}
+use Rattle.implib_read.specs.Archives.{StoredMember as SeenMember}
 use Rattle.implib_read.specs.NameViews.{name_view}
 use Rattle.implib_read.specs.declared.archive.Archive.{Archive}
 use Rattle.implib_read.specs.declared.archive.Part.{Part}
@@ -13,4 +14,5 @@ abbrev pub member_view : StoredMember → SeenMember
 member_view m = record { name = m.name.now; bytes = m.bytes.now; offset = m.offset }
 
 abbrev pub archive_view : Archive → SeenArchive
-archive_view a = record { parts = map part_view a.parts.items; members = map member_view a.members.items }
+archive_view a =
+    record { parts = map part_view a.parts.items; members = map member_view a.members.items }

@@ -1,6 +1,8 @@
--- The symbols that a short import of ARM64EC declares (LLVM, "COFFImportFile.cpp" and "Mangler.cpp"). Its first text has
--- a mark if it is a function's, by which ARM64EC's own code calls it; the other symbols are those of code for AMD64.
-use Rattle.std.specs.Prelude.{ℕ, suc, ◌+◌, ◌==◌, List, [], ◌∷◌, ◌++◌, Option, None, Some, codes, drop, eqb, if◌then◌else◌, length, take}
+-- The symbols that a short import of ARM64EC declares (LLVM, "COFFImportFile.cpp" and
+-- "Mangler.cpp"). Its first text has a mark if it is a function's, by which ARM64EC's own code
+-- calls it; the other symbols are those of code for AMD64.
+use Rattle.std.specs.Prelude.{ℕ, suc, ◌+◌, ◌==◌, List, [], ◌∷◌, ◌++◌, Option, None, Some, codes}
+use Rattle.std.specs.Prelude.{drop, eqb, if◌then◌else◌, length, take}
 use Rattle.std.specs.List.{starts_with}
 use Rattle.std.specs.Option.{option_map}
 use Rattle.implib.specs.Formats.ShortImport.{import_data}
@@ -23,8 +25,9 @@ abbrev pub without_inner : List ℕ → Option ℕ → List ℕ
 without_inner name None = name
 without_inner name (Some place) = around_mark name place (drop (place + 3) name)
 
--- A text without its mark: `#` at its front or, in a name of C++, which begins with `?`, the first `$$h`. One that has
--- no mark is as it is. For example, func of `#func`, and `?cpp@@YAHPEAX@Z` of `?cpp@@$$hYAHPEAX@Z`.
+-- A text without its mark: `#` at its front or, in a name of C++, which begins with `?`, the first
+-- `$$h`. One that has no mark is as it is. For example, func of `#func`, and `?cpp@@YAHPEAX@Z` of
+-- `?cpp@@$$hYAHPEAX@Z`.
 abbrev pub unmarked : List ℕ → List ℕ
 unmarked text =
     if begins_with_byte 0x23 text then drop 1 text
@@ -39,9 +42,12 @@ auxiliary_symbol name = codes "__imp_aux_" ++ name
 abbrev pub text_apart : List ℕ → List ℕ → List (List ℕ)
 text_apart text name = if length name == length text then [] else text ∷ []
 
--- The symbols of a short import of a type, with this first text. For example, of the function or the constant `#f`:
--- `__imp_f`, `f`, `__imp_aux_f` and `#f`; of the constant `c` those of `c` alone; of data `#d` the address `__imp_d`.
+-- The symbols of a short import of a type, with this first text. For example, of the function or
+-- the constant `#f`:
+-- `__imp_f`, `f`, `__imp_aux_f` and `#f`; of the constant `c` those of `c` alone; of data `#d` the
+-- address `__imp_d`.
 abbrev pub arm64ec_symbols : ℕ → List ℕ → List (List ℕ)
 arm64ec_symbols import_type text =
     if import_type == import_data then imp_symbol (unmarked text) ∷ []
-    else imp_symbol (unmarked text) ∷ unmarked text ∷ auxiliary_symbol (unmarked text) ∷ text_apart text (unmarked text)
+    else imp_symbol (unmarked text) ∷ unmarked text ∷ auxiliary_symbol (unmarked text)
+    ∷ text_apart text (unmarked text)

@@ -1,10 +1,17 @@
 -- What a caller sees of what members are for.
 use Rattle.implib_read.specs.AliasViews.{alias_view}
-use Rattle.implib_read.specs.Classes.{Class, AnImport, AnAlias, Descriptor as ADescriptor, NullDescriptor as ANullDescriptor, NullThunk as ANullThunk, Head as AHead, Tail as ATail, DelayImport as ADelayImport, Other as AnOther, NotUnderstood as NotOne, Imported, MemberRead as SeenMember}
+use Rattle.implib_read.specs.Classes.{Class, AnImport, AnAlias, Descriptor as ADescriptor}
+use Rattle.implib_read.specs.Classes.{NullDescriptor as ANullDescriptor, NullThunk as ANullThunk}
+use Rattle.implib_read.specs.Classes.{Head as AHead, Tail as ATail, DelayImport as ADelayImport}
+use Rattle.implib_read.specs.Classes.{Other as AnOther, NotUnderstood as NotOne, Imported}
+use Rattle.implib_read.specs.Classes.{MemberRead as SeenMember}
 use Rattle.implib_read.specs.ImportViews.{import_view}
 use Rattle.implib_read.specs.declared.import.ImportFound.{ImportFound}
 use Rattle.implib_read.specs.declared.class.MemberClass.{MemberClass}
-use Rattle.implib_read.specs.declared.class.MemberClass.TheVariants.{Import, Alias, Descriptor, NullDescriptor, NullThunk, Head, Tail, DelayImport, Other, NotUnderstood}
+use Rattle.implib_read.specs.declared.class.MemberClass.TheVariants.{Import, Alias, Descriptor}
+use Rattle.implib_read.specs.declared.class.MemberClass.TheVariants.{NullDescriptor, NullThunk}
+use Rattle.implib_read.specs.declared.class.MemberClass.TheVariants.{Head, Tail, DelayImport, Other}
+use Rattle.implib_read.specs.declared.class.MemberClass.TheVariants.{NotUnderstood}
 use Rattle.implib_read.specs.declared.class.MemberRead.{MemberRead}
 
 abbrev pub imported_view : ImportFound → Imported

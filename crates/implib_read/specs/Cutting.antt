@@ -27,14 +27,15 @@ abbrev pub cut_with : ShortImport → Option Ask → Option (List ℕ) → Optio
 cut_with fields ask (Some name) = None
 cut_with fields ask None = cut_of fields.symbol ask (ask_by_gnu fields)
 
--- The names that linkers ask for by a short import, if they differ. For example, for AMD64 by `__f` without its prefix
--- lld asks for `_f`, and GNU `ld` for `__f`.
+-- The names that linkers ask for by a short import, if they differ. For example, for AMD64 by `__f`
+-- without its prefix lld asks for `_f`, and GNU `ld` for `__f`.
 abbrev pub cut_by_short_import : WithExported → Option Cut
 cut_by_short_import r = cut_with r.fields (ask_of_found r) r.exported
 
 -- the names that linkers ask for by a member, if they differ, and the member
 abbrev pub cut_by_member : StoredMember → Option (StoredMember × Cut)
-cut_by_member m = option_map (λ c. (m, c)) (option_and_then cut_by_short_import (short_import_found m.bytes))
+cut_by_member m =
+    option_map (λ c. (m, c)) (option_and_then cut_by_short_import (short_import_found m.bytes))
 
 -- the members by which linkers ask for different names, in order
 abbrev pub cut_apart : List StoredMember → List (StoredMember × Cut)

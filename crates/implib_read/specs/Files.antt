@@ -28,7 +28,8 @@ place_in_file (ShortImportFile r) name = None
 place_in_file (ObjectFile o) name = place_among o name o.entries
 place_in_file NotRead name = None
 
--- Where the external of a name is defined: by the first of the files that defines it, as a linker takes it.
+-- Where the external of a name is defined: by the first of the files that defines it, as a linker
+-- takes it.
 abbrev pub definer_among : List File → List ℕ → Option Place
 definer_among [] name = None
 definer_among (file ∷ files) name = option_or (place_in_file file name) (definer_among files name)

@@ -1,11 +1,15 @@
--- Where a relocated field of an object leads: to a section and an offset in it, in the object itself or in one
--- that defines the symbol. Addends and values of symbols count, and no name of a symbol says what it is for.
-use Rattle.std.specs.Prelude.{ℕ, ◌+◌, ◌%◌, ◌^◌, ◌==◌, List, [], ◌∷◌, Option, None, Some, bytes_eq, drop, if◌then◌else◌}
+-- Where a relocated field of an object leads: to a section and an offset in it, in the object
+-- itself or in one that defines the symbol. Addends and values of symbols count, and no name of a
+-- symbol says what it is for.
+use Rattle.std.specs.Prelude.{ℕ, ◌+◌, ◌%◌, ◌^◌, ◌==◌, List, [], ◌∷◌, Option, None, Some, bytes_eq}
+use Rattle.std.specs.Prelude.{drop, if◌then◌else◌}
 use Rattle.std.specs.List.{find}
 use Rattle.std.specs.Option.{option_and_then, option_map, option_or}
 use Rattle.implib.specs.declared.coff.object.Relocation.{Relocation}
-use Rattle.implib.specs.Formats.Object.{Entry, Object, ObjectSection, ObjectSymbol, before_nul, bytes_at, u32_at}
-use Rattle.implib.specs.Members.GnuReader.{defines, section_named, section_of_symbol, symbol_at, symbol_in}
+use Rattle.implib.specs.Formats.Object.{Entry, Object, ObjectSection, ObjectSymbol, before_nul}
+use Rattle.implib.specs.Formats.Object.{bytes_at, u32_at}
+use Rattle.implib.specs.Members.GnuReader.{defines, section_named, section_of_symbol, symbol_at}
+use Rattle.implib.specs.Members.GnuReader.{symbol_in}
 
 -- a symbol, and the object that it is of
 pub record Place : Type 0 where
@@ -21,7 +25,8 @@ pub record Spot : Type 0 where
 -- the place of the symbol that an entry is, where it defines the external of a name
 abbrev pub place_by_entry : Object → List ℕ → Entry → Option Place
 place_by_entry o name e =
-    if defines name e then option_map (λ s. record { object = o; symbol = s }) (symbol_in e) else None
+    if defines name e then option_map (λ s. record { object = o; symbol = s }) (symbol_in e)
+    else None
 
 -- the first place among entries that define the external of a name
 abbrev pub place_among : Object → List ℕ → List Entry → Option Place
@@ -30,12 +35,17 @@ place_among o name (e ∷ es) = option_or (place_by_entry o name e) (place_among
 
 -- where a symbol of an object is: where it is defined if the object does not define it
 abbrev pub resolved : (List ℕ → Option Place) → Object → ObjectSymbol → Option Place
-resolved defined o s = if s.section == 0 then defined s.name else Some (record { object = o; symbol = s })
+resolved defined o s =
+    if s.section == 0 then defined s.name else Some (record { object = o; symbol = s })
 
 -- the spot of a place, an addend further; addresses have 32 bits
 abbrev pub spot_of : ℕ → Place → Option Spot
 spot_of addend p = option_map
-    (λ section. record { object = p.object; section = section; offset = (p.symbol.value + addend) % (2 ^ 32) })
+    (λ section. record {
+      object = p.object;
+      section = section;
+      offset = (p.symbol.value + addend) % (2 ^ 32);
+    })
     (section_of_symbol p.object p.symbol)
 
 -- the relocation of the field at an offset
@@ -52,7 +62,8 @@ pointed_by defined at r = option_and_then
 
 -- where the field at a spot leads
 unfoldable pub pointed : (List ℕ → Option Place) → Spot → Option Spot
-pointed defined at = option_and_then (pointed_by defined at) (relocation_of_field at.offset at.section)
+pointed defined at =
+    option_and_then (pointed_by defined at) (relocation_of_field at.offset at.section)
 
 -- the text at a spot, ended by a NUL
 abbrev pub text_at : Spot → Option (List ℕ)
@@ -68,4 +79,5 @@ further n at = record at { offset = at.offset + n }
 
 -- the begin of an object's first section of a name
 abbrev pub begin_of : List ℕ → Object → Option Spot
-begin_of name o = option_map (λ section. record { object = o; section = section; offset = 0 }) (section_named o name)
+begin_of name o = option_map (λ section. record { object = o; section = section; offset = 0 })
+    (section_named o name)

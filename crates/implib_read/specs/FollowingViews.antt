@@ -14,8 +14,13 @@ abbrev pub place_view : PlaceFound → Place
 place_view p = record { object = object_view p.object.now; symbol = symbol_view p.symbol }
 
 abbrev pub spot_view : SpotFound → Spot
-spot_view s = record { object = object_view s.object.now; section = section_view s.section; offset = s.offset }
+spot_view s = record {
+  object = object_view s.object.now;
+  section = section_view s.section;
+  offset = s.offset;
+}
 
 -- where a map has the external of a name
-abbrev pub places_of : HashMap (Bor (List ℕ)) PlaceFound (BuildHasherDefault FoldHasher) → List ℕ → Option Place
+abbrev pub places_of : HashMap (Bor (List ℕ)) PlaceFound (BuildHasherDefault FoldHasher) → List ℕ →
+    Option Place
 places_of places name = option_map place_view (get_by (λ k. bytes_eq name k.now) places)

@@ -14,7 +14,9 @@ ask_view (Ordinal ordinal) = ByOrdinal ordinal
 abbrev pub declared_view : DeclaredFound → List (List ℕ)
 declared_view (OfName name is_data) = import_symbols is_data name.now
 declared_view (OfArm64ec symbols) = map (λ s. s.items) symbols.items
-declared_view (OfObject addresses code) = map (λ t. t.now) addresses.items ++ map (λ t. t.now) code.items
+declared_view (OfObject addresses code) =
+    map (λ t. t.now) addresses.items ++ map (λ t. t.now) code.items
 
 abbrev pub import_view : ImportFound → Import
-import_view i = record { dll = i.dll.now; declared = declared_view i.declared; ask = ask_view i.ask }
+import_view i =
+    record { dll = i.dll.now; declared = declared_view i.declared; ask = ask_view i.ask }

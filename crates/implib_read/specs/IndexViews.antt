@@ -8,4 +8,5 @@ abbrev pub index_entry_view : IndexEntry → SeenEntry
 index_entry_view e = record { symbol = e.symbol.now; place = e.place }
 
 abbrev pub second_index_view : SecondIndex → SeenIndex
-second_index_view i = record { offsets = i.offsets.now; entries = map index_entry_view i.entries.items }
+second_index_view i =
+    record { offsets = i.offsets.now; entries = map index_entry_view i.entries.items }

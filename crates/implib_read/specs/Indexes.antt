@@ -1,13 +1,15 @@
--- The indexes of an archive (PE/COFF specification, "First Linker Member" and "Second Linker Member"; the first is
--- the index of the common archive format too). Counts are believed as far as there are bytes for them.
-use Rattle.std.specs.Prelude.{ℕ, zero, suc, ◌+◌, ◌*◌, Bool, true, false, List, [], ◌∷◌, Option, None, Some, drop, take}
+-- The indexes of an archive (PE/COFF specification, "First Linker Member" and "Second Linker
+-- Member"; the first is the index of the common archive format too). Counts are believed as far as
+-- there are bytes for them.
+use Rattle.std.specs.Prelude.{ℕ, zero, suc, ◌+◌, ◌*◌, Bool, true, false, List, [], ◌∷◌, Option}
+use Rattle.std.specs.Prelude.{None, Some, drop, take}
 use Rattle.std.specs.Int.{from_be_bytes, w32}
 use Rattle.std.specs.Option.{option_and_then, option_map}
 use Rattle.implib.specs.Formats.Object.{bytes_at, u16_at, u32_at}
 use Rattle.implib.specs.Formats.ShortImport.{text_in}
 
--- an entry: a symbol, and in the first index the offset of the header of its member, in the second and in that of
--- ARM64EC the number of that among the second's offsets, from 1
+-- an entry: a symbol, and in the first index the offset of the header of its member, in the second
+-- and in that of ARM64EC the number of that among the second's offsets, from 1
 pub record IndexEntry : Type 0 where
   pub symbol : List ℕ
   pub place : ℕ
@@ -34,10 +36,12 @@ entries_from second (suc count) places symbols = option_and_then
 -- the entries whose places and then symbols begin at an offset
 abbrev pub entries_behind : Bool → ℕ → ℕ → List ℕ → Option (List IndexEntry)
 entries_behind second count offset contents = option_and_then
-    (λ places. entries_from second count places (drop (offset + place_size second * count) contents))
+    (λ places. entries_from second count places
+    (drop (offset + place_size second * count) contents))
     (bytes_at contents offset (place_size second * count))
 
--- The entries of the first linker member. For example, `00 00 00 01 00 00 00 48 66 00` leads `f` to 0x48.
+-- The entries of the first linker member. For example, `00 00 00 01 00 00 00 48 66 00` leads `f` to
+-- 0x48.
 unfoldable pub first_index_in : List ℕ → Option (List IndexEntry)
 first_index_in contents = option_and_then
     (λ count. entries_behind false (from_be_bytes w32 (take 4 count)) 4 contents)
@@ -67,10 +71,13 @@ second_index_in contents = option_and_then
 -- the offset of a number among the offsets of the second linker member; numbers count from 1
 abbrev pub offset_numbered : List ℕ → ℕ → Option ℕ
 offset_numbered offsets zero = None
-offset_numbered offsets (suc n) = option_map (λ offset. u32_at offset 0) (bytes_at offsets (4 * n) 4)
+offset_numbered offsets (suc n) =
+    option_map (λ offset. u32_at offset 0) (bytes_at offsets (4 * n) 4)
 
--- The entries of the EC index: symbols of ARM64EC's members, with numbers among the offsets of the second linker member.
+-- The entries of the EC index: symbols of ARM64EC's members, with numbers among the offsets of the
+-- second linker member.
 -- For example, `01 00 00 00 04 00 23 66 00` gives `#f` the number 4.
 unfoldable pub ec_entries_in : List ℕ → Option (List IndexEntry)
 ec_entries_in contents =
-    option_and_then (λ count. entries_behind true (u32_at count 0) 4 contents) (bytes_at contents 0 4)
+    option_and_then (λ count. entries_behind true (u32_at count 0) 4 contents)
+    (bytes_at contents 0 4)

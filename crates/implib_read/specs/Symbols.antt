@@ -1,5 +1,6 @@
 -- The symbol by which an import is linked.
-use Rattle.std.specs.Prelude.{◌≡◌, ℕ, Bool, List, [], ◌∷◌, Option, None, Some, bytes_eq, codes, drop, if◌then◌else◌, take}
+use Rattle.std.specs.Prelude.{◌≡◌, ℕ, Bool, List, [], ◌∷◌, Option, None, Some, bytes_eq, codes}
+use Rattle.std.specs.Prelude.{drop, if◌then◌else◌, take}
 use Rattle.std.specs.List.{find}
 
 -- a symbol without `__imp_`
@@ -16,8 +17,9 @@ linked_by (Some address) declared = drop 6 address
 linked_by None [] = []
 linked_by None (first ∷ more) = first
 
--- The symbol by which an import is linked: the first that it declares with `__imp_`, which is that of its address,
--- without that. For example, GNU dlltool's `-C` has `___impplain` before `__imp_plain`, which is linked by plain.
+-- The symbol by which an import is linked: the first that it declares with `__imp_`, which is that
+-- of its address, without that. For example, GNU dlltool's `-C` has `___impplain` before
+-- `__imp_plain`, which is linked by plain.
 abbrev pub linked_symbol : List (List ℕ) → List ℕ
 linked_symbol declared = linked_by (find begins_imp declared) declared
 
@@ -26,10 +28,13 @@ pub record WorkedSymbols : Type 0 where
   pub code : linked_symbol (codes "__imp_bar" ∷ codes "bar" ∷ []) ≡ codes "bar"
   pub address : linked_symbol (codes "__imp__baz@4" ∷ []) ≡ codes "_baz@4"
   pub other_name : linked_symbol (codes "__bar" ∷ []) ≡ codes "__bar"
-  pub first_of_several : linked_symbol (codes "__imp_one" ∷ codes "__imp_two" ∷ codes "three" ∷ []) ≡ codes "one"
+  pub first_of_several : linked_symbol (codes "__imp_one" ∷ codes "__imp_two" ∷ codes "three" ∷ [])
+      ≡ codes "one"
   pub prefix_alone : linked_symbol (codes "__imp_" ∷ []) ≡ []
   pub prefix_once : linked_symbol (codes "__imp___imp_bar" ∷ []) ≡ codes "__imp_bar"
-  pub older_first : linked_symbol (codes "___impplain" ∷ codes "__imp_plain" ∷ codes "plain" ∷ []) ≡ codes "plain"
+  pub older_first : linked_symbol (codes "___impplain" ∷ codes "__imp_plain" ∷ codes "plain" ∷ [])
+      ≡ codes "plain"
   pub older_alone : linked_symbol (codes "___impplain" ∷ codes "plain" ∷ []) ≡ codes "___impplain"
-  pub arm64ec : linked_symbol (codes "__imp_f" ∷ codes "f" ∷ codes "__imp_aux_f" ∷ codes "#f" ∷ []) ≡ codes "f"
+  pub arm64ec : linked_symbol (codes "__imp_f" ∷ codes "f" ∷ codes "__imp_aux_f" ∷ codes "#f" ∷ [])
+      ≡ codes "f"
   pub none : linked_symbol [] ≡ []

@@ -1,4 +1,5 @@
--- What is read for ARM64EC, byte by byte: marks of names, short imports, and the entries of an EC index.
+-- What is read for ARM64EC, byte by byte: marks of names, short imports, and the entries of an EC
+-- index.
 use Rattle.std.specs.Prelude.{◌≡◌, ℕ, false, true, List, [], ◌∷◌, ◌++◌, Option, None, Some, codes}
 use Rattle.std.specs.Option.{option_and_then}
 use Rattle.implib.specs.Import.{Ask, Name, Ordinal}
@@ -67,35 +68,49 @@ of_t machine kind declared ask = record {
 -- What short imports of ARM64EC mean.
 pub record WorkedArm64ecImports : Type 0 where
   pub function : imported worked_function
-      ≡ Some (of_t 0xA641 Code (codes "__imp_f" ∷ codes "f" ∷ codes "__imp_aux_f" ∷ codes "#f" ∷ []) (Name (codes "f") 0))
+      ≡ Some (of_t 0xA641 Code (codes "__imp_f" ∷ codes "f" ∷ codes "__imp_aux_f" ∷ codes "#f" ∷ [])
+      (Name (codes "f") 0))
   pub cplusplus : imported worked_cplusplus ≡ Some (of_t 0xA641 Code
-      (codes "__imp_?cpp@@YAHPEAX@Z" ∷ codes "?cpp@@YAHPEAX@Z" ∷ codes "__imp_aux_?cpp@@YAHPEAX@Z" ∷ codes "?cpp@@$$hYAHPEAX@Z" ∷ [])
+      (codes "__imp_?cpp@@YAHPEAX@Z" ∷ codes "?cpp@@YAHPEAX@Z" ∷ codes "__imp_aux_?cpp@@YAHPEAX@Z"
+      ∷ codes "?cpp@@$$hYAHPEAX@Z" ∷ [])
       (Name (codes "?cpp@@YAHPEAX@Z") 0))
   pub ordinal : imported worked_ordinal
-      ≡ Some (of_t 0xA641 Code (codes "__imp_byord" ∷ codes "byord" ∷ codes "__imp_aux_byord" ∷ codes "#byord" ∷ []) (Ordinal 7))
-  pub variable : imported worked_data ≡ Some (of_t 0xA641 Data (codes "__imp_dat" ∷ []) (Name (codes "dat") 0))
+      ≡ Some (of_t 0xA641 Code
+      (codes "__imp_byord" ∷ codes "byord" ∷ codes "__imp_aux_byord" ∷ codes "#byord" ∷ [])
+      (Ordinal 7))
+  pub variable : imported worked_data
+      ≡ Some (of_t 0xA641 Data (codes "__imp_dat" ∷ []) (Name (codes "dat") 0))
   pub constant : imported worked_constant
-      ≡ Some (of_t 0xA641 Const (codes "__imp_con" ∷ codes "con" ∷ codes "__imp_aux_con" ∷ []) (Name (codes "con") 0))
-  -- a text without its mark; the machine ARM64; and marks that a definition writes for a constant and for data
+      ≡ Some (of_t 0xA641 Const (codes "__imp_con" ∷ codes "con" ∷ codes "__imp_aux_con" ∷ [])
+      (Name (codes "con") 0))
+  -- a text without its mark; the machine ARM64; and marks that a definition writes for a constant
+  -- and for data
   pub no_mark : imported (changed 20 0x67 worked_function)
-      ≡ Some (of_t 0xA641 Code (codes "__imp_gf" ∷ codes "gf" ∷ codes "__imp_aux_gf" ∷ []) (Name (codes "f") 0))
+      ≡ Some (of_t 0xA641 Code (codes "__imp_gf" ∷ codes "gf" ∷ codes "__imp_aux_gf" ∷ [])
+      (Name (codes "f") 0))
   pub arm64 : imported (changed 6 0x64 (changed 7 0xAA worked_function))
       ≡ Some (of_t 0xAA64 Code (codes "__imp_#f" ∷ codes "#f" ∷ []) (Name (codes "f") 0))
-  pub marked_constant : arm64ec_symbols 2 (codes "#c") ≡ codes "__imp_c" ∷ codes "c" ∷ codes "__imp_aux_c" ∷ codes "#c" ∷ []
+  pub marked_constant : arm64ec_symbols 2 (codes "#c")
+      ≡ codes "__imp_c" ∷ codes "c" ∷ codes "__imp_aux_c" ∷ codes "#c" ∷ []
   pub marked_data : arm64ec_symbols 1 (codes "#d") ≡ codes "__imp_d" ∷ []
   pub import_type : imported (changed 18 7 worked_constant) ≡ None
 
--- What EC indexes say, and what is none; which part is one; and to which members their symbols ought to lead.
+-- What EC indexes say, and what is none; which part is one; and to which members their symbols
+-- ought to lead.
 pub record WorkedEcIndexes : Type 0 where
   pub one : ec_entries_in (hex "01 00 00 00 04 00 23 66 00") ≡ Some (entry (codes "#f") 4 ∷ [])
-  pub padded : ec_entries_in (hex "01 00 00 00 04 01 23 00 00 00") ≡ Some (entry (codes "#") 260 ∷ [])
+  pub padded : ec_entries_in (hex "01 00 00 00 04 01 23 00 00 00")
+      ≡ Some (entry (codes "#") 260 ∷ [])
   pub none : ec_entries_in (hex "00 00 00 00") ≡ Some []
   pub two : ec_entries_in (hex "02 00 00 00 04 00 23 66 00") ≡ None
   pub no_nul : ec_entries_in (hex "01 00 00 00 04 00 23 66") ≡ None
   pub no_count : ec_entries_in (hex "00 00 00") ≡ None
   -- the part of that name, wherever it is, and of no other name
-  pub there : ec_index_in (part 8 LinkerMember (1 ∷ []) ∷ part 70 (Special (codes "/<ECSYMBOLS>/")) (2 ∷ []) ∷ []) ≡ Some (2 ∷ [])
-  pub other_part : ec_index_in (part 8 (Special (codes "/<XFGHASHMAP>/")) (1 ∷ []) ∷ part 70 (Named (codes "<ECSYMBOLS>")) (2 ∷ []) ∷ []) ≡ None
+  pub there : ec_index_in (part 8 LinkerMember (1 ∷ [])
+      ∷ part 70 (Special (codes "/<ECSYMBOLS>/")) (2 ∷ []) ∷ []) ≡ Some (2 ∷ [])
+  pub other_part : ec_index_in
+      (part 8 (Special (codes "/<XFGHASHMAP>/")) (1 ∷ [])
+      ∷ part 70 (Named (codes "<ECSYMBOLS>")) (2 ∷ []) ∷ []) ≡ None
   -- symbols of import tables, and others
   pub descriptor : is_table_symbol (codes "__IMPORT_DESCRIPTOR_t") ≡ true
   pub null_descriptor : is_table_symbol (codes "__NULL_IMPORT_DESCRIPTOR") ≡ true

@@ -5,7 +5,8 @@ use Rattle.implib_read.specs.Archives.{StoredMember}
 use Rattle.implib_read.specs.Cutting.{Cut, cut_apart, cut_by_short_import}
 use Rattle.implib_read.specs.ShortImports.{short_import_found}
 
--- a short import byte by byte: the low and the high byte of its machine, its types, the size of its texts, and these
+-- a short import byte by byte: the low and the high byte of its machine, its types, the size of its
+-- texts, and these
 abbrev pub short_import : ℕ → ℕ → ℕ → ℕ → List ℕ → List ℕ
 short_import low high types size texts =
     0 ∷ 0 ∷ 0xFF ∷ 0xFF ∷ 0 ∷ 0 ∷ low ∷ high ∷ 0 ∷ 0 ∷ 0 ∷ 0 ∷ size ∷ 0 ∷ 0 ∷ 0 ∷ 7 ∷ 0 ∷ types ∷ 0 ∷ texts
@@ -32,9 +33,12 @@ by_name_on_amd64 = short_import 0x64 0x86 4 10 (codes "__f\0d.dll\0")
 -- Off I386 GNU `ld` leaves an underscore.
 pub record WorkedCuts : Type 0 where
   pub amd64 : cut_in without_prefix_on_amd64 ≡ cut (codes "__f") (codes "_f") (codes "__f")
-  pub one_underscore : cut_in (short_import 0x64 0x86 8 9 (codes "_f\0d.dll\0")) ≡ cut (codes "_f") (codes "f") (codes "_f")
-  pub arm64_undecorated : cut_in (short_import 0x64 0xAA 12 12 (codes "__f@4\0d.dll\0")) ≡ cut (codes "__f@4") (codes "_f") (codes "__f")
-  pub armnt_data : cut_in (short_import 0xC4 1 9 10 (codes "__f\0d.dll\0")) ≡ cut (codes "__f") (codes "_f") (codes "__f")
+  pub one_underscore : cut_in (short_import 0x64 0x86 8 9 (codes "_f\0d.dll\0"))
+      ≡ cut (codes "_f") (codes "f") (codes "_f")
+  pub arm64_undecorated : cut_in (short_import 0x64 0xAA 12 12 (codes "__f@4\0d.dll\0"))
+      ≡ cut (codes "__f@4") (codes "_f") (codes "__f")
+  pub armnt_data : cut_in (short_import 0xC4 1 9 10 (codes "__f\0d.dll\0"))
+      ≡ cut (codes "__f") (codes "_f") (codes "__f")
   -- I386; `?` and `@`, which each linker takes off; no prefix at all
   pub i386 : cut_in (short_import 0x4C 1 8 10 (codes "__f\0d.dll\0")) ≡ None
   pub i386_undecorated : cut_in (short_import 0x4C 1 12 12 (codes "__f@4\0d.dll\0")) ≡ None
@@ -48,5 +52,9 @@ pub record WorkedCuts : Type 0 where
   -- types that have no meaning
   pub no_type : cut_in (short_import 0x64 0x86 11 10 (codes "__f\0d.dll\0")) ≡ None
   -- of members those that are cut apart, with their offsets
-  pub members : cut_apart (at 8 by_name_on_amd64 ∷ at 0x5C without_prefix_on_amd64 ∷ at 0xB0 [] ∷ [])
-      ≡ (at 0x5C without_prefix_on_amd64, record { symbol = codes "__f"; by_lld = codes "_f"; by_gnu = codes "__f" }) ∷ []
+  pub members : cut_apart
+      (at 8 by_name_on_amd64 ∷ at 0x5C without_prefix_on_amd64 ∷ at 0xB0 [] ∷ [])
+      ≡ (
+        at 0x5C without_prefix_on_amd64,
+        record { symbol = codes "__f"; by_lld = codes "_f"; by_gnu = codes "__f" },
+      ) ∷ []

@@ -1,5 +1,6 @@
 -- Short imports and archives byte by byte, and bytes that are none; a library with changed bytes.
-use Rattle.std.specs.Prelude.{◌≡◌, ℕ, ◌+◌, false, true, List, [], ◌∷◌, ◌++◌, Option, None, Some, codes, drop, take}
+use Rattle.std.specs.Prelude.{◌≡◌, ℕ, ◌+◌, false, true, List, [], ◌∷◌, ◌++◌, Option, None, Some}
+use Rattle.std.specs.Prelude.{codes, drop, take}
 use Rattle.std.specs.Option.{option_and_then, option_map}
 use Rattle.implib.specs.Formats.Object.{Entry, ASymbol, Auxiliary}
 use Rattle.implib.specs.Import.{Name, Import}
@@ -8,7 +9,8 @@ use Rattle.implib_read.specs.Archives.{Part, archive_in, parts_in}
 use Rattle.implib_read.specs.Classes.{Class, NotUnderstood, MemberRead, library_in}
 use Rattle.implib_read.specs.Leads.{first_declarer, wrong_entries}
 use Rattle.implib_read.specs.Indexes.{IndexEntry, first_index_in, second_index_in}
-use Rattle.implib_read.specs.MemberNames.{MemberName, Named, NameAt, LinkerMember, LongNamesMember, Special, long_name_of, member_name}
+use Rattle.implib_read.specs.MemberNames.{MemberName, Named, NameAt, LinkerMember, LongNamesMember}
+use Rattle.implib_read.specs.MemberNames.{Special, long_name_of, member_name}
 use Rattle.implib_read.specs.Objects.{have_room, room_in, within_room}
 use Rattle.implib_read.specs.ShortImports.{import_of_found, short_import_found}
 use Rattle.implib_read.specs.WorkedLibraries.{of_foo, worked_ld}
@@ -47,7 +49,8 @@ pub record WorkedShortImports : Type 0 where
   -- a third text by name type 1, and none by name type 4
   pub third_text : short_import_found (changed 18 4 worked_exported) ≡ None
   pub no_third_text : short_import_found (changed 18 16 worked_by_name) ≡ None
-  pub byte_after_third_text : short_import_found (changed 12 0x14 (worked_exported ++ 0 ∷ [])) ≡ None
+  pub byte_after_third_text : short_import_found (changed 12 0x14 (worked_exported ++ 0 ∷ []))
+      ≡ None
   -- a size that is one too small; a byte after; the last NUL missing
   pub size : short_import_found (changed 12 11 worked_by_name) ≡ None
   pub byte_more : short_import_found (worked_by_name ++ 0 ∷ []) ≡ None
@@ -66,16 +69,19 @@ pub record WorkedShortImports : Type 0 where
 abbrev pub symbol_named : List ℕ → Entry
 symbol_named name = ASymbol (record { name = name; value = 0; section = 0; kind = 0; class = 2 })
 
--- Which names have room: those of sixteen entries, whatever they are, and of more those that are together no longer
--- than the room.
+-- Which names have room: those of sixteen entries, whatever they are, and of more those that are
+-- together no longer than the room.
 pub record WorkedRoom : Type 0 where
   pub room : room_in 10 ≡ 160
   pub sixteenth : have_room 0 15 (symbol_named (codes "abc") ∷ []) ≡ true
   pub seventeenth : have_room 3 16 (symbol_named (codes "abc") ∷ []) ≡ true
   pub too_long : have_room 2 16 (symbol_named (codes "abc") ∷ []) ≡ false
-  pub together : have_room 6 16 (symbol_named (codes "abc") ∷ symbol_named (codes "def") ∷ []) ≡ true
-  pub too_long_together : have_room 5 16 (symbol_named (codes "abc") ∷ symbol_named (codes "def") ∷ []) ≡ false
-  pub first_free : have_room 3 15 (symbol_named (codes "abcd") ∷ symbol_named (codes "def") ∷ []) ≡ true
+  pub together : have_room 6 16 (symbol_named (codes "abc") ∷ symbol_named (codes "def") ∷ [])
+      ≡ true
+  pub too_long_together : have_room 5 16
+      (symbol_named (codes "abc") ∷ symbol_named (codes "def") ∷ []) ≡ false
+  pub first_free : have_room 3 15 (symbol_named (codes "abcd") ∷ symbol_named (codes "def") ∷ [])
+      ≡ true
   pub auxiliary : have_room 0 16 (Auxiliary (codes "abc") ∷ []) ≡ true
   pub none_kept : within_room 0 [] ≡ Some []
 
@@ -99,7 +105,8 @@ part offset name contents = record { offset = offset; name = name; contents = co
 pub record WorkedParts : Type 0 where
   pub empty : parts_in (codes "!<arch>\n") ≡ Some []
   pub unpadded : parts_in worked_unpadded ≡ Some (part 8 (Named (codes "a.o")) (7 ∷ []) ∷ [])
-  pub padded : parts_in (worked_unpadded ++ 10 ∷ []) ≡ Some (part 8 (Named (codes "a.o")) (7 ∷ []) ∷ [])
+  pub padded : parts_in (worked_unpadded ++ 10 ∷ [])
+      ≡ Some (part 8 (Named (codes "a.o")) (7 ∷ []) ∷ [])
   pub no_slash : parts_in worked_no_slash ≡ Some (part 8 (Named (codes "a.o")) (7 ∷ 8 ∷ []) ∷ [])
   pub thin : parts_in (codes "!<thin>\n") ≡ None
   pub cut : parts_in (take 68 worked_unpadded) ≡ None
@@ -116,7 +123,8 @@ pub record WorkedNames : Type 0 where
   pub sym64 : member_name (codes "/SYM64/         ") ≡ Special (codes "/SYM64/")
   pub whole_field : member_name (codes "sixteen_bytes.ob") ≡ Named (codes "sixteen_bytes.ob")
   pub by_line_end : long_name_of (codes "a_long_name.o/\nb.o/\n") ≡ codes "a_long_name.o"
-  pub by_nul : long_name_of (codes "dir/a_long_name.obj" ++ 0 ∷ codes "b.obj") ≡ codes "dir/a_long_name.obj"
+  pub by_nul : long_name_of (codes "dir/a_long_name.obj" ++ 0 ∷ codes "b.obj")
+      ≡ codes "dir/a_long_name.obj"
 
 -- the class of the last member
 abbrev pub last_class : List MemberRead → Option Class
@@ -130,9 +138,12 @@ last_class_in bytes = option_and_then last_class (library_in bytes)
 
 -- What GNU ld's object of bar means with changed bytes: fields lead further by what they hold.
 pub record WorkedChanges : Type 0 where
-  pub as_it_is : last_class_in worked_ld ≡ Some (of_foo CodeOrConst (codes "__imp_bar" ∷ codes "bar" ∷ []) (Name (codes "bar") 3))
-  -- the address table's entry holds 1, and leads one further: to a hint of which the first byte of the name is a part
-  pub addend : last_class_in (changed 1642 1 worked_ld) ≡ Some (of_foo CodeOrConst (codes "__imp_bar" ∷ codes "bar" ∷ []) (Name (codes "ar") 0x6200))
+  pub as_it_is : last_class_in worked_ld
+      ≡ Some (of_foo CodeOrConst (codes "__imp_bar" ∷ codes "bar" ∷ []) (Name (codes "bar") 3))
+  -- the address table's entry holds 1, and leads one further: to a hint of which the first byte of
+  -- the name is a part
+  pub addend : last_class_in (changed 1642 1 worked_ld)
+      ≡ Some (of_foo CodeOrConst (codes "__imp_bar" ∷ codes "bar" ∷ []) (Name (codes "ar") 0x6200))
   -- `.idata$7` leads beside the descriptor
   pub no_descriptor : last_class_in (changed 1638 4 worked_ld) ≡ Some NotUnderstood
 
@@ -178,7 +189,8 @@ pub record WorkedIndexes : Type 0 where
       ∷ entry (codes "\u{7f}foo_NULL_THUNK_DATA") 3 ∷ []
       )
   pub offsets : option_map (λ i. i.offsets) (second_index_in worked_second_index) ≡ Some (hex "ac 01 00 00 4e 03 00 00 0a 04 00 00 e6 04 00 00 42 05 00 00 9e 05 00 00")
-  pub one : first_index_in (hex "00 00 00 01 00 00 00 48 66 00") ≡ Some (entry (codes "f") 0x48 ∷ [])
+  pub one : first_index_in (hex "00 00 00 01 00 00 00 48 66 00")
+      ≡ Some (entry (codes "f") 0x48 ∷ [])
   -- a count that is too high, and the largest one; a symbol without its NUL; no count
   pub two : first_index_in (hex "00 00 00 02 00 00 00 48 66 00") ≡ None
   pub most : first_index_in (hex "ff ff ff ff 00 00 00 48 66 00") ≡ None
@@ -230,7 +242,8 @@ first_contents (p ∷ parts) = p.contents
 -- the wrong entries of an archive's first part
 abbrev pub wrong_in : List ℕ → Option (List IndexEntry)
 wrong_in bytes = option_and_then
-    (λ a. option_map (wrong_entries (first_declarer a.members)) (first_index_in (first_contents a.parts)))
+    (λ a. option_map (wrong_entries (first_declarer a.members))
+    (first_index_in (first_contents a.parts)))
     (archive_in bytes)
 
 -- Where indexes lead, and ought to.

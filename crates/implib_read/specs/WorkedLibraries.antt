@@ -1,9 +1,11 @@
--- Libraries of other makers, cut to a few members, with what they mean worked by hand: of GNU ld 2.40 and GNU
--- dlltool 2.40 (binutils), and of llvm-dlltool 19. Beside them changed bytes, and what these mean.
+-- Libraries of other makers, cut to a few members, with what they mean worked by hand: of GNU ld
+-- 2.40 and GNU dlltool 2.40 (binutils), and of llvm-dlltool 19. Beside them changed bytes, and what
+-- these mean.
 use Rattle.std.specs.Prelude.{◌≡◌, ℕ, List, [], ◌∷◌, ◌++◌, Some, codes}
 use Rattle.implib.specs.Import.{Ask, Ordinal, Name}
 use Rattle.implib.specs.Worked.Digits.{hex}
-use Rattle.implib_read.specs.Classes.{Class, AnImport, Descriptor, NullDescriptor, NullThunk, Head, Tail, MemberRead, library_in}
+use Rattle.implib_read.specs.Classes.{Class, AnImport, Descriptor, NullDescriptor, NullThunk, Head}
+use Rattle.implib_read.specs.Classes.{Tail, MemberRead, library_in}
 use Rattle.implib_read.specs.declared.import.ImportKind.{ImportKind}
 use Rattle.implib_read.specs.declared.import.ImportKind.TheVariants.{Code, CodeOrConst, Data}
 
@@ -111,7 +113,8 @@ worked_dlltool =
     ++ hex "07 00 00 00 03 00 62 61 72 00 00 00 00 00 00 00 00 00 01 00 00 00 02 00 00 00 00 00 04 00 00 00 00 00 00 00 05 00 00 00 02 00 00 00 00 00 0e 00"
     ++ hex "00 00 00 00 00 00 00 00 00 00 02 00 1e 00 00 00 5f 5f 69 6d 70 5f 62 61 72 00 5f 68 65 61 64 5f 64 6c 6c 74 6f 6f 6c 5f 61 00"
 
--- what llvm-dlltool writes for bar, for data baz, and for qux by its ordinal 5: 1110 bytes, without indexes
+-- what llvm-dlltool writes for bar, for data baz, and for qux by its ordinal 5: 1110 bytes, without
+-- indexes
 unfoldable pub worked_llvm : List ℕ
 worked_llvm =
     hex "21 3c 61 72 63 68 3e 0a 66 6f 6f 2e 64 6c 6c 2f 20 20 20 20 20 20 20 20 30 20 20 20 20 20 20 20 20 20 20 20 30 20 20 20 20 20 30 20 20 20 20 20"
@@ -144,19 +147,24 @@ pub record WorkedLibraries : Type 0 where
   pub ld : library_in worked_ld ≡ Some (
       member (codes "foo_dll_d000004.o") 164 Tail
       ∷ member (codes "foo_dll_d000000.o") 478 Head
-      ∷ member (codes "foo_dll_d000003.o") 850 (of_foo CodeOrConst (codes "__imp_qux" ∷ codes "qux" ∷ []) (Ordinal 5))
-      ∷ member (codes "foo_dll_d000001.o") 1350 (of_foo CodeOrConst (codes "__imp_bar" ∷ codes "bar" ∷ []) (Name (codes "bar") 3)) ∷ []
+      ∷ member (codes "foo_dll_d000003.o") 850
+      (of_foo CodeOrConst (codes "__imp_qux" ∷ codes "qux" ∷ []) (Ordinal 5))
+      ∷ member (codes "foo_dll_d000001.o") 1350
+      (of_foo CodeOrConst (codes "__imp_bar" ∷ codes "bar" ∷ []) (Name (codes "bar") 3)) ∷ []
       )
   pub dlltool : library_in worked_dlltool ≡ Some (
       member (codes "dlltool_a_t.o") 128 Tail
       ∷ member (codes "dlltool_a_h.o") 764 Head
-      ∷ member (codes "dlltool_a_s00000.o") 1460 (of_foo CodeOrConst (codes "__imp_bar" ∷ codes "bar" ∷ []) (Name (codes "bar") 6)) ∷ []
+      ∷ member (codes "dlltool_a_s00000.o") 1460
+      (of_foo CodeOrConst (codes "__imp_bar" ∷ codes "bar" ∷ []) (Name (codes "bar") 6)) ∷ []
       )
   pub llvm : library_in worked_llvm ≡ Some (
       member (codes "foo.dll") 8 Descriptor
       ∷ member (codes "foo.dll") 426 NullDescriptor
       ∷ member (codes "foo.dll") 614 NullThunk
-      ∷ member (codes "foo.dll") 834 (of_foo Code (codes "__imp_bar" ∷ codes "bar" ∷ []) (Name (codes "bar") 0))
+      ∷ member (codes "foo.dll") 834
+      (of_foo Code (codes "__imp_bar" ∷ codes "bar" ∷ []) (Name (codes "bar") 0))
       ∷ member (codes "foo.dll") 926 (of_foo Data (codes "__imp_baz" ∷ []) (Name (codes "baz") 0))
-      ∷ member (codes "foo.dll") 1018 (of_foo Code (codes "__imp_qux" ∷ codes "qux" ∷ []) (Ordinal 5)) ∷ []
+      ∷ member (codes "foo.dll") 1018
+      (of_foo Code (codes "__imp_qux" ∷ codes "qux" ∷ []) (Ordinal 5)) ∷ []
       )

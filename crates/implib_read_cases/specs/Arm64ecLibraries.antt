@@ -1,5 +1,5 @@
--- Libraries for ARM64EC of llvm-dlltool 19, with what they mean worked by hand from what `llvm-nm` and `llvm-readobj` show
--- of their members, and changed bytes beside them.
+-- Libraries for ARM64EC of llvm-dlltool 19, with what they mean worked by hand from what `llvm-nm`
+-- and `llvm-readobj` show of their members, and changed bytes beside them.
 use Rattle.std.specs.Prelude.{◌≡◌, ℕ, List, [], ◌∷◌, ◌++◌, Some, codes}
 use Rattle.std.specs.Option.{option_and_then}
 use Rattle.implib.specs.Import.{Name, Ordinal}
@@ -68,12 +68,27 @@ pub record WorkedArm64ec : Type 0 where
       member (codes "t.dll") 742 Descriptor
       ∷ member (codes "t.dll") 1154 NullDescriptor
       ∷ member (codes "t.dll") 1342 NullThunk
-      ∷ member (codes "t.dll") 1560 (AnImport (of_t 0xA641 Code (codes "__imp_func" ∷ codes "func" ∷ codes "__imp_aux_func" ∷ codes "#func" ∷ []) (Name (codes "func") 0)))
-      ∷ member (codes "t.dll") 1658 (AnImport (of_t 0xA641 Code (codes "__imp_?cpp@@YAHPEAX@Z" ∷ codes "?cpp@@YAHPEAX@Z" ∷ codes "__imp_aux_?cpp@@YAHPEAX@Z" ∷ codes "?cpp@@$$hYAHPEAX@Z" ∷ []) (Name (codes "?cpp@@YAHPEAX@Z") 0)))
-      ∷ member (codes "t.dll") 1780 (AnImport (of_t 0xA641 Code (codes "__imp_byord" ∷ codes "byord" ∷ codes "__imp_aux_byord" ∷ codes "#byord" ∷ []) (Ordinal 7)))
-      ∷ member (codes "t.dll") 1874 (AnImport (of_t 0xA641 Code (codes "__imp_alias" ∷ codes "alias" ∷ codes "__imp_aux_alias" ∷ codes "#alias" ∷ []) (Name (codes "target") 0)))
-      ∷ member (codes "t.dll") 1974 (AnImport (of_t 0xA641 Data (codes "__imp_dat" ∷ []) (Name (codes "dat") 0)))
-      ∷ member (codes "t.dll") 2064 (AnImport (of_t 0xA641 Const (codes "__imp_con" ∷ codes "con" ∷ codes "__imp_aux_con" ∷ []) (Name (codes "con") 0))) ∷ []
+      ∷ member (codes "t.dll") 1560
+      (AnImport (of_t 0xA641 Code
+      (codes "__imp_func" ∷ codes "func" ∷ codes "__imp_aux_func" ∷ codes "#func" ∷ [])
+      (Name (codes "func") 0)))
+      ∷ member (codes "t.dll") 1658
+      (AnImport (of_t 0xA641 Code
+      (codes "__imp_?cpp@@YAHPEAX@Z" ∷ codes "?cpp@@YAHPEAX@Z" ∷ codes "__imp_aux_?cpp@@YAHPEAX@Z"
+      ∷ codes "?cpp@@$$hYAHPEAX@Z" ∷ []) (Name (codes "?cpp@@YAHPEAX@Z") 0)))
+      ∷ member (codes "t.dll") 1780
+      (AnImport (of_t 0xA641 Code
+      (codes "__imp_byord" ∷ codes "byord" ∷ codes "__imp_aux_byord" ∷ codes "#byord" ∷ [])
+      (Ordinal 7)))
+      ∷ member (codes "t.dll") 1874
+      (AnImport (of_t 0xA641 Code
+      (codes "__imp_alias" ∷ codes "alias" ∷ codes "__imp_aux_alias" ∷ codes "#alias" ∷ [])
+      (Name (codes "target") 0)))
+      ∷ member (codes "t.dll") 1974
+      (AnImport (of_t 0xA641 Data (codes "__imp_dat" ∷ []) (Name (codes "dat") 0)))
+      ∷ member (codes "t.dll") 2064
+      (AnImport (of_t 0xA641 Const (codes "__imp_con" ∷ codes "con" ∷ codes "__imp_aux_con" ∷ [])
+      (Name (codes "con") 0))) ∷ []
       )
 
 -- f and the data d, and of a native definition f, g and the data h
@@ -125,14 +140,21 @@ pub record WorkedNative : Type 0 where
       member (codes "t.dll") 588 Descriptor
       ∷ member (codes "t.dll") 1000 NullDescriptor
       ∷ member (codes "t.dll") 1188 NullThunk
-      ∷ member (codes "t.dll") 1406 (AnImport (of_t 0xA641 Code (codes "__imp_f" ∷ codes "f" ∷ codes "__imp_aux_f" ∷ codes "#f" ∷ []) (Name (codes "f") 0)))
-      ∷ member (codes "t.dll") 1498 (AnImport (of_t 0xA641 Data (codes "__imp_d" ∷ []) (Name (codes "d") 0)))
-      ∷ member (codes "t.dll") 1586 (AnImport (of_t 0xAA64 Code (codes "__imp_f" ∷ codes "f" ∷ []) (Name (codes "f") 0)))
-      ∷ member (codes "t.dll") 1674 (AnImport (of_t 0xAA64 Code (codes "__imp_g" ∷ codes "g" ∷ []) (Name (codes "g") 0)))
-      ∷ member (codes "t.dll") 1762 (AnImport (of_t 0xAA64 Data (codes "__imp_h" ∷ []) (Name (codes "h") 0))) ∷ []
+      ∷ member (codes "t.dll") 1406
+      (AnImport (of_t 0xA641 Code
+      (codes "__imp_f" ∷ codes "f" ∷ codes "__imp_aux_f" ∷ codes "#f" ∷ []) (Name (codes "f") 0)))
+      ∷ member (codes "t.dll") 1498
+      (AnImport (of_t 0xA641 Data (codes "__imp_d" ∷ []) (Name (codes "d") 0)))
+      ∷ member (codes "t.dll") 1586
+      (AnImport (of_t 0xAA64 Code (codes "__imp_f" ∷ codes "f" ∷ []) (Name (codes "f") 0)))
+      ∷ member (codes "t.dll") 1674
+      (AnImport (of_t 0xAA64 Code (codes "__imp_g" ∷ codes "g" ∷ []) (Name (codes "g") 0)))
+      ∷ member (codes "t.dll") 1762
+      (AnImport (of_t 0xAA64 Data (codes "__imp_h" ∷ []) (Name (codes "h") 0))) ∷ []
       )
   -- the EC index has no symbol of the native members, by the numbers of the members
-  pub index : option_and_then (λ a. option_and_then ec_entries_in (ec_index_in a.parts)) (archive_in worked_native) ≡ Some (
+  pub index : option_and_then (λ a. option_and_then ec_entries_in (ec_index_in a.parts))
+      (archive_in worked_native) ≡ Some (
       entry (codes "#f") 4
       ∷ entry (codes "__IMPORT_DESCRIPTOR_t") 1
       ∷ entry (codes "__NULL_IMPORT_DESCRIPTOR") 2
@@ -143,10 +165,12 @@ pub record WorkedNative : Type 0 where
       ∷ entry (codes "\u{7f}t_NULL_THUNK_DATA") 3 ∷ []
       )
   -- the first import is of ARM64, and d is a constant
-  pub near : classes_in (changed 1472 0x64 (changed 1473 0xaa (changed 1576 6 worked_native))) ≡ Some (
+  pub near : classes_in (changed 1472 0x64 (changed 1473 0xaa (changed 1576 6 worked_native)))
+      ≡ Some (
       Descriptor ∷ NullDescriptor ∷ NullThunk
       ∷ AnImport (of_t 0xAA64 Code (codes "__imp_#f" ∷ codes "#f" ∷ []) (Name (codes "f") 0))
-      ∷ AnImport (of_t 0xA641 Const (codes "__imp_d" ∷ codes "d" ∷ codes "__imp_aux_d" ∷ []) (Name (codes "d") 0))
+      ∷ AnImport (of_t 0xA641 Const (codes "__imp_d" ∷ codes "d" ∷ codes "__imp_aux_d" ∷ [])
+      (Name (codes "d") 0))
       ∷ AnImport (of_t 0xAA64 Code (codes "__imp_f" ∷ codes "f" ∷ []) (Name (codes "f") 0))
       ∷ AnImport (of_t 0xAA64 Code (codes "__imp_g" ∷ codes "g" ∷ []) (Name (codes "g") 0))
       ∷ AnImport (of_t 0xAA64 Data (codes "__imp_h" ∷ []) (Name (codes "h") 0)) ∷ []

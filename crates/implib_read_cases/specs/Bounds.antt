@@ -3,14 +3,16 @@ use Rattle.std.specs.Prelude.{◌≡◌, ℕ, List, [], ◌∷◌, ◌++◌, fal
 use Rattle.implib.specs.declared.coff.object.Relocation.{Relocation}
 use Rattle.implib.specs.Formats.Object.{ObjectSection}
 use Rattle.implib.specs.Import.{Ordinal}
-use Rattle.implib_read.specs.Classes.{DelayImport, Descriptor, Head, NotUnderstood, NullThunk, Tail, class_of_descriptor, class_of_thunks, kind_of_type}
+use Rattle.implib_read.specs.Classes.{DelayImport, Descriptor, Head, NotUnderstood, NullThunk, Tail}
+use Rattle.implib_read.specs.Classes.{class_of_descriptor, class_of_thunks, kind_of_type}
 use Rattle.implib_read.specs.Imports.{ordinal_in}
 use Rattle.implib_read.specs.MemberNames.{long_name_of}
 use Rattle.implib_read.specs.declared.import.ImportKind.TheVariants.{Code, Const, Data}
 
 -- a section with these bytes and relocations
 abbrev pub section_of : List ℕ → List Relocation → ObjectSection
-section_of bytes relocations = record { name = codes ".idata$7"; flags = 0; bytes = bytes; relocations = relocations }
+section_of bytes relocations =
+    record { name = codes ".idata$7"; flags = 0; bytes = bytes; relocations = relocations }
 
 -- one relocation
 abbrev pub one_relocation : List Relocation
@@ -25,7 +27,8 @@ pub record WorkedBounds : Type 0 where
   pub four_bytes : ordinal_in (7 ∷ 1 ∷ 0 ∷ 0x80 ∷ []) ≡ Some (Ordinal 263)
   pub eight_bytes : ordinal_in (7 ∷ 1 ∷ 0 ∷ 0 ∷ 0 ∷ 0 ∷ 0 ∷ 0x80 ∷ []) ≡ Some (Ordinal 263)
   pub no_top_bit : ordinal_in (7 ∷ 1 ∷ 0 ∷ 0x7F ∷ []) ≡ None
-  -- an object with `.idata$5`, by its `.idata$7`: none, an empty one, a text, one that leads elsewhere
+  -- an object with `.idata$5`, by its `.idata$7`: none, an empty one, a text, one that leads
+  -- elsewhere
   pub no_names : class_of_thunks None ≡ NullThunk
   pub empty_names : class_of_thunks (Some (section_of [] [])) ≡ DelayImport
   pub empty_that_leads : class_of_thunks (Some (section_of [] one_relocation)) ≡ DelayImport

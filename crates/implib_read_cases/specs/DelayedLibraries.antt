@@ -1,6 +1,7 @@
--- Libraries of delayed imports, with what they mean worked by hand from what `objdump` shows of their members: of GNU
--- dlltool 2.40, of `implib_dlltool -y`, and one in the form of GNU dlltool 2.46 and later, which was put together by hand
--- from that form's tables. Beside them changed bytes, and what these mean.
+-- Libraries of delayed imports, with what they mean worked by hand from what `objdump` shows of
+-- their members: of GNU dlltool 2.40, of `implib_dlltool -y`, and one in the form of GNU dlltool
+-- 2.46 and later, which was put together by hand from that form's tables. Beside them changed
+-- bytes, and what these mean.
 use Rattle.std.specs.Prelude.{◌≡◌, ℕ, List, [], ◌∷◌, ◌++◌, Some, codes}
 use Rattle.implib.specs.Import.{Ask, Ordinal, Name}
 use Rattle.implib.specs.Worked.Digits.{hex}
@@ -31,7 +32,8 @@ bar32 = codes "__imp__bar" ∷ codes "_bar" ∷ []
 abbrev pub qux32 : List (List ℕ)
 qux32 = codes "__imp__qux" ∷ codes "_qux" ∷ []
 
--- What `x86_64-w64-mingw32-dlltool -d foo.def -y foo64.a -t foo64_` writes for bar, and for qux by its ordinal 5, whole:
+-- What `x86_64-w64-mingw32-dlltool -d foo.def -y foo64.a -t foo64_` writes for bar, and for qux by
+-- its ordinal 5, whole:
 -- 3436 bytes.
 unfoldable pub worked_dlltool64 : List ℕ
 worked_dlltool64 =
@@ -141,7 +143,8 @@ pub record WorkedDlltool64 : Type 0 where
       ∷ of_foo Delayed bar (Name (codes "bar") 6) ∷ []
       )
 
--- What `i686-w64-mingw32-dlltool -d foo.def -y foo32.a -t foo32_` writes for the same, whole: 3136 bytes.
+-- What `i686-w64-mingw32-dlltool -d foo.def -y foo32.a -t foo32_` writes for the same, whole: 3136
+-- bytes.
 unfoldable pub worked_dlltool32 : List ℕ
 worked_dlltool32 =
     hex "21 3c 61 72 63 68 3e 0a 2f 20 20 20 20 20 20 20 20 20 20 20 20 20 20 20 30 20 20 20 20 20 20 20 20 20 20 20 30 20 20 20 20 20 30 20 20 20 20 20"
@@ -217,14 +220,16 @@ pub record WorkedDlltool32 : Type 0 where
       member (codes "foo32_t.o") 204 Tail
       ∷ member (codes "foo32_h.o") 830 Head
       ∷ member (codes "foo32_s00001.o") 1838 (delayed_of (codes "foo.dll") 0x14C qux32 (Ordinal 5))
-      ∷ member (codes "foo32_s00000.o") 2478 (delayed_of (codes "foo.dll") 0x14C bar32 (Name (codes "bar") 6)) ∷ []
+      ∷ member (codes "foo32_s00000.o") 2478
+      (delayed_of (codes "foo.dll") 0x14C bar32 (Name (codes "bar") 6)) ∷ []
       )
   -- the last jump is relocated where AMD64's would be
   pub no_jump : classes_in (changed 2890 14 worked_dlltool32) ≡ Some (
       Tail ∷ Head ∷ delayed_of (codes "foo.dll") 0x14C qux32 (Ordinal 5) ∷ DelayImport ∷ []
       )
 
--- The same in the form of GNU dlltool 2.46 and later, without an index, put together by hand: 2716 bytes.
+-- The same in the form of GNU dlltool 2.46 and later, without an index, put together by hand: 2716
+-- bytes.
 unfoldable pub worked_later : List ℕ
 worked_later =
     hex "21 3c 61 72 63 68 3e 0a 6c 5f 61 5f 74 2e 6f 2f 20 20 20 20 20 20 20 20 30 20 20 20 20 20 20 20 20 20 20 20 30 20 20 20 20 20 30 20 20 20 20 20"
@@ -299,7 +304,8 @@ pub record WorkedLater : Type 0 where
       )
   -- the tail's name is in `.didat$6`
   pub no_tail : classes_in (changed 295 0x36 worked_later) ≡ Some (
-      DelayImport ∷ Head ∷ of_foo Delayed qux (Ordinal 5) ∷ of_foo Delayed bar (Name (codes "bar") 0) ∷ []
+      DelayImport ∷ Head ∷ of_foo Delayed qux (Ordinal 5)
+      ∷ of_foo Delayed bar (Name (codes "bar") 0) ∷ []
       )
 
 -- What `implib_dlltool -y` writes for the same with `-m i386:x86-64`, whole: 2870 bytes.
@@ -369,14 +375,17 @@ worked_own64 =
 -- what it means
 pub record WorkedOwn64 : Type 0 where
   pub members : library_in worked_own64 ≡ Some (
-      member (codes "foo_dll_2f3eb0a65d1206db_d_s00000.o") 434 (delayed_of (codes "foo.dll") 0x8664 bar (Name (codes "bar") 0))
-      ∷ member (codes "foo_dll_2f3eb0a65d1206db_d_s00001.o") 1196 (delayed_of (codes "foo.dll") 0x8664 qux (Ordinal 5))
+      member (codes "foo_dll_2f3eb0a65d1206db_d_s00000.o") 434
+      (delayed_of (codes "foo.dll") 0x8664 bar (Name (codes "bar") 0))
+      ∷ member (codes "foo_dll_2f3eb0a65d1206db_d_s00001.o") 1196
+      (delayed_of (codes "foo.dll") 0x8664 qux (Ordinal 5))
       ∷ member (codes "foo_dll_2f3eb0a65d1206db_d_h.o") 1942 Head
       ∷ member (codes "foo_dll_2f3eb0a65d1206db_d_t.o") 2590 Tail ∷ []
       )
   -- the descriptor of bar leads one byte further, to another name of the DLL
   pub other_dll : classes_in (changed 783 1 worked_own64) ≡ Some (
-      delayed_of (codes "oo.dll") 0x8664 bar (Name (codes "bar") 0) ∷ of_foo Delayed qux (Ordinal 5) ∷ Head ∷ Tail ∷ []
+      delayed_of (codes "oo.dll") 0x8664 bar (Name (codes "bar") 0) ∷ of_foo Delayed qux (Ordinal 5)
+      ∷ Head ∷ Tail ∷ []
       )
   -- the address table of bar's descriptor is its `.didat$4`, or its name table is its `.didat$5`
   pub other_addresses : classes_in (changed 835 7 worked_own64) ≡ Some (
@@ -458,8 +467,10 @@ worked_own32 =
 -- what it means
 pub record WorkedOwn32 : Type 0 where
   pub members : library_in worked_own32 ≡ Some (
-      member (codes "foo_dll_5d8b4c82cd241e48_d_s00000.o") 440 (delayed_of (codes "foo.dll") 0x14C bar32 (Name (codes "bar") 0))
-      ∷ member (codes "foo_dll_5d8b4c82cd241e48_d_s00001.o") 1192 (delayed_of (codes "foo.dll") 0x14C qux32 (Ordinal 5))
+      member (codes "foo_dll_5d8b4c82cd241e48_d_s00000.o") 440
+      (delayed_of (codes "foo.dll") 0x14C bar32 (Name (codes "bar") 0))
+      ∷ member (codes "foo_dll_5d8b4c82cd241e48_d_s00001.o") 1192
+      (delayed_of (codes "foo.dll") 0x14C qux32 (Ordinal 5))
       ∷ member (codes "foo_dll_5d8b4c82cd241e48_d_h.o") 1928 Head
       ∷ member (codes "foo_dll_5d8b4c82cd241e48_d_t.o") 2278 Tail ∷ []
       )

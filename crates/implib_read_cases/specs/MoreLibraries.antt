@@ -1,15 +1,18 @@
--- Libraries of further makers, with what they mean worked by hand from what `llvm-nm`, `llvm-readobj` and `objdump`
--- show of their members: of Microsoft's linker, winebuild 8.0 and rustc 1.95. Beside them changed bytes, and what these
--- mean. There is none of llvm-lib, whose version 19 writes for a definition what llvm-dlltool writes, byte for byte.
+-- Libraries of further makers, with what they mean worked by hand from what `llvm-nm`,
+-- `llvm-readobj` and `objdump` show of their members: of Microsoft's linker, winebuild 8.0 and
+-- rustc 1.95. Beside them changed bytes, and what these mean. There is none of llvm-lib, whose
+-- version 19 writes for a definition what llvm-dlltool writes, byte for byte.
 use Rattle.std.specs.Prelude.{◌≡◌, ℕ, List, [], ◌∷◌, ◌++◌, Option, Some, codes, map}
 use Rattle.std.specs.Option.{option_map}
 use Rattle.implib.specs.Import.{Ask, Ordinal, Name}
 use Rattle.implib.specs.Worked.Digits.{hex}
-use Rattle.implib_read.specs.Classes.{AnImport, Class, Descriptor, Head, NotUnderstood, NullDescriptor, NullThunk, Tail, library_in}
+use Rattle.implib_read.specs.Classes.{AnImport, Class, Descriptor, Head, NotUnderstood}
+use Rattle.implib_read.specs.Classes.{NullDescriptor, NullThunk, Tail, library_in}
 use Rattle.implib_read.specs.WorkedFiles.{changed, wrong_in}
 use Rattle.implib_read.specs.WorkedLibraries.{member, of_foo}
 use Rattle.implib_read.specs.declared.import.ImportKind.{ImportKind}
-use Rattle.implib_read.specs.declared.import.ImportKind.TheVariants.{Code, CodeOrConst, Const, Data, Delayed}
+use Rattle.implib_read.specs.declared.import.ImportKind.TheVariants.{Code, CodeOrConst, Const, Data}
+use Rattle.implib_read.specs.declared.import.ImportKind.TheVariants.{Delayed}
 
 -- what the members of a library are for, in order
 abbrev pub classes_in : List ℕ → Option (List Class)
@@ -32,8 +35,8 @@ of_oo kind declared ask = AnImport (record {
 })
 
 -- What Microsoft's linker wrote of library.dll, whole: 2166 bytes. LLVM's own tests have the file
--- (test/tools/llvm-readobj/COFF/Inputs/library.lib); its objects have a section `.debug$S`, which names their maker
--- "Microsoft (R) LINK".
+-- (test/tools/llvm-readobj/COFF/Inputs/library.lib); its objects have a section `.debug$S`, which
+-- names their maker "Microsoft (R) LINK".
 unfoldable pub worked_microsoft : List ℕ
 worked_microsoft =
     hex "21 3c 61 72 63 68 3e 0a 2f 20 20 20 20 20 20 20 20 20 20 20 20 20 20 20 31 34 37 31 34 39 37 30 32 33 20 20 20 20 20 20 20 20 20 20 20 20 20 20"
@@ -83,31 +86,40 @@ worked_microsoft =
     ++ hex "34 31 20 20 20 20 20 20 20 20 60 0a 00 00 ff ff 00 00 4c 01 3f 43 b5 57 15 00 00 00 04 00 00 00 5f 6f 72 64 69 6e 61 6c 00 6c 69 62 72 61 72 79"
     ++ hex "2e 64 6c 6c 00 0a"
 
--- What it means. `llvm-readobj --coff-imports` shows the same types, names and symbols. The name types are 3, 2, 1
--- and 0, in this order.
+-- What it means. `llvm-readobj --coff-imports` shows the same types, names and symbols. The name
+-- types are 3, 2, 1 and 0, in this order.
 pub record WorkedMicrosoft : Type 0 where
   pub members : library_in worked_microsoft ≡ Some (
       member (codes "library.dll") 560 Descriptor
       ∷ member (codes "library.dll") 1114 NullDescriptor
       ∷ member (codes "library.dll") 1424 NullThunk
-      ∷ member (codes "library.dll") 1762 (of_library Const (codes "__imp__constant" ∷ codes "_constant" ∷ []) (Name (codes "constant") 0))
-      ∷ member (codes "library.dll") 1864 (of_library Data (codes "__imp__data" ∷ []) (Name (codes "data") 1))
-      ∷ member (codes "library.dll") 1962 (of_library Code (codes "__imp__function" ∷ codes "_function" ∷ []) (Name (codes "_function") 2))
-      ∷ member (codes "library.dll") 2064 (of_library Code (codes "__imp__ordinal" ∷ codes "_ordinal" ∷ []) (Ordinal 4)) ∷ []
+      ∷ member (codes "library.dll") 1762
+      (of_library Const (codes "__imp__constant" ∷ codes "_constant" ∷ [])
+      (Name (codes "constant") 0))
+      ∷ member (codes "library.dll") 1864
+      (of_library Data (codes "__imp__data" ∷ []) (Name (codes "data") 1))
+      ∷ member (codes "library.dll") 1962
+      (of_library Code (codes "__imp__function" ∷ codes "_function" ∷ [])
+      (Name (codes "_function") 2))
+      ∷ member (codes "library.dll") 2064
+      (of_library Code (codes "__imp__ordinal" ∷ codes "_ordinal" ∷ []) (Ordinal 4)) ∷ []
       )
   -- the index leads each symbol to the first member that declares it
   pub leads : wrong_in worked_microsoft ≡ Some []
   -- the last name type is 3: it asks for the name without its underscore, with the hint 4
   pub near : classes_in (changed 2142 0x0c worked_microsoft) ≡ Some (
       Descriptor ∷ NullDescriptor ∷ NullThunk
-      ∷ of_library Const (codes "__imp__constant" ∷ codes "_constant" ∷ []) (Name (codes "constant") 0)
+      ∷ of_library Const (codes "__imp__constant" ∷ codes "_constant" ∷ [])
+      (Name (codes "constant") 0)
       ∷ of_library Data (codes "__imp__data" ∷ []) (Name (codes "data") 1)
-      ∷ of_library Code (codes "__imp__function" ∷ codes "_function" ∷ []) (Name (codes "_function") 2)
-      ∷ of_library Code (codes "__imp__ordinal" ∷ codes "_ordinal" ∷ []) (Name (codes "ordinal") 4) ∷ []
+      ∷ of_library Code (codes "__imp__function" ∷ codes "_function" ∷ [])
+      (Name (codes "_function") 2)
+      ∷ of_library Code (codes "__imp__ordinal" ∷ codes "_ordinal" ∷ []) (Name (codes "ordinal") 4)
+      ∷ []
       )
 
--- What `winebuild --implib -b x86_64-w64-mingw32 --without-dlltool --dll-name foo.dll -E foo.spec` writes for
--- `@ cdecl bar()` and `5 cdecl -noname qux()`, whole: 3208 bytes.
+-- What `winebuild --implib -b x86_64-w64-mingw32 --without-dlltool --dll-name foo.dll -E foo.spec`
+-- writes for `@ cdecl bar()` and `5 cdecl -noname qux()`, whole: 3208 bytes.
 unfoldable pub worked_winebuild : List ℕ
 worked_winebuild =
     hex "21 3c 61 72 63 68 3e 0a 2f 20 20 20 20 20 20 20 20 20 20 20 20 20 20 20 30 20 20 20 20 20 20 20 20 20 20 20 30 20 20 20 20 20 30 20 20 20 20 20"
@@ -178,14 +190,16 @@ worked_winebuild =
     ++ hex "01 00 00 00 00 00 00 00 00 00 00 00 00 00 00 00 00 00 04 00 00 00 00 00 00 00 05 00 00 00 02 00 00 00 00 00 0e 00 00 00 00 00 00 00 00 00 00 00"
     ++ hex "02 00 25 00 00 00 5f 5f 69 6d 70 5f 71 75 78 00 5f 5f 77 69 6e 65 5f 69 6d 70 6f 72 74 5f 66 6f 6f 5f 64 65 73 63 00 0a"
 
--- What it means. The head has an empty `.idata$4` and `.idata$5`, and its descriptor leads to the tail for the DLL's
--- name; the tail ends both tables. bar has the hint 0, qux no hint and no name.
+-- What it means. The head has an empty `.idata$4` and `.idata$5`, and its descriptor leads to the
+-- tail for the DLL's name; the tail ends both tables. bar has the hint 0, qux no hint and no name.
 pub record WorkedWinebuild : Type 0 where
   pub members : library_in worked_winebuild ≡ Some (
       member (codes "foo_head-00000001.o") 314 Head
       ∷ member (codes "foo_tail-00000003.o") 986 Tail
-      ∷ member (codes "foo_syms-00000006.o") 1628 (of_foo CodeOrConst (codes "__imp_bar" ∷ codes "bar" ∷ []) (Name (codes "bar") 0))
-      ∷ member (codes "foo_syms-00000007.o") 2470 (of_foo CodeOrConst (codes "__imp_qux" ∷ codes "qux" ∷ []) (Ordinal 5)) ∷ []
+      ∷ member (codes "foo_syms-00000006.o") 1628
+      (of_foo CodeOrConst (codes "__imp_bar" ∷ codes "bar" ∷ []) (Name (codes "bar") 0))
+      ∷ member (codes "foo_syms-00000007.o") 2470
+      (of_foo CodeOrConst (codes "__imp_qux" ∷ codes "qux" ∷ []) (Ordinal 5)) ∷ []
       )
   -- the index leads each symbol to the first member that declares it
   pub leads : wrong_in worked_winebuild ≡ Some []
@@ -202,7 +216,8 @@ pub record WorkedWinebuild : Type 0 where
       ∷ NotUnderstood ∷ []
       )
 
--- What it writes with `-d foo.dll` for `@ cdecl bar()`, whole: 3212 bytes, a library of delayed imports.
+-- What it writes with `-d foo.dll` for `@ cdecl bar()`, whole: 3212 bytes, a library of delayed
+-- imports.
 unfoldable pub worked_delayed : List ℕ
 worked_delayed =
     hex "21 3c 61 72 63 68 3e 0a 2f 20 20 20 20 20 20 20 20 20 20 20 20 20 20 20 30 20 20 20 20 20 20 20 20 20 20 20 30 20 20 20 20 20 30 20 20 20 20 20"
@@ -273,25 +288,29 @@ worked_delayed =
     ++ hex "0e 00 00 00 00 00 00 00 00 00 00 00 02 00 00 00 00 00 24 00 00 00 00 00 00 00 00 00 00 00 02 00 3b 00 00 00 5f 5f 69 6d 70 5f 62 61 72 00 5f 5f"
     ++ hex "77 69 6e 65 5f 64 65 6c 61 79 5f 6c 6f 61 64 5f 66 6f 6f 00 5f 5f 77 69 6e 65 5f 69 6d 70 6f 72 74 5f 66 6f 6f 5f 64 65 73 63 00 0a"
 
--- What it means. The head calls the helper, and its descriptor is in `.data`, where the `.idata$7` of bar leads. The
--- entry of bar leads to its `.text$1`, which calls the helper at last.
+-- What it means. The head calls the helper, and its descriptor is in `.data`, where the `.idata$7`
+-- of bar leads. The entry of bar leads to its `.text$1`, which calls the helper at last.
 pub record WorkedDelayed : Type 0 where
   pub members : library_in worked_delayed ≡ Some (
       member (codes "foo_head-00000001.o") 298 Head
       ∷ member (codes "foo_tail-00000003.o") 1576 Tail
-      ∷ member (codes "foo_syms-00000005.o") 2218 (of_foo Delayed (codes "__imp_bar" ∷ codes "bar" ∷ []) (Name (codes "bar") 0)) ∷ []
+      ∷ member (codes "foo_syms-00000005.o") 2218
+      (of_foo Delayed (codes "__imp_bar" ∷ codes "bar" ∷ []) (Name (codes "bar") 0)) ∷ []
       )
   -- the head's empty `.idata$2` is `.idata$9`: only the end of the tables is left
   pub near : classes_in (changed 665 0x39 worked_delayed) ≡ Some (
-      NullThunk ∷ Tail ∷ of_foo Delayed (codes "__imp_bar" ∷ codes "bar" ∷ []) (Name (codes "bar") 0) ∷ []
+      NullThunk ∷ Tail
+      ∷ of_foo Delayed (codes "__imp_bar" ∷ codes "bar" ∷ []) (Name (codes "bar") 0) ∷ []
       )
   -- the entry of bar leads to the name, and not to code
-  pub no_code : classes_in (changed 2722 16 worked_delayed) ≡ Some (Head ∷ Tail ∷ NotUnderstood ∷ [])
+  pub no_code : classes_in (changed 2722 16 worked_delayed)
+      ≡ Some (Head ∷ Tail ∷ NotUnderstood ∷ [])
 
 -- What `rustc --target x86_64-pc-windows-msvc --crate-type rlib` writes for a block
--- `#[link(name = "foo", kind = "raw-dylib")] extern "C"` of bar, the static baz, and qux with `#[link_ordinal(5)]`: the
--- members foo.dll of the rlib, 1118 bytes without its indexes, its long names, lib.rmeta and the crate's object. Its
--- null descriptor has a symbol with the DLL's name, `__NULL_IMPORT_DESCRIPTOR_foo`.
+-- `#[link(name = "foo", kind = "raw-dylib")] extern "C"` of bar, the static baz, and qux with
+-- `#[link_ordinal(5)]`: the members foo.dll of the rlib, 1118 bytes without its indexes, its long
+-- names, lib.rmeta and the crate's object. Its null descriptor has a symbol with the DLL's name,
+-- `__NULL_IMPORT_DESCRIPTOR_foo`.
 unfoldable pub worked_rustc : List ℕ
 worked_rustc =
     hex "21 3c 61 72 63 68 3e 0a 66 6f 6f 2e 64 6c 6c 2f 20 20 20 20 20 20 20 20 30 20 20 20 20 20 20 20 20 20 20 20 30 20 20 20 20 20 30 20 20 20 20 20"
@@ -325,9 +344,11 @@ pub record WorkedRustc : Type 0 where
       member (codes "foo.dll") 8 Descriptor
       ∷ member (codes "foo.dll") 430 NullDescriptor
       ∷ member (codes "foo.dll") 622 NullThunk
-      ∷ member (codes "foo.dll") 842 (of_foo Code (codes "__imp_bar" ∷ codes "bar" ∷ []) (Name (codes "bar") 0))
+      ∷ member (codes "foo.dll") 842
+      (of_foo Code (codes "__imp_bar" ∷ codes "bar" ∷ []) (Name (codes "bar") 0))
       ∷ member (codes "foo.dll") 934 (of_foo Data (codes "__imp_baz" ∷ []) (Name (codes "baz") 0))
-      ∷ member (codes "foo.dll") 1026 (of_foo Code (codes "__imp_qux" ∷ codes "qux" ∷ []) (Ordinal 5)) ∷ []
+      ∷ member (codes "foo.dll") 1026
+      (of_foo Code (codes "__imp_qux" ∷ codes "qux" ∷ []) (Ordinal 5)) ∷ []
       )
   -- the last name type is 1: it asks for the name, and 5 is its hint
   pub near : classes_in (changed 1104 4 worked_rustc) ≡ Some (

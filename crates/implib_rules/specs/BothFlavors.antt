@@ -13,17 +13,19 @@ pub record IsImportByName (e : ExportView) : Type 0 where
   pub by_name : e.no_name ≡ false
   pub not_weak : e.alias_target ≡ []
 
--- In Microsoft's flavour an export is weak for an import that asks for what it asks for itself in GNU's.
-pub record LeadsAlike (machine : MachineType) (naming : NamingView) (exports : List ExportView) (e : ExportView)
-    : Type 0 where
+-- In Microsoft's flavour an export is weak for an import that asks for what it asks for itself in
+-- GNU's.
+pub record LeadsAlike (machine : MachineType) (naming : NamingView) (exports : List ExportView)
+    (e : ExportView) : Type 0 where
   pub import : ExportView
   pub is_linked : Contains (linked_exports machine naming Msvc exports) import
   pub is_import : IsImportByName import
   pub leads : (linked_export machine naming Msvc exports e).alias_target ≡ import.name
-  pub asks : name_asked machine import ≡ name_asked machine (linked_export machine naming Gnu exports e)
+  pub asks : name_asked machine import
+      ≡ name_asked machine (linked_export machine naming Gnu exports e)
 
--- Each export that GNU's flavour imports by name is in Microsoft's flavour the same import, or is weak for an import
--- that asks for the same name.
+-- Each export that GNU's flavour imports by name is in Microsoft's flavour the same import, or is
+-- weak for an import that asks for the same name.
 abbrev pub AsksAlike : Type 0
 AsksAlike =
     (machine : MachineType) (naming : NamingView) (exports : List ExportView) (e : ExportView) →

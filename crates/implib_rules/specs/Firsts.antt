@@ -1,5 +1,6 @@
 -- The first export of each word, of each ordinal, and of each name that the DLL is asked for.
-use Rattle.std.specs.Prelude.{◌≡◌, ℕ, suc, Bool, List, [], ◌∷◌, Option, None, Some, if◌then◌else◌, nat_eq}
+use Rattle.std.specs.Prelude.{◌≡◌, ℕ, suc, Bool, List, [], ◌∷◌, Option, None, Some, if◌then◌else◌}
+use Rattle.std.specs.Prelude.{nat_eq}
 use denote.Ref.{Bor}
 use Rattle.std.specs.HashMap.{HashMap, get, get_by}
 use Rattle.std.specs.Option.{option_map}
@@ -11,7 +12,8 @@ use Rattle.implib_rules.specs.Linked.{NamingView, asks_for, declares, word_of}
 -- the index of the first item that passes a test
 abbrev pub first_where : {A : Type 0} → (A → Bool) → List A → Option ℕ
 first_where test [] = None
-first_where test (item ∷ items) = if test item then Some 0 else option_map suc (first_where test items)
+first_where test (item ∷ items) =
+    if test item then Some 0 else option_map suc (first_where test items)
 
 -- the first export of a word
 abbrev pub first_of_word : List ℕ → List ExportView → Option ℕ
@@ -27,21 +29,26 @@ first_of_ordinal ordinal exports = first_where (λ e. nat_eq ordinal e.ordinal) 
 
 -- a table has the first export of each word
 abbrev pub AreFirstWords : {S : Type 0} → HashMap (Bor (List ℕ)) ℕ S → List ExportView → Type 0
-AreFirstWords firsts exports = (word : List ℕ) → get_by (λ k. bytes_eq word k.now) firsts ≡ first_of_word word exports
+AreFirstWords firsts exports =
+    (word : List ℕ) → get_by (λ k. bytes_eq word k.now) firsts ≡ first_of_word word exports
 
 -- a table has the export that declares each word
 abbrev pub AreFirstDeclared : {S : Type 0} → HashMap (Bor (List ℕ)) ℕ S → List ExportView → Type 0
-AreFirstDeclared firsts exports = (word : List ℕ) → get_by (λ k. bytes_eq word k.now) firsts ≡ first_declared word exports
+AreFirstDeclared firsts exports =
+    (word : List ℕ) → get_by (λ k. bytes_eq word k.now) firsts ≡ first_declared word exports
 
 -- a table has the first export of each ordinal
 abbrev pub AreFirstOrdinals : {S : Type 0} → HashMap ℕ ℕ S → List ExportView → Type 0
-AreFirstOrdinals firsts exports = (ordinal : ℕ) → get nat_eq firsts ordinal ≡ first_of_ordinal ordinal exports
+AreFirstOrdinals firsts exports =
+    (ordinal : ℕ) → get nat_eq firsts ordinal ≡ first_of_ordinal ordinal exports
 
 -- the first import by name that asks for a word
 abbrev pub first_asking : MachineType → NamingView → List ℕ → List ExportView → Option ℕ
 first_asking machine naming word exports = first_where (asks_for machine naming word) exports
 
 -- a table has the import by name that asks for each word
-abbrev pub AreFirstAsking : {S : Type 0} → MachineType → NamingView → HashMap (Bor (List ℕ)) ℕ S → List ExportView → Type 0
+abbrev pub AreFirstAsking : {S : Type 0} → MachineType → NamingView → HashMap (Bor (List ℕ)) ℕ S →
+    List ExportView → Type 0
 AreFirstAsking machine naming firsts exports =
-    (word : List ℕ) → get_by (λ k. bytes_eq word k.now) firsts ≡ first_asking machine naming word exports
+    (word : List ℕ) →
+    get_by (λ k. bytes_eq word k.now) firsts ≡ first_asking machine naming word exports

@@ -1,7 +1,8 @@
--- What is refused of a definition that its grammar takes: a quoted name that its line does not close, and in the line of
--- an export an ordinal that is none, or a second one (this project's choice; docs/DLLTOOL.md, "What a definition may
--- hold"). Each would make a name that nobody means.
-use Rattle.std.specs.Prelude.{◌≡◌, ℕ, ◌+◌, ◌-◌, ◌==◌, Bool, true, false, not, ◌&&◌, ◌||◌, List, [], ◌∷◌, Option, None, Some, drop, if◌then◌else◌, is_some, take}
+-- What is refused of a definition that its grammar takes: a quoted name that its line does not
+-- close, and in the line of an export an ordinal that is none, or a second one (this project's
+-- choice; docs/DLLTOOL.md, "What a definition may hold"). Each would make a name that nobody means.
+use Rattle.std.specs.Prelude.{◌≡◌, ℕ, ◌+◌, ◌-◌, ◌==◌, Bool, true, false, not, ◌&&◌, ◌||◌, List, []}
+use Rattle.std.specs.Prelude.{◌∷◌, Option, None, Some, drop, if◌then◌else◌, is_some, take}
 use Rattle.std.specs.List.{fold, list_any}
 use Rattle.implib.specs.declared.def.lexer.TokenKind.{TokenKind}
 use Rattle.implib.specs.declared.def.lexer.TokenKind.TheVariants as kind
@@ -49,8 +50,8 @@ open_quote_from reading at (b ∷ rest) =
     if is_open reading b rest then Some at
     else open_quote_from (step_of reading b (b ∷ rest) rest).reading (at + 1) rest
 
--- The offset of the first quote that its line does not close. For example, that of `LIBRARY "a`, a line end and
--- `EXPORTS b` is 8.
+-- The offset of the first quote that its line does not close. For example, that of `LIBRARY "a`, a
+-- line end and `EXPORTS b` is 8.
 abbrev pub open_quote : List ℕ → Option ℕ
 open_quote text = open_quote_from beginning 0 text
 
@@ -80,20 +81,24 @@ at_beginning = record { in_export = false; after_sign = false; has_ordinal = fal
 abbrev pub is_same_line : List ℕ → ℕ → ℕ → Bool
 is_same_line text from to = not (list_any (λ b. b == 10) (drop from (take to text)))
 
--- a token that is no name of an export begins an ordinal: an `@` is in front of it, and no sign before it
+-- a token that is no name of an export begins an ordinal: an `@` is in front of it, and no sign
+-- before it
 abbrev pub is_ordinal : Point → TokenView → Bool
 is_ordinal p t = is_identifier t.kind && (not p.after_sign && begins_with at_sign t.value)
 
--- What is wrong with a token, where the one before it is of an export: it is the name of another one in the same line,
--- which begins as an ordinal does, or a second ordinal.
+-- What is wrong with a token, where the one before it is of an export: it is the name of another
+-- one in the same line, which begins as an ordinal does, or a second ordinal.
 abbrev pub problem_at : List ℕ → Point → Role → TokenView → Option Problem
 problem_at text p Name t =
-    if p.in_export && (is_ordinal_like t.value && is_same_line text p.at t.at) then Some NoOrdinal else None
-problem_at text p Other t = if p.in_export && (p.has_ordinal && is_ordinal p t) then Some SecondOrdinal else None
+    if p.in_export && (is_ordinal_like t.value && is_same_line text p.at t.at) then Some NoOrdinal
+    else None
+problem_at text p Other t =
+    if p.in_export && (p.has_ordinal && is_ordinal p t) then Some SecondOrdinal else None
 
 -- after one more token
 abbrev pub point_after : Point → Role → TokenView → Point
-point_after p Name t = record { in_export = true; after_sign = false; has_ordinal = false; at = t.at }
+point_after p Name t =
+    record { in_export = true; after_sign = false; has_ordinal = false; at = t.at }
 point_after p Other t = record {
   in_export = p.in_export && not (begins_statement t.kind);
   after_sign = is_sign t.kind;
@@ -121,7 +126,8 @@ formed_by f role t (Some problem) = record {
 
 -- after one more token of a text; what follows the first that is wrong does not count
 abbrev pub formed_on : List ℕ → Formed → Heard → Formed
-formed_on text f h = if is_some f.misplaced then f else formed_by f h.role h.token (problem_at text f.point h.role h.token)
+formed_on text f h = if is_some f.misplaced then f
+    else formed_by f h.role h.token (problem_at text f.point h.role h.token)
 
 abbrev pub unformed : Formed
 unformed = record { point = at_beginning; misplaced = None }
@@ -129,8 +135,8 @@ unformed = record { point = at_beginning; misplaced = None }
 abbrev pub formed_by_all : List ℕ → List Heard → Formed
 formed_by_all text heard = fold (formed_on text) unformed heard
 
--- The first word of a text, of which these tokens are heard, that is wrong. For example, of `f @65536` and of `f @1 @2`
--- it is the last one.
+-- The first word of a text, of which these tokens are heard, that is wrong. For example, of `f
+-- @65536` and of `f @1 @2` it is the last one.
 abbrev pub misplaced_in : List ℕ → List Heard → Option Misplaced
 misplaced_in text heard = (formed_by_all text heard).misplaced
 

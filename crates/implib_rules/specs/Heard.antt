@@ -14,16 +14,22 @@ use Rattle.implib_rules.specs.Names.{Headed, headed_by_all}
 use Rattle.implib_rules.specs.declared.places.Places.{Places}
 use Rattle.implib_rules.specs.Places.{walked}
 
--- the text is the one of the start, and the places are those of the tokens, unless an allocation failed
+-- the text is the one of the start, and the places are those of the tokens, unless an allocation
+-- failed
 pub record HasPlacesOf (start places : Places) (heard : List Heard) : Type 0 where
   pub text : places.text.now ≡ start.text.now
   pub walked : places.failure ≡ None → walked start.text.now heard
-      ≡ record { is_headed = places.is_headed; line = places.here.line; places = places.places.items }
+      ≡ record {
+        is_headed = places.is_headed;
+        line = places.here.line;
+        places = places.places.items;
+      }
 
 -- the name at the index is among these, or so many are to come before it
 abbrev pub IsOffsetOf : ℕ → ℕ → Option ℕ → List TokenView → Type 0
 IsOffsetOf index left None names = length names + left ≡ index
-IsOffsetOf index left (Some offset) names = (index < length names) × (get_or (map (λ t. t.at) names) index 0 ≡ offset)
+IsOffsetOf index left (Some offset) names =
+    (index < length names) × (get_or (map (λ t. t.at) names) index 0 ≡ offset)
 
 -- the index is the number of names that were to come at the start
 abbrev pub HasOffsetOf : NameOffset → NameOffset → List Heard → Type 0

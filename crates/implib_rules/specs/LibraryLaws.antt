@@ -1,5 +1,5 @@
--- What the names of libraries are for: a linker finds a library, and keeps it apart from others of its DLL. And the
--- library of a text is that of its exports.
+-- What the names of libraries are for: a linker finds a library, and keeps it apart from others of
+-- its DLL. And the library of a text is that of its exports.
 use Rattle.std.specs.Prelude.{◌≡◌, ◌≢◌, ℕ, false, List, ◌++◌, codes}
 use Rattle.implib.specs.declared.flavor.Flavor.TheVariants.{Msvc, Gnu}
 use Rattle.implib.specs.declared.machine.MachineType.TheVariants.{AMD64}
@@ -18,25 +18,30 @@ use Rattle.implib_rules.specs.Options.{LibraryOptionsView}
 -- `__IMPORT_DESCRIPTOR_B`, where B is the DLL's name without its ending.
 pub record IsFoundByGnu (d : DefinitionView) : Type 0 where
   pub members : linked_dll d ≡ without_ending d.import_name ++ codes ".dll"
-  pub descriptor : descriptor_symbol (linked_dll d) ≡ codes "__IMPORT_DESCRIPTOR_" ++ without_ending d.import_name
+  pub descriptor : descriptor_symbol (linked_dll d)
+      ≡ codes "__IMPORT_DESCRIPTOR_" ++ without_ending d.import_name
 
--- The library for Microsoft's linker of each text is one that GNU `ld` finds, but for a DLL whose name has nothing
--- before its last full stop.
+-- The library for Microsoft's linker of each text is one that GNU `ld` finds, but for a DLL whose
+-- name has nothing before its last full stop.
 abbrev pub MsvcLibrariesAreFound : Type 0
 MsvcLibrariesAreFound =
-    (text : List ℕ) (options : LibraryOptionsView) (d : DefinitionView) → DefinitionFor text options d → options.flavor ≡ Msvc →
+    (text : List ℕ) (options : LibraryOptionsView) (d : DefinitionView) →
+    DefinitionFor text options d → options.flavor ≡ Msvc →
     is_empty_text (without_ending d.import_name) ≡ false → IsFoundByGnu d
 
--- Of two libraries of one DLL for GNU's linker that have different names, the names of the members of neither begin
--- with what those of the other do.
+-- Of two libraries of one DLL for GNU's linker that have different names, the names of the members
+-- of neither begin with what those of the other do.
 abbrev pub GnuLibrariesAreApart : Type 0
 GnuLibrariesAreApart =
-    (first second : DefinitionView) → first.import_name ≡ second.import_name → gnu_library_name first ≢ gnu_library_name second →
-    IsPrefixOf (member_prefix (with_library_name Gnu first)) (member_prefix (with_library_name Gnu second)) → ⊥
+    (first second : DefinitionView) → first.import_name ≡ second.import_name →
+    gnu_library_name first ≢ gnu_library_name second →
+    IsPrefixOf (member_prefix (with_library_name Gnu first))
+    (member_prefix (with_library_name Gnu second)) → ⊥
 
--- Where a text has a library, and the exports of the definition that it means have one for the same options, the two
--- are the same bytes. Exports have one only where the name of the DLL is given.
+-- Where a text has a library, and the exports of the definition that it means have one for the same
+-- options, the two are the same bytes. Exports have one only where the name of the DLL is given.
 abbrev pub LibrariesAreOfExports : Type 0
 LibrariesAreOfExports =
-    (text : List ℕ) (options : LibraryOptionsView) (parsed : DefinitionView) (file other : List ℕ) → Parses (definition_text text) AMD64 parsed →
+    (text : List ℕ) (options : LibraryOptionsView) (parsed : DefinitionView) (file other : List ℕ) →
+    Parses (definition_text text) AMD64 parsed →
     IsLibrary text options file → IsLibraryOfExports parsed.exports options other → file ≡ other

@@ -1,5 +1,6 @@
 -- The name that a library is given for the linker (docs/DECISIONS.md, "The name of a library").
-use Rattle.std.specs.Prelude.{ℕ, Bool, not, List, [], ◌∷◌, ◌++◌, Option, None, Some, ◌==◌, if◌then◌else◌, take}
+use Rattle.std.specs.Prelude.{ℕ, Bool, not, List, [], ◌∷◌, ◌++◌, Option, None, Some, ◌==◌}
+use Rattle.std.specs.Prelude.{if◌then◌else◌, take}
 use Rattle.std.specs.Int.{to_le_bytes, w16}
 use Rattle.std.specs.List.{before_last, filter, flat_map, list_any}
 use Rattle.hex.specs.Hex.{encode_lower}
@@ -19,19 +20,22 @@ flag_taken letter is_set = if is_set then letter else 0x2D
 
 -- the ordinal of an export with its low byte first, `n` for an import by number, and `d` for data
 abbrev pub numbers_taken : ExportView → List ℕ
-numbers_taken e = to_le_bytes w16 e.ordinal ++ flag_taken 0x6E e.no_name ∷ flag_taken 0x64 e.is_data ∷ []
+numbers_taken e =
+    to_le_bytes w16 e.ordinal ++ flag_taken 0x6E e.no_name ∷ flag_taken 0x64 e.is_data ∷ []
 
--- What is linked of an export: its symbol, the name that it gives to ask for, what it is weak for, its ordinal, and
--- whether it is imported by number and is data.
+-- What is linked of an export: its symbol, the name that it gives to ask for, what it is weak for,
+-- its ordinal, and whether it is imported by number and is data.
 abbrev pub export_taken : ExportView → List ℕ
-export_taken e = text_taken e.name ++ (text_taken (given_name e) ++ (text_taken e.alias_target ++ numbers_taken e))
+export_taken e = text_taken e.name
+    ++ (text_taken (given_name e) ++ (text_taken e.alias_target ++ numbers_taken e))
 
 -- what is linked of the exports that are not private, in order
 abbrev pub exports_taken : List ExportView → List ℕ
 exports_taken exports = flat_map export_taken (filter (λ e. not e.private) exports)
 
--- The name for GNU's linker: the DLL's name, `_`, and 16 hexadecimal digits, the first 8 bytes of the MD5 of what is
--- linked. Two libraries of one DLL have one name where the same is linked of their exports.
+-- The name for GNU's linker: the DLL's name, `_`, and 16 hexadecimal digits, the first 8 bytes of
+-- the MD5 of what is linked. Two libraries of one DLL have one name where the same is linked of
+-- their exports.
 unfoldable pub gnu_library_name : DefinitionView → List ℕ
 gnu_library_name d = d.import_name ++ (0x5F ∷ encode_lower (take 8 (md5 (exports_taken d.exports))))
 
@@ -47,9 +51,9 @@ without_ending name = if list_any is_full_stop name then before_last is_full_sto
 abbrev pub if_filled : List ℕ → Option (List ℕ)
 if_filled text = if is_empty_text text then None else Some text
 
--- The name for Microsoft's linker, and for GNU `ld`, which looks in a library of Microsoft's for the descriptor of
--- the DLL's name without its ending: that name. For example, that of zoo.drv is zoo. Where nothing is before the
--- last full stop there is none.
+-- The name for Microsoft's linker, and for GNU `ld`, which looks in a library of Microsoft's for
+-- the descriptor of the DLL's name without its ending: that name. For example, that of zoo.drv is
+-- zoo. Where nothing is before the last full stop there is none.
 abbrev pub msvc_library_name : DefinitionView → Option (List ℕ)
 msvc_library_name d = if_filled (without_ending d.import_name)
 

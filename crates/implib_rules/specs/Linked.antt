@@ -1,6 +1,8 @@
--- By which symbols exports are linked, and what they ask the DLL for: the rules of GNU dlltool and llvm-dlltool
--- (docs/DECISIONS.md). A word is one of the definition as it is written.
-use Rattle.std.specs.Prelude.{ℕ, ◌≡◌, ◌==◌, Bool, true, false, not, ◌&&◌, ◌||◌, List, [], ◌∷◌, ◌++◌, Option, Some, None, if◌then◌else◌, bytes_eq, is_some, length, map, nat_lt}
+-- By which symbols exports are linked, and what they ask the DLL for: the rules of GNU dlltool and
+-- llvm-dlltool (docs/DECISIONS.md). A word is one of the definition as it is written.
+use Rattle.std.specs.Prelude.{ℕ, ◌≡◌, ◌==◌, Bool, true, false, not, ◌&&◌, ◌||◌, List, [], ◌∷◌, ◌++◌}
+use Rattle.std.specs.Prelude.{Option, Some, None, if◌then◌else◌, bytes_eq, is_some, length, map}
+use Rattle.std.specs.Prelude.{nat_lt}
 use Rattle.std.specs.Option.{option_map, option_or}
 use Rattle.implib.specs.declared.flavor.Flavor.{Flavor}
 use Rattle.implib.specs.declared.flavor.Flavor.TheVariants.{Msvc, Gnu}
@@ -20,19 +22,26 @@ pub record NamingView : Type 0 where
   pub is_plain : Bool
   -- names are asked for without their `@` and the number after it
   pub kills_at : Bool
-  -- a name that no other name type makes of its symbol is the third text of a short import (ExportAs)
+  -- a name that no other name type makes of its symbol is the third text of a short import
+  -- (ExportAs)
   pub exports_as : Bool
   -- a word with an `@` is a symbol as it is (LIB)
   pub keeps_decorated : Bool
 
 -- the view of the rules of the program
 abbrev pub naming_view : Naming → NamingView
-naming_view n = record { is_plain = n.is_plain; kills_at = n.kills_at; exports_as = n.exports_as; keeps_decorated = n.keeps_decorated }
+naming_view n = record {
+  is_plain = n.is_plain;
+  kills_at = n.kills_at;
+  exports_as = n.exports_as;
+  keeps_decorated = n.keeps_decorated;
+}
 
 -- whether two `@` stand side by side in a word, before which one may stand
 abbrev pub two_at_signs : Bool → List ℕ → Bool
 two_at_signs before [] = false
-two_at_signs before (b ∷ rest) = if before && b == at_sign then true else two_at_signs (b == at_sign) rest
+two_at_signs before (b ∷ rest) =
+    if before && b == at_sign then true else two_at_signs (b == at_sign) rest
 
 -- whether two `@` stand side by side, as in vectorcall's `f@@8`
 abbrev pub has_two_at_signs : List ℕ → Bool
@@ -42,8 +51,8 @@ has_two_at_signs word = two_at_signs false word
 abbrev pub is_at_sign : ℕ → Bool
 is_at_sign b = b == at_sign
 
--- Whether a word is a symbol of I386 as it is: of fastcall (`@f@8`), C++ (`?f@@YAXXZ`) or vectorcall (`f@@8`); and for
--- LIB each with an `@`, as `_f@8`.
+-- Whether a word is a symbol of I386 as it is: of fastcall (`@f@8`), C++ (`?f@@YAXXZ`) or
+-- vectorcall (`f@@8`); and for LIB each with an `@`, as `_f@8`.
 abbrev pub keeps_word : NamingView → List ℕ → Bool
 keeps_word naming word =
     begins_with at_sign word || begins_with question_mark word || has_two_at_signs word
@@ -51,37 +60,43 @@ keeps_word naming word =
 
 -- whether a word gets the underscore of I386's C symbols
 abbrev pub gets_underscore : MachineType → NamingView → List ℕ → Bool
-gets_underscore machine naming word = has_leading_underscore machine && not naming.is_plain && not (keeps_word naming word)
+gets_underscore machine naming word =
+    has_leading_underscore machine && not naming.is_plain && not (keeps_word naming word)
 
--- The symbol that a word names. For example, on I386 `f` names `_f`, `f@8` `_f@8`, and `@g@8` itself.
+-- The symbol that a word names. For example, on I386 `f` names `_f`, `f@8` `_f@8`, and `@g@8`
+-- itself.
 abbrev pub symbol_of : MachineType → NamingView → List ℕ → List ℕ
-symbol_of machine naming word = if gets_underscore machine naming word then underscore ∷ word else word
+symbol_of machine naming word =
+    if gets_underscore machine naming word then underscore ∷ word else word
 
 -- whether a word has an `@`
 abbrev pub has_at_sign : List ℕ → Bool
 has_at_sign word = nat_lt (position_or_len is_at_sign word) (length word)
 
--- a fastcall name without its leading `@` and from its second one on, if it has both; the text after the first is
--- given
+-- a fastcall name without its leading `@` and from its second one on, if it has both; the text
+-- after the first is given
 abbrev pub killed_fastcall : List ℕ → List ℕ → List ℕ
 killed_fastcall behind word = if has_at_sign behind then before_first is_at_sign behind else word
 
--- A word without its `@` and the number after it, and without the `@` of fastcall in front. For example,
--- `f@8` and `@f@8` give f, `_f@8` gives `_f`, and C++'s names stay.
+-- A word without its `@` and the number after it, and without the `@` of fastcall in front. For
+-- example, `f@8` and `@f@8` give f, `_f@8` gives `_f`, and C++'s names stay.
 abbrev pub killed : List ℕ → List ℕ
 killed word =
     if begins_with question_mark word then word
     else if not (has_at_sign word) then word
-    else if length (before_first is_at_sign word) == 0 then killed_fastcall (after_first is_at_sign word) word
+    else if length (before_first is_at_sign word) == 0
+    then killed_fastcall (after_first is_at_sign word) word
     else before_first is_at_sign word
 
 -- what the DLL is asked for, for a word
 abbrev pub word_asked : MachineType → NamingView → List ℕ → List ℕ
-word_asked machine naming word = if has_leading_underscore machine && naming.kills_at then killed word else word
+word_asked machine naming word =
+    if has_leading_underscore machine && naming.kills_at then killed word else word
 
 -- what the DLL is asked for, for a word and the one after `==`, which is asked for as it is written
 abbrev pub asked_of : MachineType → NamingView → List ℕ → List ℕ → List ℕ
-asked_of machine naming word target = if is_empty_text target then word_asked machine naming word else target
+asked_of machine naming word target =
+    if is_empty_text target then word_asked machine naming word else target
 
 -- the word by which an export is linked
 abbrev pub word_of : ExportView → List ℕ
@@ -103,14 +118,14 @@ is_declared exports word = list_any (λ e. declares e word) exports
 abbrev pub symbol_linked : MachineType → NamingView → ExportView → List ℕ
 symbol_linked machine naming e = symbol_of machine naming (word_of e)
 
--- The asked name that an import gives. Where symbols have no underscore, an export without one asks for its symbol,
--- so a name that is the symbol is not given.
+-- The asked name that an import gives. Where symbols have no underscore, an export without one asks
+-- for its symbol, so a name that is the symbol is not given.
 abbrev pub name_given : MachineType → List ℕ → List ℕ → Option (List ℕ)
 name_given machine symbol asked =
     if not (has_leading_underscore machine) && bytes_eq symbol asked then None else Some asked
 
--- An import: the export under its symbol, and with what it asks for. For example, of `f == g` the symbol is f
--- and the name asked for g.
+-- An import: the export under its symbol, and with what it asks for. For example, of `f == g` the
+-- symbol is f and the name asked for g.
 abbrev pub linked_import : MachineType → NamingView → ExportView → ExportView
 linked_import machine naming e = record e {
   name = symbol_linked machine naming e;
@@ -119,28 +134,31 @@ linked_import machine naming e = record e {
   asked_name = name_given machine (symbol_linked machine naming e) (export_asked machine naming e);
 }
 
--- An export that is linked as an import asks for the word after `==`, or else for what its own word says, given or
--- not.
+-- An export that is linked as an import asks for the word after `==`, or else for what its own word
+-- says, given or not.
 abbrev pub AsksAsLinked : Type 0
 AsksAsLinked =
     (machine : MachineType) (naming : NamingView) (e : ExportView)
     → name_asked machine (linked_import machine naming e) ≡ export_asked machine naming e
 
--- Whether a name type, which is name, no prefix or undecorate, makes a name of the symbol, whichever linker reads it.
--- For example, on I386 they make `_f@8`, `f@8` and f of `_f@8`. On other machines, where linkers do not take off the
--- same prefixes, only name is used.
+-- Whether a name type, which is name, no prefix or undecorate, makes a name of the symbol,
+-- whichever linker reads it.
+-- For example, on I386 they make `_f@8`, `f@8` and f of `_f@8`. On other machines, where linkers do
+-- not take off the same prefixes, only name is used.
 abbrev pub makes : MachineType → List ℕ → List ℕ → Bool
 makes machine symbol name =
     bytes_eq symbol name
     || (has_leading_underscore machine
-    && (bytes_eq (without_prefix symbol) name || bytes_eq (before_at_sign (without_prefix symbol)) name))
+    && (bytes_eq (without_prefix symbol) name
+    || bytes_eq (before_at_sign (without_prefix symbol)) name))
 
 -- whether an export has a word after `==`
 abbrev pub has_target : ExportView → Bool
 has_target e = not (is_empty_text e.alias_target)
 
--- Whether an export of this symbol cannot be an import by name for Microsoft's linker: it has a word after `==`
--- that no name type makes of the symbol. One that is private is left out, and one by ordinal asks for no name.
+-- Whether an export of this symbol cannot be an import by name for Microsoft's linker: it has a
+-- word after `==` that no name type makes of the symbol. One that is private is left out, and one
+-- by ordinal asks for no name.
 abbrev pub asks_apart : MachineType → List ℕ → ExportView → Bool
 asks_apart machine symbol e =
     has_target e && (not e.private && (not e.no_name && not (makes machine symbol e.alias_target)))
@@ -149,13 +167,16 @@ asks_apart machine symbol e =
 abbrev pub is_apart : MachineType → NamingView → ExportView → Bool
 is_apart machine naming e = asks_apart machine (symbol_linked machine naming e) e
 
--- whether Microsoft's linker imports an export by name: it is not private, not by ordinal, and not apart
+-- whether Microsoft's linker imports an export by name: it is not private, not by ordinal, and not
+-- apart
 abbrev pub is_named_import : MachineType → NamingView → ExportView → Bool
-is_named_import machine naming e = not e.private && (not e.no_name && not (is_apart machine naming e))
+is_named_import machine naming e =
+    not e.private && (not e.no_name && not (is_apart machine naming e))
 
 -- whether Microsoft's linker imports an export by name and asks for this word
 abbrev pub asks_for : MachineType → NamingView → List ℕ → ExportView → Bool
-asks_for machine naming word e = is_named_import machine naming e && bytes_eq word (export_asked machine naming e)
+asks_for machine naming word e =
+    is_named_import machine naming e && bytes_eq word (export_asked machine naming e)
 
 -- the symbol of the first import by name that asks for a word
 abbrev pub symbol_asking : MachineType → NamingView → List ExportView → List ℕ → Option (List ℕ)
@@ -166,30 +187,32 @@ symbol_asking machine naming exports word =
 abbrev pub is_asked : MachineType → NamingView → List ExportView → List ℕ → Bool
 is_asked machine naming exports word = is_some (symbol_asking machine naming exports word)
 
--- whether a word that no import asks for has no import of its own: a short import can have it as its third text, or an
--- export declares it
+-- whether a word that no import asks for has no import of its own: a short import can have it as
+-- its third text, or an export declares it
 abbrev pub is_taken : NamingView → List ExportView → List ℕ → Bool
 is_taken naming exports word = naming.exports_as || is_declared exports word
 
--- The symbol by which the DLL is asked for a word: that of the first import by name that asks for it; if there is
--- none, the word's own, unless an export, which asks for something else, declares the word. For example, under `-k`
--- on I386 that of f is `_f@8` beside an export `f@8`, and `f@8` has none. Where a short import can have the name as
--- its third text, a word that no import asks for has none.
+-- The symbol by which the DLL is asked for a word: that of the first import by name that asks for
+-- it; if there is none, the word's own, unless an export, which asks for something else, declares
+-- the word. For example, under `-k` on I386 that of f is `_f@8` beside an export `f@8`, and `f@8`
+-- has none. Where a short import can have the name as its third text, a word that no import asks
+-- for has none.
 abbrev pub target_symbol : MachineType → NamingView → List ExportView → List ℕ → Option (List ℕ)
 target_symbol machine naming exports word =
     option_or (symbol_asking machine naming exports word)
     (if is_taken naming exports word then None else Some (symbol_of machine naming word))
 
--- The symbol that an export among others is weak for in a flavour, if it is an alias. One that is apart and whose
--- word after `==` has no symbol stays an import, which Microsoft's flavour refuses, unless a short import can have the
--- name as its third text.
-abbrev pub alias_symbol : MachineType → NamingView → Flavor → List ExportView → ExportView → Option (List ℕ)
+-- The symbol that an export among others is weak for in a flavour, if it is an alias. One that is
+-- apart and whose word after `==` has no symbol stays an import, which Microsoft's flavour refuses,
+-- unless a short import can have the name as its third text.
+abbrev pub alias_symbol : MachineType → NamingView → Flavor → List ExportView → ExportView →
+    Option (List ℕ)
 alias_symbol machine naming Gnu exports e = None
 alias_symbol machine naming Msvc exports e =
     if is_apart machine naming e then target_symbol machine naming exports e.alias_target else None
 
--- An alias: its symbol is weak for its target's. What it asks for is its own symbol, so that no rule on names
--- refuses what no member asks for.
+-- An alias: its symbol is weak for its target's. What it asks for is its own symbol, so that no
+-- rule on names refuses what no member asks for.
 abbrev pub linked_alias : MachineType → NamingView → List ℕ → ExportView → ExportView
 linked_alias machine naming target e = record e {
   name = symbol_linked machine naming e;
@@ -204,8 +227,10 @@ linked_to machine naming None e = linked_import machine naming e
 linked_to machine naming (Some target) e = linked_alias machine naming target e
 
 -- an export among others as it is linked
-abbrev pub linked_export : MachineType → NamingView → Flavor → List ExportView → ExportView → ExportView
-linked_export machine naming flavor exports e = linked_to machine naming (alias_symbol machine naming flavor exports e) e
+abbrev pub linked_export : MachineType → NamingView → Flavor → List ExportView → ExportView →
+    ExportView
+linked_export machine naming flavor exports e =
+    linked_to machine naming (alias_symbol machine naming flavor exports e) e
 
 -- the import of an alias's target, which asks for the word after `==` as it is written
 abbrev pub target_import : MachineType → NamingView → ExportView → ExportView
@@ -224,32 +249,40 @@ is_among symbols symbol = list_any (bytes_eq symbol) symbols
 abbrev pub with_symbol : List (List ℕ) → List ℕ → List (List ℕ)
 with_symbol symbols symbol = if is_among symbols symbol then symbols else symbols ++ symbol ∷ []
 
--- whether an alias wants an import of its word after `==`, since no export asks for it or declares it, and no short
--- import can have it as its third text
+-- whether an alias wants an import of its word after `==`, since no export asks for it or declares
+-- it, and no short import can have it as its third text
 abbrev pub adds_target : MachineType → NamingView → List ExportView → ExportView → Bool
 adds_target machine naming exports e =
-    is_apart machine naming e && (not (is_asked machine naming exports e.alias_target) && not (is_taken naming exports e.alias_target))
+    is_apart machine naming e
+    && (not (is_asked machine naming exports e.alias_target)
+    && not (is_taken naming exports e.alias_target))
 
 -- the symbols of the targets that are added, with that of an alias's target
-abbrev pub with_target : MachineType → NamingView → List ExportView → List (List ℕ) → ExportView → List (List ℕ)
+abbrev pub with_target : MachineType → NamingView → List ExportView → List (List ℕ) → ExportView →
+    List (List ℕ)
 with_target machine naming exports symbols e =
-    if adds_target machine naming exports e then with_symbol symbols (symbol_of machine naming e.alias_target) else symbols
+    if adds_target machine naming exports e
+    then with_symbol symbols (symbol_of machine naming e.alias_target) else symbols
 
 -- the import of an alias's target, if it is to be added and its symbol is not among these
-abbrev pub new_target : MachineType → NamingView → List ExportView → List (List ℕ) → ExportView → List ExportView
+abbrev pub new_target : MachineType → NamingView → List ExportView → List (List ℕ) → ExportView →
+    List ExportView
 new_target machine naming exports symbols e =
-    if adds_target machine naming exports e && not (is_among symbols (symbol_of machine naming e.alias_target))
+    if adds_target machine naming exports e
+    && not (is_among symbols (symbol_of machine naming e.alias_target))
     then target_import machine naming e ∷ [] else []
 
--- the imports that some of the exports add, in the order of their first use, if their symbols are not among these
-abbrev pub targets_beside : MachineType → NamingView → List ExportView → List (List ℕ) → List ExportView → List ExportView
+-- the imports that some of the exports add, in the order of their first use, if their symbols are
+-- not among these
+abbrev pub targets_beside : MachineType → NamingView → List ExportView → List (List ℕ) →
+    List ExportView → List ExportView
 targets_beside machine naming exports symbols [] = []
 targets_beside machine naming exports symbols (e ∷ rest) =
     new_target machine naming exports symbols e
     ++ targets_beside machine naming exports (with_target machine naming exports symbols e) rest
 
--- The imports that aliases add in a flavour: of each word once, if no export asks for it or declares it. For
--- example, `a == b` and `c == b` add b.
+-- The imports that aliases add in a flavour: of each word once, if no export asks for it or
+-- declares it. For example, `a == b` and `c == b` add b.
 abbrev pub targets_added : MachineType → NamingView → Flavor → List ExportView → List ExportView
 targets_added machine naming Gnu exports = []
 targets_added machine naming Msvc exports = targets_beside machine naming exports [] exports
@@ -257,8 +290,10 @@ targets_added machine naming Msvc exports = targets_beside machine naming export
 -- exports as they are linked, and after them the targets that aliases add
 abbrev pub linked_exports : MachineType → NamingView → Flavor → List ExportView → List ExportView
 linked_exports machine naming flavor exports =
-    map (linked_export machine naming flavor exports) exports ++ targets_added machine naming flavor exports
+    map (linked_export machine naming flavor exports) exports
+    ++ targets_added machine naming flavor exports
 
 -- the definition with each export as it is linked, and with the targets of its aliases
 abbrev pub linked : MachineType → NamingView → Flavor → DefinitionView → DefinitionView
-linked machine naming flavor d = record d { exports = linked_exports machine naming flavor d.exports }
+linked machine naming flavor d =
+    record d { exports = linked_exports machine naming flavor d.exports }

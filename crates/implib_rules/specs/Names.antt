@@ -1,5 +1,7 @@
--- The name of the DLL that an import library is for (this project's choice, after GNU dlltool and llvm-dlltool).
-use Rattle.std.specs.Prelude.{ℕ, ◌==◌, ◌&&◌, Bool, true, false, List, [], ◌∷◌, ◌++◌, Option, None, Some, codes, if◌then◌else◌, length, nat_eq}
+-- The name of the DLL that an import library is for (this project's choice, after GNU dlltool and
+-- llvm-dlltool).
+use Rattle.std.specs.Prelude.{ℕ, ◌==◌, ◌&&◌, Bool, true, false, List, [], ◌∷◌, ◌++◌, Option, None}
+use Rattle.std.specs.Prelude.{Some, codes, if◌then◌else◌, length, nat_eq}
 use Rattle.std.specs.List.{fold, list_any}
 use Rattle.implib.specs.declared.def.lexer.TokenKind.{TokenKind}
 use Rattle.implib.specs.declared.def.lexer.TokenKind.TheVariants as kind
@@ -34,9 +36,11 @@ pub record Headed : Type 0 where
 abbrev pub unheaded : Headed
 unheaded = record { opened = None; name = []; is_program = false }
 
--- whether a token is the name of a heading, the first one with a name, and then whether that is `NAME`
+-- whether a token is the name of a heading, the first one with a name, and then whether that is
+-- `NAME`
 abbrev pub named_by : Headed → TokenKind → Option Bool
-named_by headed kind = if is_empty_text headed.name && is_identifier kind then headed.opened else None
+named_by headed kind =
+    if is_empty_text headed.name && is_identifier kind then headed.opened else None
 
 -- after a token that is the name of the first heading, or is not
 abbrev pub headed_by : Option Bool → Headed → TokenView → Headed
@@ -55,8 +59,8 @@ headed_on headed heard = headed_by (named_by headed heard.token.kind) headed hea
 abbrev pub headed_by_all : List Heard → Headed
 headed_by_all heard = fold headed_on unheaded heard
 
--- The name of the DLL that a definition has: that of the first heading with one. For example, `LIBRARY` and then
--- `NAME a` and `LIBRARY b` name a.
+-- The name of the DLL that a definition has: that of the first heading with one. For example,
+-- `LIBRARY` and then `NAME a` and `LIBRARY b` name a.
 abbrev pub own_name : List Heard → List ℕ
 own_name heard = (headed_by_all heard).name
 
@@ -77,8 +81,8 @@ part_with separator part b = if b == separator then [] else part ++ b ∷ []
 unfoldable pub part_after_last : ℕ → List ℕ → List ℕ
 part_after_last separator name = fold (part_with separator) [] name
 
--- A name without its directory: after the last `/` (47), and then after the last `\` (92). For example, that
--- of `d/e/zoo` is zoo, and that of `d/` is empty.
+-- A name without its directory: after the last `/` (47), and then after the last `\` (92). For
+-- example, that of `d/e/zoo` is zoo, and that of `d/` is empty.
 abbrev pub last_part : List ℕ → List ℕ
 last_part name = part_after_last 92 (part_after_last 47 name)
 
@@ -86,9 +90,9 @@ last_part name = part_after_last 92 (part_after_last 47 name)
 abbrev pub with_ending : List ℕ → Bool → List ℕ
 with_ending name program = if has 46 name then name else name ++ ending program
 
--- The name of the DLL: the one given on the command line, else the definition's, which gets an ending where it
--- has no full stop. A directory is cut off from either. For example, `LIBRARY d/zoo` names zoo.dll, `NAME zoo`
--- zoo.exe, and `-D d/zoo` zoo.
+-- The name of the DLL: the one given on the command line, else the definition's, which gets an
+-- ending where it has no full stop. A directory is cut off from either. For example, `LIBRARY
+-- d/zoo` names zoo.dll, `NAME zoo` zoo.exe, and `-D d/zoo` zoo.
 abbrev pub dll_name : Option (List ℕ) → List ℕ → Bool → List ℕ
 dll_name (Some given) own program = last_part given
 dll_name None own program = with_ending (last_part own) program

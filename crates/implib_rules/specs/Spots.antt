@@ -17,6 +17,8 @@ later_in (Objects objects) = objects.members
 -- the member at an index is there
 abbrev pub IsAt : List MemberView → ℕ → Spot → Type 0
 IsAt members index (Held member) = slice_get members index ≡ Some (member_view member.now)
-IsAt members index (Import imports place) = slice_get members index ≡ slice_get imports.now.members place
-IsAt members index (Object objects place) = slice_get members index ≡ slice_get objects.now.members place
+IsAt members index (Import imports place) =
+    slice_get members index ≡ slice_get imports.now.members place
+IsAt members index (Object objects place) =
+    slice_get members index ≡ slice_get objects.now.members place
 IsAt members index Nowhere = slice_get members index ≡ None

@@ -1,5 +1,7 @@
--- What the program warns of in the form of a definition's text: what is skipped of it, and what is not (this project's choice).
-use Rattle.std.specs.Prelude.{ℕ, ◌+◌, ◌==◌, ◌&&◌, ◌||◌, Bool, true, false, not, List, [], ◌∷◌, ◌++◌, Option, None, Some, codes, drop, if◌then◌else◌, nat_eq}
+-- What the program warns of in the form of a definition's text: what is skipped of it, and what is
+-- not (this project's choice).
+use Rattle.std.specs.Prelude.{ℕ, ◌+◌, ◌==◌, ◌&&◌, ◌||◌, Bool, true, false, not, List, [], ◌∷◌, ◌++◌}
+use Rattle.std.specs.Prelude.{Option, None, Some, codes, drop, if◌then◌else◌, nat_eq}
 use Rattle.std.specs.List.{list_any, starts_with}
 use Rattle.std.specs.Option.{option_map, option_or}
 use Rattle.implib.specs.declared.def.position.Position.{Position}
@@ -9,12 +11,15 @@ use Rattle.implib.specs.Text.Position.{after_byte}
 use Rattle.implib_rules.specs.declared.plain.Before.{Before}
 use Rattle.implib_rules.specs.declared.plain.Before.TheVariants.{SectionStart}
 use Rattle.implib_rules.specs.declared.plain.Part.{Part}
-use Rattle.implib_rules.specs.declared.plain.Part.TheVariants.{Between, Word, SecondSign, Skipped, Ended}
+use Rattle.implib_rules.specs.declared.plain.Part.TheVariants.{Between, Word, SecondSign, Skipped}
+use Rattle.implib_rules.specs.declared.plain.Part.TheVariants.{Ended}
 use Rattle.implib_rules.specs.declared.plain.Reading.{Reading}
 use Rattle.implib_rules.specs.Library.{without_mark}
 use Rattle.implib_rules.specs.Forms.{is_in_quotes}
-use Rattle.implib_rules.specs.Plain.{after_all, beginning, begins_word, is_after_name, is_blank, is_line_start, is_of_word, is_space, step_of}
-use Rattle.implib_rules.specs.Warnings.{EndsEarly, IsCommentLike, IsLate, IsSkipped, NoticeView, StandsAlone, WarningView, no_export_notice, warned, whole}
+use Rattle.implib_rules.specs.Plain.{after_all, beginning, begins_word, is_after_name, is_blank}
+use Rattle.implib_rules.specs.Plain.{is_line_start, is_of_word, is_space, step_of}
+use Rattle.implib_rules.specs.Warnings.{EndsEarly, IsCommentLike, IsLate, IsSkipped, NoticeView}
+use Rattle.implib_rules.specs.Warnings.{StandsAlone, WarningView, no_export_notice, warned, whole}
 
 -- a line is skipped; after the first of SECTIONS its lines have no warning of their own
 abbrev pub skipped_notice : Before → Before → Option NoticeView
@@ -40,11 +45,13 @@ keyword_of text =
 abbrev pub is_export_as_after : Before → List ℕ → Bool
 is_export_as_after before text = is_after_name before && begins_word (codes "EXPORTAS") text
 
--- Such a word stays, and so is a name: the first of its line, or EXPORTAS after a name. For example, the second line
--- of `EXPORTS` and `STUB` is an export; `STUB 'a'` is a statement, which does not stay, and `"STUB"` no keyword.
+-- Such a word stays, and so is a name: the first of its line, or EXPORTAS after a name. For
+-- example, the second line of `EXPORTS` and `STUB` is an export; `STUB 'a'` is a statement, which
+-- does not stay, and `"STUB"` no keyword.
 unfoldable pub alone_notice : Before → List ℕ → Option NoticeView
 alone_notice before text =
-    if not (is_line_start before) && not (is_export_as_after before text) then None else option_map StandsAlone (keyword_of text)
+    if not (is_line_start before) && not (is_export_as_after before text) then None
+    else option_map StandsAlone (keyword_of text)
 
 -- the attribute in front of a text, if one is: a keyword, or the `@` of an ordinal
 unfoldable pub attribute_in : List ℕ → Option (List ℕ)
@@ -59,10 +66,11 @@ attribute_in text =
 -- what follows the name in front of a text, in quotes or not, and blanks
 abbrev pub after_name : List ℕ → List ℕ
 after_name text =
-    after_all is_blank (if begins (λ b. b == 34) text then drop 1 (after_all is_in_quotes (drop 1 text)) else after_all is_of_word text)
+    after_all is_blank (if begins (λ b. b == 34) text
+    then drop 1 (after_all is_in_quotes (drop 1 text)) else after_all is_of_word text)
 
--- An attribute follows the name of EXPORTAS, which is in front of the text: llvm-dlltool and llvm-lib end the export
--- with that name. For example, of `EXPORTAS a DATA` it is DATA.
+-- An attribute follows the name of EXPORTAS, which is in front of the text: llvm-dlltool and
+-- llvm-lib end the export with that name. For example, of `EXPORTAS a DATA` it is DATA.
 abbrev pub late_notice : List ℕ → Option NoticeView
 late_notice text = option_map IsLate (attribute_in (after_name (after_all is_blank (drop 8 text))))
 
@@ -75,7 +83,8 @@ comment_in text =
 
 -- the first name of a line begins so
 abbrev pub comment_notice : Before → List ℕ → Option NoticeView
-comment_notice before text = if is_line_start before then option_map IsCommentLike (comment_in text) else None
+comment_notice before text =
+    if is_line_start before then option_map IsCommentLike (comment_in text) else None
 
 -- what is said of a word that stays
 abbrev pub word_notice : Before → List ℕ → Option NoticeView
@@ -110,8 +119,10 @@ position_after position byte = record {
 unfoldable pub text_warnings_from : Reading → Position → List ℕ → List WarningView
 text_warnings_from reading position [] = []
 text_warnings_from reading position (b ∷ rest) =
-    warned (text_notice reading (step_of reading b (b ∷ rest) rest).reading (b ∷ rest) rest) position
-    ++ text_warnings_from (step_of reading b (b ∷ rest) rest).reading (position_after position b) rest
+    warned (text_notice reading (step_of reading b (b ∷ rest) rest).reading (b ∷ rest) rest)
+    position
+    ++ text_warnings_from (step_of reading b (b ∷ rest) rest).reading (position_after position b)
+    rest
 
 -- the warnings of the form of a definition of these bytes, in their order
 abbrev pub text_warnings : List ℕ → List WarningView
@@ -121,7 +132,8 @@ text_warnings bytes = text_warnings_from beginning whole (without_mark bytes)
 abbrev pub has_something : List ℕ → Bool
 has_something text = list_any (λ b. not (is_space b)) text
 
--- A line of what is left of a text begins with EXPORTS, and something follows that; the rest may begin a line.
+-- A line of what is left of a text begins with EXPORTS, and something follows that; the rest may
+-- begin a line.
 unfoldable pub follows_exports : Bool → List ℕ → Bool
 follows_exports starts [] = false
 follows_exports starts (b ∷ rest) =
@@ -130,4 +142,5 @@ follows_exports starts (b ∷ rest) =
 
 -- The warning, asked for or not, that a definition has no export though something follows EXPORTS.
 abbrev pub none_warnings : List ℕ → List ExportView → List WarningView
-none_warnings text exports = if follows_exports true text then warned (no_export_notice exports) whole else []
+none_warnings text exports =
+    if follows_exports true text then warned (no_export_notice exports) whole else []

@@ -5,8 +5,9 @@ use Rattle.std.specs.Str.Lossy.{utf8_valid_len}
 use Rattle.implib.specs.declared.def.position.Position.{Position}
 use Rattle.implib.specs.Text.Position.{position_at}
 
--- A text is not UTF-8, and its first byte that is not is at this position: what is before the byte is the longest
--- beginning of the text that is UTF-8 (`IsValidUpTo`). Of a letter that is cut short it is the first byte.
+-- A text is not UTF-8, and its first byte that is not is at this position: what is before the byte
+-- is the longest beginning of the text that is UTF-8 (`IsValidUpTo`). Of a letter that is cut short
+-- it is the first byte.
 pub record IsNotUtf8At (text : List ℕ) (position : Position) : Type 0 where
   pub not_utf8 : ¬ (IsUtf8 text)
   pub longest : IsValidUpTo text position.offset

@@ -1,5 +1,6 @@
 -- View: arguments of the program as lists, and what its functions test.
-use Rattle.std.specs.Prelude.{◌≡◌, ℕ, Bool, true, ◌&&◌, not, List, [], ◌∷◌, Option, None, Some, drop, is_none, map}
+use Rattle.std.specs.Prelude.{◌≡◌, ℕ, Bool, true, ◌&&◌, not, List, [], ◌∷◌, Option, None, Some}
+use Rattle.std.specs.Prelude.{drop, is_none, map}
 use Rattle.std.specs.Borrow.{Bor}
 use Rattle.std.specs.Cmp.Lexicographic.{slice_cmp}
 use Rattle.std.specs.HashSet.{HashSet, contains_by}
@@ -19,7 +20,8 @@ given_bytes (Some text) = Some text.now
 
 -- whether an export's word is its symbol and what it asks for
 abbrev pub is_linked : MachineType → ExportView → Bool
-is_linked machine e = not (has_leading_underscore machine) && (is_none e.ext_name && is_empty_text e.alias_target)
+is_linked machine e =
+    not (has_leading_underscore machine) && (is_none e.ext_name && is_empty_text e.alias_target)
 
 -- whether a set has a word
 abbrev pub has_word : {S : Type 0} → HashSet (Bor (List ℕ)) S → List ℕ → Bool
@@ -40,13 +42,18 @@ first_symbol [] = None
 first_symbol (symbol ∷ symbols) = symbol
 
 -- exports as they are linked, each weak for its symbol, if that is given
-abbrev pub linked_by : MachineType → NamingView → List (Option (List ℕ)) → List ExportView → List ExportView
+abbrev pub linked_by : MachineType → NamingView → List (Option (List ℕ)) → List ExportView →
+    List ExportView
 linked_by machine naming symbols [] = []
 linked_by machine naming symbols (e ∷ exports) =
-    linked_to machine naming (first_symbol symbols) e ∷ linked_by machine naming (drop 1 symbols) exports
+    linked_to machine naming (first_symbol symbols) e
+    ∷ linked_by machine naming (drop 1 symbols) exports
 
--- with these symbols to be weak for the exports are as they are linked in a flavour, and these are the targets added
-pub record AreLinks (machine : MachineType) (naming : NamingView) (flavor : Flavor) (exports : List ExportView)
+-- with these symbols to be weak for the exports are as they are linked in a flavour, and these are
+-- the targets added
+pub record AreLinks (machine : MachineType) (naming : NamingView) (flavor : Flavor)
+    (exports : List ExportView)
     (symbols : List (Option (List ℕ))) (added : List ExportView) : Type 0 where
-  pub linked : linked_by machine naming symbols exports ≡ map (linked_export machine naming flavor exports) exports
+  pub linked : linked_by machine naming symbols exports
+      ≡ map (linked_export machine naming flavor exports) exports
   pub are_added : added ≡ targets_added machine naming flavor exports

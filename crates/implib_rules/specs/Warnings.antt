@@ -1,5 +1,7 @@
 -- What the program warns of in a definition (this project's choice).
-use Rattle.std.specs.Prelude.{◌≡◌, ℕ, ◌==◌, ◌+◌, ◌-◌, ◌≤◌, Bool, true, false, not, ◌&&◌, List, [], ◌∷◌, ◌++◌, Option, None, Some, codes, if◌then◌else◌, is_none, is_some, length, nat_eq, nat_lt, slice_get, slice_index, take}
+use Rattle.std.specs.Prelude.{◌≡◌, ℕ, ◌==◌, ◌+◌, ◌-◌, ◌≤◌, Bool, true, false, not, ◌&&◌, List, []}
+use Rattle.std.specs.Prelude.{◌∷◌, ◌++◌, Option, None, Some, codes, if◌then◌else◌, is_none, is_some}
+use Rattle.std.specs.Prelude.{length, nat_eq, nat_lt, slice_get, slice_index, take}
 use Rattle.std.specs.Char.{is_ascii_digit}
 use Rattle.std.specs.List.{after_first, before_first, list_all, list_any}
 use Rattle.std.specs.Option.{option_map}
@@ -20,7 +22,8 @@ use Rattle.implib_rules.specs.declared.warnings.Notice.{Notice}
 use Rattle.implib_rules.specs.declared.warnings.Notice.TheVariants as notice
 use Rattle.implib_rules.specs.declared.warnings.Warning.{Warning}
 use Rattle.implib_rules.specs.declared.warnings.words.Attribute.{Attribute}
-use Rattle.implib_rules.specs.declared.warnings.words.Attribute.TheVariants.{Data, Constant, Private, NoName}
+use Rattle.implib_rules.specs.declared.warnings.words.Attribute.TheVariants.{Data, Constant}
+use Rattle.implib_rules.specs.declared.warnings.words.Attribute.TheVariants.{Private, NoName}
 use Rattle.implib_rules.specs.Firsts.{first_declared, first_of_ordinal, first_of_word}
 use Rattle.implib_rules.specs.Linked.{NamingView, has_at_sign, is_at_sign, word_of}
 use Rattle.implib_rules.specs.Places.{places_in}
@@ -45,25 +48,27 @@ attribute_spelled word =
     else if str_eq_ignore_ascii_case word (codes "NONAME") then Some NoName
     else None
 
--- The attribute that a word would be in capitals, and is not. For example, that of `data` and `Data` is DATA; the
--- name `DATA`, which is in quotes in a definition, has none.
+-- The attribute that a word would be in capitals, and is not. For example, that of `data` and
+-- `Data` is DATA; the name `DATA`, which is in quotes in a definition, has none.
 abbrev pub lowered_attribute : List ℕ → Option Attribute
 lowered_attribute word = if is_attribute word then None else attribute_spelled word
 
--- Whether a word begins as an ordinal: with `@` and a digit. For example, `@65536` and `@0x10` do; `@f@8`, which
--- is a name of fastcall, does not.
+-- Whether a word begins as an ordinal: with `@` and a digit. For example, `@65536` and `@0x10` do;
+-- `@f@8`, which is a name of fastcall, does not.
 abbrev pub is_ordinal_like : List ℕ → Bool
-is_ordinal_like word = nat_lt 1 (length word) && slice_index word 0 == at_sign && is_ascii_digit (slice_index word 1)
+is_ordinal_like word =
+    nat_lt 1 (length word) && slice_index word 0 == at_sign && is_ascii_digit (slice_index word 1)
 
 -- whether a text is digits, and has some
 abbrev pub is_number : List ℕ → Bool
 is_number text = not (length text == 0) && list_all is_ascii_digit text
 
--- Whether a word is a name of stdcall: a name that is not C++'s, one `@`, and digits. For example, `f@8` is one, and
--- fastcall's `@f@8`, vectorcall's `f@@8` and C++'s `?f@8` are not.
+-- Whether a word is a name of stdcall: a name that is not C++'s, one `@`, and digits. For example,
+-- `f@8` is one, and fastcall's `@f@8`, vectorcall's `f@@8` and C++'s `?f@8` are not.
 abbrev pub is_stdcall_word : List ℕ → Bool
 is_stdcall_word word =
-    has_at_sign word && not (begins_with question_mark word) && not (length (before_first is_at_sign word) == 0)
+    has_at_sign word && not (begins_with question_mark word)
+    && not (length (before_first is_at_sign word) == 0)
     && is_number (after_first is_at_sign word)
 
 -- what a warning says
@@ -133,11 +138,13 @@ earlier (Some first) index = if nat_lt first index then Some first else None
 
 -- an export is left out for an earlier one of its word, by the one that declares the word
 abbrev pub repeat_notice : ExportView → Option ℕ → ℕ → Option NoticeView
-repeat_notice e first index = if e.private then None else option_map (IsRepeated (word_of e)) (earlier first index)
+repeat_notice e first index =
+    if e.private then None else option_map (IsRepeated (word_of e)) (earlier first index)
 
 -- an export has the ordinal of an earlier one, by the first of its ordinal; 0 is none
 abbrev pub ordinal_notice : ℕ → Option ℕ → ℕ → Option NoticeView
-ordinal_notice ordinal first index = if ordinal == 0 then None else option_map (RepeatsOrdinal ordinal) (earlier first index)
+ordinal_notice ordinal first index =
+    if ordinal == 0 then None else option_map (RepeatsOrdinal ordinal) (earlier first index)
 
 -- a name would be an attribute in capitals
 abbrev pub lowered_notice : List ℕ → Option NoticeView
@@ -162,7 +169,8 @@ stdcall_notice machine naming e =
 abbrev pub target_notice : Flavor → ExportView → Option ℕ → Option NoticeView
 target_notice Gnu e first = None
 target_notice Msvc e first =
-    if is_none first && is_asked_by_word e && not (is_empty_text e.alias_target) then Some (IsNotExported e.alias_target) else None
+    if is_none first && is_asked_by_word e && not (is_empty_text e.alias_target)
+    then Some (IsNotExported e.alias_target) else None
 
 -- the name of the DLL is given twice, and neither time on the command line
 abbrev pub heading_notice : Option (List ℕ) → Option NoticeView
@@ -185,28 +193,34 @@ warned None position = []
 warned (Some notice) position = record { notice = notice; position = position } ∷ []
 
 -- the warnings of what an export asks for; one that is left out asks for nothing
-abbrev pub asked_warnings : LibraryOptionsView → List ExportView → Bool → Position → ExportView → List WarningView
+abbrev pub asked_warnings : LibraryOptionsView → List ExportView → Bool → Position → ExportView →
+    List WarningView
 asked_warnings options exports true position e = []
 asked_warnings options exports false position e =
     warned (stdcall_notice options.machine options.naming e) position
     ++ warned (target_notice options.flavor e (first_of_word e.alias_target exports)) position
 
 -- the warnings of an export at its position, by its index
-abbrev pub warnings_of_export : LibraryOptionsView → List ExportView → ℕ → Position → ExportView → List WarningView
+abbrev pub warnings_of_export : LibraryOptionsView → List ExportView → ℕ → Position → ExportView →
+    List WarningView
 warnings_of_export options exports index position e =
     warned (repeat_notice e (first_declared (word_of e) exports) index) position
     ++ warned (ordinal_notice e.ordinal (first_of_ordinal e.ordinal exports) index) position
     ++ warned (lowered_notice (word_of e)) position
     ++ warned (ordinal_like_notice (word_of e)) position
-    ++ asked_warnings options exports (is_some (repeat_notice e (first_declared (word_of e) exports) index)) position e
+    ++ asked_warnings options exports
+    (is_some (repeat_notice e (first_declared (word_of e) exports) index)) position e
 
 -- the warnings of the export of an index, if there is one
-abbrev pub if_export : LibraryOptionsView → List ExportView → ℕ → Position → Option ExportView → List WarningView
+abbrev pub if_export : LibraryOptionsView → List ExportView → ℕ → Position → Option ExportView →
+    List WarningView
 if_export options exports index position None = []
-if_export options exports index position (Some e) = warnings_of_export options exports index position e
+if_export options exports index position (Some e) =
+    warnings_of_export options exports index position e
 
 abbrev pub export_notices : LibraryOptionsView → List ExportView → ℕ → Position → List WarningView
-export_notices options exports index position = if_export options exports index position (slice_get exports index)
+export_notices options exports index position =
+    if_export options exports index position (slice_get exports index)
 
 -- the word of an export, if there is one
 abbrev pub word_if : Option ExportView → List ℕ
@@ -218,15 +232,19 @@ abbrev pub word_before : List ExportView → ℕ → List ℕ
 word_before exports index = if index == 0 then [] else word_if (slice_get exports (index - 1))
 
 -- the warnings at a site, given the number of exports before it
-abbrev pub warnings_at_site : LibraryOptionsView → List ExportView → ℕ → Site → Position → List WarningView
-warnings_at_site options exports index site.Export position = export_notices options exports index position
+abbrev pub warnings_at_site : LibraryOptionsView → List ExportView → ℕ → Site → Position →
+    List WarningView
+warnings_at_site options exports index site.Export position =
+    export_notices options exports index position
 warnings_at_site options exports index (site.Attribute attribute) position =
     warned (Some (OpensLine attribute (word_before exports index))) position
-warnings_at_site options exports index site.Heading position = warned (heading_notice options.dll) position
+warnings_at_site options exports index site.Heading position =
+    warned (heading_notice options.dll) position
 
 -- the warnings at a place, given the number of exports before it
 abbrev pub warnings_at : LibraryOptionsView → List ExportView → ℕ → Place → List WarningView
-warnings_at options exports index place = warnings_at_site options exports index place.site place.position
+warnings_at options exports index place =
+    warnings_at_site options exports index place.site place.position
 
 -- the number of exports up to and including a site
 abbrev pub index_after : Site → ℕ → ℕ
@@ -234,28 +252,32 @@ index_after site.Export index = index + 1
 index_after _ index = index
 
 -- the warnings at places, in their order, given the number of exports before them
-unfoldable pub warnings_from : LibraryOptionsView → List ExportView → ℕ → List Place → List WarningView
+unfoldable pub warnings_from : LibraryOptionsView → List ExportView → ℕ → List Place →
+    List WarningView
 warnings_from options exports index [] = []
 warnings_from options exports index (place ∷ places) =
-    warnings_at options exports index place ++ warnings_from options exports (index_after place.site index) places
+    warnings_at options exports index place
+    ++ warnings_from options exports (index_after place.site index) places
 
 -- the position of warnings about a whole text
 abbrev pub whole : Position
 whole = record { offset = 0; line = 1; column = 1 }
 
--- the warnings of a definition of these exports and places and this number of members: those about the whole
--- text, and then those at its places, in their order
+-- the warnings of a definition of these exports and places and this number of members: those about
+-- the whole text, and then those at its places, in their order
 abbrev pub warnings_of : LibraryOptionsView → List ExportView → List Place → ℕ → List WarningView
 warnings_of options exports places count =
     warned (no_export_notice exports) whole
     ++ warned (other_kind_notice options.flavor count) whole
     ++ warnings_from options exports 0 places
 
--- An export is said to repeat a word exactly where it is left out for one before it that declares the word; and to
--- repeat an ordinal exactly where an export before it has the ordinal, which is not 0.
+-- An export is said to repeat a word exactly where it is left out for one before it that declares
+-- the word; and to repeat an ordinal exactly where an export before it has the ordinal, which is
+-- not 0.
 pub record RepeatsStandBefore : Type 0 where
   pub words : (e : ExportView) (exports : List ExportView) (index : ℕ) →
-      is_some (repeat_notice e (first_declared (word_of e) exports) index) ≡ repeats (take index exports) e
+      is_some (repeat_notice e (first_declared (word_of e) exports) index)
+      ≡ repeats (take index exports) e
   pub ordinals : (ordinal : ℕ) (exports : List ExportView) (index : ℕ) →
       is_some (ordinal_notice ordinal (first_of_ordinal ordinal exports) index)
       ≡ (not (ordinal == 0) && list_any (λ e. nat_eq ordinal e.ordinal) (take index exports))
@@ -263,10 +285,12 @@ pub record RepeatsStandBefore : Type 0 where
 -- each warning is at this offset or after it, and none is before the one that it follows
 abbrev pub Ascends : ℕ → List WarningView → Type 0
 Ascends offset [] = Unit {0}
-Ascends offset (warning ∷ warnings) = (offset ≤ warning.position.offset) × Ascends warning.position.offset warnings
+Ascends offset (warning ∷ warnings) =
+    (offset ≤ warning.position.offset) × Ascends warning.position.offset warnings
 
 -- the warnings of a text are in the order of their offsets
 abbrev pub AreInOrder : Type 0
 AreInOrder =
-    (text : List ℕ) (heard : List Heard) (options : LibraryOptionsView) (exports : List ExportView) (count : ℕ) → IsUtf8 text →
+    (text : List ℕ) (heard : List Heard) (options : LibraryOptionsView) (exports : List ExportView)
+    (count : ℕ) → IsUtf8 text →
     IsHeard text heard → Ascends 0 (warnings_of options exports (places_in text heard) count)

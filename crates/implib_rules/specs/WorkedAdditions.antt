@@ -11,7 +11,8 @@ use Rattle.implib_rules.specs.WorkedNames.{killing, line, plain, usual}
 
 -- `symbol`, `F@8`, `@g@8`, `a == b` and one that is private
 abbrev pub exports : List ExportView
-exports = line (codes "symbol") [] ∷ line (codes "F@8") [] ∷ line (codes "@g@8") [] ∷ line (codes "a") (codes "b")
+exports = line (codes "symbol") [] ∷ line (codes "F@8") [] ∷ line (codes "@g@8") []
+    ∷ line (codes "a") (codes "b")
     ∷ record (line (codes "hidden") []) { private = true } ∷ []
 
 -- a datum by its ordinal
@@ -24,7 +25,8 @@ fixed = record (line (codes "c") []) { ordinal = 9; constant = true }
 
 -- what is added
 abbrev pub with_prefix : AdditionsView
-with_prefix = record { prefix = Some (codes "prefix"); underscore = false; stdcall_underscore = false }
+with_prefix =
+    record { prefix = Some (codes "prefix"); underscore = false; stdcall_underscore = false }
 
 abbrev pub with_underscore : AdditionsView
 with_underscore = record { prefix = None; underscore = true; stdcall_underscore = false }
@@ -37,10 +39,14 @@ with_both = record { prefix = Some (codes "p"); underscore = true; stdcall_under
 
 -- for GNU's linker: the symbols of exports, and the names that they ask for
 abbrev pub symbols : MachineType → NamingView → AdditionsView → List ExportView → List (List ℕ)
-symbols machine naming a exports = map (λ e. e.name) (linked_exports machine naming Gnu (extended_exports machine naming a exports))
+symbols machine naming a exports =
+    map (λ e. e.name)
+    (linked_exports machine naming Gnu (extended_exports machine naming a exports))
 
 abbrev pub names : MachineType → NamingView → AdditionsView → List ExportView → List (List ℕ)
-names machine naming a exports = map (name_asked machine) (linked_exports machine naming Gnu (extended_exports machine naming a exports))
+names machine naming a exports =
+    map (name_asked machine)
+    (linked_exports machine naming Gnu (extended_exports machine naming a exports))
 
 -- what is added to these exports
 pub record AdditionsWorked : Type 0 where
@@ -51,8 +57,10 @@ pub record AdditionsWorked : Type 0 where
   pub prefix_names : names I386 usual with_prefix exports
       ≡ codes "symbol" ∷ codes "F@8" ∷ codes "@g@8" ∷ codes "b" ∷ codes "hidden"
       ∷ codes "symbol" ∷ codes "F@8" ∷ codes "@g@8" ∷ codes "b" ∷ []
-  pub prefix_plain : symbols I386 plain with_prefix (line (codes "symbol") [] ∷ []) ≡ codes "symbol" ∷ codes "prefixsymbol" ∷ []
-  pub prefix_amd64 : symbols AMD64 usual with_prefix (line (codes "symbol") [] ∷ []) ≡ codes "symbol" ∷ codes "prefixsymbol" ∷ []
+  pub prefix_plain : symbols I386 plain with_prefix (line (codes "symbol") [] ∷ [])
+      ≡ codes "symbol" ∷ codes "prefixsymbol" ∷ []
+  pub prefix_amd64 : symbols AMD64 usual with_prefix (line (codes "symbol") [] ∷ [])
+      ≡ codes "symbol" ∷ codes "prefixsymbol" ∷ []
   pub prefix_datum : extended_exports AMD64 usual with_prefix (datum ∷ [])
       ≡ datum ∷ record empty_export {
         name = codes "prefixd";
@@ -76,4 +84,5 @@ pub record AdditionsWorked : Type 0 where
       ≡ codes "symbol" ∷ codes "_F@8" ∷ codes "@g@8" ∷ codes "b" ∷ codes "hidden" ∷ []
   pub killed_underscores : names I386 killing with_underscore exports
       ≡ codes "_symbol" ∷ codes "_F" ∷ codes "g" ∷ codes "b" ∷ codes "_hidden" ∷ []
-  pub both : names AMD64 usual with_both (line (codes "symbol") [] ∷ []) ≡ codes "_symbol" ∷ codes "_symbol" ∷ []
+  pub both : names AMD64 usual with_both (line (codes "symbol") [] ∷ [])
+      ≡ codes "_symbol" ∷ codes "_symbol" ∷ []

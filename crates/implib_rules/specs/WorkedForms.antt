@@ -1,7 +1,8 @@
 -- Quotes without their ends and wrong ordinals, worked by hand.
 use Rattle.std.specs.Prelude.{◌≡◌, ℕ, List, [], ◌∷◌, ◌++◌, None, Some, codes}
 use Rattle.implib.specs.declared.def.lexer.TokenKind.{TokenKind}
-use Rattle.implib.specs.declared.def.lexer.TokenKind.TheVariants.{EqualEqual, Identifier, KwData, KwExports, KwLibrary}
+use Rattle.implib.specs.declared.def.lexer.TokenKind.TheVariants.{EqualEqual, Identifier, KwData}
+use Rattle.implib.specs.declared.def.lexer.TokenKind.TheVariants.{KwExports, KwLibrary}
 use Rattle.implib.specs.declared.def.listener.Role.{Role}
 use Rattle.implib.specs.declared.def.listener.Role.TheVariants.{Name, Other}
 use Rattle.implib.specs.Text.Heard.{Heard}
@@ -14,7 +15,8 @@ quote = 34 ∷ []
 
 -- a token that is heard, at an offset
 abbrev pub said : Role → TokenKind → List ℕ → ℕ → Heard
-said role kind value at = record { role = role; token = record { kind = kind; value = value; at = at } }
+said role kind value at =
+    record { role = role; token = record { kind = kind; value = value; at = at } }
 
 -- `EXPORTS` and f in the next line
 abbrev pub opened : List Heard
@@ -25,37 +27,50 @@ pub record MalformedWorked : Type 0 where
   pub heading : open_quote (codes "LIBRARY " ++ quote ++ codes "zoo\nEXPORTS\nopen\n") ≡ Some 8
   pub closed_later : open_quote (codes "EXPORTS\n" ++ quote ++ codes "a\nb" ++ quote) ≡ Some 8
   pub at_the_end : open_quote (codes "EXPORTS\na\n" ++ quote ++ codes "b") ≡ Some 10
-  pub closed : open_quote (codes "LIBRARY " ++ quote ++ codes "zoo" ++ quote ++ codes "\nEXPORTS\n" ++ quote ++ quote ++ codes "\n") ≡ None
-  pub second_open : open_quote (quote ++ codes "a" ++ quote ++ codes " " ++ quote ++ codes "b\n") ≡ Some 4
+  pub closed : open_quote (codes "LIBRARY " ++ quote ++ codes "zoo" ++ quote ++ codes "\nEXPORTS\n"
+      ++ quote ++ quote ++ codes "\n") ≡ None
+  pub second_open : open_quote (quote ++ codes "a" ++ quote ++ codes " " ++ quote ++ codes "b\n")
+      ≡ Some 4
   pub in_comment : open_quote (codes "; " ++ quote ++ codes "\nEXPORTS\na") ≡ None
   pub in_word : open_quote (codes "EXPORTS\na" ++ quote ++ codes "b\n") ≡ None
   pub after_nul : open_quote (codes "EXPORTS a " ++ 0 ∷ quote) ≡ None
   -- `f @65536`, `f @0x10000`, and the first in the next line, which is an export
-  pub too_large : misplaced_in (codes "EXPORTS\nf @65536") (opened ++ said Name Identifier (codes "@65536") 10 ∷ [])
+  pub too_large : misplaced_in (codes "EXPORTS\nf @65536")
+      (opened ++ said Name Identifier (codes "@65536") 10 ∷ [])
       ≡ Some (record { problem = NoOrdinal; word = codes "@65536"; at = 10 })
-  pub in_hexadecimal : misplaced_in (codes "EXPORTS\nf @0x10000") (opened ++ said Name Identifier (codes "@0x10000") 10 ∷ [])
+  pub in_hexadecimal : misplaced_in (codes "EXPORTS\nf @0x10000")
+      (opened ++ said Name Identifier (codes "@0x10000") 10 ∷ [])
       ≡ Some (record { problem = NoOrdinal; word = codes "@0x10000"; at = 10 })
-  pub next_line : misplaced_in (codes "EXPORTS\nf\n@65536") (opened ++ said Name Identifier (codes "@65536") 10 ∷ []) ≡ None
+  pub next_line : misplaced_in (codes "EXPORTS\nf\n@65536")
+      (opened ++ said Name Identifier (codes "@65536") 10 ∷ []) ≡ None
   pub after_attribute : misplaced_in (codes "EXPORTS\nf DATA @65536")
-      (opened ++ said Other KwData (codes "DATA") 10 ∷ said Name Identifier (codes "@65536") 15 ∷ [])
+      (opened ++ said Other KwData (codes "DATA") 10 ∷ said Name Identifier (codes "@65536") 15
+      ∷ [])
       ≡ Some (record { problem = NoOrdinal; word = codes "@65536"; at = 15 })
-  pub fastcall : misplaced_in (codes "EXPORTS\nf @g@8") (opened ++ said Name Identifier (codes "@g@8") 10 ∷ []) ≡ None
+  pub fastcall : misplaced_in (codes "EXPORTS\nf @g@8")
+      (opened ++ said Name Identifier (codes "@g@8") 10 ∷ []) ≡ None
   pub first_name : misplaced_in (codes "EXPORTS @65536")
-      (said Other KwExports (codes "EXPORTS") 0 ∷ said Name Identifier (codes "@65536") 8 ∷ []) ≡ None
+      (said Other KwExports (codes "EXPORTS") 0 ∷ said Name Identifier (codes "@65536") 8 ∷ [])
+      ≡ None
   -- `f @1 @2`, `f @ 1 @2`, `f @1` and `g @2`, `f == @1 @2`
   pub twice : misplaced_in (codes "EXPORTS\nf @1 @2")
       (opened ++ said Other Identifier (codes "@1") 10 ∷ said Other Identifier (codes "@2") 13 ∷ [])
       ≡ Some (record { problem = SecondOrdinal; word = codes "@2"; at = 13 })
   pub apart : misplaced_in (codes "EXPORTS\nf @ 1 @2")
-      (opened ++ said Other Identifier (codes "@") 10 ∷ said Other Identifier (codes "1") 12 ∷ said Other Identifier (codes "@2") 14 ∷ [])
+      (opened ++ said Other Identifier (codes "@") 10 ∷ said Other Identifier (codes "1") 12
+      ∷ said Other Identifier (codes "@2") 14 ∷ [])
       ≡ Some (record { problem = SecondOrdinal; word = codes "@2"; at = 14 })
   pub of_two : misplaced_in (codes "EXPORTS\nf @1 g @2")
-      (opened ++ said Other Identifier (codes "@1") 10 ∷ said Name Identifier (codes "g") 13 ∷ said Other Identifier (codes "@2") 15 ∷ []) ≡ None
+      (opened ++ said Other Identifier (codes "@1") 10 ∷ said Name Identifier (codes "g") 13
+      ∷ said Other Identifier (codes "@2") 15 ∷ []) ≡ None
   pub target : misplaced_in (codes "EXPORTS\nf == @1 @2")
-      (opened ++ said Other EqualEqual (codes "==") 10 ∷ said Other Identifier (codes "@1") 13 ∷ said Other Identifier (codes "@2") 16 ∷ []) ≡ None
+      (opened ++ said Other EqualEqual (codes "==") 10 ∷ said Other Identifier (codes "@1") 13
+      ∷ said Other Identifier (codes "@2") 16 ∷ []) ≡ None
   pub of_library : misplaced_in (codes "EXPORTS\nf @1 LIBRARY @2")
-      (opened ++ said Other Identifier (codes "@1") 10 ∷ said Other KwLibrary (codes "LIBRARY") 13 ∷ said Other Identifier (codes "@2") 21 ∷ []) ≡ None
+      (opened ++ said Other Identifier (codes "@1") 10 ∷ said Other KwLibrary (codes "LIBRARY") 13
+      ∷ said Other Identifier (codes "@2") 21 ∷ []) ≡ None
   -- the first one counts
   pub first : misplaced_in (codes "EXPORTS\nf @1 @2 @65536")
-      (opened ++ said Other Identifier (codes "@1") 10 ∷ said Other Identifier (codes "@2") 13 ∷ said Name Identifier (codes "@65536") 16 ∷ [])
+      (opened ++ said Other Identifier (codes "@1") 10 ∷ said Other Identifier (codes "@2") 13
+      ∷ said Name Identifier (codes "@65536") 16 ∷ [])
       ≡ Some (record { problem = SecondOrdinal; word = codes "@2"; at = 13 })

@@ -1,5 +1,5 @@
--- Names of libraries, repeats that are left out, a whole definition, kinds of archives, exit statuses and byte order
--- marks, worked by hand.
+-- Names of libraries, repeats that are left out, a whole definition, kinds of archives, exit
+-- statuses and byte order marks, worked by hand.
 -- The digits are those of md5sum.
 use Rattle.std.specs.Prelude.{◌≡◌, ℕ, true, List, [], ◌∷◌, Option, None, Some, codes, map}
 use Rattle.implib.specs.declared.def.position.Position.{Position}
@@ -9,7 +9,8 @@ use Rattle.implib_archive.specs.declared.error.Fault.{Fault as ArchiveFault}
 use Rattle.implib_archive.specs.declared.kind.Kind.TheVariants.{Coff, Gnu as GnuKind}
 use Rattle.implib.specs.Definition.{DefinitionView, ExportView, empty_definition, empty_export}
 use Rattle.implib_rules.specs.Additions.{no_additions}
-use Rattle.implib_rules.specs.declared.library.Refusal.TheVariants.{NotUtf8, Syntax, NoName, Members, Archive, OutOfMemory}
+use Rattle.implib_rules.specs.declared.library.Refusal.TheVariants.{NotUtf8, Syntax, NoName}
+use Rattle.implib_rules.specs.declared.library.Refusal.TheVariants.{Members, Archive, OutOfMemory}
 use Rattle.implib_rules.specs.Library.{definition_for, kind_for, status_of, without_mark}
 use Rattle.implib_rules.specs.LibraryName.{exports_taken, gnu_library_name, msvc_library_name}
 use Rattle.implib.specs.declared.machine.MachineType.TheVariants.{AMD64}
@@ -38,16 +39,22 @@ filled_export = record empty_export {
 
 -- what is taken in of exports, but for private ones
 pub record ExportsTaken : Type 0 where
-  pub parts : exports_taken (filled_export ∷ record (function (codes "c")) { private = true } ∷ function (codes "d") ∷ [])
+  pub parts : exports_taken
+      (filled_export ∷ record (function (codes "c")) { private = true } ∷ function (codes "d") ∷ [])
       ≡ 0x5F ∷ 0x61 ∷ 0 ∷ 0x61 ∷ 0 ∷ 0x5F ∷ 0x62 ∷ 0 ∷ 0x34 ∷ 0x12 ∷ 0x6E ∷ 0x64
       ∷ 0x64 ∷ 0 ∷ 0 ∷ 0 ∷ 0 ∷ 0 ∷ 0x2D ∷ 0x2D ∷ []
 
 -- the name for GNU's linker
 pub record GnuLibrariesNamed : Type 0 where
-  pub no_export : gnu_library_name (of_exports (codes "zoo.dll") []) ≡ codes "zoo.dll_d41d8cd98f00b204"
-  pub first : gnu_library_name (of_exports (codes "kernel32.dll") (function (codes "ExitProcess") ∷ function (codes "GetStdHandle") ∷ []))
+  pub no_export : gnu_library_name (of_exports (codes "zoo.dll") [])
+      ≡ codes "zoo.dll_d41d8cd98f00b204"
+  pub first : gnu_library_name
+      (of_exports (codes "kernel32.dll")
+      (function (codes "ExitProcess") ∷ function (codes "GetStdHandle") ∷ []))
       ≡ codes "kernel32.dll_abc2aeefe38647de"
-  pub second : gnu_library_name (of_exports (codes "kernel32.dll") (function (codes "ExitProcess") ∷ function (codes "WriteFile") ∷ []))
+  pub second : gnu_library_name
+      (of_exports (codes "kernel32.dll")
+      (function (codes "ExitProcess") ∷ function (codes "WriteFile") ∷ []))
       ≡ codes "kernel32.dll_16834b715b4ee572"
 
 -- the name for Microsoft's linker, by the DLL's
@@ -75,32 +82,52 @@ data_of word = record (function word) { is_data = true }
 pub record RepeatsWorked : Type 0 where
   pub as_data : without_repeated (function (codes "two") ∷ data_of (codes "two") ∷ [])
       ≡ function (codes "two") ∷ gone (data_of (codes "two")) ∷ []
-  pub target : without_repeated (function (codes "hypot") ∷ record (function (codes "hypot")) { alias_target = codes "_hypot" } ∷ [])
-      ≡ function (codes "hypot") ∷ gone (record (function (codes "hypot")) { alias_target = codes "_hypot" }) ∷ []
-  pub private_first : without_repeated (gone (function (codes "a")) ∷ data_of (codes "a") ∷ function (codes "a") ∷ [])
+  pub target : without_repeated
+      (function (codes "hypot")
+      ∷ record (function (codes "hypot")) { alias_target = codes "_hypot" } ∷ [])
+      ≡ function (codes "hypot")
+      ∷ gone (record (function (codes "hypot")) { alias_target = codes "_hypot" }) ∷ []
+  pub private_first : without_repeated
+      (gone (function (codes "a")) ∷ data_of (codes "a") ∷ function (codes "a") ∷ [])
       ≡ gone (function (codes "a")) ∷ data_of (codes "a") ∷ gone (function (codes "a")) ∷ []
-  pub external : without_repeated (function (codes "f") ∷ record (function (codes "f")) { ext_name = Some (codes "g") } ∷ data_of (codes "g") ∷ [])
-      ≡ function (codes "f") ∷ record (function (codes "f")) { ext_name = Some (codes "g") } ∷ gone (data_of (codes "g")) ∷ []
-  pub three : without_repeated (function (codes "a") ∷ function (codes "b") ∷ function (codes "a") ∷ function (codes "c") ∷ function (codes "b") ∷ function (codes "a") ∷ [])
-      ≡ function (codes "a") ∷ function (codes "b") ∷ gone (function (codes "a")) ∷ function (codes "c") ∷ gone (function (codes "b")) ∷ gone (function (codes "a")) ∷ []
+  pub external : without_repeated
+      (function (codes "f") ∷ record (function (codes "f")) { ext_name = Some (codes "g") }
+      ∷ data_of (codes "g") ∷ [])
+      ≡ function (codes "f") ∷ record (function (codes "f")) { ext_name = Some (codes "g") }
+      ∷ gone (data_of (codes "g")) ∷ []
+  pub three : without_repeated
+      (function (codes "a") ∷ function (codes "b") ∷ function (codes "a") ∷ function (codes "c")
+      ∷ function (codes "b") ∷ function (codes "a") ∷ [])
+      ≡ function (codes "a") ∷ function (codes "b") ∷ gone (function (codes "a"))
+      ∷ function (codes "c") ∷ gone (function (codes "b")) ∷ gone (function (codes "a")) ∷ []
 
 -- a library for Microsoft's linker on AMD64, of the definition's own DLL
 abbrev pub for_msvc : LibraryOptionsView
-for_msvc = record { machine = AMD64; flavor = Msvc; dll = None; naming = usual; additions = no_additions }
+for_msvc = record {
+  machine = AMD64;
+  flavor = Msvc;
+  dll = None;
+  naming = usual;
+  additions = no_additions;
+}
 
--- The definition of a program zoo with two exports of one word, of which the second asks for another: it is left out, and
--- adds no target.
+-- The definition of a program zoo with two exports of one word, of which the second asks for
+-- another: it is left out, and adds no target.
 pub record DefinitionsMade : Type 0 where
   pub repeated : definition_for for_msvc
-      (of_exports [] (function (codes "a") ∷ record (function (codes "a")) { alias_target = codes "b" } ∷ [])) (codes "d/zoo") true
+      (of_exports [] (function (codes "a")
+      ∷ record (function (codes "a")) { alias_target = codes "b" } ∷ [])) (codes "d/zoo") true
       ≡ record (of_exports (codes "zoo.exe")
-      (function (codes "a") ∷ record (function (codes "a")) { asked_name = Some (codes "b"); private = true } ∷ []))
+      (function (codes "a")
+      ∷ record (function (codes "a")) { asked_name = Some (codes "b"); private = true } ∷ []))
       { library_name = Some (codes "zoo") }
 
 -- the kind of an archive, by the number of its members
 pub record KindsChosen : Type 0 where
-  pub msvc : map (kind_for Msvc) (0 ∷ 65534 ∷ 65535 ∷ 65536 ∷ []) ≡ Coff ∷ Coff ∷ GnuKind ∷ GnuKind ∷ []
-  pub gnu : map (kind_for Gnu) (0 ∷ 65534 ∷ 65535 ∷ 65536 ∷ []) ≡ GnuKind ∷ GnuKind ∷ GnuKind ∷ GnuKind ∷ []
+  pub msvc : map (kind_for Msvc) (0 ∷ 65534 ∷ 65535 ∷ 65536 ∷ [])
+      ≡ Coff ∷ Coff ∷ GnuKind ∷ GnuKind ∷ []
+  pub gnu : map (kind_for Gnu) (0 ∷ 65534 ∷ 65535 ∷ 65536 ∷ [])
+      ≡ GnuKind ∷ GnuKind ∷ GnuKind ∷ GnuKind ∷ []
 
 -- the exit status for each refusal
 pub record StatusesChosen : Type 0 where

@@ -1,7 +1,8 @@
 -- Symbols, asked names, names of DLLs and aliases worked by hand.
 use Rattle.std.specs.Prelude.{◌≡◌, ℕ, List, [], ◌∷◌, true, false, None, Some, codes, map}
 use Rattle.implib.specs.declared.def.lexer.TokenKind.{TokenKind}
-use Rattle.implib.specs.declared.def.lexer.TokenKind.TheVariants.{Identifier, KwExports, KwLibrary, KwName}
+use Rattle.implib.specs.declared.def.lexer.TokenKind.TheVariants.{Identifier, KwExports, KwLibrary}
+use Rattle.implib.specs.declared.def.lexer.TokenKind.TheVariants.{KwName}
 use Rattle.implib.specs.declared.def.listener.Role.TheVariants.{Other}
 use Rattle.implib.specs.declared.flavor.Flavor.{Flavor}
 use Rattle.implib.specs.declared.flavor.Flavor.TheVariants.{Msvc, Gnu}
@@ -10,7 +11,8 @@ use Rattle.implib.specs.declared.machine.MachineType.TheVariants.{I386, ARMNT, A
 use Rattle.implib.specs.Definition.{DefinitionView, ExportView, empty_definition, empty_export}
 use Rattle.implib.specs.Import.{name_asked}
 use Rattle.implib.specs.Text.Heard.{Heard}
-use Rattle.implib_rules.specs.Linked.{NamingView, linked, linked_export, linked_exports, symbol_linked}
+use Rattle.implib_rules.specs.Linked.{NamingView, linked, linked_export, linked_exports}
+use Rattle.implib_rules.specs.Linked.{symbol_linked}
 use Rattle.implib_rules.specs.Machines.{machine_called}
 use Rattle.implib_rules.specs.Names.{dll_name, is_program, lacks_name, own_name}
 use Rattle.implib_rules.specs.Order.{library_specs}
@@ -29,7 +31,8 @@ plain = record { is_plain = true; kills_at = false; exports_as = false; keeps_de
 
 -- the rules of both
 abbrev pub plain_and_killing : NamingView
-plain_and_killing = record { is_plain = true; kills_at = true; exports_as = false; keeps_decorated = false }
+plain_and_killing =
+    record { is_plain = true; kills_at = true; exports_as = false; keeps_decorated = false }
 
 -- the rules of LIB
 abbrev pub decorated : NamingView
@@ -43,9 +46,10 @@ line word target = record empty_export { name = word; alias_target = target }
 abbrev pub linked_alone : MachineType → NamingView → Flavor → ExportView → ExportView
 linked_alone machine naming flavor e = linked_export machine naming flavor (e ∷ []) e
 
--- in GNU's flavour the export of a word, with another after `==` or with an empty one, has this symbol and asks
--- for this name
-pub record Links (machine : MachineType) (naming : NamingView) (word target symbol asked : List ℕ) : Type 0 where
+-- in GNU's flavour the export of a word, with another after `==` or with an empty one, has this
+-- symbol and asks for this name
+pub record Links (machine : MachineType) (naming : NamingView)
+    (word target symbol asked : List ℕ) : Type 0 where
   pub symbol_is : (linked_alone machine naming Gnu (line word target)).name ≡ symbol
   pub asked_is : name_asked machine (linked_alone machine naming Gnu (line word target)) ≡ asked
   pub target_gone : (linked_alone machine naming Gnu (line word target)).alias_target ≡ []
@@ -77,15 +81,21 @@ pub record ExportsLinked : Type 0 where
   pub other_underscored : Links I386 usual (codes "a") (codes "b") (codes "_a") (codes "b")
   pub other_not_killed : Links I386 killing (codes "a@4") (codes "a@4") (codes "_a@4") (codes "a@4")
   pub c_given : (linked_alone I386 usual Msvc (line (codes "f") [])).asked_name ≡ Some (codes "f")
-  pub plain_given : (linked_alone I386 plain Msvc (line (codes "_J") [])).asked_name ≡ Some (codes "_J")
-  pub other_given : (linked_alone ARM64 usual Gnu (line (codes "a") (codes "b"))).asked_name ≡ Some (codes "b")
+  pub plain_given : (linked_alone I386 plain Msvc (line (codes "_J") [])).asked_name
+      ≡ Some (codes "_J")
+  pub other_given : (linked_alone ARM64 usual Gnu (line (codes "a") (codes "b"))).asked_name
+      ≡ Some (codes "b")
   pub own_not_given : (linked_alone AMD64 killing Msvc (line (codes "F@8") [])).asked_name ≡ None
-  pub target_not_given : (linked_alone ARMNT usual Gnu (line (codes "a") (codes "a"))).asked_name ≡ None
+  pub target_not_given : (linked_alone ARMNT usual Gnu (line (codes "a") (codes "a"))).asked_name
+      ≡ None
   pub by_name : symbol_linked I386 usual (line (codes "f") []) ≡ codes "_f"
-  pub by_external_name : symbol_linked I386 usual (record (line (codes "f") []) { ext_name = Some (codes "g") }) ≡ codes "_g"
-  pub external : linked_alone I386 usual Gnu (record (line (codes "f") []) { ext_name = Some (codes "g") })
+  pub by_external_name : symbol_linked I386 usual
+      (record (line (codes "f") []) { ext_name = Some (codes "g") }) ≡ codes "_g"
+  pub external : linked_alone I386 usual Gnu
+      (record (line (codes "f") []) { ext_name = Some (codes "g") })
       ≡ record empty_export { name = codes "_g"; asked_name = Some (codes "g") }
-  pub external_of_other : linked_alone AMD64 usual Gnu (record (line (codes "f") (codes "h")) { ext_name = Some (codes "g") })
+  pub external_of_other : linked_alone AMD64 usual Gnu
+      (record (line (codes "f") (codes "h")) { ext_name = Some (codes "g") })
       ≡ record empty_export { name = codes "g"; asked_name = Some (codes "h") }
 
 -- an import as it is linked: of this symbol, and asking for this name
@@ -98,55 +108,76 @@ a_plain_import symbol = record empty_export { name = symbol }
 
 -- an alias as it is linked: of this symbol, and weak for that one
 abbrev pub an_alias : List ℕ → List ℕ → ExportView
-an_alias symbol target = record empty_export { name = symbol; alias_target = target; asked_name = Some symbol }
+an_alias symbol target =
+    record empty_export { name = symbol; alias_target = target; asked_name = Some symbol }
 
 -- what exports with `==` are linked as, and what they add
 pub record AliasesLinked : Type 0 where
   pub target_added : linked_exports AMD64 usual Msvc (line (codes "a") (codes "b") ∷ [])
       ≡ an_alias (codes "a") (codes "b") ∷ an_import (codes "b") (codes "b") ∷ []
-  pub underscored : linked_exports I386 usual Msvc (line (codes "strcasecmp") (codes "_stricmp") ∷ [])
-      ≡ an_alias (codes "_strcasecmp") (codes "__stricmp") ∷ an_import (codes "__stricmp") (codes "_stricmp") ∷ []
+  pub underscored : linked_exports I386 usual Msvc
+      (line (codes "strcasecmp") (codes "_stricmp") ∷ [])
+      ≡ an_alias (codes "_strcasecmp") (codes "__stricmp")
+      ∷ an_import (codes "__stricmp") (codes "_stricmp") ∷ []
   pub killed : linked_exports I386 killing Msvc (line (codes "a@4") (codes "F@8") ∷ [])
       ≡ an_alias (codes "_a@4") (codes "_F@8") ∷ an_import (codes "_F@8") (codes "F@8") ∷ []
-  pub exported : linked_exports AMD64 usual Msvc (line (codes "a") (codes "b") ∷ line (codes "b") [] ∷ [])
+  pub exported : linked_exports AMD64 usual Msvc
+      (line (codes "a") (codes "b") ∷ line (codes "b") [] ∷ [])
       ≡ an_alias (codes "a") (codes "b") ∷ a_plain_import (codes "b") ∷ []
-  pub asked_killed : linked_exports I386 killing Msvc (line (codes "a@4") (codes "F") ∷ line (codes "F@8") [] ∷ [])
+  pub asked_killed : linked_exports I386 killing Msvc
+      (line (codes "a@4") (codes "F") ∷ line (codes "F@8") [] ∷ [])
       ≡ an_alias (codes "_a@4") (codes "_F@8") ∷ an_import (codes "_F@8") (codes "F") ∷ []
-  pub asked_first : linked_exports I386 killing Msvc (line (codes "F@4") [] ∷ line (codes "a") (codes "F") ∷ line (codes "F@8") [] ∷ [])
-      ≡ an_import (codes "_F@4") (codes "F") ∷ an_alias (codes "_a") (codes "_F@4") ∷ an_import (codes "_F@8") (codes "F") ∷ []
-  pub asked_by_name_type : linked_exports I386 usual Msvc (line (codes "a") (codes "_swab") ∷ line (codes "swab") (codes "_swab") ∷ [])
+  pub asked_first : linked_exports I386 killing Msvc
+      (line (codes "F@4") [] ∷ line (codes "a") (codes "F") ∷ line (codes "F@8") [] ∷ [])
+      ≡ an_import (codes "_F@4") (codes "F") ∷ an_alias (codes "_a") (codes "_F@4")
+      ∷ an_import (codes "_F@8") (codes "F") ∷ []
+  pub asked_by_name_type : linked_exports I386 usual Msvc
+      (line (codes "a") (codes "_swab") ∷ line (codes "swab") (codes "_swab") ∷ [])
       ≡ an_alias (codes "_a") (codes "_swab") ∷ an_import (codes "_swab") (codes "_swab") ∷ []
-  pub taken_killed : linked_exports I386 killing Msvc (line (codes "a") (codes "F@8") ∷ line (codes "F@8") [] ∷ [])
+  pub taken_killed : linked_exports I386 killing Msvc
+      (line (codes "a") (codes "F@8") ∷ line (codes "F@8") [] ∷ [])
       ≡ an_import (codes "_a") (codes "F@8") ∷ an_import (codes "_F@8") (codes "F") ∷ []
   pub taken_by_ordinal : linked_exports AMD64 usual Msvc
-      (line (codes "a") (codes "b") ∷ record (line (codes "b") []) { no_name = true; ordinal = 5 } ∷ [])
-      ≡ an_import (codes "a") (codes "b") ∷ record (a_plain_import (codes "b")) { no_name = true; ordinal = 5 } ∷ []
-  pub external : linked_exports AMD64 usual Msvc (record (line (codes "x") (codes "b")) { ext_name = Some (codes "a") } ∷ [])
+      (line (codes "a") (codes "b") ∷ record (line (codes "b") []) { no_name = true; ordinal = 5 }
+      ∷ [])
+      ≡ an_import (codes "a") (codes "b")
+      ∷ record (a_plain_import (codes "b")) { no_name = true; ordinal = 5 } ∷ []
+  pub external : linked_exports AMD64 usual Msvc
+      (record (line (codes "x") (codes "b")) { ext_name = Some (codes "a") } ∷ [])
       ≡ an_alias (codes "a") (codes "b") ∷ an_import (codes "b") (codes "b") ∷ []
   pub exported_by_external_name : linked_exports AMD64 usual Msvc
-      (line (codes "a") (codes "b") ∷ record (line (codes "x") []) { ext_name = Some (codes "b") } ∷ [])
+      (line (codes "a") (codes "b") ∷ record (line (codes "x") []) { ext_name = Some (codes "b") }
+      ∷ [])
       ≡ an_alias (codes "a") (codes "b") ∷ a_plain_import (codes "b") ∷ []
   pub of_plain_names : linked_exports I386 plain Msvc (line (codes "a") (codes "b") ∷ [])
       ≡ an_alias (codes "a") (codes "b") ∷ an_import (codes "b") (codes "b") ∷ []
-  pub shared : linked_exports AMD64 usual Msvc (line (codes "a") (codes "b") ∷ line (codes "c") (codes "b") ∷ [])
-      ≡ an_alias (codes "a") (codes "b") ∷ an_alias (codes "c") (codes "b") ∷ an_import (codes "b") (codes "b") ∷ []
-  pub chained : linked_exports AMD64 usual Msvc (line (codes "a") (codes "b") ∷ line (codes "b") (codes "c") ∷ [])
-      ≡ an_import (codes "a") (codes "b") ∷ an_alias (codes "b") (codes "c") ∷ an_import (codes "c") (codes "c") ∷ []
-  pub exchanged : linked_exports AMD64 usual Msvc (line (codes "a") (codes "b") ∷ line (codes "b") (codes "a") ∷ [])
+  pub shared : linked_exports AMD64 usual Msvc
+      (line (codes "a") (codes "b") ∷ line (codes "c") (codes "b") ∷ [])
+      ≡ an_alias (codes "a") (codes "b") ∷ an_alias (codes "c") (codes "b")
+      ∷ an_import (codes "b") (codes "b") ∷ []
+  pub chained : linked_exports AMD64 usual Msvc
+      (line (codes "a") (codes "b") ∷ line (codes "b") (codes "c") ∷ [])
+      ≡ an_import (codes "a") (codes "b") ∷ an_alias (codes "b") (codes "c")
+      ∷ an_import (codes "c") (codes "c") ∷ []
+  pub exchanged : linked_exports AMD64 usual Msvc
+      (line (codes "a") (codes "b") ∷ line (codes "b") (codes "a") ∷ [])
       ≡ an_import (codes "a") (codes "b") ∷ an_import (codes "b") (codes "a") ∷ []
   pub private_target : linked_exports AMD64 usual Msvc
       (line (codes "a") (codes "b") ∷ record (line (codes "b") []) { private = true } ∷ [])
       ≡ an_alias (codes "a") (codes "b") ∷ record (a_plain_import (codes "b")) { private = true }
       ∷ an_import (codes "b") (codes "b") ∷ []
-  pub of_data : linked_exports AMD64 usual Msvc (record (line (codes "a") (codes "b")) { is_data = true; ordinal = 3 } ∷ [])
+  pub of_data : linked_exports AMD64 usual Msvc
+      (record (line (codes "a") (codes "b")) { is_data = true; ordinal = 3 } ∷ [])
       ≡ record (an_alias (codes "a") (codes "b")) { is_data = true; ordinal = 3 }
       ∷ record (an_import (codes "b") (codes "b")) { is_data = true } ∷ []
-  pub of_constant : linked_exports AMD64 usual Msvc (record (line (codes "a") (codes "b")) { constant = true } ∷ [])
+  pub of_constant : linked_exports AMD64 usual Msvc
+      (record (line (codes "a") (codes "b")) { constant = true } ∷ [])
       ≡ record (an_alias (codes "a") (codes "b")) { constant = true }
       ∷ record (an_import (codes "b") (codes "b")) { constant = true } ∷ []
   pub shared_with_data : linked_exports AMD64 usual Msvc
       (line (codes "a") (codes "b") ∷ record (line (codes "c") (codes "b")) { is_data = true } ∷ [])
-      ≡ an_alias (codes "a") (codes "b") ∷ record (an_alias (codes "c") (codes "b")) { is_data = true }
+      ≡ an_alias (codes "a") (codes "b")
+      ∷ record (an_alias (codes "c") (codes "b")) { is_data = true }
       ∷ an_import (codes "b") (codes "b") ∷ []
   pub itself : linked_exports AMD64 usual Msvc (line (codes "X") (codes "X") ∷ [])
       ≡ a_plain_import (codes "X") ∷ []
@@ -170,7 +201,8 @@ pub record AliasesLinked : Type 0 where
   pub by_ordinal : linked_exports AMD64 usual Msvc
       (record (line (codes "a") (codes "b")) { no_name = true; ordinal = 5 } ∷ [])
       ≡ record (an_import (codes "a") (codes "b")) { no_name = true; ordinal = 5 } ∷ []
-  pub private : linked_exports AMD64 usual Msvc (record (line (codes "a") (codes "b")) { private = true } ∷ [])
+  pub private : linked_exports AMD64 usual Msvc
+      (record (line (codes "a") (codes "b")) { private = true } ∷ [])
       ≡ record (an_import (codes "a") (codes "b")) { private = true } ∷ []
   pub gnu : linked_exports AMD64 usual Gnu (line (codes "a") (codes "b") ∷ [])
       ≡ an_import (codes "a") (codes "b") ∷ []
@@ -179,7 +211,8 @@ pub record AliasesLinked : Type 0 where
 abbrev pub with_aliases : DefinitionView
 with_aliases = record empty_definition {
   import_name = codes "zoo.dll";
-  exports = line (codes "a") (codes "b") ∷ line (codes "b") [] ∷ line (codes "d") (codes "c") ∷ line (codes "e") []
+  exports = line (codes "a") (codes "b") ∷ line (codes "b") [] ∷ line (codes "d") (codes "c")
+      ∷ line (codes "e") []
       ∷ record (line (codes "f") (codes "g")) { is_data = true } ∷ [];
 }
 
@@ -187,7 +220,8 @@ with_aliases = record empty_definition {
 abbrev pub with_constants : DefinitionView
 with_constants = record empty_definition {
   import_name = codes "zoo.dll";
-  exports = record (line (codes "a") (codes "b")) { constant = true } ∷ record (line (codes "c") []) { constant = true } ∷ [];
+  exports = record (line (codes "a") (codes "b")) { constant = true }
+      ∷ record (line (codes "c") []) { constant = true } ∷ [];
 }
 
 -- the archive symbols of their members, in order
@@ -206,7 +240,8 @@ pub record MembersInOrder : Type 0 where
       ∷ (codes "__imp_d" ∷ [])
       ∷ (codes "__imp_f" ∷ [])
       ∷ []
-  pub constants : map (λ p. p.symbols) (library_specs (linked AMD64 usual Msvc with_constants) AMD64 Msvc)
+  pub constants : map (λ p. p.symbols)
+      (library_specs (linked AMD64 usual Msvc with_constants) AMD64 Msvc)
       ≡ (codes "__IMPORT_DESCRIPTOR_zoo" ∷ [])
       ∷ (codes "__NULL_IMPORT_DESCRIPTOR" ∷ [])
       ∷ ((0x7F ∷ codes "zoo_NULL_THUNK_DATA") ∷ [])
@@ -233,11 +268,13 @@ two_headings =
 -- what is heard of `LIBRARY EXPORTS c`, and of `LIBRARY "" NAME b`
 abbrev pub heading_alone : List Heard
 heading_alone =
-    heard KwLibrary (codes "LIBRARY") ∷ heard KwExports (codes "EXPORTS") ∷ heard Identifier (codes "c") ∷ []
+    heard KwLibrary (codes "LIBRARY") ∷ heard KwExports (codes "EXPORTS")
+    ∷ heard Identifier (codes "c") ∷ []
 
 abbrev pub empty_heading : List Heard
 empty_heading =
-    heard KwLibrary (codes "LIBRARY") ∷ heard Identifier [] ∷ heard KwName (codes "NAME") ∷ heard Identifier (codes "b") ∷ []
+    heard KwLibrary (codes "LIBRARY") ∷ heard Identifier [] ∷ heard KwName (codes "NAME")
+    ∷ heard Identifier (codes "b") ∷ []
 
 -- names of DLLs
 pub record DllsNamed : Type 0 where
@@ -261,7 +298,8 @@ pub record DllsNamed : Type 0 where
   pub none_of_a_heading_alone : own_name heading_alone ≡ []
   pub behind_an_empty_heading : own_name empty_heading ≡ codes "b"
   pub program_behind_an_empty_heading : is_program empty_heading ≡ true
-  pub unheaded_text : own_name (heard KwExports (codes "EXPORTS") ∷ heard Identifier (codes "c") ∷ []) ≡ []
+  pub unheaded_text : own_name
+      (heard KwExports (codes "EXPORTS") ∷ heard Identifier (codes "c") ∷ []) ≡ []
 
 -- which machine a name is of
 pub record MachinesNamed : Type 0 where

@@ -6,7 +6,8 @@ use Rattle.implib_rules.specs.Utf8.{IsNotUtf8At}
 
 -- the text of a definition is not UTF-8 at this offset, line and column
 abbrev pub IsAt : List ℕ → ℕ → ℕ → ℕ → Type 0
-IsAt bytes offset line column = IsNotUtf8At (definition_text bytes) (record { offset = offset; line = line; column = column })
+IsAt bytes offset line column =
+    IsNotUtf8At (definition_text bytes) (record { offset = offset; line = line; column = column })
 
 -- `é` is the byte E9 in Latin-1, and C3 A9 in UTF-8; EF BB BF is a byte order mark
 pub record BytesFound : Type 0 where

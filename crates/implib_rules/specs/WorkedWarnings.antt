@@ -1,7 +1,10 @@
 -- Words, places and warnings worked by hand.
-use Rattle.std.specs.Prelude.{◌≡◌, ℕ, List, [], ◌∷◌, Bool, true, false, Option, None, Some, codes, map}
+use Rattle.std.specs.Prelude.{◌≡◌, ℕ, List, [], ◌∷◌, Bool, true, false, Option, None, Some, codes}
+use Rattle.std.specs.Prelude.{map}
 use Rattle.implib.specs.declared.def.lexer.TokenKind.{TokenKind}
-use Rattle.implib.specs.declared.def.lexer.TokenKind.TheVariants.{Identifier, EqualEqual, KwConstant, KwData, KwExports, KwName, KwNoname, KwPrivate}
+use Rattle.implib.specs.declared.def.lexer.TokenKind.TheVariants.{Identifier, EqualEqual}
+use Rattle.implib.specs.declared.def.lexer.TokenKind.TheVariants.{KwConstant, KwData, KwExports}
+use Rattle.implib.specs.declared.def.lexer.TokenKind.TheVariants.{KwName, KwNoname, KwPrivate}
 use Rattle.implib.specs.declared.def.listener.Role.TheVariants.{Name, Other}
 use Rattle.implib.specs.declared.def.position.Position.{Position}
 use Rattle.implib.specs.declared.flavor.Flavor.TheVariants.{Gnu, Msvc}
@@ -12,12 +15,15 @@ use Rattle.implib_rules.specs.Additions.{no_additions}
 use Rattle.implib_rules.specs.declared.places.Place.{Place}
 use Rattle.implib_rules.specs.declared.places.Site.{Site}
 use Rattle.implib_rules.specs.declared.places.Site.TheVariants as site
-use Rattle.implib_rules.specs.declared.warnings.words.Attribute.TheVariants.{Data, Constant, Private, NoName}
+use Rattle.implib_rules.specs.declared.warnings.words.Attribute.TheVariants.{Data, Constant}
+use Rattle.implib_rules.specs.declared.warnings.words.Attribute.TheVariants.{Private, NoName}
 use Rattle.implib_rules.specs.Places.{attribute_of, name_offset, places_in}
 use Rattle.implib_rules.specs.Options.{LibraryOptionsView}
-use Rattle.implib_rules.specs.Warnings.{HasNoExport, IsLowered, IsNotExported, IsOrdinalLike, IsOtherKind, IsRepeated, IsSecondHeading, IsStdcall}
+use Rattle.implib_rules.specs.Warnings.{HasNoExport, IsLowered, IsNotExported, IsOrdinalLike}
+use Rattle.implib_rules.specs.Warnings.{IsOtherKind, IsRepeated, IsSecondHeading, IsStdcall}
 use Rattle.implib_rules.specs.Warnings.{NoticeView, OpensLine, RepeatsOrdinal, WarningView}
-use Rattle.implib_rules.specs.Warnings.{is_ordinal_like, is_stdcall_word, lowered_attribute, warnings_of}
+use Rattle.implib_rules.specs.Warnings.{is_ordinal_like, is_stdcall_word, lowered_attribute}
+use Rattle.implib_rules.specs.Warnings.{warnings_of}
 
 -- which words may be meant for something else
 pub record WordsJudged : Type 0 where
@@ -40,7 +46,8 @@ pub record WordsJudged : Type 0 where
   pub constant : lowered_attribute (codes "cONSTANT") ≡ Some Constant
   pub private : lowered_attribute (codes "Private") ≡ Some Private
   pub no_name : lowered_attribute (codes "noname") ≡ Some NoName
-  pub capitals : map lowered_attribute (codes "DATA" ∷ codes "CONSTANT" ∷ codes "PRIVATE" ∷ codes "NONAME" ∷ [])
+  pub capitals : map lowered_attribute
+      (codes "DATA" ∷ codes "CONSTANT" ∷ codes "PRIVATE" ∷ codes "NONAME" ∷ [])
       ≡ None ∷ None ∷ None ∷ None ∷ []
   pub longer : lowered_attribute (codes "data1") ≡ None
 
@@ -61,7 +68,8 @@ abbrev pub name : List ℕ → ℕ → Heard
 name value at = record { role = Name; token = record { kind = Identifier; value = value; at = at } }
 
 abbrev pub other : TokenKind → List ℕ → ℕ → Heard
-other kind value at = record { role = Other; token = record { kind = kind; value = value; at = at } }
+other kind value at =
+    record { role = Other; token = record { kind = kind; value = value; at = at } }
 
 -- what is heard of it
 abbrev pub lined_heard : List Heard
@@ -80,8 +88,9 @@ lined_heard =
     ∷ other KwName (codes "NAME") 42
     ∷ []
 
--- The attributes of keywords; where the names of exports begin, and 0 where there is none. Its places: the names of exports, the attribute that begins a line and not the one within a line, and the
--- second heading
+-- The attributes of keywords; where the names of exports begin, and 0 where there is none. Its
+-- places: the names of exports, the attribute that begins a line and not the one within a line, and
+-- the second heading
 pub record PlacesWorked : Type 0 where
   pub attributes : map attribute_of (KwData ∷ KwConstant ∷ KwPrivate ∷ KwNoname ∷ KwExports ∷ [])
       ≡ Some Data ∷ Some Constant ∷ Some Private ∷ Some NoName ∷ None ∷ []
@@ -98,8 +107,8 @@ pub record PlacesWorked : Type 0 where
 abbrev pub ordinary : List ℕ → ℕ → ExportView
 ordinary word ordinal = record empty_export { name = word; ordinal = ordinal }
 
--- Exports with something to warn of each, but for the first. What is left out asks for nothing, and what is private
--- declares nothing.
+-- Exports with something to warn of each, but for the first. What is left out asks for nothing, and
+-- what is private declares nothing.
 abbrev pub doubtful : List ExportView
 doubtful =
     ordinary (codes "f") 5
@@ -137,9 +146,9 @@ doubtful_places =
     ∷ place site.Export (at_line 130 15 1)
     ∷ []
 
--- Exports of which each has two things to warn of, or none: a word and an ordinal of the one before it; a word that
--- would be an attribute, or begins as an ordinal, and an other word to ask for that is no export; and another word
--- that is one, if a private one.
+-- Exports of which each has two things to warn of, or none: a word and an ordinal of the one before
+-- it; a word that would be an attribute, or begins as an ordinal, and an other word to ask for that
+-- is no export; and another word that is one, if a private one.
 abbrev pub doubtful_twice : List ExportView
 doubtful_twice =
     ordinary (codes "F@8") 5
@@ -161,12 +170,35 @@ twice_places =
     ∷ place site.Export (at_line 41 6 1)
     ∷ []
 
--- a library for Microsoft's linker on I386, with symbols as they are written, and one for GNU's, on AMD64
+-- a library for Microsoft's linker on I386, with symbols as they are written, and one for GNU's, on
+-- AMD64
 abbrev pub asked_plain : LibraryOptionsView
-asked_plain = record { machine = I386; flavor = Msvc; dll = None; naming = record { is_plain = true; kills_at = false; exports_as = false; keeps_decorated = false }; additions = no_additions }
+asked_plain = record {
+  machine = I386;
+  flavor = Msvc;
+  dll = None;
+  naming = record {
+    is_plain = true;
+    kills_at = false;
+    exports_as = false;
+    keeps_decorated = false;
+  };
+  additions = no_additions;
+}
 
 abbrev pub asked_gnu : LibraryOptionsView
-asked_gnu = record { machine = AMD64; flavor = Gnu; dll = None; naming = record { is_plain = false; kills_at = false; exports_as = false; keeps_decorated = false }; additions = no_additions }
+asked_gnu = record {
+  machine = AMD64;
+  flavor = Gnu;
+  dll = None;
+  naming = record {
+    is_plain = false;
+    kills_at = false;
+    exports_as = false;
+    keeps_decorated = false;
+  };
+  additions = no_additions;
+}
 
 -- a library for Microsoft's linker on I386
 abbrev pub asked : Bool → Option (List ℕ) → LibraryOptionsView
@@ -174,7 +206,12 @@ asked kills_at dll = record {
   machine = I386;
   flavor = Msvc;
   dll = dll;
-  naming = record { is_plain = false; kills_at = kills_at; exports_as = false; keeps_decorated = false };
+  naming = record {
+    is_plain = false;
+    kills_at = kills_at;
+    exports_as = false;
+    keeps_decorated = false;
+  };
   additions = no_additions;
 }
 

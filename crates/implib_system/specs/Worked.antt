@@ -1,5 +1,6 @@
--- DLLs in memory worked by hand: `w.dll`, whose gamma, at ordinal 8, is forwarded to `K.f`; `k.dll`, which forwards f by an
--- ordinal to `Deep.Name.drv`; that, which has a function; and `round.dll`, whose exports are forwarded in a circle.
+-- DLLs in memory worked by hand: `w.dll`, whose gamma, at ordinal 8, is forwarded to `K.f`;
+-- `k.dll`, which forwards f by an ordinal to `Deep.Name.drv`; that, which has a function; and
+-- `round.dll`, whose exports are forwarded in a circle.
 use Rattle.std.specs.Prelude.{◌≡◌, List, [], ◌∷◌, None, Some, codes}
 use Rattle.implib.specs.Import.{Name, Ordinal}
 use Rattle.implib.specs.Link.Load.{number_in}
@@ -18,14 +19,19 @@ abbrev pub k_dll : DllInMemory
 k_dll = record {
   name = codes "k.dll";
   base = 0x10000000;
-  exports = record worked_exports { base = 1; targets = Forwarder (codes "Deep.Name.drv.#7") ∷ []; names = named (codes "f") 0 ∷ [] };
+  exports = record worked_exports {
+    base = 1;
+    targets = Forwarder (codes "Deep.Name.drv.#7") ∷ [];
+    names = named (codes "f") 0 ∷ [];
+  };
 }
 
 abbrev pub deep_drv : DllInMemory
 deep_drv = record {
   name = codes "deep.name.drv";
   base = 0x180000000;
-  exports = record worked_exports { base = 6; targets = Empty ∷ Address 0x1040 Code ∷ []; names = [] };
+  exports = record worked_exports
+      { base = 6; targets = Empty ∷ Address 0x1040 Code ∷ []; names = [] };
 }
 
 -- each forwarded to the other
@@ -35,7 +41,8 @@ round_dll = record {
   base = 0x20000000;
   exports = record worked_exports {
     base = 1;
-    targets = Forwarder (codes "round.b") ∷ Forwarder (codes "ROUND.a") ∷ Forwarder (codes "none.a") ∷ Forwarder (codes "a") ∷ [];
+    targets = Forwarder (codes "round.b") ∷ Forwarder (codes "ROUND.a") ∷ Forwarder (codes "none.a")
+        ∷ Forwarder (codes "a") ∷ [];
     names = named (codes "a") 0 ∷ named (codes "b") 1 ∷ [];
   };
 }
@@ -56,7 +63,8 @@ pub record WorkedSystem : Type 0 where
   pub no_name : address_of 9 system (codes "w.dll") (Name (codes "delta") 0) ≡ None
   pub of_none : address_of 9 system (codes "v.dll") (Name (codes "alpha") 0) ≡ None
   -- forwarders, of which two are to be followed, one alone is not enough
-  pub forwarder : asked_of system (codes "w.dll") (Name (codes "gamma") 2) ≡ Some (w_dll, Forwarder (codes "K.f"))
+  pub forwarder : asked_of system (codes "w.dll") (Name (codes "gamma") 2)
+      ≡ Some (w_dll, Forwarder (codes "K.f"))
   pub through_two : address_of 2 system (codes "w.dll") (Ordinal 8) ≡ Some 0x180001040
   pub through_one : address_of 1 system (codes "w.dll") (Ordinal 8) ≡ None
   pub from_second : address_of 1 system (codes "k.dll") (Name (codes "f") 0) ≡ Some 0x180001040
@@ -98,7 +106,8 @@ tables = record {
       } ∷ [];
 }
 
--- Which addresses their entries reach: of a function of the DLL itself, and through one forwarder and two.
+-- Which addresses their entries reach: of a function of the DLL itself, and through one forwarder
+-- and two.
 pub record WorkedReach : Type 0 where
   pub own : Reaches tables 0 system (codes "__imp_alpha") 0x401000
   pub through_two : Reaches tables 2 system (codes "__imp_gamma") 0x180001040

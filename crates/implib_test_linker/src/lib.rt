@@ -1,4 +1,5 @@
-//! A linker, a loader and a processor for tests: of objects they know the names and the bytes alone.
+//! A linker, a loader and a processor for tests: of objects they know the names and the bytes
+//! alone.
 //! The linker reads the objects, places their sections, resolves their symbols and relocates them;
 //! the loader reads the image in memory and writes into it; the processor runs a few instructions
 //! there. The rules are those of the PE/COFF specification and, for the placement, of
@@ -92,8 +93,8 @@ impl fmt::Display for Unlinked<'_> {
     }
 }
 
-/// Links objects, each with its file's name, in this order. The bases are those of `.idata$2`, `$4`,
-/// `$5`, `$6`, `$7` and `.text`. Where the directory is not to be ended, `.idata$2` has the
+/// Links objects, each with its file's name, in this order. The bases are those of `.idata$2`,
+/// `$4`, `$5`, `$6`, `$7` and `.text`. Where the directory is not to be ended, `.idata$2` has the
 /// descriptors of the objects alone, and no `.idata$3` is placed.
 pub fn link<'a>(
     alloc: Global,

@@ -1,5 +1,5 @@
-//! A loader that knows nothing but the image in memory: it walks the import directory, reads at each
-//! step what the image has there by then, and writes into the address tables as it goes.
+//! A loader that knows nothing but the image in memory: it walks the import directory, reads at
+//! each step what the image has there by then, and writes into the address tables as it goes.
 
 use super::bound::{given, write_entry};
 use super::memory::Memory;

@@ -23,8 +23,8 @@ impl<'a> Archive<'a> {
         }
     }
 
-    /// Adds a member: the symbols that it is listed for, its file and, if that is a short import, what
-    /// it is taken for.
+    /// Adds a member: the symbols that it is listed for, its file and, if that is a short import,
+    /// what it is taken for.
     pub fn add(
         &mut self,
         alloc: Global,

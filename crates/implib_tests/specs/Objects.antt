@@ -1,5 +1,5 @@
--- Objects of a writer byte by byte, whose bytes are known from outside. A line is a header, half of one, data, a
--- relocation, a symbol's record, or a string; a section's header takes two lines.
+-- Objects of a writer byte by byte, whose bytes are known from outside. A line is a header, half of
+-- one, data, a relocation, a symbol's record, or a string; a section's header takes two lines.
 use Rattle.std.specs.Prelude.{◌≡◌, ℕ, List, [], ◌∷◌, ◌++◌, None, Some, codes, drop, length, take}
 use Rattle.std.specs.List.{concat}
 use Rattle.implib.specs.declared.coff.object.Place.{Place}
@@ -13,7 +13,8 @@ use Rattle.implib.specs.Worked.Objects.{section, zeros}
 
 -- a symbol of value 0 without an auxiliary record, by its class
 abbrev pub of_class : ℕ → List ℕ → Place → AddedSymbol
-of_class class name place = record { name = name; value = 0; place = place; class = class; aux = None }
+of_class class name place =
+    record { name = name; value = 0; place = place; class = class; aux = None }
 
 -- two undefined externals, of 8 and of 9 bytes: the second is in the string table
 abbrev pub two_names : WriterState
@@ -28,7 +29,8 @@ abbrev pub one_section : WriterState
 one_section = record {
   machine = ARM64;
   sections =
-      section (codes ".idata$2") 0xC0300040 (zeros 20) (record { offset = 16; symbol = 0; kind = 2 } ∷ []) ∷ [];
+      section (codes ".idata$2") 0xC0300040 (zeros 20)
+      (record { offset = 16; symbol = 0; kind = 2 } ∷ []) ∷ [];
   symbols = of_class 2 (codes "x") (Section 1) ∷ [];
 }
 
@@ -37,7 +39,8 @@ abbrev pub one_name : WriterState
 one_name = record {
   machine = AMD64;
   sections = [];
-  symbols = of_class 2 (codes "abcdefghi") Undefined ∷ of_class 2 (codes "abcdefghi") Undefined ∷ [];
+  symbols = of_class 2 (codes "abcdefghi") Undefined ∷ of_class 2 (codes "abcdefghi") Undefined
+      ∷ [];
 }
 
 -- a symbol with an auxiliary record, and the one after it
@@ -68,7 +71,8 @@ three_sections = record {
       section (codes ".text" ++ zeros 3) 0x60300020 (hex "ff 25 00 00 00 00 90 90")
       (record { offset = 2; symbol = 1; kind = 4 } ∷ [])
       ∷ section (codes ".bss" ++ zeros 4) 0xC0300080 [] []
-      ∷ section (codes ".idata$5") 0xC0300000 (zeros 8) (record { offset = 0; symbol = 2; kind = 3 } ∷ [])
+      ∷ section (codes ".idata$5") 0xC0300000 (zeros 8)
+      (record { offset = 0; symbol = 2; kind = 3 } ∷ [])
       ∷ [];
   symbols =
       of_class 2 (codes "_head_foo_dll") Undefined

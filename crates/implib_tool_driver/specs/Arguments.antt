@@ -1,5 +1,6 @@
 -- The arguments of the program, and its exit status (this project's choice).
-use Rattle.std.specs.Prelude.{◌≡◌, ◌⊎◌, ℕ, List, [], ◌∷◌, map, drop, Option, None, Some, MatchOption, Result, Ok, Err}
+use Rattle.std.specs.Prelude.{◌≡◌, ◌⊎◌, ℕ, List, [], ◌∷◌, map, drop, Option, None, Some}
+use Rattle.std.specs.Prelude.{MatchOption, Result, Ok, Err}
 use Rattle.std.specs.String.{string_bytes}
 use Rattle.std.specs.declared.io.ErrorKind.{ErrorKind}
 use Rattle.std.specs.declared.io.ErrorKind.TheVariants as io
@@ -10,7 +11,8 @@ use Rattle.implib.specs.declared.flavor.Flavor.TheVariants.{Msvc}
 use Rattle.implib.specs.declared.machine.MachineType.{MachineType}
 use Rattle.implib.specs.declared.machine.MachineType.TheVariants.{AMD64}
 use Rattle.implib_tool_driver.specs.declared.run.RunError.{RunError}
-use Rattle.implib_tool_driver.specs.declared.run.RunError.TheVariants.{Refused, NotUtf8, Read, Write, OutOfMemory}
+use Rattle.implib_tool_driver.specs.declared.run.RunError.TheVariants.{Refused, NotUtf8, Read}
+use Rattle.implib_tool_driver.specs.declared.run.RunError.TheVariants.{Write, OutOfMemory}
 use Rattle.implib_tool_driver.specs.Run.{Devices, Runs}
 
 -- the arguments of a command line but for the first, which is the program's name
@@ -46,8 +48,8 @@ pub record Answers (machine : MachineType) (flavor : Flavor) (before after : Dev
   pub runs : Runs machine flavor before after answer
   pub is : status ≡ status_of answer
 
--- there is no machine and flavour to run for: the exit status is 2, or 3 where memory for the arguments could
--- not be allocated, and the devices stay as they were
+-- there is no machine and flavour to run for: the exit status is 2, or 3 where memory for the
+-- arguments could not be allocated, and the devices stay as they were
 pub record TurnsDown (before after : Devices) (status : ℕ) : Type 0 where
   pub answer : (status ≡ 2) ⊎ (status ≡ 3)
   pub untouched : after ≡ before
@@ -58,7 +60,8 @@ Performs arguments before after status =
     MatchOption (target_named arguments) (TurnsDown before after status)
     (λ wanted. Answers wanted.0 wanted.1 before after status)
 
--- the exit status where the arguments cannot be read: 3 for want of memory, else that of other arguments
+-- the exit status where the arguments cannot be read: 3 for want of memory, else that of other
+-- arguments
 abbrev pub status_unread : ErrorKind → ℕ
 status_unread io.OutOfMemory = 3
 status_unread _ = 2

@@ -1,4 +1,5 @@
--- The documents of the input: its separating lines divide it, and are in no document (this project's layout).
+-- The documents of the input: its separating lines divide it, and are in no document (this
+-- project's layout).
 -- For example, `a`, a line `---` and `b` are the documents `a` with its line end, and `b`.
 use Rattle.std.specs.Prelude.{ℕ, ◌≡◌, ◌⊎◌, List, [], ◌∷◌, ◌++◌, codes}
 
@@ -25,7 +26,8 @@ pub record Separates (text before line after : List ℕ) : Type 0 where
 abbrev pub IsUndivided : List ℕ → Type 0
 IsUndivided text = (before line after : List ℕ) → Separates text before line after → ⊥
 
--- what follows a separating line: the bytes after its line end, none where the text ends with the line
+-- what follows a separating line: the bytes after its line end, none where the text ends with the
+-- line
 abbrev pub Follows : List ℕ → List ℕ → Type 0
 Follows after rest = ((after ≡ []) × (rest ≡ [])) ⊎ (after ≡ 10 ∷ rest)
 
@@ -37,8 +39,8 @@ pub record Divides (text document rest : List ℕ) : Type 0 where
   pub follows : Follows after rest
   pub undivided : IsUndivided document
 
--- the documents of a text: with a separating line between each two they give it back, and none has a
--- separating line of its own
+-- the documents of a text: with a separating line between each two they give it back, and none has
+-- a separating line of its own
 abbrev pub Documents : List ℕ → List (List ℕ) → Type 0
 Documents text [] = ⊥
 Documents text (document ∷ []) = (text ≡ document) × IsUndivided document

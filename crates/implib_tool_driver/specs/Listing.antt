@@ -1,6 +1,6 @@
 -- The listing: the text that shows members (this project's layout, docs/FORMATS.md, "The listing").
-use Rattle.std.specs.Prelude.{ℕ, Bool, ◌+◌, ◌/◌, ◌%◌, ◌==◌, ◌&&◌, ◌||◌, not, nat_lt, nat_le, if◌then◌else◌}
-use Rattle.std.specs.Prelude.{List, [], ◌∷◌, ◌++◌, length, codes, decimal, flat_map}
+use Rattle.std.specs.Prelude.{ℕ, Bool, ◌+◌, ◌/◌, ◌%◌, ◌==◌, ◌&&◌, ◌||◌, not, nat_lt, nat_le}
+use Rattle.std.specs.Prelude.{if◌then◌else◌, List, [], ◌∷◌, ◌++◌, length, codes, decimal, flat_map}
 use Rattle.std.specs.List.{enumerate_from}
 use Rattle.implib.specs.Members.MemberSpec.{MemberView}
 
@@ -16,8 +16,8 @@ hex_byte byte = hex_digit (byte / 16) ∷ hex_digit (byte % 16) ∷ []
 abbrev pub is_plain : ℕ → Bool
 is_plain byte = nat_le 0x21 byte && nat_le byte 0x7E && not (byte == 0x5C)
 
--- A byte of a name; one that is not plain as a backslash, an `x` and two hexadecimal digits. For example, a
--- space is `\x20`.
+-- A byte of a name; one that is not plain as a backslash, an `x` and two hexadecimal digits. For
+-- example, a space is `\x20`.
 abbrev pub escaped_byte : ℕ → List ℕ
 escaped_byte byte = if is_plain byte then byte ∷ [] else codes "\\x" ++ hex_byte byte
 
@@ -25,7 +25,8 @@ escaped_byte byte = if is_plain byte then byte ∷ [] else codes "\\x" ++ hex_by
 abbrev pub escaped : List ℕ → List ℕ
 escaped name = flat_map escaped_byte name
 
--- what follows the byte of an index: a line end after each sixteenth and after the last one, else a space
+-- what follows the byte of an index: a line end after each sixteenth and after the last one, else a
+-- space
 abbrev pub after_byte : ℕ → ℕ → ℕ
 after_byte count index = if index % 16 == 15 || index + 1 == count then 10 else 32
 

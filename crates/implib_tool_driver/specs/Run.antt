@@ -1,6 +1,6 @@
 -- What a run of the program does with its devices.
-use Rattle.std.specs.Prelude.{◌≡◌, ◌⊎◌, ℕ, Bool, true, false, List, [], ◌∷◌, ◌++◌, map, reverse, drop, Option}
-use Rattle.std.specs.Prelude.{Some, Result, IfSome, OnOk, IfErr, flat_map}
+use Rattle.std.specs.Prelude.{◌≡◌, ◌⊎◌, ℕ, Bool, true, false, List, [], ◌∷◌, ◌++◌, map, reverse}
+use Rattle.std.specs.Prelude.{drop, Option, Some, Result, IfSome, OnOk, IfErr, flat_map}
 use Rattle.std.specs.List.{filter_map}
 use Rattle.std.specs.Option.{option_and_then}
 use Rattle.std.specs.Io.KnownBytes.{Appends, IsAtEnd, Keeps}
@@ -20,7 +20,8 @@ use Rattle.implib.specs.Text.Parses.{Refuses}
 use Rattle.implib.specs.Members.OfText.{HasNoMembers, MembersOf}
 use Rattle.implib.specs.Members.ReadBack.{alias_among, file_at, import_among}
 use Rattle.implib_tool_driver.specs.declared.run.RunError.{RunError}
-use Rattle.implib_tool_driver.specs.declared.run.RunError.TheVariants.{Refused, NotUtf8, Read, Write, OutOfMemory}
+use Rattle.implib_tool_driver.specs.declared.run.RunError.TheVariants.{Refused, NotUtf8, Read}
+use Rattle.implib_tool_driver.specs.declared.run.RunError.TheVariants.{Write, OutOfMemory}
 use Rattle.implib.specs.Beginning.{AppendsBeginning}
 use Rattle.implib_tool_driver.specs.Listing.{listing_of}
 use Rattle.implib_tool_driver.specs.Documents.{Documents}
@@ -30,17 +31,19 @@ pub record BeginWith (members : List MemberView) (tail head : File) : Type 0 whe
   pub tail_read : file_at members 0 ≡ Some tail
   pub head_read : file_at members 1 ≡ Some head
 
--- what the members are read as, in the definition's order: for Microsoft's linker each after the first three
--- by itself, for GNU's each after the tail and the head, with these two, from the last to the first
+-- what the members are read as, in the definition's order: for Microsoft's linker each after the
+-- first three by itself, for GNU's each after the tail and the head, with these two, from the last
+-- to the first
 abbrev pub AreReadAs : Flavor → List MemberView → List Meaning → Type 0
 AreReadAs Msvc members meanings = map (λ m. meaning_in m.bytes) (drop 3 members) ≡ map Some meanings
 AreReadAs Gnu members meanings =
     (tail : File) × (head : File) × BeginWith members tail head
-    × (map (λ m. option_and_then (meaning_with head tail) (file_in m.bytes)) (reverse (drop 2 members))
+    × (map (λ m. option_and_then (meaning_with head tail) (file_in m.bytes))
+    (reverse (drop 2 members))
     ≡ map Some meanings)
 
--- the members are read as the imports and the aliases of a definition, each once and in order, and as nothing
--- else
+-- the members are read as the imports and the aliases of a definition, each once and in order, and
+-- as nothing else
 pub record ReadAsParsed (parsed : DefinitionView) (machine : MachineType) (flavor : Flavor)
     (members : List MemberView) : Type 0 where
   pub meanings : List Meaning
@@ -67,7 +70,8 @@ EachMade machine flavor (text ∷ texts) (members ∷ lists) =
     MembersOfDocument text machine flavor members × EachMade machine flavor texts lists
 
 -- the listing shows the members of each document of the text, in order
-pub record Lists (text : List ℕ) (machine : MachineType) (flavor : Flavor) (listing : List ℕ) : Type 0 where
+pub record Lists (text : List ℕ) (machine : MachineType) (flavor : Flavor)
+    (listing : List ℕ) : Type 0 where
   pub documents : List (List ℕ)
   pub lists : List (List MemberView)
   pub divided : Documents text documents
@@ -85,8 +89,9 @@ pub record FirstRefused (text : List ℕ) (machine : MachineType) (flavor : Flav
   pub made : EachMade machine flavor before lists
   pub refused : IsRefused document machine flavor cause
 
--- what is known of the devices: the bytes that the reader has left and those that the writer has, if they are
--- known, whether they have failed, and whether the writer takes no byte in a write that fails
+-- what is known of the devices: the bytes that the reader has left and those that the writer has,
+-- if they are known, whether they have failed, and whether the writer takes no byte in a write that
+-- fails
 pub record Devices : Type 0 where
   pub remaining : Option (List ℕ)
   pub reader_failed : Bool
@@ -111,7 +116,8 @@ pub record IsDone (machine : MachineType) (flavor : Flavor) (before after : Devi
   pub read : IsAtEnd after.remaining
   pub utf8 : IfSome before.remaining IsUtf8
   pub written : IfSome before.remaining (λ text.
-      (listing : List ℕ) × Lists text machine flavor listing × Appends before.contents after.contents listing)
+      (listing : List ℕ) × Lists text machine flavor listing
+      × Appends before.contents after.contents listing)
 
 -- no device has failed, and nothing is written
 pub record NothingWritten (before after : Devices) : Type 0 where
@@ -124,8 +130,8 @@ abbrev pub run_error : Error → RunError
 run_error (error.Invalid fault) = Refused fault
 run_error (error.OutOfMemory refused) = OutOfMemory
 
--- when each error comes, and what it leaves: the writer's error alone comes where the listing was made, and
--- leaves a beginning of it with a writer that takes no byte in a write that fails
+-- when each error comes, and what it leaves: the writer's error alone comes where the listing was
+-- made, and leaves a beginning of it with a writer that takes no byte in a write that fails
 abbrev pub HasCause : MachineType → Flavor → Devices → Devices → RunError → Type 0
 HasCause machine flavor before after (Refused fault) =
     NothingWritten before after × IfSome before.remaining IsUtf8
@@ -133,7 +139,8 @@ HasCause machine flavor before after (Refused fault) =
 HasCause machine flavor before after NotUtf8 =
     NothingWritten before after × IfSome before.remaining (λ text. ¬ (IsUtf8 text))
 HasCause machine flavor before after Read =
-    (after.reader_failed ≡ true) × (after.writer_failed ≡ false) × Keeps before.contents after.contents
+    (after.reader_failed ≡ true) × (after.writer_failed ≡ false)
+    × Keeps before.contents after.contents
 HasCause machine flavor before after Write =
     (after.reader_failed ≡ false) × (after.writer_failed ≡ true) × IfSome before.remaining IsUtf8
     × IfSome before.remaining (λ text.

@@ -1,5 +1,6 @@
 -- Views of the code's state: what its own functions promise each other. No promise cites them.
-use Rattle.std.specs.Prelude.{◌≡◌, ◌≢◌, ◌⊎◌, ℕ, ◌+◌, ◌<◌, ◌≤◌, Bool, false, true, List, [], ◌++◌, map, Option, None, Some, IfSome, length, slice_index}
+use Rattle.std.specs.Prelude.{◌≡◌, ◌≢◌, ◌⊎◌, ℕ, ◌+◌, ◌<◌, ◌≤◌, Bool, false, true, List, [], ◌++◌}
+use Rattle.std.specs.Prelude.{map, Option, None, Some, IfSome, length, slice_index}
 use Rattle.std.specs.declared.vec.Vec.{Vec}
 use Rattle.std.specs.Borrow.{Bor}
 use Rattle.std.specs.Io.KnownBytes.{Appends, Keeps}
@@ -9,7 +10,8 @@ use Rattle.implib.specs.declared.machine.MachineType.{MachineType}
 use Rattle.implib.specs.Fault.{Cause, cause_of}
 use Rattle.implib.specs.Members.MemberSpec.{MemberView}
 use Rattle.implib_tool_driver.specs.declared.run.RunError.{RunError}
-use Rattle.implib_tool_driver.specs.declared.run.RunError.TheVariants.{Refused, NotUtf8, Read, Write, OutOfMemory}
+use Rattle.implib_tool_driver.specs.declared.run.RunError.TheVariants.{Refused, NotUtf8, Read}
+use Rattle.implib_tool_driver.specs.declared.run.RunError.TheVariants.{Write, OutOfMemory}
 use Rattle.implib.specs.Library.{member_view}
 use Rattle.implib.specs.declared.member.Member.{Member}
 use Rattle.implib.specs.Beginning.{AppendsBeginning}
@@ -25,17 +27,20 @@ pub record IsLineAt (text : List ℕ) (start end next : ℕ) : Type 0 where
   pub ends : ((end ≡ length text) × (next ≡ end))
       ⊎ ((end < length text) × (slice_index text end ≡ 10) × (next ≡ end + 1))
 
--- a writer with the bytes that wait for it: what it has, where that is known, and whether it has failed
+-- a writer with the bytes that wait for it: what it has, where that is known, and whether it has
+-- failed
 pub record Buffered : Type 0 where
   pub contents : Option (List ℕ)
   pub failed : Bool
   pub waiting : List ℕ
 
 abbrev pub buffered : Option (List ℕ) → Bool → List ℕ → Buffered
-buffered contents failed waiting = record { contents = contents; failed = failed; waiting = waiting }
+buffered contents failed waiting =
+    record { contents = contents; failed = failed; waiting = waiting }
 
--- bytes follow those that waited: unless it fails the writer takes a beginning of both, and the rest waits; one
--- that keeps what it has in a write that fails has such a beginning in any case; a writer that had failed takes none
+-- bytes follow those that waited: unless it fails the writer takes a beginning of both, and the
+-- rest waits; one that keeps what it has in a write that fails has such a beginning in any case; a
+-- writer that had failed takes none
 pub record Passes (keeps : Bool) (old new : Buffered) (bytes : List ℕ) : Type 0 where
   pub taken : List ℕ
   pub left : List ℕ
@@ -91,9 +96,10 @@ OnInputFault remaining failed machine flavor Read = failed ≡ true
 OnInputFault remaining failed machine flavor Write = ⊥
 OnInputFault remaining failed machine flavor OutOfMemory = failed ≡ false
 
--- the writer failed, and has a beginning of the listing if it keeps what it has in a write that fails; or memory
--- was refused before it was used
-abbrev pub OnWriteFault : Bool → Option (List ℕ) → Option (List ℕ) → Bool → List ℕ → RunError → Type 0
+-- the writer failed, and has a beginning of the listing if it keeps what it has in a write that
+-- fails; or memory was refused before it was used
+abbrev pub OnWriteFault : Bool → Option (List ℕ) → Option (List ℕ) → Bool → List ℕ → RunError →
+    Type 0
 OnWriteFault keeps before after failed listing (Refused fault) = ⊥
 OnWriteFault keeps before after failed listing NotUtf8 = ⊥
 OnWriteFault keeps before after failed listing Read = ⊥
@@ -116,8 +122,8 @@ abbrev pub size_left : Option (Bor (List ℕ)) → ℕ
 size_left None = 0
 size_left (Some rest) = length rest.now + 1
 
--- what is made, and then the members of what is left, are those of the text; what is left is refused only as
--- the text is
+-- what is made, and then the members of what is left, are those of the text; what is left is
+-- refused only as the text is
 pub record DocumentsLeft (text : List ℕ) (machine : MachineType) (flavor : Flavor)
     (made : List (List MemberView)) (rest : Option (Bor (List ℕ)))
     : Type 0 where

@@ -2,7 +2,8 @@
 
 ghost use Rattle.implib.specs.Beginning.{AppendsBeginning};
 ghost use Rattle.std.specs.Io.KnownBytes.{Appends, Consumes, IsAtEnd, Keeps};
-ghost use Rattle.std.specs.Prelude.{◌≡◌, ◌<◌, ◌≤◌, ◌⊎◌, Bool, IfOk, List, Ok, OnErr, OnOk, Option, length, take, true, ℕ};
+ghost use Rattle.std.specs.Prelude.{◌≡◌, ◌<◌, ◌≤◌, ◌⊎◌, Bool, IfOk, List, Ok, OnErr, OnOk, Option};
+ghost use Rattle.std.specs.Prelude.{length, take, true, ℕ};
 
 /// A device did not do what was asked.
 #[derive(Clone, Copy, Debug, PartialEq, Eq)]

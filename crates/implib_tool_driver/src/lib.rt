@@ -1,10 +1,10 @@
-//! What the program `implib_tool` does, over any devices: it lists the members of the import libraries
-//! of module definitions.
+//! What the program `implib_tool` does, over any devices: it lists the members of the import
+//! libraries of module definitions.
 //!
-//! [`program`] and [`command`] read the arguments, [`run`] reads the definitions ([`documents`]) and
-//! writes the [`listing`] through a buffer ([`output`]). Bytes come from and go to a [`device`]; those
-//! of the system are in [`host`]. What [`documents`], [`listing`] and [`output`] have is public for
-//! the crate `implib_library_cases`.
+//! [`program`] and [`command`] read the arguments, [`run`] reads the definitions ([`documents`])
+//! and writes the [`listing`] through a buffer ([`output`]). Bytes come from and go to a
+//! [`device`]; those of the system are in [`host`]. What [`documents`], [`listing`] and [`output`]
+//! have is public for the crate `implib_library_cases`.
 #![tactic(auto)]
 
 pub mod command;

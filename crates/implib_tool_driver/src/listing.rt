@@ -1,10 +1,13 @@
 //! The text that shows members.
 
 ghost use Rattle.implib.specs.Library.{member_view};
-ghost use Rattle.implib_tool_driver.specs.Listing.{bytes_listing, byte_listing, escaped, escaped_byte, hex_digit, is_plain, listing_of, member_listing, symbol_listing};
+ghost use Rattle.implib_tool_driver.specs.Listing.{bytes_listing, byte_listing, escaped};
+ghost use Rattle.implib_tool_driver.specs.Listing.{escaped_byte, hex_digit, is_plain, listing_of};
+ghost use Rattle.implib_tool_driver.specs.Listing.{member_listing, symbol_listing};
 ghost use Rattle.implib_tool_driver.specs.Views.{Passes, buffered};
 ghost use Rattle.std.specs.List.{enumerate_from, list_all};
-ghost use Rattle.std.specs.Prelude.{◌≡◌, ◌%◌, ◌+◌, ◌<◌, ◌≤◌, [], ◌∷◌, ◌++◌, codes, decimal, flat_map, length, map, min, slice_range};
+ghost use Rattle.std.specs.Prelude.{◌≡◌, ◌%◌, ◌+◌, ◌<◌, ◌≤◌, [], ◌∷◌, ◌++◌, codes, decimal};
+ghost use Rattle.std.specs.Prelude.{flat_map, length, map, min, slice_range};
 ghost use Rattle.std.specs.String.{string_bytes};
 
 use crate::device::Sink;
@@ -110,7 +113,8 @@ fn list_line<W: Sink>(buffer: &mut Buffer, writer: &mut W, bytes: &[u8], start: 
     ensures { Passes W.keeps
         (buffered (W.contents writer.old) (W.failed writer.old) buffer.old)
         (buffered (W.contents writer.new) (W.failed writer.new) buffer.new)
-        (flat_map (byte_listing (length bytes.now)) (enumerate_from start (slice_range bytes.now start end))) }
+        (flat_map (byte_listing (length bytes.now))
+        (enumerate_from start (slice_range bytes.now start end))) }
 {
     let mut line = [b' '; 48];
     for index in start..end {

@@ -3,7 +3,9 @@
 ghost use Rattle.implib.specs.Library.{member_view};
 ghost use Rattle.implib_tool_driver.specs.Listing.{listing_of};
 ghost use Rattle.implib_tool_driver.specs.Run.{MembersOfDocument, Runs, devices};
-ghost use Rattle.implib_tool_driver.specs.Views.{MembersOfDocuments, OnInputFault, OnDocumentFault, OnReadFault, OnTextFault, OnWriteFault, Passes, buffered, member_views};
+ghost use Rattle.implib_tool_driver.specs.Views.{MembersOfDocuments, OnInputFault, OnDocumentFault};
+ghost use Rattle.implib_tool_driver.specs.Views.{OnReadFault, OnTextFault, OnWriteFault, Passes};
+ghost use Rattle.implib_tool_driver.specs.Views.{buffered, member_views};
 ghost use Rattle.implib_tool_driver.specs.declared.run.RunError.TheVariants.{OutOfMemory};
 ghost use Rattle.std.specs.Io.KnownBytes.{Appends, Consumes, IsAtEnd};
 ghost use Rattle.std.specs.Prelude.{◌≡◌, IfErr, IfOk, IfSome, OnOk, false, flat_map, map};

@@ -33,7 +33,12 @@ abbrev pub data_object : MachineType → List ℕ → List ℕ → WriterState
 data_object machine name bytes = record {
   machine = machine;
   sections =
-      record { name = codes ".data" ++ 0 ∷ 0 ∷ 0 ∷ []; flags = 0xC030_0040; bytes = bytes; relocations = [] } ∷ [];
+      record {
+        name = codes ".data" ++ 0 ∷ 0 ∷ 0 ∷ [];
+        flags = 0xC030_0040;
+        bytes = bytes;
+        relocations = [];
+      } ∷ [];
   symbols = record { name = name; value = 0; place = Section 1; class = 2; aux = None } ∷ [];
 }
 
@@ -56,14 +61,16 @@ abbrev pub IsFirstExports : List ℕ → Option ℕ → Type 0
 IsFirstExports text None = (tokens : List TokenView) × Lexed text tokens × All IsOther tokens
 IsFirstExports text (Some at) = HasFirstExportsAt text at
 
--- None where the text means a definition; otherwise the position of the token that its refusal names
+-- None where the text means a definition; otherwise the position of the token that its refusal
+-- names
 abbrev pub IsErrorIn : List ℕ → MachineType → Option Position → Type 0
 IsErrorIn text machine None = (d : DefinitionView) × Parses text machine d
 IsErrorIn text machine (Some position) =
-    (cause : Cause) × RefusesAt text cause position.offset × (position ≡ position_at text position.offset)
+    (cause : Cause) × RefusesAt text cause position.offset
+    × (position ≡ position_at text position.offset)
 
--- The loader that reads the first import descriptor of an image finds the DLL of the text, and is asked for
--- exactly the words by which the text names the chosen exports (or for their ordinals).
+-- The loader that reads the first import descriptor of an image finds the DLL of the text, and is
+-- asked for exactly the words by which the text names the chosen exports (or for their ordinals).
 pub record LoadsAsStated (text : List ℕ) (machine : MachineType) (chosen : List ℕ) (bases : Bases)
     (objects : List Object) : Type 0 where
   pub parsed : DefinitionView
@@ -72,9 +79,10 @@ pub record LoadsAsStated (text : List ℕ) (machine : MachineType) (chosen : Lis
       bases.descriptors parsed.import_name
       (map ask_stated (chosen_stated parsed (exports_of_text parses.statements) chosen))
 
--- Members of a text load so, whichever exports are chosen, at whichever bases, among whichever objects of a
--- program.
-pub record ImportsJustThese (text : List ℕ) (machine : MachineType) (members : List MemberView) : Type 0 where
+-- Members of a text load so, whichever exports are chosen, at whichever bases, among whichever
+-- objects of a program.
+pub record ImportsJustThese (text : List ℕ) (machine : MachineType)
+    (members : List MemberView) : Type 0 where
   pub library : LibraryView
   pub loads : (chosen : List ℕ) (bases : Bases) (objects : List Object) →
       IsProgram machine bases (link_input_of (source_of text library members chosen) ∷ []) objects →

@@ -87,7 +87,8 @@ amd64_rel32 = 4
 abbrev pub arm_rel32 : ℕ
 arm_rel32 = 0x0A
 
--- on ARM64 the page of the address, relative to the page of the instruction, and its offset in the page
+-- on ARM64 the page of the address, relative to the page of the instruction, and its offset in the
+-- page
 abbrev pub arm64_pagebase_rel21 : ℕ
 arm64_pagebase_rel21 = 4
 

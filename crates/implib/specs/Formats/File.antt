@@ -1,14 +1,15 @@
--- Reading a member's file, as a short import or as an object. The reader takes what it finds in the bytes,
--- and knows nothing of who wrote them.
-use Rattle.std.specs.Prelude.{ℕ, Bool, ◌&&◌, ◌==◌, nat_le, List, [], ◌∷◌, slice_get, bytes_eq, codes, Option}
-use Rattle.std.specs.Prelude.{Some, None, if◌then◌else◌}
+-- Reading a member's file, as a short import or as an object. The reader takes what it finds in the
+-- bytes, and knows nothing of who wrote them.
+use Rattle.std.specs.Prelude.{ℕ, Bool, ◌&&◌, ◌==◌, nat_le, List, [], ◌∷◌, slice_get, bytes_eq}
+use Rattle.std.specs.Prelude.{codes, Option, Some, None, if◌then◌else◌}
 use Rattle.std.specs.List.{filter_map, find}
 use Rattle.std.specs.Option.{option_and_then, option_map}
 use Rattle.implib.specs.Formats.Constants.{class_external, class_weak_external}
 use Rattle.implib.specs.Import.{Alias, Import, import_symbols}
-use Rattle.implib.specs.Formats.Object.{Entry, ASymbol, Auxiliary, Object, ObjectSection, ObjectSymbol, object_in}
-use Rattle.implib.specs.Formats.Object.{u32_at, before_nul}
-use Rattle.implib.specs.Formats.ShortImport.{ShortImport, import_data, import_of_short_import, short_import_in}
+use Rattle.implib.specs.Formats.Object.{Entry, ASymbol, Auxiliary, Object, ObjectSection}
+use Rattle.implib.specs.Formats.Object.{ObjectSymbol, object_in, u32_at, before_nul}
+use Rattle.implib.specs.Formats.ShortImport.{ShortImport, import_data, import_of_short_import}
+use Rattle.implib.specs.Formats.ShortImport.{short_import_in}
 
 -- a file that has been read
 pub data File : Type 0 where
@@ -37,8 +38,8 @@ declared_by_entry (ASymbol s) =
     else if s.class == class_weak_external then Some s.name
     else None
 
--- The symbols that a file declares, in order. For example, the short import of bar declares `__imp_bar` and
--- `bar`, and that of data `__imp_bar` alone.
+-- The symbols that a file declares, in order. For example, the short import of bar declares
+-- `__imp_bar` and `bar`, and that of data `__imp_bar` alone.
 abbrev pub declared_by : File → List (List ℕ)
 declared_by (ShortImportFile r) = import_symbols (r.import_type == import_data) r.symbol
 declared_by (ObjectFile o) = filter_map declared_by_entry o.entries
@@ -74,8 +75,8 @@ only_alias entries ((weak, Some index) ∷ other ∷ others) = None
 only_alias entries ((weak, Some index) ∷ []) =
     option_map (λ target. record { weak = weak; target = target }) (name_at entries index)
 
--- The alias that an object makes, where exactly one of its symbols is a weak external. For example, that foo is
--- weak for baz.
+-- The alias that an object makes, where exactly one of its symbols is a weak external. For example,
+-- that foo is weak for baz.
 abbrev pub alias_of_object : Object → Option Alias
 alias_of_object o = only_alias o.entries (weak_symbols o.entries)
 

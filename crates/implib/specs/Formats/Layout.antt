@@ -1,15 +1,17 @@
 -- The layout of an object (this project's layout, docs/FORMATS.md, "The layout of an object"; the
 -- fields are those of the PE/COFF specification): header, section headers, the contents of each
 -- section, symbol records, string table, with nothing between them.
-use Rattle.std.specs.Prelude.{◌≡◌, ℕ, ◌+◌, ◌-◌, ◌*◌, ◌<◌, ◌≤◌, ◌^◌, false, List, [], ◌∷◌, ◌++◌, Option, None}
-use Rattle.std.specs.Prelude.{Some, length, replicate, slice_index, slice_index_or, nat_eq, if◌then◌else◌}
+use Rattle.std.specs.Prelude.{◌≡◌, ℕ, ◌+◌, ◌-◌, ◌*◌, ◌<◌, ◌≤◌, ◌^◌, false, List, [], ◌∷◌, ◌++◌}
+use Rattle.std.specs.Prelude.{Option, None, Some, length, replicate, slice_index, slice_index_or}
+use Rattle.std.specs.Prelude.{nat_eq, if◌then◌else◌}
 use Rattle.std.specs.List.{AllByRecursion, flat_map, sum_by}
 use Rattle.implib.specs.declared.coff.object.Relocation.{Relocation}
 use Rattle.implib.specs.Ascii.{holds}
 use Rattle.implib.specs.Formats.Bytes.{u16_bytes, u32_bytes}
 use Rattle.implib.specs.Formats.Object.{Entry, ASymbol, Auxiliary, Object, ObjectSection}
 
--- the location of a symbol's name: in its record, or in the string table, as the string of this index, from 0
+-- the location of a symbol's name: in its record, or in the string table, as the string of this
+-- index, from 0
 pub data SymbolName : Type 0 where
   InRecord : List ℕ → SymbolName
   InStringTable : ℕ → SymbolName
@@ -24,7 +26,8 @@ pub record LayoutSymbol : Type 0 where
 
 -- a symbol of value 0 without an auxiliary record
 abbrev pub symbol : SymbolName → ℕ → ℕ → LayoutSymbol
-symbol name section class = record { name = name; value = 0; section = section; class = class; aux = None }
+symbol name section class =
+    record { name = name; value = 0; section = section; class = class; aux = None }
 
 -- an object to be written; the strings are those of the string table, in order
 pub record ObjectLayout : Type 0 where
@@ -51,8 +54,8 @@ record_count s = 1 + auxiliary_count s.aux
 unfoldable pub string_size : List ℕ → ℕ
 string_size text = length text + 1
 
--- The size in bytes of the string table, its size field counted. For example, 4 without strings, and 14 with
--- `abcdefghi`.
+-- The size in bytes of the string table, its size field counted. For example, 4 without strings,
+-- and 14 with `abcdefghi`.
 unfoldable pub strings_size : List (List ℕ) → ℕ
 strings_size strings = 4 + sum_by string_size strings
 
@@ -68,8 +71,8 @@ symbol_table_offset p = contents_offset p + sum_by contents_size p.sections
 unfoldable pub records : ObjectLayout → ℕ
 records p = sum_by record_count p.symbols
 
--- The size in bytes of an encoded object. For example, an object without sections and with two undefined
--- symbols, of 8 and of 9 bytes, has 70 bytes.
+-- The size in bytes of an encoded object. For example, an object without sections and with two
+-- undefined symbols, of 8 and of 9 bytes, has 70 bytes.
 unfoldable pub encoded_size : ObjectLayout → ℕ
 encoded_size p = symbol_table_offset p + 18 * records p + strings_size p.strings
 
@@ -105,7 +108,8 @@ section_header offset s =
 -- the headers of sections whose contents follow one another from an offset on
 unfoldable pub section_headers : ℕ → List ObjectSection → List ℕ
 section_headers offset [] = []
-section_headers offset (s ∷ rest) = section_header offset s ++ section_headers (offset + contents_size s) rest
+section_headers offset (s ∷ rest) =
+    section_header offset s ++ section_headers (offset + contents_size s) rest
 
 -- a relocation, 10 bytes ("COFF Relocations")
 unfoldable pub relocation_bytes : Relocation → List ℕ
@@ -120,13 +124,13 @@ unfoldable pub offsets_from : ℕ → List (List ℕ) → List ℕ
 offsets_from offset [] = []
 offsets_from offset (text ∷ rest) = offset ∷ offsets_from (offset + string_size text) rest
 
--- The offset of each string in the string table, whose first 4 bytes are its size. For example, 4, 28 and 53
--- for strings of 23, 24 and 20 bytes.
+-- The offset of each string in the string table, whose first 4 bytes are its size. For example, 4,
+-- 28 and 53 for strings of 23, 24 and 20 bytes.
 unfoldable pub string_offsets : List (List ℕ) → List ℕ
 string_offsets strings = offsets_from 4 strings
 
--- The 8 bytes of a symbol's name, by the offsets of the strings. For example, `abcdefgh` is its own field,
--- and the string at the offset 4 is `00 00 00 00 04 00 00 00`.
+-- The 8 bytes of a symbol's name, by the offsets of the strings. For example, `abcdefgh` is its own
+-- field, and the string at the offset 4 is `00 00 00 00 04 00 00 00`.
 unfoldable pub name_field : List ℕ → SymbolName → List ℕ
 name_field offsets (InRecord text) = text ++ replicate (8 - length text) 0
 name_field offsets (InStringTable index) = u32_bytes 0 ++ u32_bytes (slice_index offsets index)

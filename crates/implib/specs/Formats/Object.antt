@@ -1,8 +1,8 @@
 -- How an object is read (PE/COFF specification, "COFF File Header", "Section Table", "COFF
 -- Relocations", "COFF Symbol Table", "COFF String Table"): the offsets and counts in its bytes
 -- are followed, and there is no object where one of them leads out.
-use Rattle.std.specs.Prelude.{ℕ, zero, suc, ◌+◌, ◌*◌, List, [], ◌∷◌, Option, None, Some, length, take, drop}
-use Rattle.std.specs.Prelude.{nat_le, nat_eq, slice_get, slice_index, if◌then◌else◌}
+use Rattle.std.specs.Prelude.{ℕ, zero, suc, ◌+◌, ◌*◌, List, [], ◌∷◌, Option, None, Some, length}
+use Rattle.std.specs.Prelude.{take, drop, nat_le, nat_eq, slice_get, slice_index, if◌then◌else◌}
 use Rattle.std.specs.Int.{w16, w32, from_le_bytes}
 use Rattle.std.specs.Option.{option_and_then, option_map}
 use Rattle.implib.specs.declared.coff.object.Relocation.{Relocation}
@@ -36,8 +36,8 @@ pub record Object : Type 0 where
   pub sections : List ObjectSection
   pub entries : List Entry
 
--- What a list has for the section of a number, its section or its address, say. Section numbers count from 1
--- ("Section Number Values"): the section 2 of two is the last one.
+-- What a list has for the section of a number, its section or its address, say. Section numbers
+-- count from 1 ("Section Number Values"): the section 2 of two is the last one.
 abbrev pub section_numbered : {X : Type 0} → List X → ℕ → Option X
 section_numbered items zero = None
 section_numbered items (suc index) = slice_get items index
@@ -62,9 +62,10 @@ each_at read offset width (suc count) = option_and_then
     (λ x. option_map (λ xs. x ∷ xs) (each_at read (offset + width) width count))
     (read offset)
 
--- The bytes before the first NUL, or all where there is none: a name of 8 bytes fills its field. (The texts
--- of a string table and of a `.idata` section have to be ended: `before_nul`. Those of a short import are
--- read one after the other: `ShortImport.text_in`.) For example, `.text` and three NULs are `.text`.
+-- The bytes before the first NUL, or all where there is none: a name of 8 bytes fills its field.
+-- (The texts of a string table and of a `.idata` section have to be ended: `before_nul`. Those of a
+-- short import are read one after the other: `ShortImport.text_in`.) For example, `.text` and three
+-- NULs are `.text`.
 unfoldable pub up_to_nul : List ℕ → List ℕ
 up_to_nul [] = []
 up_to_nul (zero ∷ rest) = []
@@ -112,8 +113,9 @@ section_of bytes header =
 unfoldable pub section_at : List ℕ → ℕ → Option ObjectSection
 section_at bytes offset = option_and_then (section_of bytes) (bytes_at bytes offset 40)
 
--- The name in the 8 bytes of a field: after four zero bytes an offset into the string table, otherwise the
--- bytes up to the first NUL. For example, `00 00 00 00 04 00 00 00` is the first text of the string table.
+-- The name in the 8 bytes of a field: after four zero bytes an offset into the string table,
+-- otherwise the bytes up to the first NUL. For example, `00 00 00 00 04 00 00 00` is the first text
+-- of the string table.
 unfoldable pub name_of : List ℕ → List ℕ → Option (List ℕ)
 name_of strings (zero ∷ zero ∷ zero ∷ zero ∷ offset) = before_nul (drop (u32_at offset 0) strings)
 name_of strings field = Some (up_to_nul field)
@@ -174,10 +176,11 @@ object_of_header bytes header =
     let records : ℕ = u32_at header 12 in
     let strings = strings_at bytes (symbol_table_offset + 18 * records) in
     let sections = each_at (section_at bytes) (20 + u16_at header 16) 40 (u16_at header 2) in
-    let entries = option_and_then (λ table. entries_at bytes table symbol_table_offset 0 records) strings in
+    let entries =
+    option_and_then (λ table. entries_at bytes table symbol_table_offset 0 records) strings in
     option_and_then (λ ss. option_map (λ es. object_with header ss es) entries) sections
 
--- The object in a file's bytes. For example, the 70 bytes of `two_names_bytes` (Worked/Layouts) are an object
--- without sections whose two symbols are `abcdefgh` and `abcdefghi`.
+-- The object in a file's bytes. For example, the 70 bytes of `two_names_bytes` (Worked/Layouts) are
+-- an object without sections whose two symbols are `abcdefgh` and `abcdefghi`.
 unfoldable pub object_in : List ℕ → Option Object
 object_in bytes = option_and_then (object_of_header bytes) (bytes_at bytes 0 20)

@@ -1,8 +1,9 @@
--- Reading a short import (PE/COFF specification, "Import Library Format"; docs/FORMATS.md, "Short imports"):
--- a header of 20 bytes, then two texts with a NUL each: the symbol and the DLL's name. The reader takes what
--- it finds in the bytes, and knows nothing of who wrote them.
-use Rattle.std.specs.Prelude.{ℕ, ◌-◌, ◌/◌, ◌%◌, Bool, ◌&&◌, ◌==◌, nat_le, List, [], ◌∷◌, length, drop, Option}
-use Rattle.std.specs.Prelude.{Some, None, if◌then◌else◌}
+-- Reading a short import (PE/COFF specification, "Import Library Format"; docs/FORMATS.md, "Short
+-- imports"):
+-- a header of 20 bytes, then two texts with a NUL each: the symbol and the DLL's name. The reader
+-- takes what it finds in the bytes, and knows nothing of who wrote them.
+use Rattle.std.specs.Prelude.{ℕ, ◌-◌, ◌/◌, ◌%◌, Bool, ◌&&◌, ◌==◌, nat_le, List, [], ◌∷◌, length}
+use Rattle.std.specs.Prelude.{drop, Option, Some, None, if◌then◌else◌}
 use Rattle.std.specs.List.{before_first}
 use Rattle.implib.specs.Ascii.{question_mark}
 use Rattle.implib.specs.Import.{Ask, Ordinal, Name, Import, import_symbols}
@@ -61,7 +62,8 @@ text_in (byte ∷ rest) = if byte == 0 then Some ([], rest) else text_longer byt
 -- whether the bytes begin with a header whose size field is that of all that follows it
 abbrev pub is_short_import : List ℕ → Bool
 is_short_import bytes =
-    nat_le short_import_header_size (length bytes) && (u16_at bytes 0 == 0) && (u16_at bytes 2 == 0xFFFF)
+    nat_le short_import_header_size (length bytes) && (u16_at bytes 0 == 0)
+    && (u16_at bytes 2 == 0xFFFF)
     && (u32_at bytes 12 == length bytes - short_import_header_size)
 
 -- the short import, where nothing follows the second text
@@ -85,11 +87,12 @@ short_import_from bytes None = None
 short_import_from bytes (Some (symbol, rest)) = short_import_with bytes symbol (text_in rest)
 
 -- The short import that these bytes are. For example,
--- `00 00 ff ff 00 00 64 86 00 00 00 00 0c 00 00 00 00 00 04 00`, `bar`, NUL, `foo.dll` and NUL: of the symbol
--- bar and the DLL foo.dll on AMD64, with the import type 0 and the name type 1.
+-- `00 00 ff ff 00 00 64 86 00 00 00 00 0c 00 00 00 00 00 04 00`, `bar`, NUL, `foo.dll` and NUL: of
+-- the symbol bar and the DLL foo.dll on AMD64, with the import type 0 and the name type 1.
 unfoldable pub short_import_in : List ℕ → Option ShortImport
 short_import_in bytes =
-    if is_short_import bytes then short_import_from bytes (text_in (drop short_import_header_size bytes))
+    if is_short_import bytes
+    then short_import_from bytes (text_in (drop short_import_header_size bytes))
     else None
 
 -- A symbol without its first byte, where that is `?`, `@` or `_`. For example, `__f` gives `_f`.
@@ -104,9 +107,9 @@ without_prefix symbol =
 abbrev pub before_at_sign : List ℕ → List ℕ
 before_at_sign symbol = before_first (λ byte. byte == at_sign) symbol
 
--- The name that a short import asks for, by its name type. The specification leaves open what the last two
--- cut off; this is this project's reading of it. For example, undecorate takes `f` of `?f@@YAXXZ`, and no
--- prefix `_f` of `__f`.
+-- The name that a short import asks for, by its name type. The specification leaves open what the
+-- last two cut off; this is this project's reading of it. For example, undecorate takes `f` of
+-- `?f@@YAXXZ`, and no prefix `_f` of `__f`.
 abbrev pub asked_by_name_type : ℕ → List ℕ → List ℕ
 asked_by_name_type name_type symbol =
     if name_type == import_name then symbol
@@ -122,7 +125,8 @@ ask_of_short_import r =
 -- the import that a short import is, where its types have a meaning
 abbrev pub import_of_short_import : ShortImport → Option Import
 import_of_short_import r =
-    if nat_le r.import_type import_const && nat_le r.name_type import_name_undecorate then Some record {
+    if nat_le r.import_type import_const && nat_le r.name_type import_name_undecorate
+    then Some record {
       dll = r.dll;
       declared = import_symbols (r.import_type == import_data) r.symbol;
       ask = ask_of_short_import r;

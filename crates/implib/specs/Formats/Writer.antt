@@ -1,8 +1,8 @@
 -- The state of an object writer, and the layout that it encodes (this project's layout,
 -- docs/FORMATS.md, "The layout of an object").
-use Rattle.std.specs.Prelude.{ℕ, zero, suc, ◌+◌, ◌<◌, ◌≤◌, Bool, List, [], ◌∷◌, ◌++◌, Option, None, Some}
-use Rattle.std.specs.Prelude.{IsSomeAnd, length, map, fold, flat_map, slice_get, nat_lt, string_bytes}
-use Rattle.std.specs.Prelude.{if◌then◌else◌, bytes_eq}
+use Rattle.std.specs.Prelude.{ℕ, zero, suc, ◌+◌, ◌<◌, ◌≤◌, Bool, List, [], ◌∷◌, ◌++◌, Option, None}
+use Rattle.std.specs.Prelude.{Some, IsSomeAnd, length, map, fold, flat_map, slice_get, nat_lt}
+use Rattle.std.specs.Prelude.{string_bytes, if◌then◌else◌, bytes_eq}
 use Rattle.std.specs.List.{list_any, position_or_len}
 use Rattle.implib.specs.declared.coff.object.Place.{Place}
 use Rattle.implib.specs.declared.coff.object.Place.TheVariants.{Undefined, Section, Absolute, Debug}
@@ -12,7 +12,8 @@ use Rattle.implib.specs.declared.coff.object.Symbol.{Symbol}
 use Rattle.implib.specs.declared.machine.MachineType.{MachineType}
 use Rattle.implib.specs.Machine.{machine_number}
 use Rattle.implib.specs.Formats.Object.{ASymbol, Auxiliary, Entry, Object, ObjectSection}
-use Rattle.implib.specs.Formats.Layout.{InRecord, InStringTable, ObjectLayout, LayoutSymbol, SymbolName}
+use Rattle.implib.specs.Formats.Layout.{InRecord, InStringTable, ObjectLayout, LayoutSymbol}
+use Rattle.implib.specs.Formats.Layout.{SymbolName}
 
 -- a symbol that was added
 pub record AddedSymbol : Type 0 where
@@ -113,8 +114,10 @@ pub record HasRoomFor (r : Relocation) (s : ObjectSection) : Type 0 where
 abbrev pub sections_with_relocation : List ObjectSection → ℕ → Relocation → List ObjectSection
 sections_with_relocation [] number r = []
 sections_with_relocation (s ∷ rest) zero r = s ∷ rest
-sections_with_relocation (s ∷ rest) (suc zero) r = record s { relocations = s.relocations ++ r ∷ [] } ∷ rest
-sections_with_relocation (s ∷ rest) (suc (suc number)) r = s ∷ sections_with_relocation rest (suc number) r
+sections_with_relocation (s ∷ rest) (suc zero) r =
+    record s { relocations = s.relocations ++ r ∷ [] } ∷ rest
+sections_with_relocation (s ∷ rest) (suc (suc number)) r =
+    s ∷ sections_with_relocation rest (suc number) r
 
 -- the writer's state after one relocation more
 abbrev pub with_relocation : WriterState → ℕ → Relocation → WriterState
@@ -136,7 +139,8 @@ with_long_name names name = if is_long name then with_name names name else names
 unfoldable pub long_names : List AddedSymbol → List (List ℕ)
 long_names symbols = fold with_long_name [] (map (λ s. s.name) symbols)
 
--- The location of a name. For example, `abcdefgh` is in its record, and `abcdefghi` in the string table.
+-- The location of a name. For example, `abcdefgh` is in its record, and `abcdefghi` in the string
+-- table.
 unfoldable pub name_location : List (List ℕ) → List ℕ → SymbolName
 name_location names name =
     if is_long name then InStringTable (position_or_len (bytes_eq name) names) else InRecord name

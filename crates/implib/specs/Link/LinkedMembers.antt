@@ -1,7 +1,7 @@
--- What is linked: the head, the members of the selected exports and the tail of one definition or of several,
--- and the order of their names (docs/FORMATS.md, "Placement").
-use Rattle.std.specs.Prelude.{◌≡◌, ℕ, List, [], ◌∷◌, ◌++◌, map, slice_get, slice_index, Option, ◌<◌, codes}
-use Rattle.std.specs.Prelude.{length}
+-- What is linked: the head, the members of the selected exports and the tail of one definition or
+-- of several, and the order of their names (docs/FORMATS.md, "Placement").
+use Rattle.std.specs.Prelude.{◌≡◌, ℕ, List, [], ◌∷◌, ◌++◌, map, slice_get, slice_index, Option, ◌<◌}
+use Rattle.std.specs.Prelude.{codes, length}
 use Rattle.std.specs.Cmp.Lexicographic.{slice_cmp}
 use Rattle.std.specs.List.{AllByRecursion, filter_map, flat_map}
 use Rattle.std.specs.Option.{option_map}
@@ -58,8 +58,8 @@ IsAscending [] = Unit {0}
 IsAscending (first ∷ []) = Unit {0}
 IsAscending (first ∷ second ∷ others) = ComesBefore first second × IsAscending (second ∷ others)
 
--- the bases in the order of the groups' numbers; members for GNU's linker have no `.idata$3`, and the base
--- that is said to be its is that of `.idata$2`
+-- the bases in the order of the groups' numbers; members for GNU's linker have no `.idata$3`, and
+-- the base that is said to be its is that of `.idata$2`
 abbrev pub bases_of : List ℕ → Bases
 bases_of bases = record {
   descriptors = slice_index bases 0;
@@ -102,8 +102,8 @@ pub record IsLinkInput (machine : MachineType) (p : LinkInput) : Type 0 where
   pub numbers : AllByRecursion (λ n. n < length (public_exports (renamed p.definition))) p.chosen
   pub in_order : IsAscending (map (export_name (linked_name p.definition)) p.chosen)
 
--- What the names of a definition's members begin with. For example, `foo_dll_a_` of foo.dll, and `foo_1_a_`
--- where its library has the name foo.1.
+-- What the names of a definition's members begin with. For example, `foo_dll_a_` of foo.dll, and
+-- `foo_1_a_` where its library has the name foo.1.
 abbrev pub member_prefix : DefinitionView → List ℕ
 member_prefix d = mangled_name (linked_name d) ++ codes "_a_"
 

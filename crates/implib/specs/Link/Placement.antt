@@ -1,12 +1,12 @@
--- Placement: the addresses of the sections of linked objects (this project's model of what linkers do,
--- docs/FORMATS.md, "Placement").
-use Rattle.std.specs.Prelude.{ℕ, ◌+◌, ◌-◌, ◌/◌, ◌%◌, ◌^◌, Bool, ◌==◌, List, [], ◌∷◌, length, bytes_eq, codes}
-use Rattle.std.specs.Prelude.{Option, Some, None, if◌then◌else◌}
+-- Placement: the addresses of the sections of linked objects (this project's model of what linkers
+-- do, docs/FORMATS.md, "Placement").
+use Rattle.std.specs.Prelude.{ℕ, ◌+◌, ◌-◌, ◌/◌, ◌%◌, ◌^◌, Bool, ◌==◌, List, [], ◌∷◌, length}
+use Rattle.std.specs.Prelude.{bytes_eq, codes, Option, Some, None, if◌then◌else◌}
 use Rattle.implib.specs.Formats.Object.{Object, ObjectSection}
 
 -- The groups of sections that import tables are made of (PE/COFF specification, "The .idata
--- Section"): descriptors in `.idata$2`, what ends them in `.idata$3`, lookup tables in `.idata$4`, address
--- tables in `.idata$5`, hints and names in `.idata$6`, names of DLLs in `.idata$7`.
+-- Section"): descriptors in `.idata$2`, what ends them in `.idata$3`, lookup tables in `.idata$4`,
+-- address tables in `.idata$5`, hints and names in `.idata$6`, names of DLLs in `.idata$7`.
 pub data Group : Type 0 where
   Descriptors : Group
   DirectoryEnds : Group
@@ -70,9 +70,9 @@ with_base Addresses n b = record b { addresses = n }
 with_base HintNames n b = record b { hint_names = n }
 with_base DllNames n b = record b { dll_names = n }
 
--- The alignment in bytes that a section's flags say (PE/COFF specification, "Section Flags"): their field of
--- mask 0xF00000 is 1 more than its exponent. For example, of 0xC0300040 it is 4. A field of 0, which no
--- section of the import tables has, gives 1 here.
+-- The alignment in bytes that a section's flags say (PE/COFF specification, "Section Flags"): their
+-- field of mask 0xF00000 is 1 more than its exponent. For example, of 0xC0300040 it is 4. A field
+-- of 0, which no section of the import tables has, gives 1 here.
 abbrev pub alignment : ℕ → ℕ
 alignment flags = 2 ^ (flags / 0x0010_0000 % 16 - 1)
 
@@ -88,7 +88,8 @@ pub data SectionAddress : Type 0 where
 -- the address after the ends of what is placed already
 abbrev pub address_after : Bases → ℕ → Option Group → SectionAddress
 address_after ends flags None = Unplaced
-address_after ends flags (Some group) = At group (next_multiple (alignment flags) (base_of group ends))
+address_after ends flags (Some group) =
+    At group (next_multiple (alignment flags) (base_of group ends))
 
 -- the ends, when `size` bytes are at this address too
 abbrev pub end_after : Bases → SectionAddress → ℕ → Bases
@@ -117,10 +118,10 @@ pub record Placed : Type 0 where
   pub object : Object
   pub section_addresses : List SectionAddress
 
--- Objects that are placed in their order. Each group has an address from which on it is free: its base, and
--- then the end of the last section placed. A section goes there, or as far after it as its alignment makes
--- it; a base that the alignment divides is taken as it is. For example, on AMD64 the thunk of the tail,
--- after two entries from 0x1020 on, goes to 0x1030.
+-- Objects that are placed in their order. Each group has an address from which on it is free: its
+-- base, and then the end of the last section placed. A section goes there, or as far after it as
+-- its alignment makes it; a base that the alignment divides is taken as it is. For example, on
+-- AMD64 the thunk of the tail, after two entries from 0x1020 on, goes to 0x1030.
 abbrev pub placed_from : Bases → List Object → List Placed
 placed_from ends [] = []
 placed_from ends (o ∷ objects) =

@@ -1,7 +1,7 @@
 -- Resolution: the addresses of the symbols of objects that are placed (PE/COFF specification, "COFF
 -- Symbol Table").
-use Rattle.std.specs.Prelude.{ℕ, ◌+◌, Bool, ◌&&◌, ◌==◌, List, [], ◌∷◌, bytes_eq, slice_get, Option, Some}
-use Rattle.std.specs.Prelude.{None, if◌then◌else◌}
+use Rattle.std.specs.Prelude.{ℕ, ◌+◌, Bool, ◌&&◌, ◌==◌, List, [], ◌∷◌, bytes_eq, slice_get, Option}
+use Rattle.std.specs.Prelude.{Some, None, if◌then◌else◌}
 use Rattle.std.specs.List.{filter, filter_map, flat_map}
 use Rattle.std.specs.Option.{option_and_then}
 use Rattle.implib.specs.Formats.Constants.{class_external, section_undefined}
@@ -40,7 +40,8 @@ defined_by p = filter_map (defined_by_entry p.section_addresses) p.object.entrie
 abbrev pub definitions : List Placed → List SymbolDefinition
 definitions linked = flat_map defined_by linked
 
--- The definitions of a name. For example, of `_head_foo_dll` there is one, at the descriptor of foo.dll.
+-- The definitions of a name. For example, of `_head_foo_dll` there is one, at the descriptor of
+-- foo.dll.
 abbrev pub definitions_of : List ℕ → List Placed → List SymbolDefinition
 definitions_of name linked = filter (λ d. bytes_eq name d.name) (definitions linked)
 

@@ -1,5 +1,5 @@
--- The objects of exports for GNU's linker, of one library and for one machine, which the program keeps and makes when
--- they are wanted.
+-- The objects of exports for GNU's linker, of one library and for one machine, which the program
+-- keeps and makes when they are wanted.
 use Rattle.std.specs.Prelude.{ℕ, List}
 use Rattle.implib.specs.declared.machine.MachineType.{MachineType}
 use Rattle.implib.specs.Members.MemberSpec.{MemberView}

@@ -1,7 +1,7 @@
 -- The objects for GNU's linker, as tables (docs/FORMATS.md, "Members for GNU's linker"): what is
 -- added to a writer of objects, in order.
-use Rattle.std.specs.Prelude.{ℕ, ◌+◌, ◌-◌, ◌==◌, List, [], ◌∷◌, ◌++◌, length, map, replicate, Some, None}
-use Rattle.std.specs.Prelude.{codes, decimal, if◌then◌else◌}
+use Rattle.std.specs.Prelude.{ℕ, ◌+◌, ◌-◌, ◌==◌, List, [], ◌∷◌, ◌++◌, length, map, replicate, Some}
+use Rattle.std.specs.Prelude.{None, codes, decimal, if◌then◌else◌}
 use Rattle.implib.specs.declared.coff.object.Place.{Place}
 use Rattle.implib.specs.declared.coff.object.Place.TheVariants.{Undefined, Section, Debug}
 use Rattle.implib.specs.declared.coff.object.Relocation.{Relocation}
@@ -9,16 +9,18 @@ use Rattle.implib.specs.declared.machine.MachineType.{MachineType}
 use Rattle.implib.specs.declared.machine.MachineType.TheVariants.{I386, ARMNT, AMD64, ARM64}
 pub use Rattle.implib.specs.Ascii.{full_stop}
 use Rattle.implib.specs.Formats.Bytes.{u16_bytes}
-use Rattle.implib.specs.Formats.Constants.{cnt_code, cnt_initialized_data, cnt_uninitialized_data, align_2bytes}
-use Rattle.implib.specs.Formats.Constants.{align_4bytes, align_16bytes, mem_execute_read, mem_read_write}
-use Rattle.implib.specs.Formats.Constants.{class_external, class_static, class_file, i386_dir32, amd64_rel32}
+use Rattle.implib.specs.Formats.Constants.{cnt_code, cnt_initialized_data, cnt_uninitialized_data}
+use Rattle.implib.specs.Formats.Constants.{align_2bytes, align_4bytes, align_16bytes}
+use Rattle.implib.specs.Formats.Constants.{mem_execute_read, mem_read_write, class_external}
+use Rattle.implib.specs.Formats.Constants.{class_static, class_file, i386_dir32, amd64_rel32}
 use Rattle.implib.specs.Formats.Constants.{arm_rel32, arm64_pagebase_rel21, arm64_pageoffset_12l}
 use Rattle.implib.specs.Definition.{ExportView}
 use Rattle.implib.specs.LibraryName.{NamesOfDll}
 use Rattle.implib.specs.Underscore.{leading_underscore}
 use Rattle.implib.specs.Import.{imp_symbol, name_asked, underscore}
-use Rattle.implib.specs.Members.ImportTables.{address_table_offset, descriptor_size, lookup_table_offset, name_offset}
-use Rattle.implib.specs.Members.ImportTables.{relocation, table_flags, thunk_width, zeros}
+use Rattle.implib.specs.Members.ImportTables.{address_table_offset, descriptor_size}
+use Rattle.implib.specs.Members.ImportTables.{lookup_table_offset, name_offset, relocation}
+use Rattle.implib.specs.Members.ImportTables.{table_flags, thunk_width, zeros}
 use Rattle.implib.specs.Formats.Object.{ObjectSection}
 use Rattle.implib.specs.Formats.Writer.{AddedSymbol, WriterState}
 
@@ -26,8 +28,8 @@ use Rattle.implib.specs.Formats.Writer.{AddedSymbol, WriterState}
 abbrev pub without_full_stop : ℕ → ℕ
 without_full_stop byte = if byte == full_stop then underscore else byte
 
--- What the names of a library's members and symbols are made of: its name with each `.` as `_`. For example,
--- `a_b_dll_dll` of a.b.dll.dll.
+-- What the names of a library's members and symbols are made of: its name with each `.` as `_`. For
+-- example, `a_b_dll_dll` of a.b.dll.dll.
 unfoldable pub mangled_name : List ℕ → List ℕ
 mangled_name dll = map without_full_stop dll
 
@@ -40,7 +42,8 @@ prefixed_symbol machine name = leading_underscore machine ++ name
 unfoldable pub head_symbol : MachineType → List ℕ → List ℕ
 head_symbol machine dll = prefixed_symbol machine (codes "_head_" ++ mangled_name dll)
 
--- The symbol of the DLL's name. For example, `foo_dll_iname` of foo.dll, and on I386 `_foo_dll_iname`.
+-- The symbol of the DLL's name. For example, `foo_dll_iname` of foo.dll, and on I386
+-- `_foo_dll_iname`.
 unfoldable pub iname_symbol : MachineType → List ℕ → List ℕ
 iname_symbol machine dll = prefixed_symbol machine (mangled_name dll ++ codes "_iname")
 
@@ -48,9 +51,9 @@ iname_symbol machine dll = prefixed_symbol machine (mangled_name dll ++ codes "_
 unfoldable pub five_digits : ℕ → List ℕ
 five_digits n = replicate (5 - length (decimal n)) 0x30 ++ decimal n
 
--- The names of the members: of the head and the tail, of an export of a number, and of the weak externals of
--- its symbol and of its address. For example, `foo_dll_a_h.o`, `foo_dll_a_t.o`, `foo_dll_a_s00000.o`,
--- `foo_dll_a_w00000.o` and `foo_dll_a_x00000.o` of foo.dll.
+-- The names of the members: of the head and the tail, of an export of a number, and of the weak
+-- externals of its symbol and of its address. For example, `foo_dll_a_h.o`, `foo_dll_a_t.o`,
+-- `foo_dll_a_s00000.o`, `foo_dll_a_w00000.o` and `foo_dll_a_x00000.o` of foo.dll.
 unfoldable pub head_name : List ℕ → List ℕ
 head_name dll = mangled_name dll ++ codes "_a_h.o"
 
@@ -58,7 +61,8 @@ unfoldable pub tail_name : List ℕ → List ℕ
 tail_name dll = mangled_name dll ++ codes "_a_t.o"
 
 unfoldable pub numbered_name : List ℕ → List ℕ → ℕ → List ℕ
-numbered_name dll letter n = mangled_name dll ++ (codes "_a_" ++ (letter ++ (five_digits n ++ codes ".o")))
+numbered_name dll letter n =
+    mangled_name dll ++ (codes "_a_" ++ (letter ++ (five_digits n ++ codes ".o")))
 
 abbrev pub export_name : List ℕ → ℕ → List ℕ
 export_name dll n = numbered_name dll (codes "s") n
@@ -110,8 +114,8 @@ empty_sections =
     ∷ section bss_name (cnt_uninitialized_data + align_16bytes + mem_read_write) [] []  -- 3, 0xC0500080
     ∷ []
 
--- the sections of the head: `.idata$2` is the import descriptor, 20 zero bytes, relocated at 0 to the lookup
--- table, at 16 to the address table and at 12 to the name
+-- the sections of the head: `.idata$2` is the import descriptor, 20 zero bytes, relocated at 0 to
+-- the lookup table, at 16 to the address table and at 12 to the name
 abbrev pub head_sections : MachineType → List ObjectSection
 head_sections machine =
     empty_sections
@@ -143,7 +147,8 @@ head_object machine dll = record {
   symbols = head_symbols (head_symbol machine dll) (iname_symbol machine dll);
 }
 
--- the sections of the tail: the thunks that end the lookup table and the address table, and the DLL's name
+-- the sections of the tail: the thunks that end the lookup table and the address table, and the
+-- DLL's name
 abbrev pub tail_sections : MachineType → List ℕ → List ObjectSection
 tail_sections machine dll =
     empty_sections
@@ -192,9 +197,9 @@ stub machine e = if e.is_data then [] else stub_bytes machine
 unfoldable pub relocations_of_stub : MachineType → ExportView → List Relocation
 relocations_of_stub machine e = if e.is_data then [] else stub_relocations machine 2
 
--- The entry of an export in the lookup table and in the address table: an ordinal with the top bit set, or
--- zeros for the address of a name. For example, the ordinal 258 is `02 01 00 80` on I386 and
--- `02 01 00 00 00 00 00 80` on AMD64.
+-- The entry of an export in the lookup table and in the address table: an ordinal with the top bit
+-- set, or zeros for the address of a name. For example, the ordinal 258 is `02 01 00 80` on I386
+-- and `02 01 00 00 00 00 00 80` on AMD64.
 unfoldable pub thunk : MachineType → ExportView → List ℕ
 thunk machine e =
     if e.no_name then u16_bytes e.ordinal ++ (zeros (thunk_width machine - 3) ++ 0x80 ∷ [])
@@ -206,12 +211,14 @@ hint_name_symbol e = if e.is_data then 2 else 3
 
 -- the relocation of such an entry, where it has a name
 unfoldable pub relocations_of_thunk : MachineType → ExportView → List Relocation
-relocations_of_thunk machine e = if e.no_name then [] else relocation machine 0 (hint_name_symbol e) ∷ []
+relocations_of_thunk machine e =
+    if e.no_name then [] else relocation machine 0 (hint_name_symbol e) ∷ []
 
--- The hint and the name that is asked for. For example, `02 01 62 61 72 00` for `bar @258` on AMD64, and
--- nothing by ordinal.
+-- The hint and the name that is asked for. For example, `02 01 62 61 72 00` for `bar @258` on
+-- AMD64, and nothing by ordinal.
 unfoldable pub hint_name : MachineType → ExportView → List ℕ
-hint_name machine e = if e.no_name then [] else u16_bytes e.ordinal ++ (name_asked machine e ++ 0 ∷ [])
+hint_name machine e =
+    if e.no_name then [] else u16_bytes e.ordinal ++ (name_asked machine e ++ 0 ∷ [])
 
 -- the flags of what an export puts into the import tables
 abbrev pub entry_flags : ℕ

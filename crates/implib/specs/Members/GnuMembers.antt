@@ -3,8 +3,9 @@ use Rattle.std.specs.Prelude.{ℕ, ◌+◌, List, [], ◌∷◌, ◌++◌, rever
 use Rattle.implib.specs.declared.machine.MachineType.{MachineType}
 use Rattle.implib.specs.Definition.{ExportView}
 use Rattle.implib.specs.LibraryName.{NamesOfDll}
-use Rattle.implib.specs.Members.Gnu.{archive_symbols, export_name, export_object, head_name, head_object, head_symbol}
-use Rattle.implib.specs.Members.Gnu.{iname_symbol, tail_name, tail_object, weak_address_name, weak_name}
+use Rattle.implib.specs.Members.Gnu.{archive_symbols, export_name, export_object, head_name}
+use Rattle.implib.specs.Members.Gnu.{head_object, head_symbol, iname_symbol, tail_name, tail_object}
+use Rattle.implib.specs.Members.Gnu.{weak_address_name, weak_name}
 use Rattle.implib.specs.Import.{imp_symbol, is_alias}
 use Rattle.implib.specs.Members.WeakExternal.{weak_spec}
 use Rattle.implib.specs.Formats.Writer.{layout_of}
@@ -39,7 +40,8 @@ unfoldable pub alias_specs : MachineType → List ℕ → ℕ → ExportView →
 alias_specs machine dll number e =
     if is_alias e.alias_target e.name then
     weak_spec machine (weak_name dll number) e.name e.alias_target
-    ∷ weak_spec machine (weak_address_name dll number) (imp_symbol e.name) (imp_symbol e.alias_target)
+    ∷ weak_spec machine (weak_address_name dll number) (imp_symbol e.name)
+    (imp_symbol e.alias_target)
     ∷ []
     else []
 
@@ -58,8 +60,8 @@ numbered_specs machine dll number [] = []
 numbered_specs machine dll number (e ∷ exports) =
     numbered_specs_of machine dll number e ++ numbered_specs machine dll (number + 1) exports
 
--- The tail, the head, and what was built, from the last to the first. For example, for bar and qux in
--- foo.dll: `foo_dll_a_t.o`, `foo_dll_a_h.o`, `foo_dll_a_s00001.o` and `foo_dll_a_s00000.o`.
+-- The tail, the head, and what was built, from the last to the first. For example, for bar and qux
+-- in foo.dll: `foo_dll_a_t.o`, `foo_dll_a_h.o`, `foo_dll_a_s00001.o` and `foo_dll_a_s00000.o`.
 abbrev pub gnu_specs : MachineType → NamesOfDll → List ExportView → List MemberSpec
 gnu_specs machine dll exports =
     tail_spec machine dll ∷ head_spec machine dll.linked

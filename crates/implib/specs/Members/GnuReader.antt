@@ -1,16 +1,18 @@
--- Reading an export's object for GNU's linker, with the head and the tail of its DLL: by the names of
--- symbols and sections, whoever wrote them (docs/FORMATS.md, "Reading an export's object"). The reader
--- states the names of sections and the offsets of fields itself, and takes none from the tables.
-use Rattle.std.specs.Prelude.{ℕ, ◌-◌, Bool, false, ◌&&◌, ◌==◌, nat_le, List, [], ◌∷◌, ◌++◌, map, drop, length}
-use Rattle.std.specs.Prelude.{slice_get, slice_index, bytes_eq, codes, Option, Some, None, if◌then◌else◌}
+-- Reading an export's object for GNU's linker, with the head and the tail of its DLL: by the names
+-- of symbols and sections, whoever wrote them (docs/FORMATS.md, "Reading an export's object"). The
+-- reader states the names of sections and the offsets of fields itself, and takes none from the
+-- tables.
+use Rattle.std.specs.Prelude.{ℕ, ◌-◌, Bool, false, ◌&&◌, ◌==◌, nat_le, List, [], ◌∷◌, ◌++◌, map}
+use Rattle.std.specs.Prelude.{drop, length, slice_get, slice_index, bytes_eq, codes, Option, Some}
+use Rattle.std.specs.Prelude.{None, if◌then◌else◌}
 use Rattle.std.specs.List.{filter_map, find}
 use Rattle.std.specs.Option.{option_and_then, option_map}
 use Rattle.implib.specs.declared.coff.object.Relocation.{Relocation}
-use Rattle.implib.specs.Formats.File.{File, ShortImportFile, ObjectFile, Meaning, AnImport, AnAlias, alias_of_object}
-use Rattle.implib.specs.Formats.File.{is_defined_external}
+use Rattle.implib.specs.Formats.File.{File, ShortImportFile, ObjectFile, Meaning, AnImport, AnAlias}
+use Rattle.implib.specs.Formats.File.{alias_of_object, is_defined_external}
 use Rattle.implib.specs.Import.{Alias, Ask, Ordinal, Name, Import}
-use Rattle.implib.specs.Formats.Object.{Entry, ASymbol, Auxiliary, Object, ObjectSection, ObjectSymbol, before_nul}
-use Rattle.implib.specs.Formats.Object.{section_numbered, u16_at}
+use Rattle.implib.specs.Formats.Object.{Entry, ASymbol, Auxiliary, Object, ObjectSection}
+use Rattle.implib.specs.Formats.Object.{ObjectSymbol, before_nul, section_numbered, u16_at}
 
 -- the symbol that an entry is
 abbrev pub symbol_in : Entry → Option ObjectSymbol
@@ -67,8 +69,9 @@ relocated_to o offset section =
     let symbol : Option ObjectSymbol = option_and_then (λ r. symbol_at o r.symbol) relocation in
     option_map (λ s. s.name) symbol
 
--- The DLL of an export, found by names: the export's `.idata$7` is relocated to a symbol of the head's
--- descriptor; the descriptor, at 12, to a symbol of the tail's `.idata$7`, which holds the DLL's name.
+-- The DLL of an export, found by names: the export's `.idata$7` is relocated to a symbol of the
+-- head's descriptor; the descriptor, at 12, to a symbol of the tail's `.idata$7`, which holds the
+-- DLL's name.
 abbrev pub dll_by_names : Object → Object → Object → Option (List ℕ)
 dll_by_names export head tail =
     let to_head = section_named export (codes ".idata$7") in
@@ -78,7 +81,8 @@ dll_by_names export head tail =
     let dll_name = option_and_then (section_defining tail (codes ".idata$7")) iname_symbol in
     option_and_then (λ section. before_nul section.bytes) dll_name
 
--- A hint and a name, ended by NUL. For example, `00 00 62 61 72 00` asks for the name bar with the hint 0.
+-- A hint and a name, ended by NUL. For example, `00 00 62 61 72 00` asks for the name bar with the
+-- hint 0.
 abbrev pub ask_by_name : ObjectSection → Option Ask
 ask_by_name section =
     option_map (λ name. Name name (u16_at section.bytes 0)) (before_nul (drop 2 section.bytes))
@@ -86,14 +90,16 @@ ask_by_name section =
 -- The ordinal in a thunk whose top bit is set. For example, `02 01 00 80` asks for the ordinal 258.
 abbrev pub ask_by_ordinal : List ℕ → Option Ask
 ask_by_ordinal thunk =
-    if nat_le 0x80 (slice_index thunk (length thunk - 1)) then Some (Ordinal (u16_at thunk 0)) else None
+    if nat_le 0x80 (slice_index thunk (length thunk - 1)) then Some (Ordinal (u16_at thunk 0))
+    else None
 
--- what the entry of the address table asks for: where it is relocated, by the hint and the name in the
--- section of the symbol that it is relocated to
+-- what the entry of the address table asks for: where it is relocated, by the hint and the name in
+-- the section of the symbol that it is relocated to
 abbrev pub ask_of_entry : Object → List ℕ → List Relocation → Option Ask
 ask_of_entry o thunk [] = ask_by_ordinal thunk
 ask_of_entry o thunk (r ∷ others) =
-    let hint_name : Option ObjectSection = option_and_then (section_of_symbol o) (symbol_at o r.symbol) in
+    let hint_name : Option ObjectSection =
+    option_and_then (section_of_symbol o) (symbol_at o r.symbol) in
     option_and_then ask_by_name hint_name
 
 -- what an export's object asks for
@@ -105,8 +111,8 @@ ask_of_export o =
 abbrev pub text_section : List ℕ
 text_section = codes ".text" ++ 0 ∷ 0 ∷ 0 ∷ []
 
--- an import from a DLL that an export's object declares: the symbols of `.idata$5`, and then those of
--- `.text`
+-- an import from a DLL that an export's object declares: the symbols of `.idata$5`, and then those
+-- of `.text`
 abbrev pub import_from : Object → List ℕ → Ask → Import
 import_from export dll ask = record {
   dll = dll;
@@ -114,8 +120,9 @@ import_from export dll ask = record {
   ask = ask;
 }
 
--- The import that an export's object is. For example, the object of bar in foo.dll on AMD64 is the import
--- of `foo.dll` that declares `__imp_bar` and `bar` and asks for the name bar with the hint 0.
+-- The import that an export's object is. For example, the object of bar in foo.dll on AMD64 is the
+-- import of `foo.dll` that declares `__imp_bar` and `bar` and asks for the name bar with the hint
+-- 0.
 abbrev pub import_of : Object → Object → Object → Option Import
 import_of export head tail =
     let dll : Option (List ℕ) = dll_by_names export head tail in
@@ -141,11 +148,12 @@ import_in head tail export = option_and_then
 -- what a file means, with the head and the tail
 abbrev pub meaning_with : File → File → File → Option Meaning
 meaning_with head tail file =
-    option_and_then (λ export. alias_or_import (alias_of_object export) (import_in head tail export))
+    option_and_then
+    (λ export. alias_or_import (alias_of_object export) (import_in head tail export))
     (object_in_file file)
 
--- a relocation of an export's code: its offset, its type, and the name of its symbol where that is defined
--- in `.idata$5`
+-- a relocation of an export's code: its offset, its type, and the name of its symbol where that is
+-- defined in `.idata$5`
 pub record CodeRelocation : Type 0 where
   pub offset : ℕ
   pub kind : ℕ
@@ -165,7 +173,8 @@ code_relocation o r = record {
 
 -- the relocations of an object's code
 abbrev pub code_relocations : Object → Option (List CodeRelocation)
-code_relocations o = option_map (λ s. map (code_relocation o) s.relocations) (section_named o text_section)
+code_relocations o =
+    option_map (λ s. map (code_relocation o) s.relocations) (section_named o text_section)
 
 -- the same, of an object that makes no alias
 abbrev pub code_unless_alias : Object → Option (List CodeRelocation)

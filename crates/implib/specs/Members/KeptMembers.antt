@@ -1,5 +1,5 @@
--- The members for GNU's linker, of which the program makes some and keeps the others as what they say (docs/FORMATS.md,
--- "Objects of exports that are kept").
+-- The members for GNU's linker, of which the program makes some and keeps the others as what they
+-- say (docs/FORMATS.md, "Objects of exports that are kept").
 use Rattle.std.specs.Prelude.{List, ◌++◌, map}
 use Rattle.implib.specs.declared.gnu.members.GnuMembers.{GnuMembers}
 use Rattle.implib.specs.Library.{member_view}

@@ -1,6 +1,7 @@
--- The members for Microsoft's linker in three lists, an alias without its short import (docs/FORMATS.md, "Members
--- for Microsoft's linker in three lists").
-use Rattle.std.specs.Prelude.{◌≡◌, ℕ, Bool, true, ◌&&◌, not, List, [], ◌∷◌, None, drop, if◌then◌else◌, map}
+-- The members for Microsoft's linker in three lists, an alias without its short import
+-- (docs/FORMATS.md, "Members for Microsoft's linker in three lists").
+use Rattle.std.specs.Prelude.{◌≡◌, ℕ, Bool, true, ◌&&◌, not, List, [], ◌∷◌, None, drop}
+use Rattle.std.specs.Prelude.{if◌then◌else◌, map}
 use Rattle.std.specs.List.{flat_map, list_all}
 use Rattle.implib.specs.declared.flavor.Flavor.TheVariants.{Msvc}
 use Rattle.implib.specs.declared.machine.MachineType.{MachineType}
@@ -41,7 +42,8 @@ import_specs machine dll e = if is_weak e then [] else short_import_spec machine
 abbrev pub has_code : ExportView → Bool
 has_code e = not e.is_data && not e.constant
 
--- of what is made for the symbol of an alias and for its address, what the lists have: for data the latter alone
+-- of what is made for the symbol of an alias and for its address, what the lists have: for data the
+-- latter alone
 abbrev pub kept_of_alias : {X : Type 0} → ExportView → List X → List X
 kept_of_alias e both = if has_code e then both else drop 1 both
 
@@ -55,11 +57,14 @@ all_import_specs machine d = flat_map (import_specs machine (names_for Msvc d)) 
 
 -- the weak externals of those that are, in their order
 abbrev pub all_alias_specs : MachineType → DefinitionView → List MemberSpec
-all_alias_specs machine d = flat_map (alias_specs machine (names_for Msvc d).linked) (public_exports d)
+all_alias_specs machine d =
+    flat_map (alias_specs machine (names_for Msvc d).linked) (public_exports d)
 
--- The lists are those of the definition, which is not refused. For example, of zoo.dll with a, weak for b, and with
--- e: three members, the short import of e, and the weak externals of a and `__imp_a`.
-pub record AreListsOf (d : DefinitionView) (machine : MachineType) (lists : ListsView) : Type 0 where
+-- The lists are those of the definition, which is not refused. For example, of zoo.dll with a, weak
+-- for b, and with e: three members, the short import of e, and the weak externals of a and
+-- `__imp_a`.
+pub record AreListsOf (d : DefinitionView) (machine : MachineType)
+    (lists : ListsView) : Type 0 where
   pub accepted : refusal d machine Msvc ≡ None
   pub header : lists.header ≡ map member_of (header_specs machine (names_for Msvc (renamed d)))
   pub imports : lists.imports ≡ map member_of (all_import_specs machine (renamed d))

@@ -1,5 +1,7 @@
--- The members of a definition, each specified before it is encoded, and the definitions that are refused.
-use Rattle.std.specs.Prelude.{◌≡◌, Bool, true, nat_lt, List, ◌++◌, map, Option, Some, None, if◌then◌else◌}
+-- The members of a definition, each specified before it is encoded, and the definitions that are
+-- refused.
+use Rattle.std.specs.Prelude.{◌≡◌, Bool, true, nat_lt, List, ◌++◌, map, Option, Some, None}
+use Rattle.std.specs.Prelude.{if◌then◌else◌}
 use Rattle.std.specs.List.{flat_map, list_all, list_any}
 use Rattle.implib.specs.declared.flavor.Flavor.{Flavor}
 use Rattle.implib.specs.declared.flavor.Flavor.TheVariants.{Msvc, Gnu}
@@ -17,7 +19,8 @@ use Rattle.implib.specs.Members.NameRules.{definition_names_refusal, first_of_bo
 -- the members of a definition whose exports are under their names to link by
 abbrev pub member_specs : DefinitionView → MachineType → Flavor → List MemberSpec
 member_specs d machine Msvc =
-    header_specs machine (names_for Msvc d) ++ flat_map (export_specs machine (names_for Msvc d)) (public_exports d)
+    header_specs machine (names_for Msvc d)
+    ++ flat_map (export_specs machine (names_for Msvc d)) (public_exports d)
 member_specs d machine Gnu = gnu_specs machine (names_for Gnu d) (public_exports d)
 
 -- whether a member would be longer than a u32 can say
@@ -28,11 +31,12 @@ is_too_long p = nat_lt 0xFFFF_FFFF (file_size p.contents)
 abbrev pub length_refusal : List MemberSpec → Option Cause
 length_refusal specs = if list_any is_too_long specs then Some MemberTooLong else None
 
--- the first rule that such a definition breaks: on the import name, on the library's name, on the exports'
--- names, on lengths
+-- the first rule that such a definition breaks: on the import name, on the library's name, on the
+-- exports' names, on lengths
 unfoldable pub renamed_refusal : DefinitionView → MachineType → Flavor → Option Cause
 renamed_refusal d machine flavor =
-    first_of_both (definition_names_refusal d machine flavor) (length_refusal (member_specs d machine flavor))
+    first_of_both (definition_names_refusal d machine flavor)
+    (length_refusal (member_specs d machine flavor))
 
 -- the first rule that refuses a definition
 unfoldable pub refusal : DefinitionView → MachineType → Flavor → Option Cause
@@ -42,9 +46,9 @@ refusal d machine flavor = renamed_refusal (renamed d) machine flavor
 abbrev pub has_u16_ordinal : ExportView → Bool
 has_u16_ordinal e = nat_lt e.ordinal 0x1_0000
 
--- The members are those of the definition, which is not refused. For example, foo.dll with bar on AMD64 has
--- four members for Microsoft's linker, of 358, 127, 159 and 32 bytes, and three for GNU's, of 356, 450 and
--- 474.
+-- The members are those of the definition, which is not refused. For example, foo.dll with bar on
+-- AMD64 has four members for Microsoft's linker, of 358, 127, 159 and 32 bytes, and three for
+-- GNU's, of 356, 450 and 474.
 pub record AreMembersOf (d : DefinitionView) (machine : MachineType) (flavor : Flavor)
     (members : List MemberView) : Type 0 where
   pub accepted : refusal d machine flavor ≡ None

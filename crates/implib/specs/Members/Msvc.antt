@@ -1,6 +1,7 @@
--- The short import of an export, as a table (docs/FORMATS.md, "Short imports" and "Members for Microsoft's
--- linker").
-use Rattle.std.specs.Prelude.{ℕ, ◌+◌, ◌*◌, ◌&&◌, ◌||◌, not, List, [], ◌∷◌, ◌++◌, Option, None, Some, length, bytes_eq, if◌then◌else◌, is_some, option_map}
+-- The short import of an export, as a table (docs/FORMATS.md, "Short imports" and "Members for
+-- Microsoft's linker").
+use Rattle.std.specs.Prelude.{ℕ, ◌+◌, ◌*◌, ◌&&◌, ◌||◌, not, List, [], ◌∷◌, ◌++◌, Option, None, Some}
+use Rattle.std.specs.Prelude.{length, bytes_eq, if◌then◌else◌, is_some, option_map}
 use Rattle.implib.specs.declared.machine.MachineType.{MachineType}
 use Rattle.implib.specs.declared.msvc.short_import.ShortImport.{ShortImport as Written}
 use Rattle.implib.specs.Formats.Bytes.{u16_bytes, u32_bytes}
@@ -8,9 +9,10 @@ use Rattle.implib.specs.Machine.{has_leading_underscore, machine_number}
 use Rattle.implib.specs.Definition.{ExportView, given_name}
 use Rattle.implib.specs.Import.{holds, underscore, at_sign, import_symbols}
 use Rattle.implib.specs.Ascii.{begins_with}
-use Rattle.implib.specs.Formats.ShortImport.{ShortImport, short_import_header_size, import_code, import_data}
-use Rattle.implib.specs.Formats.ShortImport.{import_const, import_ordinal, import_name, import_name_noprefix}
-use Rattle.implib.specs.Formats.ShortImport.{import_name_undecorate, asked_by_name_type, without_prefix}
+use Rattle.implib.specs.Formats.ShortImport.{ShortImport, short_import_header_size, import_code}
+use Rattle.implib.specs.Formats.ShortImport.{import_data, import_const, import_ordinal, import_name}
+use Rattle.implib.specs.Formats.ShortImport.{import_name_noprefix, import_name_undecorate}
+use Rattle.implib.specs.Formats.ShortImport.{asked_by_name_type, without_prefix}
 
 -- the symbol name or, where that is empty, the name
 abbrev pub symbol_or_name : List ℕ → List ℕ → List ℕ
@@ -21,31 +23,35 @@ symbol_or_name (first ∷ rest) name = first ∷ rest
 abbrev pub short_import_symbol : ExportView → List ℕ
 short_import_symbol e = symbol_or_name e.symbol_name e.name
 
--- The first of the name types name, no prefix and undecorate by which a symbol asks for a name; undecorate
--- where none does. For example, on I386 `_f@8` asks for `_f@8` by name (1), for `f@8` by no prefix (2) and for f
--- by undecorate (3). Where symbols have no underscore it is name, and any other name is refused: there GNU `ld`
--- takes no underscore off, and lld does, so a name type that cuts would ask for two names.
+-- The first of the name types name, no prefix and undecorate by which a symbol asks for a name;
+-- undecorate where none does. For example, on I386 `_f@8` asks for `_f@8` by name (1), for `f@8` by
+-- no prefix (2) and for f by undecorate (3). Where symbols have no underscore it is name, and any
+-- other name is refused: there GNU `ld` takes no underscore off, and lld does, so a name type that
+-- cuts would ask for two names.
 abbrev pub name_type_asking : MachineType → List ℕ → List ℕ → ℕ
 name_type_asking machine symbol name =
     if not (has_leading_underscore machine) || bytes_eq symbol name then import_name
     else if bytes_eq (without_prefix symbol) name then import_name_noprefix
     else import_name_undecorate
 
--- The name type, by the first rule that holds. For example, of `_f` it is no prefix (2) on I386 and name (1)
--- on AMD64; of the symbol name `_f@8` of f, undecorate (3).
+-- The name type, by the first rule that holds. For example, of `_f` it is no prefix (2) on I386 and
+-- name (1) on AMD64; of the symbol name `_f@8` of f, undecorate (3).
 abbrev pub name_type_of : MachineType → ExportView → ℕ
 name_type_of machine e =
     if e.no_name then import_ordinal
-    else if is_some e.asked_name then name_type_asking machine (short_import_symbol e) (given_name e)
+    else if is_some e.asked_name
+    then name_type_asking machine (short_import_symbol e) (given_name e)
     else if begins_with underscore e.name && holds at_sign e.name then import_name
     else if not (bytes_eq (short_import_symbol e) e.name) then import_name_undecorate
     else if has_leading_underscore machine && begins_with underscore (short_import_symbol e)
     then import_name_noprefix
     else import_name
 
--- the import type: data (1) for an export with DATA, else const (2) for one with CONSTANT, else code (0)
+-- the import type: data (1) for an export with DATA, else const (2) for one with CONSTANT, else
+-- code (0)
 abbrev pub import_type_of : ExportView → ℕ
-import_type_of e = if e.is_data then import_data else if e.constant then import_const else import_code
+import_type_of e =
+    if e.is_data then import_data else if e.constant then import_const else import_code
 
 -- the short import of an export
 abbrev pub short_import_of : MachineType → List ℕ → ExportView → ShortImport
@@ -109,4 +115,5 @@ short_import_symbols e = import_symbols e.is_data (short_import_symbol e)
 
 -- the name that an export's short import asks for
 abbrev pub asked_by_short_import : MachineType → ExportView → List ℕ
-asked_by_short_import machine e = asked_by_name_type (name_type_of machine e) (short_import_symbol e)
+asked_by_short_import machine e =
+    asked_by_name_type (name_type_of machine e) (short_import_symbol e)

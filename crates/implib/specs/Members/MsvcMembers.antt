@@ -1,12 +1,13 @@
--- The members for Microsoft's linker, as specifications (docs/FORMATS.md, "Members for Microsoft's linker").
+-- The members for Microsoft's linker, as specifications (docs/FORMATS.md, "Members for Microsoft's
+-- linker").
 use Rattle.std.specs.Prelude.{ℕ, List, [], ◌∷◌, ◌++◌, if◌then◌else◌}
 use Rattle.implib.specs.declared.machine.MachineType.{MachineType}
 use Rattle.implib.specs.Definition.{ExportView}
 use Rattle.implib.specs.LibraryName.{NamesOfDll}
 use Rattle.implib.specs.Import.{imp_symbol, is_alias}
 use Rattle.implib.specs.Members.Msvc.{short_import_of, short_import_symbols, short_import_symbol}
-use Rattle.implib.specs.Members.MsvcObjects.{descriptor, descriptor_symbol, null_descriptor, null_descriptor_symbol}
-use Rattle.implib.specs.Members.MsvcObjects.{null_thunk, null_thunk_symbol}
+use Rattle.implib.specs.Members.MsvcObjects.{descriptor, descriptor_symbol, null_descriptor}
+use Rattle.implib.specs.Members.MsvcObjects.{null_descriptor_symbol, null_thunk, null_thunk_symbol}
 use Rattle.implib.specs.Members.WeakExternal.{weak_spec}
 use Rattle.implib.specs.Members.MemberSpec.{AShortImport, AnObject, MemberSpec}
 
@@ -37,7 +38,8 @@ null_thunk_spec machine dll = record {
 -- the header members: import descriptor, null descriptor, null thunk
 unfoldable pub header_specs : MachineType → NamesOfDll → List MemberSpec
 header_specs machine dll =
-    descriptor_spec machine dll ∷ null_descriptor_spec machine dll.linked ∷ null_thunk_spec machine dll.linked ∷ []
+    descriptor_spec machine dll ∷ null_descriptor_spec machine dll.linked
+    ∷ null_thunk_spec machine dll.linked ∷ []
 
 -- the specification of the weak external of an export's symbol
 abbrev pub weak_symbol_spec : MachineType → List ℕ → ExportView → MemberSpec

@@ -1,20 +1,22 @@
--- The objects for Microsoft's linker, as tables (docs/FORMATS.md, "Members for Microsoft's linker").
+-- The objects for Microsoft's linker, as tables (docs/FORMATS.md, "Members for Microsoft's
+-- linker").
 use Rattle.std.specs.Prelude.{ℕ, ◌+◌, ◌-◌, ◌||◌, List, [], ◌∷◌, ◌++◌, length, take, codes, nat_eq}
 use Rattle.std.specs.Prelude.{if◌then◌else◌}
 use Rattle.std.specs.List.{ends_with}
 use Rattle.implib.specs.declared.machine.MachineType.{MachineType}
-use Rattle.implib.specs.Formats.Constants.{cnt_initialized_data, align_2bytes}
-use Rattle.implib.specs.Formats.Constants.{mem_read_write, machine_32bit, class_external, class_static, class_section}
-use Rattle.implib.specs.Formats.Constants.{section_undefined}
+use Rattle.implib.specs.Formats.Constants.{cnt_initialized_data, align_2bytes, mem_read_write}
+use Rattle.implib.specs.Formats.Constants.{machine_32bit, class_external, class_static}
+use Rattle.implib.specs.Formats.Constants.{class_section, section_undefined}
 use Rattle.implib.specs.LibraryName.{NamesOfDll}
 use Rattle.implib.specs.Machine.{machine_number, is_32bit}
 use Rattle.implib.specs.Formats.Object.{ObjectSection}
 use Rattle.implib.specs.Formats.Layout.{symbol, ObjectLayout, LayoutSymbol, InRecord, InStringTable}
-use Rattle.implib.specs.Members.ImportTables.{address_table_offset, descriptor_size, lookup_table_offset, name_offset}
-use Rattle.implib.specs.Members.ImportTables.{relocation, table_flags, thunk_flags, thunk_width, zeros}
+use Rattle.implib.specs.Members.ImportTables.{address_table_offset, descriptor_size}
+use Rattle.implib.specs.Members.ImportTables.{lookup_table_offset, name_offset, relocation}
+use Rattle.implib.specs.Members.ImportTables.{table_flags, thunk_flags, thunk_width, zeros}
 
--- The DLL's name without a last `.dll` or `.exe`. For example, `a.b.dll.dll` gives `a.b.dll`, and `a.DLL` and
--- `a.sys` stay.
+-- The DLL's name without a last `.dll` or `.exe`. For example, `a.b.dll.dll` gives `a.b.dll`, and
+-- `a.DLL` and `a.sys` stay.
 unfoldable pub base_name : List ℕ → List ℕ
 base_name dll =
     if ends_with nat_eq dll (codes ".dll") || ends_with nat_eq dll (codes ".exe")
@@ -48,8 +50,8 @@ descriptor_symbols =
     ∷ symbol (InStringTable 2) section_undefined class_external  -- 6: THUNK
     ∷ []
 
--- The sections of the import descriptor: `.idata$2` is 20 zero bytes, relocated at 12 to the name, at 0 to the
--- lookup table and at 16 to the address table; `.idata$6` is the DLL's name.
+-- The sections of the import descriptor: `.idata$2` is 20 zero bytes, relocated at 12 to the name,
+-- at 0 to the lookup table and at 16 to the address table; `.idata$6` is the DLL's name.
 abbrev pub descriptor_sections : MachineType → List ℕ → List ObjectSection
 descriptor_sections machine dll =
     -- 1
@@ -72,15 +74,16 @@ descriptor_sections machine dll =
     }
     ∷ []
 
--- The import descriptor: its symbols are named after the library, its text is the DLL's name. For example, that
--- of foo.dll has 358 bytes.
+-- The import descriptor: its symbols are named after the library, its text is the DLL's name. For
+-- example, that of foo.dll has 358 bytes.
 unfoldable pub descriptor : MachineType → NamesOfDll → ObjectLayout
 descriptor machine dll = record {
   machine = machine_number machine;
   characteristics = descriptor_characteristics machine;
   sections = descriptor_sections machine dll.text;
   symbols = descriptor_symbols;
-  strings = descriptor_symbol dll.linked ∷ null_descriptor_symbol ∷ null_thunk_symbol dll.linked ∷ [];
+  strings = descriptor_symbol dll.linked ∷ null_descriptor_symbol ∷ null_thunk_symbol dll.linked
+      ∷ [];
 }
 
 -- the section of the null descriptor
@@ -111,14 +114,15 @@ null_thunk_section machine name = record {
   relocations = [];
 }
 
--- The thunks of zeros that end the address table and the lookup table, with the symbol THUNK. For example,
--- those of foo.dll have 159 bytes on AMD64 and 151 on I386.
+-- The thunks of zeros that end the address table and the lookup table, with the symbol THUNK. For
+-- example, those of foo.dll have 159 bytes on AMD64 and 151 on I386.
 unfoldable pub null_thunk : MachineType → List ℕ → ObjectLayout
 null_thunk machine dll = record {
   machine = machine_number machine;
   characteristics = descriptor_characteristics machine;
   sections =
-      null_thunk_section machine (codes ".idata$5") ∷ null_thunk_section machine (codes ".idata$4") ∷ [];
+      null_thunk_section machine (codes ".idata$5") ∷ null_thunk_section machine (codes ".idata$4")
+      ∷ [];
   symbols = symbol (InStringTable 0) 1 class_external ∷ [];
   strings = null_thunk_symbol dll ∷ [];
 }

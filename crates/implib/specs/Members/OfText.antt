@@ -8,9 +8,10 @@ use Rattle.implib.specs.Members.Members.{AreMembersOf, refusal}
 use Rattle.implib.specs.Members.MemberSpec.{MemberView}
 use Rattle.implib.specs.Members.ReadBack.{ReadBack}
 
--- the members are those of the library that the text means, and are read back as its definition says
-pub record MembersOf (text : List ℕ) (machine : MachineType) (flavor : Flavor) (members : List MemberView)
-    : Type 0 where
+-- the members are those of the library that the text means, and are read back as its definition
+-- says
+pub record MembersOf (text : List ℕ) (machine : MachineType) (flavor : Flavor)
+    (members : List MemberView) : Type 0 where
   pub library : LibraryView
   pub of_text : LibraryOf text machine flavor library
   pub made : AreMembersOf library.definition machine flavor members

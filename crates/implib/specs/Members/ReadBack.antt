@@ -7,15 +7,16 @@ use Rattle.implib.specs.declared.flavor.Flavor.{Flavor}
 use Rattle.implib.specs.declared.flavor.Flavor.TheVariants.{Msvc, Gnu}
 use Rattle.implib.specs.declared.machine.MachineType.{MachineType}
 use Rattle.implib.specs.Definition.{DefinitionView, ExportView}
-use Rattle.implib.specs.Formats.File.{File, ShortImportFile, ObjectFile, Meaning, AnImport, AnAlias, declared_by}
-use Rattle.implib.specs.Formats.File.{dll_in, file_in, meaning_in}
+use Rattle.implib.specs.Formats.File.{File, ShortImportFile, ObjectFile, Meaning, AnImport, AnAlias}
+use Rattle.implib.specs.Formats.File.{declared_by, dll_in, file_in, meaning_in}
 use Rattle.implib.specs.Members.Gnu.{stub_relocations}
 use Rattle.implib.specs.Members.GnuReader.{CodeRelocation, code_of_export, meaning_with}
 use Rattle.implib.specs.Import.{Alias, imp_symbol, expected_import, Ask, Ordinal, Name, Import}
 use Rattle.implib.specs.Import.{aliases_for, aliases_of, imports_of, is_empty_text, public_exports}
 use Rattle.implib.specs.Members.MemberSpec.{Contents, AShortImport, AnObject, MemberView, file_size}
 use Rattle.implib.specs.Members.Members.{member_specs}
-use Rattle.implib.specs.Members.Msvc.{asked_by_short_import, short_import_symbols, short_import_symbol}
+use Rattle.implib.specs.Members.Msvc.{asked_by_short_import, short_import_symbols}
+use Rattle.implib.specs.Members.Msvc.{short_import_symbol}
 use Rattle.implib.specs.Formats.Layout.{HasNoNul, object_of}
 use Rattle.implib.specs.Formats.ShortImport.{ShortImport}
 use Rattle.implib.specs.Renaming.{renamed}
@@ -88,9 +89,10 @@ pub record MsvcReadBack (d : DefinitionView) (machine : MachineType) (members : 
   pub meanings : map (λ m. meaning_in m.bytes) (drop 3 members)
       ≡ map Some (flat_map (meanings_written machine d.import_name) (public_exports (renamed d)))
 
--- Where no export has a symbol name, the members mean the imports and the aliases of the definition.
-pub record MatchesDefinition (d : DefinitionView) (machine : MachineType) (members : List MemberView)
-    : Type 0 where
+-- Where no export has a symbol name, the members mean the imports and the aliases of the
+-- definition.
+pub record MatchesDefinition (d : DefinitionView) (machine : MachineType)
+    (members : List MemberView) : Type 0 where
   pub meanings : List Meaning
   -- after the first three, each member is an import or an alias
   pub read : map (λ m. meaning_in m.bytes) (drop 3 members) ≡ map Some meanings
@@ -122,7 +124,8 @@ abbrev pub file_at : List MemberView → ℕ → Option File
 file_at members index = option_and_then (λ m. file_in m.bytes) (slice_get members index)
 
 -- What the members for GNU's linker are read as; the first is the tail, the second the head.
-pub record GnuReadBack (d : DefinitionView) (machine : MachineType) (members : List MemberView) : Type 0 where
+pub record GnuReadBack (d : DefinitionView) (machine : MachineType)
+    (members : List MemberView) : Type 0 where
   -- each file reads as specified
   pub files : map (λ m. file_in m.bytes) members
       ≡ map (λ p. Some (file_of p.contents)) (member_specs (renamed d) machine Gnu)
@@ -141,13 +144,15 @@ pub record GnuReadBack (d : DefinitionView) (machine : MachineType) (members : L
   pub meanings_read : map (λ m. option_and_then (meaning_with head tail) (file_in m.bytes))
       (reverse (drop 2 members)) ≡ map Some meanings
   -- export by export, its aliases and its import
-  pub by_export : meanings ≡ flat_map (expected_meanings machine d.import_name) (public_exports (renamed d))
+  pub by_export : meanings
+      ≡ flat_map (expected_meanings machine d.import_name) (public_exports (renamed d))
   -- the imports are those that are expected, in order
   pub imports : filter_map import_among meanings ≡ imports_of machine d
   -- the aliases are those that are expected, in order
   pub aliases : filter_map alias_among meanings ≡ aliases_of d
   -- the code of each export is relocated as its machine's stub, to the address of that export
-  pub code : filter_map (λ m. option_and_then code_of_export (file_in m.bytes)) (reverse (drop 2 members))
+  pub code : filter_map (λ m. option_and_then code_of_export (file_in m.bytes))
+      (reverse (drop 2 members))
       ≡ map (expected_code machine) (public_exports (renamed d))
 
 -- what the members of a flavour are read as

@@ -1,6 +1,6 @@
 -- The statement grammar of a module definition: statements, and the terminals that each derives
--- (docs/GRAMMAR.md, "Statements"). `[ x ]` is x or nothing, `{ x }` any number of x, and `|` a choice; a
--- word, a number and a version are one token each.
+-- (docs/GRAMMAR.md, "Statements"). `[ x ]` is x or nothing, `{ x }` any number of x, and `|` a
+-- choice; a word, a number and a version are one token each.
 --   definition = { statement } Eof
 --   statement  = "EXPORTS" { export }
 --              | ( "HEAPSIZE" | "STACKSIZE" ) number [ "," number ]
@@ -9,12 +9,14 @@
 --   export     = name [ "=" target ] { attribute }
 --   attribute  = ordinal [ "NONAME" ] | "DATA" | "CONSTANT" | "PRIVATE" | "==" word
 --   ordinal    = "@" number, in one token or in two
-use Rattle.std.specs.Prelude.{◌≡◌, ◌≢◌, ℕ, ◌⊎◌, Bool, true, false, List, [], ◌∷◌, ◌++◌, Option, Some, None}
+use Rattle.std.specs.Prelude.{◌≡◌, ◌≢◌, ℕ, ◌⊎◌, Bool, true, false, List, [], ◌∷◌, ◌++◌, Option}
+use Rattle.std.specs.Prelude.{Some, None}
 use Rattle.std.specs.List.{flat_map}
 use Rattle.implib.specs.declared.def.lexer.TokenKind.{TokenKind}
-use Rattle.implib.specs.declared.def.lexer.TokenKind.TheVariants.{Eof, Identifier, Comma, Equal, EqualEqual}
-use Rattle.implib.specs.declared.def.lexer.TokenKind.TheVariants.{KwBase, KwConstant, KwData, KwExports}
-use Rattle.implib.specs.declared.def.lexer.TokenKind.TheVariants.{KwHeapsize, KwLibrary, KwName, KwNoname}
+use Rattle.implib.specs.declared.def.lexer.TokenKind.TheVariants.{Eof, Identifier, Comma, Equal}
+use Rattle.implib.specs.declared.def.lexer.TokenKind.TheVariants.{EqualEqual, KwBase, KwConstant}
+use Rattle.implib.specs.declared.def.lexer.TokenKind.TheVariants.{KwData, KwExports, KwHeapsize}
+use Rattle.implib.specs.declared.def.lexer.TokenKind.TheVariants.{KwLibrary, KwName, KwNoname}
 use Rattle.implib.specs.declared.def.lexer.TokenKind.TheVariants.{KwPrivate, KwStacksize, KwVersion}
 pub use Rattle.implib.specs.Ascii.{at_sign, full_stop}
 use Rattle.implib.specs.Text.Number.{IsNumber, u16_limit, u32_limit, u64_limit}
@@ -24,8 +26,8 @@ use Rattle.implib.specs.Text.Token.{TokenView}
 abbrev pub IsLoneAt : List ℕ → Type 0
 IsLoneAt value = value ≡ at_sign ∷ []
 
--- ordinal = "@" number, in one token: the number has 16 bits. For example, `@5` and `@+5` are 5, and
--- `@70000` is none.
+-- ordinal = "@" number, in one token: the number has 16 bits. For example, `@5` and `@+5` are 5,
+-- and `@70000` is none.
 pub record IsAtNumber (value : List ℕ) (n : ℕ) : Type 0 where
   pub number : List ℕ
   pub text_is : value ≡ at_sign ∷ number
@@ -36,7 +38,8 @@ pub record IsMajorAlone (value : List ℕ) (major minor : ℕ) : Type 0 where
   pub is_number : IsNumber value u32_limit major
   pub minor_is : minor ≡ 0
 
--- version = number "." number: two numbers of 32 bits; a number has no `.`, so this is the first one
+-- version = number "." number: two numbers of 32 bits; a number has no `.`, so this is the first
+-- one
 pub record IsMajorMinor (value : List ℕ) (major minor : ℕ) : Type 0 where
   pub front : List ℕ
   pub back : List ℕ
@@ -96,7 +99,8 @@ Matches (Ordinal n) token = (token.kind ≢ Eof) × IsNumber token.value u16_lim
 abbrev pub StartsWith : List TokenView → List Terminal → List TokenView → Type 0
 StartsWith tokens [] rest = tokens ≡ rest
 StartsWith [] (first ∷ wanted) rest = ⊥
-StartsWith (token ∷ tokens) (first ∷ wanted) rest = Matches first token × StartsWith tokens wanted rest
+StartsWith (token ∷ tokens) (first ∷ wanted) rest =
+    Matches first token × StartsWith tokens wanted rest
 
 -- what follows the name of an export and its target
 pub data Attribute : Type 0 where
@@ -206,8 +210,9 @@ statement_terminals (Version major minor) = Of KwVersion ∷ Numbers major minor
 abbrev pub terminals : List Statement → List Terminal
 terminals statements = flat_map statement_terminals statements
 
--- definition = { statement } Eof: the tokens are exactly those that the statements derive. For example, the
--- tokens of `NAME a.exe BASE=4096` are those of one statement, with the name a.exe and the base 4096.
+-- definition = { statement } Eof: the tokens are exactly those that the statements derive. For
+-- example, the tokens of `NAME a.exe BASE=4096` are those of one statement, with the name a.exe and
+-- the base 4096.
 abbrev pub Sentence : List TokenView → List Statement → Type 0
 Sentence tokens statements = StartsWith tokens (terminals statements ++ Of Eof ∷ []) []
 

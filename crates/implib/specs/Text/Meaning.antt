@@ -5,11 +5,12 @@ use Rattle.std.specs.List.{flat_map}
 use Rattle.implib.specs.declared.machine.MachineType.{MachineType}
 use Rattle.implib.specs.Underscore.{decorated}
 use Rattle.implib.specs.Definition.{DefinitionView, ExportView}
-use Rattle.implib.specs.Text.Grammar.{Attribute, Joined, Apart, Data, Constant, Private, Alias, Export, Heap}
-use Rattle.implib.specs.Text.Grammar.{Stack, Statement, Exports, Sizes, Nameless, Named, Version}
+use Rattle.implib.specs.Text.Grammar.{Attribute, Joined, Apart, Data, Constant, Private, Alias}
+use Rattle.implib.specs.Text.Grammar.{Export, Heap, Stack, Statement, Exports, Sizes, Nameless}
+use Rattle.implib.specs.Text.Grammar.{Named, Version}
 
--- What the last of the items that set it sets, and old where none does. For example, of `@5 NONAME @6` the
--- ordinal is 6, and `NONAME` stays.
+-- What the last of the items that set it sets, and old where none does. For example, of `@5 NONAME
+-- @6` the ordinal is 6, and `NONAME` stays.
 abbrev pub last_or : {A B : Type 0} → B → (A → Option B) → List A → B
 last_or old set [] = old
 last_or old set (item ∷ items) = last_or (unwrap_or (set item) old) set items
@@ -53,8 +54,8 @@ alias_in _ = None
 abbrev pub inner_name : Export → List ℕ
 inner_name e = unwrap_or e.target e.word
 
--- What an export means. For example, `foo = bar == baz` has the name bar, the external name foo and the
--- alias target baz, on AMD64.
+-- What an export means. For example, `foo = bar == baz` has the name bar, the external name foo and
+-- the alias target baz, on AMD64.
 abbrev pub export_meaning : MachineType → Export → ExportView
 export_meaning machine e = record {
   name = decorated machine (inner_name e);
@@ -112,8 +113,8 @@ abbrev pub minor_in : Statement → Option ℕ
 minor_in (Version major minor) = Some minor
 minor_in _ = None
 
--- The definition that statements make: all exports in order, and of each setting the last. For example,
--- after `NAME a.exe BASE=4096` a statement `LIBRARY` leaves an empty name and the base 0.
+-- The definition that statements make: all exports in order, and of each setting the last. For
+-- example, after `NAME a.exe BASE=4096` a statement `LIBRARY` leaves an empty name and the base 0.
 abbrev pub meaning : MachineType → List Statement → DefinitionView
 meaning machine statements = record {
   exports = map (export_meaning machine) (flat_map exports_in statements);

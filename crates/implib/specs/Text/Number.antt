@@ -18,8 +18,8 @@ abbrev pub plus_sign : ℕ
 plus_sign = 43
 
 -- number = [ "+" ] digit { digit }
--- The value is a number in ASCII digits, in base ten, with the value n, which is at most limit; leading zeros
--- are allowed. For example, `+0007` is 7, and neither `+` nor `-1` is a number.
+-- The value is a number in ASCII digits, in base ten, with the value n, which is at most limit;
+-- leading zeros are allowed. For example, `+0007` is 7, and neither `+` nor `-1` is a number.
 pub record IsNumber (value : List ℕ) (limit n : ℕ) : Type 0 where
   pub digits : List ℕ
   pub text_is : (value ≡ digits) ⊎ (value ≡ plus_sign ∷ digits)

@@ -23,4 +23,5 @@ RefusesFrom source cause = (text : List ℕ) → Lexed text source.tokens → Re
 
 -- a listener, of whom this holds, has heard the text with these tokens
 abbrev pub HasHeardFrom : Source → (List Heard → Type 0) → Type 0
-HasHeardFrom source has_heard = (text : List ℕ) → Lexed text source.tokens → HasHeardText text has_heard
+HasHeardFrom source has_heard =
+    (text : List ℕ) → Lexed text source.tokens → HasHeardText text has_heard

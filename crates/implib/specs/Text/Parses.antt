@@ -8,9 +8,11 @@ use Rattle.implib.specs.Text.Meaning.{meaning}
 use Rattle.implib.specs.Text.SyntaxError.{IsSyntaxError, IsSyntaxErrorAt}
 use Rattle.implib.specs.Text.Token.{Lexed, TokenView}
 
--- The text's tokens are statements, which mean this definition on this machine. For example, `HEAPSIZE 1,2`
--- means a definition with 1 byte of heap to reserve and 2 to commit, and nothing else (Worked/Statements).
-pub record Parses (text : List ℕ) (machine : MachineType) (definition : DefinitionView) : Type 0 where
+-- The text's tokens are statements, which mean this definition on this machine. For example,
+-- `HEAPSIZE 1,2` means a definition with 1 byte of heap to reserve and 2 to commit, and nothing
+-- else (Worked/Statements).
+pub record Parses (text : List ℕ) (machine : MachineType)
+    (definition : DefinitionView) : Type 0 where
   pub tokens : List TokenView
   pub statements : List Statement
   pub lexed : Lexed text tokens
@@ -24,8 +26,8 @@ pub record Refuses (text : List ℕ) (cause : Cause) : Type 0 where
   pub lexed : Lexed text tokens
   pub broken : IsSyntaxError tokens cause
 
--- The same, and this is the offset of the token that the refusal names. For example, `HEAPSIZE 1,` is refused
--- at 11, which is its length.
+-- The same, and this is the offset of the token that the refusal names. For example, `HEAPSIZE 1,`
+-- is refused at 11, which is its length.
 pub record RefusesAt (text : List ℕ) (cause : Cause) (offset : ℕ) : Type 0 where
   pub tokens : List TokenView
   pub lexed : Lexed text tokens
@@ -33,7 +35,8 @@ pub record RefusesAt (text : List ℕ) (cause : Cause) (offset : ℕ) : Type 0 w
 
 -- on each machine the text means a definition
 abbrev pub InGrammar : List ℕ → Type 0
-InGrammar text = (machine : MachineType) → (definition : DefinitionView) × Parses text machine definition
+InGrammar text =
+    (machine : MachineType) → (definition : DefinitionView) × Parses text machine definition
 
 -- the text is refused, for some cause
 abbrev pub IsIllFormed : List ℕ → Type 0

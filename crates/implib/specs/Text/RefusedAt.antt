@@ -8,8 +8,8 @@ use Rattle.implib.specs.Fault.{cause_of}
 use Rattle.implib.specs.Text.Parses.{RefusesAt}
 use Rattle.implib.specs.Text.Position.{position_at}
 
--- A fault is the cause for which the text is refused, and its position is that of the token that the refusal
--- names. Nothing is said where an allocation failed.
+-- A fault is the cause for which the text is refused, and its position is that of the token that
+-- the refusal names. Nothing is said where an allocation failed.
 abbrev pub IsRefusedAt : List ℕ → ParseError → Type 0
 IsRefusedAt text (Invalid fault position) =
     RefusesAt text (cause_of fault) position.offset × (position ≡ position_at text position.offset)

@@ -9,7 +9,8 @@ use Rattle.implib.specs.Renaming.{renamed}
 abbrev pub has_no_asked_names : DefinitionView → Bool
 has_no_asked_names d = list_all (λ e. is_none e.asked_name) d.exports
 
--- no export of the definition has a symbol name or gives an asked name, nor does one under its name to link by;
+-- no export of the definition has a symbol name or gives an asked name, nor does one under its name
+-- to link by;
 -- and the library has no name of its own
 pub record LacksSymbolNames (d : DefinitionView) : Type 0 where
   pub parsed : has_no_symbol_names d ≡ true

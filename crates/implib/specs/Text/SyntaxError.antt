@@ -1,18 +1,21 @@
--- Syntax errors: the first token that no derivation allows, and the cause that is reported (docs/GRAMMAR.md,
--- "Syntax errors"). A row `position | token | cause` says what is reported for a token at a position.
-use Rattle.std.specs.Prelude.{◌≡◌, ◌≢◌, ℕ, ◌⊎◌, Bool, true, false, List, [], ◌∷◌, ◌++◌, Option, Some, None}
+-- Syntax errors: the first token that no derivation allows, and the cause that is reported
+-- (docs/GRAMMAR.md, "Syntax errors"). A row `position | token | cause` says what is reported for a
+-- token at a position.
+use Rattle.std.specs.Prelude.{◌≡◌, ◌≢◌, ℕ, ◌⊎◌, Bool, true, false, List, [], ◌∷◌, ◌++◌, Option}
+use Rattle.std.specs.Prelude.{Some, None}
 use mathlib.Core.Logic.{inl, inr}
 use Rattle.implib.specs.declared.def.lexer.TokenKind.{TokenKind}
-use Rattle.implib.specs.declared.def.lexer.TokenKind.TheVariants.{Eof, Identifier, Comma, Equal, EqualEqual}
-use Rattle.implib.specs.declared.def.lexer.TokenKind.TheVariants.{KwBase, KwConstant, KwData, KwExports}
-use Rattle.implib.specs.declared.def.lexer.TokenKind.TheVariants.{KwHeapsize, KwLibrary, KwName, KwNoname}
+use Rattle.implib.specs.declared.def.lexer.TokenKind.TheVariants.{Eof, Identifier, Comma, Equal}
+use Rattle.implib.specs.declared.def.lexer.TokenKind.TheVariants.{EqualEqual, KwBase, KwConstant}
+use Rattle.implib.specs.declared.def.lexer.TokenKind.TheVariants.{KwData, KwExports, KwHeapsize}
+use Rattle.implib.specs.declared.def.lexer.TokenKind.TheVariants.{KwLibrary, KwName, KwNoname}
 use Rattle.implib.specs.declared.def.lexer.TokenKind.TheVariants.{KwPrivate, KwStacksize, KwVersion}
-use Rattle.implib.specs.Fault.{Cause, UnknownDirective, ExpectedIdentifier, ExpectedEqual, ExpectedInteger}
-use Rattle.implib.specs.Fault.{InvalidOrdinal, LoneAt}
-use Rattle.implib.specs.Text.Grammar.{Attribute, Joined, Apart, Export, Region, Statement, Exports, Sizes}
-use Rattle.implib.specs.Text.Grammar.{Nameless, Named, Version, Of, NameOrLibrary, Word, Number, Terminal}
-use Rattle.implib.specs.Text.Grammar.{StartsWith, IsLoneAt, IsVersion, exports_terminals, region_kind, terminals}
-use Rattle.implib.specs.Text.Grammar.{at_sign}
+use Rattle.implib.specs.Fault.{Cause, UnknownDirective, ExpectedIdentifier, ExpectedEqual}
+use Rattle.implib.specs.Fault.{ExpectedInteger, InvalidOrdinal, LoneAt}
+use Rattle.implib.specs.Text.Grammar.{Attribute, Joined, Apart, Export, Region, Statement, Exports}
+use Rattle.implib.specs.Text.Grammar.{Sizes, Nameless, Named, Version, Of, NameOrLibrary, Word}
+use Rattle.implib.specs.Text.Grammar.{Number, Terminal, StartsWith, IsLoneAt, IsVersion}
+use Rattle.implib.specs.Text.Grammar.{exports_terminals, region_kind, terminals, at_sign}
 use Rattle.implib.specs.Text.Number.{IsNumber, u16_limit, u64_limit}
 use Rattle.implib.specs.Text.Token.{TokenView}
 
@@ -94,15 +97,16 @@ pub record IsNotOrdinal (token : TokenView) (cause : Cause) : Type 0 where
   pub none : (n : ℕ) → ¬ (IsNumber token.value u16_limit n)
   pub reported : cause ≡ InvalidOrdinal token.value
 
--- The token is unexpected after the partial statement, and the cause is reported. For example, after
--- `HEAPSIZE` the identifier `-1` is reported as ExpectedInteger.
+-- The token is unexpected after the partial statement, and the cause is reported. For example,
+-- after `HEAPSIZE` the identifier `-1` is reported as ExpectedInteger.
 abbrev pub IsUnexpectedAfter : PartialStatement → TokenView → Cause → Type 0
 -- after "HEAPSIZE" or "STACKSIZE" | no identifier | ExpectedIdentifier with its kind
 -- the same | an identifier that is no number of 64 bits | ExpectedInteger
 IsUnexpectedAfter (ToSize _) token cause = IsNotIdentifier token cause ⊎ IsNotNumber token cause
 -- after the comma of sizes | no identifier | ExpectedIdentifier with its kind
 -- the same | an identifier that is no number of 64 bits | ExpectedInteger
-IsUnexpectedAfter (ToSecondSize _ _) token cause = IsNotIdentifier token cause ⊎ IsNotNumber token cause
+IsUnexpectedAfter (ToSecondSize _ _) token cause =
+    IsNotIdentifier token cause ⊎ IsNotNumber token cause
 -- after "BASE" | no `=` | ExpectedEqual with its kind
 IsUnexpectedAfter (ToBaseSign _) token cause = IsNotEqualSign token cause
 -- after "BASE" "=" | no identifier | ExpectedIdentifier with its kind
@@ -113,12 +117,14 @@ IsUnexpectedAfter (ToBase _) token cause = IsNotIdentifier token cause ⊎ IsNot
 IsUnexpectedAfter ToVersion token cause = IsNotIdentifier token cause ⊎ IsNotVersion token cause
 -- an export's target | no identifier | ExpectedIdentifier with its kind
 -- the same | the identifier `@` | LoneAt
-IsUnexpectedAfter (ToTarget _ _) token cause = IsNotIdentifier token cause ⊎ IsLoneTarget token cause
+IsUnexpectedAfter (ToTarget _ _) token cause =
+    IsNotIdentifier token cause ⊎ IsLoneTarget token cause
 -- an export's alias target | no identifier | ExpectedIdentifier with its kind
 IsUnexpectedAfter (ToAlias _ _) token cause = IsNotIdentifier token cause
 -- after the attribute "@" alone | Eof | ExpectedIdentifier with Eof
 -- the same | another token whose value is no number of 16 bits | InvalidOrdinal with its value
-IsUnexpectedAfter (ToOrdinal _ _) token cause = IsEndForOrdinal token cause ⊎ IsNotOrdinal token cause
+IsUnexpectedAfter (ToOrdinal _ _) token cause =
+    IsEndForOrdinal token cause ⊎ IsNotOrdinal token cause
 
 -- the kind is none of these
 abbrev pub IsNoneOf : TokenKind → List TokenKind → Type 0
@@ -157,7 +163,8 @@ attribute_kinds = EqualEqual ∷ KwData ∷ KwConstant ∷ KwPrivate ∷ []
 
 -- FOLLOW of an export: more attributes, a target, `NONAME`
 abbrev pub follow_export : Export → List TokenKind
-follow_export e = attribute_kinds ++ (follow_target e.target e.attributes ++ follow_attributes e.attributes)
+follow_export e =
+    attribute_kinds ++ (follow_target e.target e.attributes ++ follow_attributes e.attributes)
 
 -- FOLLOW of the last export
 abbrev pub follow_exports : List Export → List TokenKind
@@ -196,8 +203,9 @@ follow_last (first ∷ second ∷ rest) = follow_last (second ∷ rest)
 
 -- the start of a statement, where no export goes on | neither Eof nor a statement's keyword |
 --     UnknownDirective with its value
--- That is: whole statements, then a token that neither ends the text, nor begins a statement, nor is in the
--- last one's FOLLOW set. For example, `foo` alone, and the `NONAME` of `EXPORTS foo NONAME`.
+-- That is: whole statements, then a token that neither ends the text, nor begins a statement, nor
+-- is in the last one's FOLLOW set. For example, `foo` alone, and the `NONAME` of `EXPORTS foo
+-- NONAME`.
 pub record IsUnknownDirective (tokens : List TokenView) (cause : Cause) : Type 0 where
   pub statements : List Statement
   pub token : TokenView
@@ -208,8 +216,8 @@ pub record IsUnknownDirective (tokens : List TokenView) (cause : Cause) : Type 0
   pub not_in_follow : IsNoneOf token.kind (follow_last statements)
   pub reported : cause ≡ UnknownDirective token.value
 
--- Whole statements, a partial one, and then a token that is unexpected there. For example, the `5` of
--- `NAME x BASE 5`, where `=` is expected.
+-- Whole statements, a partial one, and then a token that is unexpected there. For example, the `5`
+-- of `NAME x BASE 5`, where `=` is expected.
 pub record IsUnexpectedToken (tokens : List TokenView) (cause : Cause) : Type 0 where
   pub statements : List Statement
   pub partial : PartialStatement
@@ -228,13 +236,14 @@ abbrev pub HasSyntaxError : List TokenView → Type 0
 HasSyntaxError tokens = (cause : Cause) × IsSyntaxError tokens cause
 
 -- the token that a syntax error is about: the first one that no derivation allows
-abbrev pub unexpected_token : {tokens : List TokenView} {cause : Cause} → IsSyntaxError tokens cause →
+abbrev pub unexpected_token : {tokens : List TokenView} {cause : Cause} →
+    IsSyntaxError tokens cause →
     TokenView
 unexpected_token (inl error) = error.token
 unexpected_token (inr error) = error.token
 
--- The tokens have a syntax error with this cause, and this is the offset of its token. For example, those of
--- `VERSION 1.2.3` have ExpectedInteger at 8.
+-- The tokens have a syntax error with this cause, and this is the offset of its token. For example,
+-- those of `VERSION 1.2.3` have ExpectedInteger at 8.
 pub record IsSyntaxErrorAt (tokens : List TokenView) (cause : Cause) (offset : ℕ) : Type 0 where
   pub error : IsSyntaxError tokens cause
   pub token_is_at : (unexpected_token error).at ≡ offset

@@ -2,8 +2,9 @@
 -- (docs/GRAMMAR.md, "Tokens").
 --   text = { lexeme } end
 --   lexeme = white-space | comment | "=" | "==" | "," | quoted-name | word
-use Rattle.std.specs.Prelude.{◌≡◌, ◌≢◌, ℕ, ◌+◌, ◌-◌, ◌<◌, ◌≤◌, Bool, true, false, ◌||◌, ◌==◌, ◌⊎◌, List, []}
-use Rattle.std.specs.Prelude.{◌∷◌, ◌++◌, drop, length, take, codes, if◌then◌else◌, slice_index}
+use Rattle.std.specs.Prelude.{◌≡◌, ◌≢◌, ℕ, ◌+◌, ◌-◌, ◌<◌, ◌≤◌, Bool, true, false, ◌||◌, ◌==◌, ◌⊎◌}
+use Rattle.std.specs.Prelude.{List, [], ◌∷◌, ◌++◌, drop, length, take, codes, if◌then◌else◌}
+use Rattle.std.specs.Prelude.{slice_index}
 use Rattle.std.specs.Char.{encode_utf8, is_whitespace, IsScalar}
 use Rattle.std.specs.Str.{NonePass, bytes_eq, trim, trim_end, trim_start}
 use Rattle.implib.specs.Ascii.{begins}
@@ -11,7 +12,8 @@ use Rattle.implib.specs.declared.def.lexer.Token.{Token}
 use Rattle.implib.specs.declared.def.lexer.TokenKind.{TokenKind}
 use Rattle.implib.specs.declared.def.lexer.TokenKind.TheVariants as kind
 
--- the view of a token in clauses: its kind, the bytes of its value, and the offset of its value in the text
+-- the view of a token in clauses: its kind, the bytes of its value, and the offset of its value in
+-- the text
 pub record TokenView : Type 0 where
   pub kind : TokenKind
   pub value : List ℕ
@@ -37,8 +39,9 @@ is_equal_sign b = b == 61
 abbrev pub is_delimiter : ℕ → Bool
 is_delimiter b = b == 61 || b == 44 || b == 59 || b == 13 || b == 10 || b == 32 || b == 9 || b == 11
 
--- From `from` on, the first offset with a delimiter of a word is `end`, or there is none and `end` is the
--- length. For example, the word of `a=b` that goes on at 0 ends at 1, and that at 2 ends at 3.
+-- From `from` on, the first offset with a delimiter of a word is `end`, or there is none and `end`
+-- is the length. For example, the word of `a=b` that goes on at 0 ends at 1, and that at 2 ends at
+-- 3.
 pub record IsWordEnd (bytes : List ℕ) (from end : ℕ) : Type 0 where
   pub from_on : from ≤ end
   pub within : end ≤ length bytes
@@ -88,8 +91,8 @@ pub record BeginsWord (run : List ℕ) : Type 0 where
   pub not_nul : character ≢ 0
   pub not_quote : character ≢ 34
 
--- The contents of a lexeme, and what may follow it in the text: the longest match. For example, `===` is
--- `==` and then `=`.
+-- The contents of a lexeme, and what may follow it in the text: the longest match. For example,
+-- `===` is `==` and then `=`.
 abbrev pub IsLexemeBefore : Lexeme → List ℕ → Type 0
 -- white-space: a character for which `char::is_whitespace` holds
 IsLexemeBefore (Blank character) after = is_whitespace character ≡ true
@@ -111,7 +114,8 @@ IsLexemeBefore (Unclosed inside) after = NonePass is_quote inside × (after ≡ 
 IsLexemeBefore (Word run) after =
     BeginsWord run × NonePass is_delimiter run × ((after ≡ []) ⊎ (begins is_delimiter after ≡ true))
 
--- end = nothing | NUL { any byte }: the text ends here, or a NUL ends it and what follows is ignored
+-- end = nothing | NUL { any byte }: the text ends here, or a NUL ends it and what follows is
+-- ignored
 abbrev pub IsEnd : List ℕ → Type 0
 IsEnd [] = Unit {0}
 IsEnd (b ∷ ignored) = b ≡ 0
@@ -124,7 +128,8 @@ text_of (lexeme ∷ lexemes) end = lexeme_text lexeme ++ text_of lexemes end
 -- each lexeme is the longest match before what follows it
 abbrev pub EachIsLexeme : List Lexeme → List ℕ → Type 0
 EachIsLexeme [] end = Unit {0}
-EachIsLexeme (lexeme ∷ lexemes) end = IsLexemeBefore lexeme (text_of lexemes end) × EachIsLexeme lexemes end
+EachIsLexeme (lexeme ∷ lexemes) end =
+    IsLexemeBefore lexeme (text_of lexemes end) × EachIsLexeme lexemes end
 
 -- the text is these lexemes, and then this end
 pub record Divides (text : List ℕ) (lexemes : List Lexeme) (end : List ℕ) : Type 0 where
@@ -157,22 +162,25 @@ kind_in (row ∷ rows) word = if bytes_eq word row.0 then row.1 else kind_in row
 unfoldable pub kind_of_word : List ℕ → TokenKind
 kind_of_word word = kind_in keywords word
 
--- where in a quoted name its value begins: after the white space, or at the front where nothing else is
--- there
+-- where in a quoted name its value begins: after the white space, or at the front where nothing
+-- else is there
 abbrev pub value_start : List ℕ → ℕ
-value_start inside = if length (trim inside) == 0 then 0 else length inside - length (trim_start inside)
+value_start inside =
+    if length (trim inside) == 0 then 0 else length inside - length (trim_start inside)
 
--- The token of a lexeme at an offset; trivia has none. For example, the quoted name `" a b "` at 0 has the
--- value `a b`, at 2.
+-- The token of a lexeme at an offset; trivia has none. For example, the quoted name `" a b "` at 0
+-- has the value `a b`, at 2.
 abbrev pub tokens_of_lexeme : ℕ → Lexeme → List TokenView
 tokens_of_lexeme offset (Blank character) = []
 tokens_of_lexeme offset (Comment line) = []
 tokens_of_lexeme offset (LastComment line) = []
 tokens_of_lexeme offset EqualSign = record { kind = kind.Equal; value = 61 ∷ []; at = offset } ∷ []
-tokens_of_lexeme offset EqualSigns = record { kind = kind.EqualEqual; value = 61 ∷ 61 ∷ []; at = offset } ∷ []
+tokens_of_lexeme offset EqualSigns =
+    record { kind = kind.EqualEqual; value = 61 ∷ 61 ∷ []; at = offset } ∷ []
 tokens_of_lexeme offset CommaSign = record { kind = kind.Comma; value = 44 ∷ []; at = offset } ∷ []
 tokens_of_lexeme offset (Quoted inside) =
-    record { kind = kind.Identifier; value = trim inside; at = offset + 1 + value_start inside } ∷ []
+    record { kind = kind.Identifier; value = trim inside; at = offset + 1 + value_start inside }
+    ∷ []
 tokens_of_lexeme offset (Unclosed inside) =
     record { kind = kind.Identifier; value = []; at = offset + 1 } ∷ []
 tokens_of_lexeme offset (Word run) =
@@ -188,8 +196,8 @@ tokens_of offset [] = eof offset ∷ []
 tokens_of offset (lexeme ∷ lexemes) =
     tokens_of_lexeme offset lexeme ++ tokens_of (offset + length (lexeme_text lexeme)) lexemes
 
--- The tokens of a text. For example, `NAME foo.dll` has KwName at 0, the identifier `foo.dll` at 5 and Eof
--- at 12 (Worked/Tokens).
+-- The tokens of a text. For example, `NAME foo.dll` has KwName at 0, the identifier `foo.dll` at 5
+-- and Eof at 12 (Worked/Tokens).
 pub record Lexed (text : List ℕ) (tokens : List TokenView) : Type 0 where
   pub lexemes : List Lexeme
   pub end : List ℕ

@@ -1,5 +1,6 @@
 -- Views of short imports that are kept as what they say. No promise cites them.
-use Rattle.std.specs.Prelude.{◌≡◌, ℕ, ◌+◌, ◌≤◌, ◌==◌, List, [], ◌∷◌, ◌++◌, drop, length, map, if◌then◌else◌, string_bytes, Result, OnOk, false, true}
+use Rattle.std.specs.Prelude.{◌≡◌, ℕ, ◌+◌, ◌≤◌, ◌==◌, List, [], ◌∷◌, ◌++◌, drop, length, map}
+use Rattle.std.specs.Prelude.{if◌then◌else◌, string_bytes, Result, OnOk, false, true}
 use Rattle.std.specs.List.{list_any}
 use Rattle.implib.specs.declared.error.Error.{Error}
 use Rattle.implib.specs.declared.machine.MachineType.{MachineType}
@@ -33,7 +34,8 @@ kept_import machine dll k = record {
 
 -- its archive symbols
 abbrev pub kept_symbols : KeptImport → List (List ℕ)
-kept_symbols k = string_bytes k.address ∷ (if k.import_type == import_data then [] else kept_symbol k ∷ [])
+kept_symbols k =
+    string_bytes k.address ∷ (if k.import_type == import_data then [] else kept_symbol k ∷ [])
 
 -- the member
 abbrev pub kept_view : MachineType → NamesOfDll → KeptImport → MemberView
@@ -52,7 +54,9 @@ pub record IsKept (dll : List ℕ) (k : KeptImport) : Type 0 where
   pub short : 20 + (length symbol + length dll + 2) ≤ 0xFFFF_FFFF
 
 -- the members are put after those that are kept; they are refused only where one is too long
-pub record KeepsMembers (specs : List MemberSpec) (old new : ShortImportsView) (result : Result (Unit {0}) Error) : Type 0 where
+pub record KeepsMembers (specs : List MemberSpec) (old new : ShortImportsView)
+    (result : Result (Unit {0}) Error) : Type 0 where
   pub ok : OnOk result (new ≡ record old { members = old.members ++ map member_of specs })
   pub fit : OnOk result (list_any is_too_long specs ≡ false)
-  pub too_long : IfInvalid result (λ cause. (cause ≡ MemberTooLong) × (list_any is_too_long specs ≡ true))
+  pub too_long : IfInvalid result
+      (λ cause. (cause ≡ MemberTooLong) × (list_any is_too_long specs ≡ true))

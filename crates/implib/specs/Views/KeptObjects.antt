@@ -1,5 +1,6 @@
 -- Views of exports for GNU's linker that are kept as what their objects say. No promise cites them.
-use Rattle.std.specs.Prelude.{◌≡◌, ℕ, ◌+◌, ◌*◌, ◌≤◌, List, [], ◌∷◌, ◌++◌, None, drop, length, map, if◌then◌else◌, string_bytes, Result, OnOk, false, true}
+use Rattle.std.specs.Prelude.{◌≡◌, ℕ, ◌+◌, ◌*◌, ◌≤◌, List, [], ◌∷◌, ◌++◌, None, drop, length, map}
+use Rattle.std.specs.Prelude.{if◌then◌else◌, string_bytes, Result, OnOk, false, true}
 use Rattle.std.specs.List.{AllByRecursion, list_any}
 use Rattle.std.specs.Option.{option_map}
 use Rattle.implib.specs.declared.error.Error.{Error}
@@ -11,7 +12,8 @@ use Rattle.implib.specs.Formats.Layout.{encoded, encoded_size, string_size}
 use Rattle.implib.specs.Formats.Writer.{is_long, layout_of}
 use Rattle.implib.specs.Import.{holds, imp_symbol, is_empty_text}
 use Rattle.implib.specs.Members.ExportObjects.{ExportObjectsView}
-use Rattle.implib.specs.Members.Gnu.{export_name, export_object, head_symbol, stub_bytes, stub_relocations}
+use Rattle.implib.specs.Members.Gnu.{export_name, export_object, head_symbol, stub_bytes}
+use Rattle.implib.specs.Members.Gnu.{stub_relocations}
 use Rattle.implib.specs.Members.MemberSpec.{MemberSpec, MemberView, member_of}
 use Rattle.implib.specs.Members.Members.{is_too_long}
 
@@ -60,7 +62,8 @@ abbrev pub HasAddress : KeptObject → Type 0
 HasAddress k = string_bytes k.address ≡ imp_symbol (kept_name k)
 
 -- what is kept is what the object of an export of this number says
-pub record KeepsExport (linked : List ℕ) (number : ℕ) (e : ExportView) (k : KeptObject) : Type 0 where
+pub record KeepsExport (linked : List ℕ) (number : ℕ) (e : ExportView)
+    (k : KeptObject) : Type 0 where
   pub name : string_bytes k.name ≡ export_name linked number
   pub address : string_bytes k.address ≡ imp_symbol e.name
   pub asked_name : option_map string_bytes k.asked_name ≡ e.asked_name
@@ -76,14 +79,16 @@ pub record IsKept (machine : MachineType) (linked : List ℕ) (k : KeptObject) :
   pub short : encoded_size (layout_of (export_object machine linked (kept_export k))) ≤ 0xFFFF_FFFF
 
 -- the members are put after those that are kept; they are refused only where one is too long
-pub record KeepsObjects (specs : List MemberSpec) (old new : ExportObjectsView) (result : Result (Unit {0}) Error)
-    : Type 0 where
+pub record KeepsObjects (specs : List MemberSpec) (old new : ExportObjectsView)
+    (result : Result (Unit {0}) Error) : Type 0 where
   pub ok : OnOk result (new ≡ record old { members = old.members ++ map member_of specs })
   pub fit : OnOk result (list_any is_too_long specs ≡ false)
-  pub too_long : IfInvalid result (λ cause. (cause ≡ MemberTooLong) × (list_any is_too_long specs ≡ true))
+  pub too_long : IfInvalid result
+      (λ cause. (cause ≡ MemberTooLong) × (list_any is_too_long specs ≡ true))
 
 -- what holds of all that is kept for a library of this name, with the symbol of its head
-pub record AreKept (machine : MachineType) (linked symbol : List ℕ) (objects : List KeptObject) : Type 0 where
+pub record AreKept (machine : MachineType) (linked symbol : List ℕ)
+    (objects : List KeptObject) : Type 0 where
   pub head : symbol ≡ head_symbol machine linked
   pub free : holds 0 linked ≡ false
   pub each : AllByRecursion (IsKept machine linked) objects

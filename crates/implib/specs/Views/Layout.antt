@@ -6,8 +6,9 @@ use Rattle.implib.specs.declared.coff.layout.LayoutSymbol.{LayoutSymbol as Borro
 use Rattle.implib.specs.declared.coff.layout.SymbolName.{SymbolName as BorrowedName}
 use Rattle.implib.specs.declared.coff.layout.SymbolName.TheVariants as borrowed
 use Rattle.implib.specs.Formats.Writer.{section_view}
-use Rattle.implib.specs.Formats.Layout.{InRecord, InStringTable, ObjectLayout, LayoutSymbol, SymbolName, encoded_size}
-use Rattle.implib.specs.Formats.Layout.{records, strings_size, symbol_table_offset}
+use Rattle.implib.specs.Formats.Layout.{InRecord, InStringTable, ObjectLayout, LayoutSymbol}
+use Rattle.implib.specs.Formats.Layout.{SymbolName, encoded_size, records, strings_size}
+use Rattle.implib.specs.Formats.Layout.{symbol_table_offset}
 
 -- the view of a name's location
 abbrev pub name_view : BorrowedName → SymbolName

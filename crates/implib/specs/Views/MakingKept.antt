@@ -1,5 +1,7 @@
--- Views of what makes the members for GNU's linker and keeps the objects of the exports. No promise cites them.
-use Rattle.std.specs.Prelude.{◌≡◌, ◌&&◌, ℕ, Bool, not, true, false, List, map, reverse, Result, IfOk, OnOk}
+-- Views of what makes the members for GNU's linker and keeps the objects of the exports. No promise
+-- cites them.
+use Rattle.std.specs.Prelude.{◌≡◌, ◌&&◌, ℕ, Bool, not, true, false, List, map, reverse, Result}
+use Rattle.std.specs.Prelude.{IfOk, OnOk}
 use Rattle.std.specs.List.{filter, list_any}
 use Rattle.implib.specs.declared.error.Error.{Error}
 use Rattle.implib.specs.declared.gnu.members.GnuMembers.{GnuMembers}
@@ -28,4 +30,5 @@ kept_specs machine linked exports = reverse (numbered_specs machine linked 0 (pu
 pub record MakesKept (specs : List MemberSpec) (result : Result GnuMembers Error) : Type 0 where
   pub ok : IfOk result (λ members. kept_members members ≡ map member_of specs)
   pub fit : OnOk result (list_any is_too_long specs ≡ false)
-  pub too_long : IfInvalid result (λ cause. (cause ≡ MemberTooLong) × (list_any is_too_long specs ≡ true))
+  pub too_long : IfInvalid result
+      (λ cause. (cause ≡ MemberTooLong) × (list_any is_too_long specs ≡ true))

@@ -1,6 +1,6 @@
 -- Views of the parser's state and of what its functions answer. No promise cites them.
-use Rattle.std.specs.Prelude.{◌≡◌, ℕ, ◌++◌, Bool, true, false, List, [], ◌∷◌, Option, Some, None, MatchOption}
-use Rattle.std.specs.Prelude.{Result, Ok, Err}
+use Rattle.std.specs.Prelude.{◌≡◌, ℕ, ◌++◌, Bool, true, false, List, [], ◌∷◌, Option, Some, None}
+use Rattle.std.specs.Prelude.{MatchOption, Result, Ok, Err}
 use Rattle.std.specs.List.{fold}
 use Rattle.std.specs.Borrow.{Bor}
 use Rattle.implib.specs.declared.def.lexer.Token.{Token}
@@ -34,7 +34,8 @@ TakesFirst before given after =
 -- the first token is the one that was given
 abbrev pub ShowsFirst : List TokenView → Option Token → Type 0
 ShowsFirst tokens given =
-    MatchOption given (tokens ≡ []) (λ token. (rest : List TokenView) × (tokens ≡ token_view token ∷ rest))
+    MatchOption given (tokens ≡ [])
+    (λ token. (rest : List TokenView) × (tokens ≡ token_view token ∷ rest))
 
 -- the refusal of a fault and the offset of its token
 abbrev pub refusal_at : Fault → ℕ → Refusal
@@ -67,7 +68,8 @@ abbrev pub one_put : {A S : Type 0} → (S → A → S) → S → Reader (Option
 one_put apply state read = read >>= put apply state
 
 -- the same, of what a reader of all items gives
-abbrev pub all_put : {A S : Type 0} → (S → A → S) → S → Reader (List A) → Result (S × List TokenView) Refusal
+abbrev pub all_put : {A S : Type 0} → (S → A → S) → S → Reader (List A) →
+    Result (S × List TokenView) Refusal
 all_put apply state read = read >>= put_all apply state
 
 -- a statement that was read sets what it sets
@@ -76,7 +78,8 @@ abbrev pub put_settings : DefinitionView → Statement × List TokenView →
 put_settings d s = Ok (with_settings d s.0, s.1)
 
 -- the same, of what a reader of a statement gives
-abbrev pub settings_put : DefinitionView → Reader Statement → Result (DefinitionView × List TokenView) Refusal
+abbrev pub settings_put : DefinitionView → Reader Statement →
+    Result (DefinitionView × List TokenView) Refusal
 settings_put d read = read >>= put_settings d
 
 -- one more export of the machine

@@ -1,13 +1,14 @@
 -- A view of the lexer's state, and witnesses for proofs; no promise cites this file.
-use Rattle.std.specs.Prelude.{◌≡◌, ◌≢◌, ℕ, suc, zero, ◌-◌, ◌<◌, Bool, false, ◌==◌, ◌⊎◌, Option, Some, None}
-use Rattle.std.specs.Prelude.{List, [], ◌∷◌, ◌++◌, length, drop, if◌then◌else◌, slice_index}
+use Rattle.std.specs.Prelude.{◌≡◌, ◌≢◌, ℕ, suc, zero, ◌-◌, ◌<◌, Bool, false, ◌==◌, ◌⊎◌, Option}
+use Rattle.std.specs.Prelude.{Some, None, List, [], ◌∷◌, ◌++◌, length, drop, if◌then◌else◌}
+use Rattle.std.specs.Prelude.{slice_index}
 use Rattle.std.specs.Char.{is_whitespace, is_not_whitespace}
 use Rattle.std.specs.List.{AllByRecursion}
 use Rattle.std.specs.Str.{chars, EmptyOrStartsWithPassing}
-use Rattle.implib.specs.Text.Token.{TokenView, eof, Lexeme, Blank, Comment, LastComment, EqualSign, EqualSigns}
-use Rattle.implib.specs.Text.Token.{CommaSign, Quoted, Unclosed, Word, lexeme_text, IsLexemeBefore, EachIsLexeme}
-use Rattle.implib.specs.Text.Token.{IsEnd, text_of, tokens_of_lexeme, tokens_of, is_line_feed, is_quote}
-use Rattle.implib.specs.Text.Token.{is_delimiter, is_equal_sign}
+use Rattle.implib.specs.Text.Token.{TokenView, eof, Lexeme, Blank, Comment, LastComment, EqualSign}
+use Rattle.implib.specs.Text.Token.{EqualSigns, CommaSign, Quoted, Unclosed, Word, lexeme_text}
+use Rattle.implib.specs.Text.Token.{IsLexemeBefore, EachIsLexeme, IsEnd, text_of, tokens_of_lexeme}
+use Rattle.implib.specs.Text.Token.{tokens_of, is_line_feed, is_quote, is_delimiter, is_equal_sign}
 use Rattle.implib.specs.Ascii.{begins}
 
 -- the byte is `;`
@@ -101,7 +102,8 @@ pub record SkipsTrivia (text rest : List ℕ) : Type 0 where
   pub all : BeginsNoTrivia rest
 
 -- the text is a lexeme with this token, and then `after`
-pub record TakesLexeme (text : List ℕ) (offset : ℕ) (token : TokenView) (after : List ℕ) : Type 0 where
+pub record TakesLexeme (text : List ℕ) (offset : ℕ) (token : TokenView)
+    (after : List ℕ) : Type 0 where
   pub lexeme : Lexeme
   pub text_is : text ≡ lexeme_text lexeme ++ after
   pub located : IsLexemeBefore lexeme after

@@ -7,7 +7,8 @@ use Rattle.implib.specs.declared.gnu.table.SymbolRow.{SymbolRow}
 use Rattle.implib.specs.declared.machine.MachineType.{MachineType}
 use Rattle.implib.specs.Formats.Object.{ObjectSection}
 use Rattle.implib.specs.Formats.Layout.{HasNoNul}
-use Rattle.implib.specs.Formats.Writer.{AddedSymbol, WriterState, IsPlaceAmong, IsSymbolIndex, all_entries}
+use Rattle.implib.specs.Formats.Writer.{AddedSymbol, WriterState, IsPlaceAmong, IsSymbolIndex}
+use Rattle.implib.specs.Formats.Writer.{all_entries}
 
 -- the section that a row is
 abbrev pub section_row : SectionRow → ObjectSection
@@ -49,7 +50,8 @@ table_view machine sections symbols = record {
 unfoldable pub with_relocations : List ObjectSection → ℕ → List Relocation → List ObjectSection
 with_relocations [] number more = []
 with_relocations (s ∷ rest) zero more = s ∷ rest
-with_relocations (s ∷ rest) (suc zero) more = record s { relocations = s.relocations ++ more } ∷ rest
+with_relocations (s ∷ rest) (suc zero) more =
+    record s { relocations = s.relocations ++ more } ∷ rest
 with_relocations (s ∷ rest) (suc (suc number)) more = s ∷ with_relocations rest (suc number) more
 
 -- a symbol has a name, and is defined in none or one of `sections` sections
@@ -75,4 +77,5 @@ pub record CanBeHeld (h : WriterState) : Type 0 where
   pub records : length (all_entries h.symbols) < 2 ^ 32
   pub symbols : AllByRecursion (CanBeAdded (length h.sections)) h.symbols
   pub relocations :
-      AllByRecursion (λ s. HasRoomForAll h.symbols s.relocations (record s { relocations = [] })) h.sections
+      AllByRecursion (λ s. HasRoomForAll h.symbols s.relocations (record s { relocations = [] }))
+      h.sections

@@ -1,27 +1,29 @@
 -- A view of the parser, not a promise: readers of token lists, each the answer of one of its
 -- functions. A reader gives a value and the tokens after it, or the first refusal.
-use Rattle.std.specs.Prelude.{ℕ, zero, suc, ◌==◌, ◌&&◌, ◌++◌, Bool, true, false, List, [], ◌∷◌, map, length}
-use Rattle.std.specs.Prelude.{Option, Some, None, unwrap_or, option_map, Result, Ok, Err, if◌then◌else◌}
-use Rattle.std.specs.Prelude.{nat_lt, nat_le}
+use Rattle.std.specs.Prelude.{ℕ, zero, suc, ◌==◌, ◌&&◌, ◌++◌, Bool, true, false, List, [], ◌∷◌, map}
+use Rattle.std.specs.Prelude.{length, Option, Some, None, unwrap_or, option_map, Result, Ok, Err}
+use Rattle.std.specs.Prelude.{if◌then◌else◌, nat_lt, nat_le}
 use Rattle.std.specs.List.{fold}
 use Rattle.std.specs.Str.{all_ascii_digits}
 use Rattle.std.specs.Str.Parse.{digits_value, without_leading_plus}
 use Rattle.implib.specs.declared.def.lexer.TokenKind.{TokenKind}
-use Rattle.implib.specs.declared.def.lexer.TokenKind.TheVariants.{Eof, Identifier, Comma, Equal, EqualEqual}
-use Rattle.implib.specs.declared.def.lexer.TokenKind.TheVariants.{KwBase, KwConstant, KwData, KwExports}
-use Rattle.implib.specs.declared.def.lexer.TokenKind.TheVariants.{KwHeapsize, KwLibrary, KwName, KwNoname}
+use Rattle.implib.specs.declared.def.lexer.TokenKind.TheVariants.{Eof, Identifier, Comma, Equal}
+use Rattle.implib.specs.declared.def.lexer.TokenKind.TheVariants.{EqualEqual, KwBase, KwConstant}
+use Rattle.implib.specs.declared.def.lexer.TokenKind.TheVariants.{KwData, KwExports, KwHeapsize}
+use Rattle.implib.specs.declared.def.lexer.TokenKind.TheVariants.{KwLibrary, KwName, KwNoname}
 use Rattle.implib.specs.declared.def.lexer.TokenKind.TheVariants.{KwPrivate, KwStacksize, KwVersion}
 use Rattle.implib.specs.declared.machine.MachineType.{MachineType}
 use Rattle.implib.specs.Definition.{DefinitionView, ExportView, empty_definition}
-use Rattle.implib.specs.Fault.{Cause, UnknownDirective, ExpectedIdentifier, ExpectedEqual, ExpectedInteger}
-use Rattle.implib.specs.Fault.{InvalidOrdinal, LoneAt}
-use Rattle.implib.specs.Text.Grammar.{Attribute, Joined, Apart, Data, Constant, Private, Alias, Export, Region}
-use Rattle.implib.specs.Text.Grammar.{Heap, Stack, Statement, Exports, Sizes, Nameless, Named, Version, at_sign}
-use Rattle.implib.specs.Text.Grammar.{full_stop}
+use Rattle.implib.specs.Fault.{Cause, UnknownDirective, ExpectedIdentifier, ExpectedEqual}
+use Rattle.implib.specs.Fault.{ExpectedInteger, InvalidOrdinal, LoneAt}
+use Rattle.implib.specs.Text.Grammar.{Attribute, Joined, Apart, Data, Constant, Private, Alias}
+use Rattle.implib.specs.Text.Grammar.{Export, Region, Heap, Stack, Statement, Exports, Sizes}
+use Rattle.implib.specs.Text.Grammar.{Nameless, Named, Version, at_sign, full_stop}
 use Rattle.implib.specs.Text.Meaning.{ordinal_in, no_name_in, is_data_in, constant_in, private_in}
 use Rattle.implib.specs.Underscore.{decorated}
-use Rattle.implib.specs.Text.Meaning.{alias_in, exports_in, import_name_in, image_base_in, stack_reserve_in}
-use Rattle.implib.specs.Text.Meaning.{stack_commit_in, heap_reserve_in, heap_commit_in, major_in, minor_in}
+use Rattle.implib.specs.Text.Meaning.{alias_in, exports_in, import_name_in, image_base_in}
+use Rattle.implib.specs.Text.Meaning.{stack_reserve_in, stack_commit_in, heap_reserve_in}
+use Rattle.implib.specs.Text.Meaning.{heap_commit_in, major_in, minor_in}
 use Rattle.implib.specs.Text.Number.{u16_limit, u32_limit, u64_limit}
 use Rattle.implib.specs.Text.Token.{TokenView}
 
@@ -51,7 +53,8 @@ abbrev pub ◌>>=◌ : {A B : Type 0} → Result A Refusal → (A → Result B R
 -- the number that digits write, where they are some and it is at most the limit
 abbrev pub number_by : List ℕ → ℕ → Option ℕ
 number_by digits limit =
-    if all_ascii_digits digits && (nat_lt 0 (length digits) && nat_le (digits_value 10 digits) limit)
+    if all_ascii_digits digits
+    && (nat_lt 0 (length digits) && nat_le (digits_value 10 digits) limit)
     then Some (digits_value 10 digits) else None
 
 -- the number that a value is, at most the limit
@@ -65,7 +68,8 @@ cons_first byte (Some parts) = Some (byte ∷ parts.0, parts.1)
 
 abbrev pub at_stop : List ℕ → Option (List ℕ × List ℕ)
 at_stop [] = None
-at_stop (byte ∷ rest) = if byte == full_stop then Some ([], rest) else cons_first byte (at_stop rest)
+at_stop (byte ∷ rest) =
+    if byte == full_stop then Some ([], rest) else cons_first byte (at_stop rest)
 
 -- two numbers, where both are there
 abbrev pub both : Option ℕ → Option ℕ → Option (ℕ × ℕ)
@@ -236,7 +240,8 @@ attribute_read (token ∷ rest) = attribute_by token.kind token rest
 abbrev pub cons_item : {A : Type 0} → A → List A × List TokenView → Reader (List A)
 cons_item first others = Ok (first ∷ others.0, others.1)
 
-abbrev pub many_from : {A : Type 0} → (List TokenView → Reader (List A)) → Option A × List TokenView →
+abbrev pub many_from : {A : Type 0} → (List TokenView → Reader (List A)) →
+    Option A × List TokenView →
     Reader (List A)
 many_from others (None, rest) = Ok ([], rest)
 many_from others (Some first, rest) = others rest >>= cons_item first
@@ -248,7 +253,8 @@ many item zero tokens = Ok ([], tokens)
 many item (suc n) tokens = item tokens >>= many_from (many item n)
 
 -- all items, as each takes a token
-abbrev pub all : {A : Type 0} → (List TokenView → Reader (Option A)) → List TokenView → Reader (List A)
+abbrev pub all : {A : Type 0} → (List TokenView → Reader (Option A)) → List TokenView →
+    Reader (List A)
 all item tokens = many item (length tokens) tokens
 
 -- the word after the `=` of an export
@@ -272,7 +278,8 @@ target_read (token ∷ rest) = target_by token.kind token rest
 unfoldable pub attributes_read : List TokenView → Reader (List Attribute)
 attributes_read tokens = all attribute_read tokens
 
-abbrev pub export_of : List ℕ → Option (List ℕ) → List Attribute × List TokenView → Reader (Option Export)
+abbrev pub export_of : List ℕ → Option (List ℕ) → List Attribute × List TokenView →
+    Reader (Option Export)
 export_of word target attributes =
     Ok (Some (record { word = word; target = target; attributes = attributes.0 }), attributes.1)
 
@@ -385,7 +392,8 @@ with_statement machine d s = record (with_settings d s) {
 unfoldable pub with_statements : MachineType → DefinitionView → List Statement → DefinitionView
 with_statements machine d statements = fold (with_statement machine) d statements
 
-abbrev pub definition_from : MachineType → List Statement × List TokenView → Result DefinitionView Refusal
+abbrev pub definition_from : MachineType → List Statement × List TokenView →
+    Result DefinitionView Refusal
 definition_from machine statements = Ok (with_statements machine empty_definition statements.0)
 
 -- the definition that the tokens give

@@ -6,8 +6,8 @@ use Rattle.implib.specs.declared.coff.object.Symbol.{Symbol}
 use Rattle.implib.specs.declared.machine.MachineType.{MachineType}
 use Rattle.implib.specs.Formats.Object.{ObjectSection}
 use Rattle.implib.specs.Formats.Layout.{FitsAuxiliary, FitsSection, HasNoNul}
-use Rattle.implib.specs.Formats.Writer.{AddedSymbol, added_view, section_view, WriterState, IsPlaceAmong}
-use Rattle.implib.specs.Formats.Writer.{IsSymbolIndex, all_entries}
+use Rattle.implib.specs.Formats.Writer.{AddedSymbol, added_view, section_view, WriterState}
+use Rattle.implib.specs.Formats.Writer.{IsPlaceAmong, IsSymbolIndex, all_entries}
 
 -- what the lists of a writer hold
 abbrev pub writer_state : MachineType → List Section → List Symbol → WriterState

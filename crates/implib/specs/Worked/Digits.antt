@@ -11,7 +11,8 @@ unfoldable pub bytes_of_digits : List ℕ → List ℕ
 bytes_of_digits [] = []
 bytes_of_digits (high ∷ []) = []
 bytes_of_digits (high ∷ low ∷ []) = (16 * digit_value high + digit_value low) ∷ []
-bytes_of_digits (high ∷ low ∷ space ∷ rest) = (16 * digit_value high + digit_value low) ∷ bytes_of_digits rest
+bytes_of_digits (high ∷ low ∷ space ∷ rest) =
+    (16 * digit_value high + digit_value low) ∷ bytes_of_digits rest
 
 -- the bytes of a text, as `hex "ff 25"`
 abbrev pub hex : String → List ℕ

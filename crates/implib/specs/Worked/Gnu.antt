@@ -1,6 +1,6 @@
 -- Definitions with what their members for GNU's linker are or why they have none, worked by hand.
-use Rattle.std.specs.Prelude.{◌≡◌, ℕ, true, List, [], ◌∷◌, ◌++◌, map, take, drop, slice_get, Option, Some}
-use Rattle.std.specs.Prelude.{None, codes}
+use Rattle.std.specs.Prelude.{◌≡◌, ℕ, true, List, [], ◌∷◌, ◌++◌, map, take, drop, slice_get, Option}
+use Rattle.std.specs.Prelude.{Some, None, codes}
 use Rattle.std.specs.Option.{option_map}
 use Rattle.implib.specs.declared.flavor.Flavor.TheVariants.{Gnu}
 use Rattle.implib.specs.declared.machine.MachineType.{MachineType}
@@ -10,7 +10,8 @@ use Rattle.implib.specs.Fault.{Cause, EmptyName, NulInExport, EmptyAskedName}
 use Rattle.implib.specs.Members.MemberSpec.{MemberSpec, file_bytes}
 use Rattle.implib.specs.Members.Members.{member_specs, refusal}
 use Rattle.implib.specs.Renaming.{renamed}
-use Rattle.implib.specs.Worked.Members.{Means, Outline, bar_text, baz_text, foo_asking, nul, of_dll, outline}
+use Rattle.implib.specs.Worked.Members.{Means, Outline, bar_text, baz_text, foo_asking, nul, of_dll}
+use Rattle.implib.specs.Worked.Members.{outline}
 use Rattle.implib.specs.Worked.Statements.{plain_export}
 
 -- the specifications of a definition's members for GNU's linker
@@ -18,7 +19,8 @@ abbrev pub gnu_specs_of : DefinitionView → MachineType → List MemberSpec
 gnu_specs_of d machine = member_specs (renamed d) machine Gnu
 
 -- the definition is accepted, and these are its members, their bytes aside
-pub record HasGnuMembers (d : DefinitionView) (machine : MachineType) (members : List Outline) : Type 0 where
+pub record HasGnuMembers (d : DefinitionView) (machine : MachineType)
+    (members : List Outline) : Type 0 where
   pub accepted : refusal d machine Gnu ≡ None
   pub outlines : map outline (gnu_specs_of d machine) ≡ members
 
@@ -65,7 +67,8 @@ pub record WorkedGnuOutlines : Type 0 where
       ∷ [])
   pub one_function_arm : Means bar_text ARMNT
       (λ d. map (λ p. (outline p).size) (gnu_specs_of d ARMNT) ≡ 348 ∷ 450 ∷ 470 ∷ [])
-  pub one_function_arm64 : TextHasGnuMembers bar_text ARM64 (foo_head_and_tail ++ bar_member 488 ∷ [])
+  pub one_function_arm64 : TextHasGnuMembers bar_text ARM64
+      (foo_head_and_tail ++ bar_member 488 ∷ [])
   -- private exports have no number, and the last export comes first
   pub numbered : TextHasGnuMembers (codes "LIBRARY foo.dll\nEXPORTS\nbar\nbaz PRIVATE\nqux") AMD64
       (foo_head_and_tail
@@ -74,7 +77,8 @@ pub record WorkedGnuOutlines : Type 0 where
       ∷ [])
   pub private_nul : HasGnuMembers
       (of_dll (codes "foo.dll")
-      (record empty_export { name = codes "b" ++ nul; private = true } ∷ plain_export (codes "bar") ∷ []))
+      (record empty_export { name = codes "b" ++ nul; private = true } ∷ plain_export (codes "bar")
+      ∷ []))
       AMD64
       (foo_head_and_tail ++ bar_member 474 ∷ [])
   pub data_alone : TextHasGnuMembers (codes "LIBRARY foo.dll\nEXPORTS\nbar DATA") AMD64
@@ -88,10 +92,12 @@ pub record WorkedGnuOutlines : Type 0 where
   -- the head's symbol is exported too: its name is once in the string table
   pub head_exported : TextHasGnuMembers (codes "LIBRARY foo.dll\nEXPORTS\n_head_foo_dll") AMD64
       (foo_head_and_tail
-      ++ shown (codes "foo_dll_a_s00000.o") 494 (codes "_head_foo_dll" ∷ codes "__imp__head_foo_dll" ∷ [])
+      ++ shown (codes "foo_dll_a_s00000.o") 494
+      (codes "_head_foo_dll" ∷ codes "__imp__head_foo_dll" ∷ [])
       ∷ [])
   pub underscore_by_ordinal : HasGnuMembers
-      (of_dll (codes "foo.dll") (record empty_export { name = codes "_"; no_name = true; ordinal = 3 } ∷ []))
+      (of_dll (codes "foo.dll")
+      (record empty_export { name = codes "_"; no_name = true; ordinal = 3 } ∷ []))
       I386
       (shown (codes "foo_dll_a_t.o") 349 (codes "_foo_dll_iname" ∷ [])
       ∷ shown (codes "foo_dll_a_h.o") 452 (codes "__head_foo_dll" ∷ [])
@@ -99,36 +105,43 @@ pub record WorkedGnuOutlines : Type 0 where
       ∷ [])
   -- what no name type makes of the symbol is asked for here
   pub given_name : HasGnuMembers (foo_asking (codes "a") (codes "b")) AMD64
-      (foo_head_and_tail ++ shown (codes "foo_dll_a_s00000.o") 462 (codes "a" ∷ codes "__imp_a" ∷ []) ∷ [])
+      (foo_head_and_tail
+      ++ shown (codes "foo_dll_a_s00000.o") 462 (codes "a" ∷ codes "__imp_a" ∷ []) ∷ [])
 
 -- definitions that are refused
 pub record WorkedGnuRefusals : Type 0 where
   pub nul_in_name : IsRefusedForGnu
-      (of_dll (codes "foo.dll") (plain_export (codes "b" ++ nul) ∷ plain_export (codes "bar") ∷ [])) AMD64
+      (of_dll (codes "foo.dll") (plain_export (codes "b" ++ nul) ∷ plain_export (codes "bar") ∷ []))
+      AMD64
       (NulInExport 0)
   -- a symbol name asks for nothing here
   pub empty_name : IsRefusedForGnu
       (of_dll (codes "foo.dll")
-      (record empty_export { name = codes "f"; symbol_name = codes "_@8" } ∷ plain_export [] ∷ [])) AMD64
+      (record empty_export { name = codes "f"; symbol_name = codes "_@8" } ∷ plain_export [] ∷ []))
+      AMD64
       (EmptyName 1)
   pub nul_in_symbol_name : IsRefusedForGnu
       (of_dll (codes "foo.dll")
-      (plain_export (codes "bar") ∷ record empty_export { name = codes "foo"; symbol_name = nul } ∷ [])) AMD64
+      (plain_export (codes "bar") ∷ record empty_export { name = codes "foo"; symbol_name = nul }
+      ∷ [])) AMD64
       (NulInExport 1)
   pub nul_in_alias_target : IsRefusedForGnu
       (of_dll (codes "foo.dll")
-      (plain_export (codes "bar") ∷ record empty_export { name = codes "foo"; alias_target = nul } ∷ []))
+      (plain_export (codes "bar") ∷ record empty_export { name = codes "foo"; alias_target = nul }
+      ∷ []))
       AMD64 (NulInExport 1)
   pub nothing_given : IsRefusedForGnu (foo_asking (codes "a") []) AMD64 (EmptyAskedName 0)
   pub nul_in_asked_name : IsRefusedForGnu (foo_asking (codes "a") nul) AMD64 (NulInExport 0)
-  pub nothing_asked : IsRefusedForGnu (of_dll (codes "foo.dll") (plain_export (codes "_") ∷ [])) I386
+  pub nothing_asked : IsRefusedForGnu (of_dll (codes "foo.dll") (plain_export (codes "_") ∷ []))
+      I386
       (EmptyAskedName 0)
   -- a NUL in another name comes before an empty name to ask for
   pub nul_and_nothing_asked : IsRefusedForGnu
       (of_dll (codes "foo.dll") (record (plain_export (codes "_")) { symbol_name = nul } ∷ [])) I386
       (NulInExport 0)
   pub nul_in_target_and_nothing_asked : IsRefusedForGnu
-      (of_dll (codes "foo.dll") (record (plain_export (codes "_")) { alias_target = nul } ∷ [])) I386
+      (of_dll (codes "foo.dll") (record (plain_export (codes "_")) { alias_target = nul } ∷ []))
+      I386
       (NulInExport 0)
 
 -- bytes of members

@@ -7,10 +7,12 @@ use Rattle.implib.specs.Text.Heard.{Heard, IsHeard}
 
 -- the name of an export, and another part of a statement: a token with its value and its offset
 abbrev pub name : List ℕ → ℕ → Heard
-name value at = record { role = Name; token = record { kind = kind.Identifier; value = value; at = at } }
+name value at =
+    record { role = Name; token = record { kind = kind.Identifier; value = value; at = at } }
 
 abbrev pub other : TokenKind → List ℕ → ℕ → Heard
-other kind value at = record { role = Other; token = record { kind = kind; value = value; at = at } }
+other kind value at =
+    record { role = Other; token = record { kind = kind; value = value; at = at } }
 
 -- the keyword `EXPORTS`, at the beginning of a text
 abbrev pub keyword : Heard
@@ -39,15 +41,19 @@ pub record WorkedHeard : Type 0 where
       ∷ name (codes "b") 22 ∷ [])
   -- of `f=f` the first word is the name
   pub target : IsHeard (codes "EXPORTS f=f") (
-      keyword ∷ name (codes "f") 8 ∷ other kind.Equal (codes "=") 9 ∷ other kind.Identifier (codes "f") 10 ∷ [])
+      keyword ∷ name (codes "f") 8 ∷ other kind.Equal (codes "=") 9
+      ∷ other kind.Identifier (codes "f") 10 ∷ [])
   pub not_the_target : ¬ (IsHeard (codes "EXPORTS f=f") (
-      keyword ∷ other kind.Identifier (codes "f") 8 ∷ other kind.Equal (codes "=") 9 ∷ name (codes "f") 10 ∷ []))
+      keyword ∷ other kind.Identifier (codes "f") 8 ∷ other kind.Equal (codes "=") 9
+      ∷ name (codes "f") 10 ∷ []))
   -- near misses: another role, kind, value or offset, a token less, and the end
   pub bare : IsHeard (codes "EXPORTS f") (keyword ∷ name (codes "f") 8 ∷ [])
-  pub not_another_role : ¬ (IsHeard (codes "EXPORTS f") (keyword ∷ other kind.Identifier (codes "f") 8 ∷ []))
+  pub not_another_role : ¬
+      (IsHeard (codes "EXPORTS f") (keyword ∷ other kind.Identifier (codes "f") 8 ∷ []))
   pub not_another_kind : ¬ (IsHeard (codes "EXPORTS f")
       (other kind.KwName (codes "EXPORTS") 0 ∷ name (codes "f") 8 ∷ []))
   pub not_another_value : ¬ (IsHeard (codes "EXPORTS f") (keyword ∷ name (codes "g") 8 ∷ []))
   pub not_another_offset : ¬ (IsHeard (codes "EXPORTS f") (keyword ∷ name (codes "f") 7 ∷ []))
   pub not_too_few : ¬ (IsHeard (codes "EXPORTS f") (keyword ∷ []))
-  pub not_the_end : ¬ (IsHeard (codes "EXPORTS f") (keyword ∷ name (codes "f") 8 ∷ other kind.Eof [] 9 ∷ []))
+  pub not_the_end : ¬
+      (IsHeard (codes "EXPORTS f") (keyword ∷ name (codes "f") 8 ∷ other kind.Eof [] 9 ∷ []))

@@ -1,13 +1,13 @@
--- Whole objects byte by byte, worked by hand. A line is a header, half of one, data, a relocation, a
--- symbol's record, or a string; a section's header takes two lines.
+-- Whole objects byte by byte, worked by hand. A line is a header, half of one, data, a relocation,
+-- a symbol's record, or a string; a section's header takes two lines.
 use Rattle.std.specs.Prelude.{◌≡◌, ℕ, List, [], ◌∷◌, codes}
 use Rattle.std.specs.List.{concat}
 use Rattle.implib.specs.declared.machine.MachineType.TheVariants.{I386, ARMNT, AMD64, ARM64}
 use Rattle.implib.specs.Formats.Layout.{encoded}
 use Rattle.implib.specs.Worked.Digits.{hex}
 use Rattle.implib.specs.Worked.Machines.{numbers}
-use Rattle.implib.specs.Worked.Objects.{descriptor, function, head, null_descriptor, null_thunk, one_section}
-use Rattle.implib.specs.Worked.Objects.{tail, two_names, weak}
+use Rattle.implib.specs.Worked.Objects.{descriptor, function, head, null_descriptor, null_thunk}
+use Rattle.implib.specs.Worked.Objects.{one_section, tail, two_names, weak}
 
 -- 70 bytes
 unfoldable pub two_names_bytes : List ℕ

@@ -1,5 +1,7 @@
--- Members for GNU's linker that were linked by hand: the addresses of their tables and what they hold.
-use Rattle.std.specs.Prelude.{◌≡◌, ℕ, true, List, [], ◌∷◌, ◌++◌, map, bytes_eq, codes, Option, Some, None}
+-- Members for GNU's linker that were linked by hand: the addresses of their tables and what they
+-- hold.
+use Rattle.std.specs.Prelude.{◌≡◌, ℕ, true, List, [], ◌∷◌, ◌++◌, map, bytes_eq, codes, Option, Some}
+use Rattle.std.specs.Prelude.{None}
 use Rattle.std.specs.List.{AllByRecursion, IsDistinct, flat_map}
 use Rattle.std.specs.Option.{option_map}
 use Rattle.implib.specs.declared.flavor.Flavor.TheVariants.{Gnu}
@@ -15,8 +17,9 @@ use Rattle.implib.specs.Members.Members.{AreMembersOf, member_specs}
 use Rattle.implib.specs.Members.MemberSpec.{member_of}
 use Rattle.implib.specs.Formats.Object.{each_at}
 use Rattle.implib.specs.Renaming.{renamed}
-use Rattle.implib.specs.Link.LinkedMembers.{IsAscending, ComesBefore, IsLinkInput, NoneIsPrefix, LinkInput, all_linked}
-use Rattle.implib.specs.Link.LinkedMembers.{member_prefix, linked_members, objects_in}
+use Rattle.implib.specs.Link.LinkedMembers.{IsAscending, ComesBefore, IsLinkInput, NoneIsPrefix}
+use Rattle.implib.specs.Link.LinkedMembers.{LinkInput, all_linked, member_prefix, linked_members}
+use Rattle.implib.specs.Link.LinkedMembers.{objects_in}
 use Rattle.implib.specs.Worked.Members.{of_dll}
 use Rattle.implib.specs.Worked.Statements.{plain_export}
 use Rattle.implib.specs.Worked.LibraryNames.{of_library}
@@ -38,8 +41,8 @@ numbers_from image width count address =
 abbrev pub addresses_of : List ℕ → List Placed → List (Option ℕ)
 addresses_of name linked = map (λ d. d.address) (definitions_of name linked)
 
--- what a linked image is asked: its groups' bases, the width of a thunk, how many thunks a table has
--- with the last one, how many bytes the hints and names have, and the address of the DLL's name
+-- what a linked image is asked: its groups' bases, the width of a thunk, how many thunks a table
+-- has with the last one, how many bytes the hints and names have, and the address of the DLL's name
 pub record Layout : Type 0 where
   pub bases : Bases
   pub width : ℕ
@@ -60,9 +63,11 @@ pub record Answers (d : DefinitionView) (machine : MachineType) (l : Layout) (ch
     (symbols : List (List ℕ)) (found : Found) : Type 0 where
   pub descriptor : numbers_from (image_of machine l.bases (placed d machine l.bases chosen)) 4 5
       l.bases.descriptors ≡ Some found.descriptor
-  pub lookups : numbers_from (image_of machine l.bases (placed d machine l.bases chosen)) l.width l.thunks
+  pub lookups : numbers_from (image_of machine l.bases (placed d machine l.bases chosen)) l.width
+      l.thunks
       l.bases.lookups ≡ Some found.thunks
-  pub addresses : numbers_from (image_of machine l.bases (placed d machine l.bases chosen)) l.width l.thunks
+  pub addresses : numbers_from (image_of machine l.bases (placed d machine l.bases chosen)) l.width
+      l.thunks
       l.bases.addresses ≡ Some found.thunks
   pub hints : bytes_from (image_of machine l.bases (placed d machine l.bases chosen)) l.hints
       l.bases.hint_names ≡ Some found.hints
@@ -141,18 +146,20 @@ pub record TwoLink : Type 0 where
 abbrev pub named_input : List ℕ → List ℕ → LinkInput
 named_input library name = record {
   definition = of_library library (codes "foo.dll") (plain_export name ∷ []);
-  members = map member_of (member_specs (renamed (of_library library (codes "foo.dll") (plain_export name ∷ []))) AMD64 Gnu);
+  members = map member_of (member_specs
+      (renamed (of_library library (codes "foo.dll") (plain_export name ∷ []))) AMD64 Gnu);
   chosen = 0 ∷ [];
 }
 
 abbrev pub inputs_of_one_dll : List LinkInput
-inputs_of_one_dll = named_input (codes "foo.dll_1") (codes "bar") ∷ named_input (codes "foo.dll_2") (codes "qux") ∷ []
+inputs_of_one_dll = named_input (codes "foo.dll_1") (codes "bar")
+    ∷ named_input (codes "foo.dll_2") (codes "qux") ∷ []
 
 abbrev pub placed_of_one_dll : List Placed
 placed_of_one_dll = placed_from bases_of_two (objects_in (all_linked AMD64 inputs_of_one_dll))
 
--- Each library has its own head, tables and entries, and both descriptors lead to the text foo.dll. No symbol is
--- named after the DLL alone.
+-- Each library has its own head, tables and entries, and both descriptors lead to the text foo.dll.
+-- No symbol is named after the DLL alone.
 pub record OneDllLink : Type 0 where
   pub descriptors : numbers_from (image_of AMD64 bases_of_two placed_of_one_dll) 4 10 0x1000
       ≡ Some (0x1030 ∷ 0 ∷ 0 ∷ 0x1084 ∷ 0x1050 ∷ 0x1040 ∷ 0 ∷ 0 ∷ 0x1090 ∷ 0x1060 ∷ [])
@@ -172,12 +179,14 @@ pub record OneDllLink : Type 0 where
   pub bar : addresses_of (codes "__imp_bar") placed_of_one_dll ≡ Some 0x1050 ∷ []
   pub qux : addresses_of (codes "__imp_qux") placed_of_one_dll ≡ Some 0x1060 ∷ []
 
--- two libraries of one name: their symbols are not distinct, and the names of their members do not rise
+-- two libraries of one name: their symbols are not distinct, and the names of their members do not
+-- rise
 abbrev pub inputs_of_one_name : List LinkInput
-inputs_of_one_name = named_input (codes "foo.dll_1") (codes "bar") ∷ named_input (codes "foo.dll_1") (codes "qux") ∷ []
+inputs_of_one_name = named_input (codes "foo.dll_1") (codes "bar")
+    ∷ named_input (codes "foo.dll_1") (codes "qux") ∷ []
 
--- The law of linking speaks of these: they are the members of a definition that is not refused, they
--- are placed where they may be, and their archive symbols are distinct.
+-- The law of linking speaks of these: they are the members of a definition that is not refused,
+-- they are placed where they may be, and their archive symbols are distinct.
 pub record MayLink (d : DefinitionView) (machine : MachineType) (bases : Bases) (chosen : List ℕ)
     : Type 0 where
   pub made : AreMembersOf d machine Gnu (map member_of (member_specs (renamed d) machine Gnu))
@@ -185,7 +194,8 @@ pub record MayLink (d : DefinitionView) (machine : MachineType) (bases : Bases) 
   pub admissible : IsAdmissible machine bases (objects_in (linked_members d machine chosen))
 
 -- and so does the law of linking several
-pub record InputsMayLink (machine : MachineType) (bases : Bases) (inputs : List LinkInput) : Type 0 where
+pub record InputsMayLink (machine : MachineType) (bases : Bases)
+    (inputs : List LinkInput) : Type 0 where
   pub made : AllByRecursion (IsLinkInput machine) inputs
   pub rising : IsAscending (map (λ p. member_prefix p.definition) inputs)
   pub apart : NoneIsPrefix (map (λ p. member_prefix p.definition) inputs)
@@ -207,7 +217,8 @@ pub record WorkedLinks : Type 0 where
         descriptor = 0x1020 ∷ 0 ∷ 0 ∷ 0x1088 ∷ 0x1040 ∷ [];
         thunks = 0x1060 ∷ 0x8000_0000_0000_0005 ∷ 0 ∷ [];
         hints = 0 ∷ 0 ∷ (codes "bar" ++ 0 ∷ []);
-        section_addresses = (Some 0x1040 ∷ []) ∷ (Some 0x1048 ∷ []) ∷ (None ∷ []) ∷ (Some 0x1000 ∷ []) ∷ [];
+        section_addresses =
+            (Some 0x1040 ∷ []) ∷ (Some 0x1048 ∷ []) ∷ (None ∷ []) ∷ (Some 0x1000 ∷ []) ∷ [];
       })
   pub none : Answers (foo (codes "bar") (codes "baz")) AMD64
       (record { bases = bases_64; width = 8; thunks = 1; hints = 0; dll = 0x1080 }) []

@@ -11,7 +11,8 @@ at offset symbol kind = record { offset = offset; symbol = symbol; kind = kind }
 
 -- the numbers and bytes that depend on the machine
 pub record Numbers : Type 0 where
-  -- of the file header; the characteristics are those of the first three members for Microsoft's linker
+  -- of the file header; the characteristics are those of the first three members for Microsoft's
+  -- linker
   pub machine : ℕ
   pub characteristics : ℕ
   -- the type of an image-relative relocation

@@ -1,5 +1,5 @@
--- All members of one definition, worked by hand: foo.dll with the function bar, which is another name for
--- baz.
+-- All members of one definition, worked by hand: foo.dll with the function bar, which is another
+-- name for baz.
 use Rattle.std.specs.Prelude.{◌≡◌, ℕ, true, List, [], ◌∷◌, ◌++◌, codes}
 use Rattle.implib.specs.declared.flavor.Flavor.TheVariants.{Msvc, Gnu}
 use Rattle.implib.specs.declared.machine.MachineType.{MachineType}
@@ -11,7 +11,8 @@ use Rattle.implib.specs.Members.Members.{member_specs}
 use Rattle.implib.specs.Members.MsvcMembers.{header_specs}
 use Rattle.implib.specs.Renaming.{renamed}
 use Rattle.implib.specs.Worked.Machines.{Numbers, numbers}
-use Rattle.implib.specs.Worked.Objects.{descriptor, function, head, null_descriptor, null_thunk, tail, weak}
+use Rattle.implib.specs.Worked.Objects.{descriptor, function, head, null_descriptor, null_thunk}
+use Rattle.implib.specs.Worked.Objects.{tail, weak}
 use Rattle.implib.specs.Worked.Tables.{bar, foo_dll}
 
 -- the definition
@@ -82,11 +83,12 @@ gnu_member_specs n =
 
 -- The members of the definition on a machine.
 pub record WorkedMemberSpecs (machine : MachineType) : Type 0 where
-  pub for_microsoft : member_specs (renamed definition) machine Msvc ≡ msvc_member_specs (numbers machine)
+  pub for_microsoft : member_specs (renamed definition) machine Msvc
+      ≡ msvc_member_specs (numbers machine)
   pub for_gnu : member_specs (renamed definition) machine Gnu ≡ gnu_member_specs (numbers machine)
 
--- a definition of bar, again another name for baz, of the datum var, another name for vaz, of own, whose target is
--- itself, and of the constant fixed, another name for own
+-- a definition of bar, again another name for baz, of the datum var, another name for vaz, of own,
+-- whose target is itself, and of the constant fixed, another name for own
 abbrev pub definition_of_lists : DefinitionView
 definition_of_lists = record empty_definition {
   import_name = foo_dll;
@@ -113,7 +115,8 @@ short_import_of_own n = AShortImport (record {
 
 -- Its members in three lists on a machine.
 pub record WorkedLists (machine : MachineType) : Type 0 where
-  pub header : header_specs machine (names_for Msvc (renamed definition_of_lists)) ≡ header_member_specs (numbers machine)
+  pub header : header_specs machine (names_for Msvc (renamed definition_of_lists))
+      ≡ header_member_specs (numbers machine)
   pub imports : all_import_specs machine (renamed definition_of_lists)
       ≡ record {
         name = foo_dll;
@@ -123,6 +126,8 @@ pub record WorkedLists (machine : MachineType) : Type 0 where
   pub aliases : all_alias_specs machine (renamed definition_of_lists)
       ≡ member foo_dll (weak_bar (numbers machine)) (codes "bar")
       ∷ member foo_dll (weak_address (numbers machine)) (codes "__imp_bar")
-      ∷ member foo_dll (AnObject (weak (numbers machine) (codes "__imp_vaz") (codes "__imp_var"))) (codes "__imp_var")
-      ∷ member foo_dll (AnObject (weak (numbers machine) (codes "__imp_own") (codes "__imp_fixed"))) (codes "__imp_fixed")
+      ∷ member foo_dll (AnObject (weak (numbers machine) (codes "__imp_vaz") (codes "__imp_var")))
+      (codes "__imp_var")
+      ∷ member foo_dll (AnObject (weak (numbers machine) (codes "__imp_own") (codes "__imp_fixed")))
+      (codes "__imp_fixed")
       ∷ []

@@ -1,6 +1,6 @@
 -- Definitions with what their members are or why they have none, worked by hand.
-use Rattle.std.specs.Prelude.{◌≡◌, ℕ, true, List, [], ◌∷◌, ◌++◌, map, take, drop, slice_get, Option, Some}
-use Rattle.std.specs.Prelude.{None, codes}
+use Rattle.std.specs.Prelude.{◌≡◌, ℕ, true, List, [], ◌∷◌, ◌++◌, map, take, drop, slice_get, Option}
+use Rattle.std.specs.Prelude.{Some, None, codes}
 use Rattle.std.specs.Option.{option_map}
 use Rattle.implib.specs.declared.flavor.Flavor.TheVariants.{Msvc}
 use Rattle.implib.specs.declared.machine.MachineType.{MachineType}
@@ -37,10 +37,12 @@ specs d machine = member_specs (renamed d) machine Msvc
 
 -- a function of foo.dll that gives the name that the DLL is asked for
 abbrev pub foo_asking : List ℕ → List ℕ → DefinitionView
-foo_asking name given = of_dll (codes "foo.dll") (record (plain_export name) { asked_name = Some given } ∷ [])
+foo_asking name given =
+    of_dll (codes "foo.dll") (record (plain_export name) { asked_name = Some given } ∷ [])
 
 -- the definition is accepted, and these are its members, their bytes aside
-pub record HasMembers (d : DefinitionView) (machine : MachineType) (members : List Outline) : Type 0 where
+pub record HasMembers (d : DefinitionView) (machine : MachineType)
+    (members : List Outline) : Type 0 where
   pub accepted : refusal d machine Msvc ≡ None
   pub outlines : map outline (specs d machine) ≡ members
 
@@ -62,7 +64,8 @@ TextIsRefused text machine cause = Means text machine (λ d. IsRefused d machine
 
 -- the bytes of the member of an index
 abbrev pub bytes_at : DefinitionView → MachineType → ℕ → Option (List ℕ)
-bytes_at d machine index = option_map (λ p. file_bytes p.contents) (slice_get (specs d machine) index)
+bytes_at d machine index =
+    option_map (λ p. file_bytes p.contents) (slice_get (specs d machine) index)
 
 -- what the short imports of the exports ask for
 abbrev pub asks : DefinitionView → MachineType → List Ask
@@ -74,7 +77,8 @@ last_fields bytes = drop 16 (take 20 bytes)
 
 -- the last two fields of the short import of a definition's only export, which has no alias
 abbrev pub fields_of : MachineType → ExportView → Option (List ℕ)
-fields_of machine e = option_map last_fields (bytes_at (of_dll (codes "foo.dll") (e ∷ [])) machine 3)
+fields_of machine e =
+    option_map last_fields (bytes_at (of_dll (codes "foo.dll") (e ∷ [])) machine 3)
 
 -- a NUL
 abbrev pub nul : List ℕ
@@ -88,7 +92,11 @@ header base extension descriptor thunk =
       size = descriptor;
       symbols = (codes "__IMPORT_DESCRIPTOR_" ++ base) ∷ [];
     }
-    ∷ record { name = base ++ extension; size = 127; symbols = codes "__NULL_IMPORT_DESCRIPTOR" ∷ [] }
+    ∷ record {
+      name = base ++ extension;
+      size = 127;
+      symbols = codes "__NULL_IMPORT_DESCRIPTOR" ∷ [];
+    }
     ∷ record {
       name = base ++ extension;
       size = thunk;
@@ -128,10 +136,12 @@ self_text = codes "LIBRARY foo.dll\nEXPORTS\nfoo == foo"
 
 -- members by name, length and archive symbols
 pub record WorkedOutlines : Type 0 where
-  pub one_function : TextHasMembers bar_text AMD64 (foo_header ++ foo_short_import (codes "bar") ∷ [])
+  pub one_function : TextHasMembers bar_text AMD64
+      (foo_header ++ foo_short_import (codes "bar") ∷ [])
   pub one_function_32 : TextHasMembers bar_text ARMNT
       (foo_header_members_32 ++ foo_short_import (codes "bar") ∷ [])
-  pub one_function_arm64 : TextHasMembers bar_text ARM64 (foo_header ++ foo_short_import (codes "bar") ∷ [])
+  pub one_function_arm64 : TextHasMembers bar_text ARM64
+      (foo_header ++ foo_short_import (codes "bar") ∷ [])
   pub with_underscore : TextHasMembers bar_text I386
       (foo_header_members_32 ++ of_foo 33 (codes "__imp__bar" ∷ codes "_bar" ∷ []) ∷ [])
   pub no_export : TextHasMembers (codes "LIBRARY a.dll " ++ nul ++ codes "EXPORTS x") AMD64
@@ -160,11 +170,13 @@ pub record WorkedOutlines : Type 0 where
   -- private exports are left out, whatever they hold
   pub private_nul : HasMembers
       (of_dll (codes "foo.dll")
-      (record empty_export { name = codes "b" ++ nul; private = true } ∷ plain_export (codes "bar") ∷ []))
+      (record empty_export { name = codes "b" ++ nul; private = true } ∷ plain_export (codes "bar")
+      ∷ []))
       AMD64
       (foo_header ++ foo_short_import (codes "bar") ∷ [])
   pub private_empty : HasMembers
-      (of_dll (codes "foo.dll") (record empty_export { private = true } ∷ plain_export (codes "bar") ∷ []))
+      (of_dll (codes "foo.dll")
+      (record empty_export { private = true } ∷ plain_export (codes "bar") ∷ []))
       AMD64
       (foo_header ++ foo_short_import (codes "bar") ∷ [])
   pub symbol_name : HasMembers
@@ -172,7 +184,8 @@ pub record WorkedOutlines : Type 0 where
       (record empty_export { name = codes "foo"; symbol_name = codes "_foo@8" } ∷ [])) AMD64
       (foo_header ++ of_foo 35 (codes "__imp__foo@8" ∷ codes "_foo@8" ∷ []) ∷ [])
   pub underscore_by_ordinal : HasMembers
-      (of_dll (codes "foo.dll") (record empty_export { name = codes "_"; no_name = true; ordinal = 3 } ∷ []))
+      (of_dll (codes "foo.dll")
+      (record empty_export { name = codes "_"; no_name = true; ordinal = 3 } ∷ []))
       I386
       (foo_header_members_32 ++ of_foo 30 (codes "__imp__" ∷ codes "_" ∷ []) ∷ [])
   pub given_name : HasMembers (foo_asking (codes "_F@8") (codes "F@8")) I386
@@ -180,52 +193,64 @@ pub record WorkedOutlines : Type 0 where
   -- by ordinal no name type is looked for
   pub given_name_by_ordinal : HasMembers
       (of_dll (codes "foo.dll")
-      (record (plain_export (codes "a")) { asked_name = Some (codes "b"); no_name = true } ∷ [])) AMD64
+      (record (plain_export (codes "a")) { asked_name = Some (codes "b"); no_name = true } ∷ []))
+      AMD64
       (foo_header ++ of_foo 30 (codes "__imp_a" ∷ codes "a" ∷ []) ∷ [])
   -- only a last extension in lower case is cut off a library's name
-  pub upper_case : HasMembers (of_dll (codes "foo.DLL") []) AMD64 (header (codes "foo.DLL") [] 366 163)
+  pub upper_case : HasMembers (of_dll (codes "foo.DLL") []) AMD64
+      (header (codes "foo.DLL") [] 366 163)
   pub two_extensions : HasMembers (of_dll (codes "a.dll.exe") []) AMD64
       (header (codes "a.dll") (codes ".exe") 364 161)
 
 -- definitions that are refused
 pub record WorkedRefusals : Type 0 where
   pub no_import_name : TextIsRefused [] AMD64 EmptyImportName
-  pub nul_in_import_name : TextIsRefused (codes "LIBRARY a" ++ nul ++ codes "b") AMD64 NulInImportName
+  pub nul_in_import_name : TextIsRefused (codes "LIBRARY a" ++ nul ++ codes "b") AMD64
+      NulInImportName
   pub unclosed_quote : TextIsRefused (codes "LIBRARY foo.dll\nEXPORTS\n\"abc") AMD64 (EmptyName 0)
   pub empty_name : TextIsRefused (codes "LIBRARY foo.dll\nEXPORTS\n\"\"") AMD64 (EmptyName 0)
-  pub empty_asked_name : TextIsRefused (codes "LIBRARY foo.dll\nEXPORTS\n\"\"") I386 (EmptyAskedName 0)
+  pub empty_asked_name : TextIsRefused (codes "LIBRARY foo.dll\nEXPORTS\n\"\"") I386
+      (EmptyAskedName 0)
   pub nul_in_name : IsRefused
-      (of_dll (codes "foo.dll") (plain_export (codes "b" ++ nul) ∷ plain_export (codes "bar") ∷ [])) AMD64
+      (of_dll (codes "foo.dll") (plain_export (codes "b" ++ nul) ∷ plain_export (codes "bar") ∷ []))
+      AMD64
       (NulInExport 0)
   pub nul_in_symbol_name : IsRefused
       (of_dll (codes "foo.dll")
-      (plain_export (codes "bar") ∷ record empty_export { name = codes "foo"; symbol_name = nul } ∷ [])) AMD64
+      (plain_export (codes "bar") ∷ record empty_export { name = codes "foo"; symbol_name = nul }
+      ∷ [])) AMD64
       (NulInExport 1)
   pub nul_in_alias_target : IsRefused
       (of_dll (codes "foo.dll")
-      (plain_export (codes "bar") ∷ record empty_export { name = codes "foo"; alias_target = nul } ∷ []))
+      (plain_export (codes "bar") ∷ record empty_export { name = codes "foo"; alias_target = nul }
+      ∷ []))
       AMD64 (NulInExport 1)
   pub empty_external_name : IsRefused
       (of_dll (codes "foo.dll")
-      (plain_export (codes "bar") ∷ record empty_export { name = codes "foo"; ext_name = Some [] } ∷ []))
+      (plain_export (codes "bar") ∷ record empty_export { name = codes "foo"; ext_name = Some [] }
+      ∷ []))
       AMD64 (EmptyName 1)
   -- an empty name comes before a NUL in the other names
   pub empty_name_and_nul : IsRefused
-      (of_dll (codes "foo.dll") (record empty_export { symbol_name = nul; alias_target = nul } ∷ [])) AMD64
+      (of_dll (codes "foo.dll")
+      (record empty_export { symbol_name = nul; alias_target = nul } ∷ [])) AMD64
       (EmptyName 0)
   -- a private export is counted
   pub counted : IsRefused
-      (of_dll (codes "foo.dll") (record empty_export { private = true } ∷ plain_export [] ∷ [])) AMD64
+      (of_dll (codes "foo.dll") (record empty_export { private = true } ∷ plain_export [] ∷ []))
+      AMD64
       (EmptyName 1)
   -- the first export's fault comes first
   pub nothing_asked : IsRefused
       (of_dll (codes "foo.dll")
-      (record empty_export { name = codes "f"; symbol_name = codes "_@8" } ∷ plain_export [] ∷ [])) AMD64
+      (record empty_export { name = codes "f"; symbol_name = codes "_@8" } ∷ plain_export [] ∷ []))
+      AMD64
       (EmptyAskedName 0)
   -- a NUL in another name comes before an empty name to ask for
   pub nul_and_nothing_asked : IsRefused
       (of_dll (codes "foo.dll")
-      (record empty_export { name = codes "f"; symbol_name = codes "_@8"; alias_target = nul } ∷ [])) AMD64
+      (record empty_export { name = codes "f"; symbol_name = codes "_@8"; alias_target = nul }
+      ∷ [])) AMD64
       (NulInExport 0)
   pub no_name_type : IsRefused (foo_asking (codes "a") (codes "b")) AMD64 (NoNameType 0)
   -- a name type cuts a symbol on I386 alone
@@ -236,11 +261,13 @@ pub record WorkedRefusals : Type 0 where
   -- this symbol asks for an empty name by undecorate, and not for x by any name type
   pub no_name_type_of_symbol_name : IsRefused
       (of_dll (codes "foo.dll")
-      (record empty_export { name = codes "f"; symbol_name = codes "_@8"; asked_name = Some (codes "x") } ∷ []))
+      (record empty_export
+      { name = codes "f"; symbol_name = codes "_@8"; asked_name = Some (codes "x") } ∷ []))
       AMD64 (NoNameType 0)
   pub nothing_given : IsRefused (foo_asking (codes "a") []) AMD64 (EmptyAskedName 0)
   pub nothing_given_of_prefix : IsRefused (foo_asking (codes "_") []) AMD64 (EmptyAskedName 0)
-  pub nul_in_asked_name : IsRefused (foo_asking (codes "a") (codes "a" ++ nul)) AMD64 (NulInExport 0)
+  pub nul_in_asked_name : IsRefused (foo_asking (codes "a") (codes "a" ++ nul)) AMD64
+      (NulInExport 0)
   pub nul_in_asked_name_by_ordinal : IsRefused
       (of_dll (codes "foo.dll")
       (record (plain_export (codes "a")) { asked_name = Some nul; no_name = true } ∷ [])) AMD64
@@ -252,13 +279,15 @@ weak_for weak target = record { weak = weak; target = target }
 
 -- the aliases of each export, by the symbol of its short import
 abbrev pub aliases_written : DefinitionView → List (List Alias)
-aliases_written d = map (λ e. aliases_for (short_import_symbol e) e.alias_target) (renamed d).exports
+aliases_written d =
+    map (λ e. aliases_for (short_import_symbol e) e.alias_target) (renamed d).exports
 
 -- what is asked for, and what is weak for what
 pub record WorkedMeanings : Type 0 where
   pub asked_on_i386 : Means (codes "LIBRARY foo.dll\nEXPORTS\nfoo\n@bar@8\n_x@8\n?y") I386
       (λ d. asks d I386
-      ≡ Name (codes "foo") 0 ∷ Name (codes "@bar@8") 0 ∷ Name (codes "_x@8") 0 ∷ Name (codes "?y") 0 ∷ [])
+      ≡ Name (codes "foo") 0 ∷ Name (codes "@bar@8") 0 ∷ Name (codes "_x@8") 0 ∷ Name (codes "?y") 0
+      ∷ [])
   pub undecorated : asks
       (of_dll (codes "foo.dll")
       (record empty_export { name = codes "foo"; symbol_name = codes "_foo@8" } ∷ [])) AMD64
@@ -268,13 +297,16 @@ pub record WorkedMeanings : Type 0 where
       (λ d. asks d I386 ≡ Name (codes "f") 0 ∷ Name (codes "_g@8") 0 ∷ Ordinal 7 ∷ [])
   pub alias : Means baz_text AMD64
       (λ d. aliases_written d
-      ≡ (weak_for (codes "foo") (codes "baz") ∷ weak_for (codes "__imp_foo") (codes "__imp_baz") ∷ []) ∷ [])
+      ≡ (weak_for (codes "foo") (codes "baz") ∷ weak_for (codes "__imp_foo") (codes "__imp_baz")
+      ∷ []) ∷ [])
   pub own_alias : Means self_text I386
       (λ d. aliases_written d
-      ≡ (weak_for (codes "_foo") (codes "foo") ∷ weak_for (codes "__imp__foo") (codes "__imp_foo") ∷ []) ∷ [])
+      ≡ (weak_for (codes "_foo") (codes "foo") ∷ weak_for (codes "__imp__foo") (codes "__imp_foo")
+      ∷ []) ∷ [])
   pub no_alias : Means self_text AMD64 (λ d. aliases_written d ≡ [] ∷ [])
 
--- the header of a short import of foo.dll on AMD64, with the size of its data and the last two fields
+-- the header of a short import of foo.dll on AMD64, with the size of its data and the last two
+-- fields
 abbrev pub header_on_amd64 : ℕ → List ℕ → List ℕ
 header_on_amd64 size fields =
     0 ∷ 0 ∷ 0xFF ∷ 0xFF ∷ 0 ∷ 0 ∷ 0x64 ∷ 0x86 ∷ 0 ∷ 0 ∷ 0 ∷ 0 ∷ size ∷ 0 ∷ 0 ∷ 0 ∷ fields
@@ -285,9 +317,11 @@ pub record WorkedBytes : Type 0 where
       (header_on_amd64 0x0C (0 ∷ 0 ∷ 4 ∷ 0 ∷ []) ++ codes "bar" ++ nul ++ codes "foo.dll" ++ nul))
   pub short_import_with_symbol_name : bytes_at
       (of_dll (codes "foo.dll")
-      (record empty_export { name = codes "foo"; symbol_name = codes "_foo@8" } ∷ [])) AMD64 3 ≡ Some
+      (record empty_export { name = codes "foo"; symbol_name = codes "_foo@8" } ∷ [])) AMD64 3
+      ≡ Some
       (header_on_amd64 0x0F (0 ∷ 0 ∷ 0x0C ∷ 0 ∷ []) ++ codes "_foo@8" ++ nul ++ codes "foo.dll" ++ nul)
-  pub short_import_with_asked_name : bytes_at (foo_asking (codes "_F@8") (codes "F@8")) I386 3 ≡ Some
+  pub short_import_with_asked_name : bytes_at (foo_asking (codes "_F@8") (codes "F@8")) I386 3
+      ≡ Some
       (0 ∷ 0 ∷ 0xFF ∷ 0xFF ∷ 0 ∷ 0 ∷ 0x4C ∷ 0x01 ∷ 0 ∷ 0 ∷ 0 ∷ 0 ∷ 0x0D ∷ 0 ∷ 0 ∷ 0 ∷ 0 ∷ 0 ∷ 8 ∷ 0
       ∷ (codes "_F@8" ++ nul ++ codes "foo.dll" ++ nul))
   pub record_on_i386 : Means a_text I386 (λ d. bytes_at d I386 3 ≡ Some
@@ -299,16 +333,19 @@ pub record WorkedBytes : Type 0 where
       (λ d. option_map last_fields (bytes_at d I386 5) ≡ Some (7 ∷ 0 ∷ 0 ∷ 0 ∷ []))
   pub hint : Means (codes "LIBRARY foo.dll\nEXPORTS\nbar @258") AMD64
       (λ d. option_map last_fields (bytes_at d AMD64 3) ≡ Some (2 ∷ 1 ∷ 4 ∷ 0 ∷ []))
-  pub descriptor_header : Means bar_text AMD64 (λ d. option_map (take 20) (bytes_at d AMD64 0) ≡ Some
+  pub descriptor_header : Means bar_text AMD64
+      (λ d. option_map (take 20) (bytes_at d AMD64 0) ≡ Some
       (0x64 ∷ 0x86 ∷ 2 ∷ 0 ∷ 0 ∷ 0 ∷ 0 ∷ 0 ∷ 0x9E ∷ 0 ∷ 0 ∷ 0 ∷ 7 ∷ 0 ∷ 0 ∷ 0 ∷ 0 ∷ 0 ∷ 0 ∷ 0 ∷ []))
   -- the string table ends the file
-  pub descriptor_strings : Means bar_text AMD64 (λ d. option_map (drop 284) (bytes_at d AMD64 0) ≡ Some
+  pub descriptor_strings : Means bar_text AMD64
+      (λ d. option_map (drop 284) (bytes_at d AMD64 0) ≡ Some
       (74 ∷ 0 ∷ 0 ∷ 0
       ∷ (codes "__IMPORT_DESCRIPTOR_foo" ++ nul ++ codes "__NULL_IMPORT_DESCRIPTOR" ++ nul
       ++ 0x7F ∷ (codes "foo_NULL_THUNK_DATA" ++ nul))))
   pub weak_strings : Means baz_text AMD64 (λ d. option_map (drop 150) (bytes_at d AMD64 3) ≡ Some
       (12 ∷ 0 ∷ 0 ∷ 0 ∷ (codes "baz" ++ nul ++ codes "foo" ++ nul)))
-  pub weak_address_strings : Means baz_text AMD64 (λ d. option_map (drop 150) (bytes_at d AMD64 4) ≡ Some
+  pub weak_address_strings : Means baz_text AMD64
+      (λ d. option_map (drop 150) (bytes_at d AMD64 4) ≡ Some
       (24 ∷ 0 ∷ 0 ∷ 0 ∷ (codes "__imp_baz" ++ nul ++ codes "__imp_foo" ++ nul)))
 
 -- a function foo
@@ -326,6 +363,7 @@ pub record WorkedFields : Type 0 where
       ≡ Some (1 ∷ 0 ∷ 0 ∷ 0 ∷ [])
   pub data_by_ordinal : fields_of AMD64 (record foo { is_data = true; no_name = true; ordinal = 1 })
       ≡ Some (1 ∷ 0 ∷ 1 ∷ 0 ∷ [])
-  pub constant_by_ordinal : fields_of AMD64 (record foo { constant = true; no_name = true; ordinal = 1 })
+  pub constant_by_ordinal : fields_of AMD64
+      (record foo { constant = true; no_name = true; ordinal = 1 })
       ≡ Some (1 ∷ 0 ∷ 2 ∷ 0 ∷ [])
   pub with_underscore : fields_of I386 (plain_export (codes "_foo")) ≡ Some (0 ∷ 0 ∷ 8 ∷ 0 ∷ [])

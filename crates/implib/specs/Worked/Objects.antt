@@ -1,17 +1,20 @@
--- Objects worked by hand: those of foo.dll with all their numbers, and sizes and offsets in objects.
+-- Objects worked by hand: those of foo.dll with all their numbers, and sizes and offsets in
+-- objects.
 use Rattle.std.specs.Prelude.{◌≡◌, ℕ, ◌+◌, List, [], ◌∷◌, ◌++◌, None, Some, codes, replicate}
 use Rattle.implib.specs.declared.coff.object.Relocation.{Relocation}
 use Rattle.implib.specs.declared.machine.MachineType.TheVariants.{I386, AMD64}
 use Rattle.implib.specs.Formats.Object.{ObjectSection}
-use Rattle.implib.specs.Formats.Layout.{InRecord, InStringTable, ObjectLayout, LayoutSymbol, SymbolName}
-use Rattle.implib.specs.Formats.Layout.{contents_offset, contents_size, header_bytes, encoded_size, string_offsets}
-use Rattle.implib.specs.Formats.Layout.{strings_size, symbol_table_offset}
+use Rattle.implib.specs.Formats.Layout.{InRecord, InStringTable, ObjectLayout, LayoutSymbol}
+use Rattle.implib.specs.Formats.Layout.{SymbolName, contents_offset, contents_size, header_bytes}
+use Rattle.implib.specs.Formats.Layout.{encoded_size, string_offsets, strings_size}
+use Rattle.implib.specs.Formats.Layout.{symbol_table_offset}
 use Rattle.implib.specs.Worked.Digits.{hex}
 use Rattle.implib.specs.Worked.Machines.{Numbers, at, numbers}
 
 -- a symbol of value 0 without an auxiliary record
 abbrev pub symbol : SymbolName → ℕ → ℕ → LayoutSymbol
-symbol name section class = record { name = name; value = 0; section = section; class = class; aux = None }
+symbol name section class =
+    record { name = name; value = 0; section = section; class = class; aux = None }
 
 -- a section, by its name, its flags, its data and its relocations
 abbrev pub section : List ℕ → ℕ → List ℕ → List Relocation → ObjectSection
@@ -180,8 +183,8 @@ tail n = record {
   strings = n.iname ∷ [];
 }
 
--- the sections of an export: its code and its entry in both tables, each with its relocations, and its
--- hint and name
+-- the sections of an export: its code and its entry in both tables, each with its relocations, and
+-- its hint and name
 abbrev pub export_sections :
     Numbers → List ℕ → List Relocation → List ℕ → List Relocation → List ℕ → List ObjectSection
 export_sections n code code_relocations entry entry_relocations hint_and_name =
@@ -232,7 +235,8 @@ function n = with_code n (codes "bar") (codes "__imp_bar")
 -- a function of this name, which is asked for by this hint and name
 unfoldable pub function_asking : Numbers → List ℕ → List ℕ → List ℕ → ObjectLayout
 function_asking n name address hint_and_name = with_code n name address
-    (export_sections n n.stub n.stub_relocations n.null_thunk (at 0 3 n.image_relative ∷ []) hint_and_name)
+    (export_sections n n.stub n.stub_relocations n.null_thunk (at 0 3 n.image_relative ∷ [])
+    hint_and_name)
 
 -- the function bar by the ordinal 258
 unfoldable pub function_by_ordinal : Numbers → ObjectLayout
@@ -252,11 +256,13 @@ variable_by_ordinal n = without_code n (export_sections n [] [] n.thunk_of_258 [
 pub record WorkedObjects : Type 0 where
   pub two_names_size : encoded_size two_names ≡ 70
   pub one_section_size : encoded_size one_section ≡ 112
-  pub one_section_offsets : data_offsets_from (contents_offset one_section) one_section.sections ≡ 60 ∷ []
+  pub one_section_offsets : data_offsets_from (contents_offset one_section) one_section.sections
+      ≡ 60 ∷ []
   pub one_section_symbols : symbol_table_offset one_section ≡ 90
   pub function_size : encoded_size (function (numbers AMD64)) ≡ 474
   pub function_offsets :
-      data_offsets_from (contents_offset (function (numbers AMD64))) (function (numbers AMD64)).sections
+      data_offsets_from (contents_offset (function (numbers AMD64)))
+      (function (numbers AMD64)).sections
       ≡ 300 ∷ 318 ∷ 318 ∷ 318 ∷ 332 ∷ 350 ∷ 368 ∷ []
   pub function_symbols : symbol_table_offset (function (numbers AMD64)) ≡ 374
   pub function_strings : strings_size (function (numbers AMD64)).strings ≡ 28
@@ -269,5 +275,6 @@ pub record WorkedObjects : Type 0 where
   pub null_thunk_size : encoded_size (null_thunk (numbers AMD64)) ≡ 159
   pub null_thunk_size_32 : encoded_size (null_thunk (numbers I386)) ≡ 151
   pub weak_size : encoded_size (weak (numbers AMD64) (codes "baz") (codes "foo")) ≡ 162
-  pub weak_size_imp : encoded_size (weak (numbers AMD64) (codes "__imp_baz") (codes "__imp_foo")) ≡ 174
+  pub weak_size_imp : encoded_size (weak (numbers AMD64) (codes "__imp_baz") (codes "__imp_foo"))
+      ≡ 174
   pub weak_symbols : symbol_table_offset (weak (numbers AMD64) (codes "baz") (codes "foo")) ≡ 60

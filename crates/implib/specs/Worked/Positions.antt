@@ -1,8 +1,8 @@
 -- Positions, and the tokens that refusals name, worked by hand.
 use Rattle.std.specs.Prelude.{◌≡◌, ℕ, List, [], ◌∷◌, ◌++◌, take, codes}
 use Rattle.implib.specs.declared.def.lexer.TokenKind.TheVariants as kind
-use Rattle.implib.specs.Fault.{Cause, UnknownDirective, ExpectedIdentifier, ExpectedEqual, ExpectedInteger}
-use Rattle.implib.specs.Fault.{InvalidOrdinal, LoneAt}
+use Rattle.implib.specs.Fault.{Cause, UnknownDirective, ExpectedIdentifier, ExpectedEqual}
+use Rattle.implib.specs.Fault.{ExpectedInteger, InvalidOrdinal, LoneAt}
 use Rattle.implib.specs.Text.Parses.{RefusesAt}
 use Rattle.implib.specs.Text.Position.{line_and_column}
 
@@ -34,18 +34,22 @@ pub record WorkedPositions : Type 0 where
   pub after_comment : IsRefusedIn (codes "; x\r\n,") (UnknownDirective (codes ",")) 5 2 1
   pub no_name_without_ordinal : IsRefusedIn (codes "EXPORTS\n f\n g NONAME")
       (UnknownDirective (codes "NONAME")) 14 3 4
-  pub second_target : IsRefusedIn (codes "EXPORTS\nfoo = bar =") (UnknownDirective (codes "=")) 18 2 11
+  pub second_target : IsRefusedIn (codes "EXPORTS\nfoo = bar =") (UnknownDirective (codes "=")) 18 2
+      11
   pub missing_size : IsRefusedIn (codes "HEAPSIZE 1,") (ExpectedIdentifier kind.Eof) 11 1 12
   pub missing_size_before_nul : IsRefusedIn (codes "STACKSIZE " ++ 0 ∷ codes "5")
       (ExpectedIdentifier kind.Eof) 10 1 11
-  pub missing_size_at_last_line : IsRefusedIn (codes "STACKSIZE\n\n") (ExpectedIdentifier kind.Eof) 11 3 1
+  pub missing_size_at_last_line : IsRefusedIn (codes "STACKSIZE\n\n") (ExpectedIdentifier kind.Eof)
+      11 3 1
   pub negative_size : IsRefusedIn (codes "NAME a\nHEAPSIZE -1") ExpectedInteger 16 2 10
   -- of a quoted name, its value counts, and after the quote where the value is empty
   pub quoted_size : IsRefusedIn (codes "HEAPSIZE \" x \"") ExpectedInteger 11 1 12
   pub unclosed_size : IsRefusedIn (codes "HEAPSIZE \"1") ExpectedInteger 10 1 11
   pub three_numbers : IsRefusedIn (codes "VERSION 1.2.3") ExpectedInteger 8 1 9
-  pub base_without_sign : IsRefusedIn (codes "NAME x BASE 5") (ExpectedEqual kind.Identifier) 12 1 13
-  pub alias_without_word : IsRefusedIn (codes "EXPORTS D ===") (ExpectedIdentifier kind.Equal) 12 1 13
+  pub base_without_sign : IsRefusedIn (codes "NAME x BASE 5") (ExpectedEqual kind.Identifier) 12 1
+      13
+  pub alias_without_word : IsRefusedIn (codes "EXPORTS D ===") (ExpectedIdentifier kind.Equal) 12 1
+      13
   pub lone_at : IsRefusedIn (codes "EXPORTS 8=\n@") LoneAt 11 2 1
   pub word_for_ordinal : IsRefusedIn (codes "EXPORTS\nf @ x") (InvalidOrdinal (codes "x")) 12 2 5
   pub end_for_ordinal : IsRefusedIn (codes "EXPORTS\nf @") (ExpectedIdentifier kind.Eof) 11 2 4

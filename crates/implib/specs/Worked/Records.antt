@@ -1,12 +1,14 @@
--- Single records with another number in each of their fields, worked by hand: as they are written, and as they
--- are read.
+-- Single records with another number in each of their fields, worked by hand: as they are written,
+-- and as they are read.
 use Rattle.std.specs.Prelude.{◌≡◌, ℕ, List, [], ◌∷◌, ◌++◌, None, Some, codes}
 use Rattle.implib.specs.declared.coff.object.Place.{Place}
 use Rattle.implib.specs.declared.coff.object.Place.TheVariants.{Undefined, Section, Absolute, Debug}
 use Rattle.implib.specs.declared.coff.object.Relocation.{Relocation}
-use Rattle.implib.specs.Formats.Layout.{InRecord, InStringTable, LayoutSymbol, ObjectLayout, header_bytes}
-use Rattle.implib.specs.Formats.Layout.{relocation_bytes, section_header, symbol_bytes}
-use Rattle.implib.specs.Formats.Object.{ObjectSymbol, name_of, relocation_of, symbol_of, u16_at, u32_at}
+use Rattle.implib.specs.Formats.Layout.{InRecord, InStringTable, LayoutSymbol, ObjectLayout}
+use Rattle.implib.specs.Formats.Layout.{header_bytes, relocation_bytes, section_header}
+use Rattle.implib.specs.Formats.Layout.{symbol_bytes}
+use Rattle.implib.specs.Formats.Object.{ObjectSymbol, name_of, relocation_of, symbol_of, u16_at}
+use Rattle.implib.specs.Formats.Object.{u32_at}
 use Rattle.implib.specs.Formats.Writer.{AddedSymbol, entries_added, symbol_written}
 use Rattle.implib.specs.Formats.Object.{ASymbol}
 use Rattle.implib.specs.Worked.Digits.{hex}
@@ -14,7 +16,8 @@ use Rattle.implib.specs.Worked.Objects.{section}
 
 -- the symbol abc of a writer, with the value 0x12345678, in a place
 abbrev pub added : Place → AddedSymbol
-added place = record { name = codes "abc"; value = 0x12345678; place = place; class = 0x9A; aux = None }
+added place =
+    record { name = codes "abc"; value = 0x12345678; place = place; class = 0x9A; aux = None }
 
 -- and as it is laid out, with the number of its section
 abbrev pub laid_out : ℕ → LayoutSymbol
@@ -49,7 +52,8 @@ relocation_record = hex "78 56 34 12 f0 de bc 9a 68 24"
 
 -- the second string as the name of a symbol for a debugger, with an auxiliary record
 abbrev pub with_auxiliary : LayoutSymbol
-with_auxiliary = record (laid_out 0xFFFE) { name = InStringTable 1; aux = Some (codes "abcdefghijklmnopqr") }
+with_auxiliary =
+    record (laid_out 0xFFFE) { name = InStringTable 1; aux = Some (codes "abcdefghijklmnopqr") }
 
 -- an object of two sections that hold nothing, and three symbol records
 abbrev pub empty_object : ObjectLayout
@@ -77,12 +81,15 @@ pub record WorkedFieldsOfRecords : Type 0 where
   pub whole_name_read : name_of [] (codes "abcdefgh") ≡ Some (codes "abcdefgh")
   pub long_name : symbol_bytes (4 ∷ 0x01020304 ∷ []) with_auxiliary
       ≡ hex "00 00 00 00 04 03 02 01 78 56 34 12 fe ff 00 00 9a 01" ++ codes "abcdefghijklmnopqr"
-  pub second_string : name_of (hex "0b 00 00 00" ++ codes "ab\0cde\0") (hex "00 00 00 00 07 00 00 00") ≡ Some (codes "cde")
-  pub end_of_a_string : name_of (hex "0b 00 00 00" ++ codes "ab\0cde\0") (hex "00 00 00 00 09 00 00 00") ≡ Some (codes "e")
+  pub second_string : name_of (hex "0b 00 00 00" ++ codes "ab\0cde\0")
+      (hex "00 00 00 00 07 00 00 00") ≡ Some (codes "cde")
+  pub end_of_a_string : name_of (hex "0b 00 00 00" ++ codes "ab\0cde\0")
+      (hex "00 00 00 00 09 00 00 00") ≡ Some (codes "e")
   pub relocation_written : relocation_bytes relocation ≡ relocation_record
   pub relocation_read : relocation_of relocation_record ≡ relocation
   -- the data at an offset, and the relocations after it
-  pub section_written : section_header 0x12345678 (section (codes "sections") 0x89ABCDEF (hex "01 02 03") (relocation ∷ relocation ∷ []))
+  pub section_written : section_header 0x12345678
+      (section (codes "sections") 0x89ABCDEF (hex "01 02 03") (relocation ∷ relocation ∷ []))
       ≡ codes "sections" ++ hex "00 00 00 00 00 00 00 00 03 00 00 00 78 56 34 12 7b 56 34 12 00 00 00 00 02 00 00 00 ef cd ab 89"
   pub section_without_data : section_header 0x12345678 (section (codes "sections") 0x89ABCDEF [] [])
       ≡ codes "sections" ++ hex "00 00 00 00 00 00 00 00 00 00 00 00 00 00 00 00 00 00 00 00 00 00 00 00 00 00 00 00 ef cd ab 89"

@@ -1,5 +1,5 @@
--- Bytes, names and numbers that were made by hand so that nothing is read from them, each beside one that
--- is read and differs from it in what is wrong.
+-- Bytes, names and numbers that were made by hand so that nothing is read from them, each beside
+-- one that is read and differs from it in what is wrong.
 use Rattle.std.specs.Prelude.{◌≡◌, ℕ, List, [], ◌∷◌, ◌++◌, Some, None, codes}
 use Rattle.std.specs.List.{concat}
 use Rattle.std.specs.Option.{option_map}
@@ -14,7 +14,8 @@ use Rattle.implib.specs.Worked.Digits.{hex}
 
 -- the header of an object for AMD64 without sections, whose symbol table has at most 255 records
 abbrev pub header_with_records : List ℕ → List ℕ
-header_with_records records = hex "64 86 00 00 00 00 00 00 14 00 00 00" ++ records ++ hex "00 00 00 00 00 00 00"
+header_with_records records =
+    hex "64 86 00 00 00 00 00 00 14 00 00 00" ++ records ++ hex "00 00 00 00 00 00 00"
 
 -- the record of a symbol of three letters, from the byte after its value on
 abbrev pub symbol_record : List ℕ → List ℕ → List ℕ
@@ -81,7 +82,8 @@ missing_record = concat (
     ∷ no_strings
     ∷ [])
 
--- an undefined external whose name is in the string table, at this offset below 256, and the string table
+-- an undefined external whose name is in the string table, at this offset below 256, and the string
+-- table
 unfoldable pub named_at : List ℕ → List ℕ → List ℕ
 named_at offset strings = concat (
     header_with_records (hex "01")
@@ -89,8 +91,8 @@ named_at offset strings = concat (
     ∷ strings
     ∷ [])
 
--- An object whose section `.idata$6` has the size of one byte, and relocations of this offset and number, each
--- of one byte. Its data of 8 bytes is at 60, and the file has 72 bytes.
+-- An object whose section `.idata$6` has the size of one byte, and relocations of this offset and
+-- number, each of one byte. Its data of 8 bytes is at 60, and the file has 72 bytes.
 unfoldable pub of_section : List ℕ → List ℕ → List ℕ → List ℕ → List ℕ
 of_section size at count section_bytes = concat (
     hex "64 86 01 00 00 00 00 00 44 00 00 00 00 00 00 00 00 00 00 00"
@@ -110,34 +112,48 @@ foo_and_s = codes "foo.dlls"
 -- objects
 pub record RefusedObjects : Type 0 where
   -- the object with two weak externals is read, and is no alias
-  pub alias : meaning_in one_weak_external ≡ Some (AnAlias (record { weak = codes "foo"; target = codes "baz" }))
-  pub two_are_read : option_map declared_by (file_in two_weak_externals) ≡ Some (codes "foo" ∷ codes "bar" ∷ [])
+  pub alias : meaning_in one_weak_external
+      ≡ Some (AnAlias (record { weak = codes "foo"; target = codes "baz" }))
+  pub two_are_read : option_map declared_by (file_in two_weak_externals)
+      ≡ Some (codes "foo" ∷ codes "bar" ∷ [])
   pub two_are_no_alias : meaning_in two_weak_externals ≡ None
   pub no_target : meaning_in weak_for_no_symbol ≡ None
   pub record_for_target : meaning_in weak_for_a_record ≡ None
   pub auxiliary_record_missing : object_in missing_record ≡ None
   -- a name in the string table, whose size is in its first four bytes
-  pub name_read : option_map (λ o. o.entries) (object_in (named_at (hex "04") (hex "0a 00 00 00" ++ codes "abcde\0")))
-      ≡ Some (ASymbol (record { name = codes "abcde"; value = 0; section = 0; kind = 0; class = 2 }) ∷ [])
-  pub name_without_nul : object_in (named_at (hex "04") (hex "0a 00 00 00" ++ codes "abcdef")) ≡ None
-  pub nul_behind_the_table : object_in (named_at (hex "04") (hex "09 00 00 00" ++ codes "abcde\0")) ≡ None
-  pub name_behind_the_table : object_in (named_at (hex "0a") (hex "0a 00 00 00" ++ codes "abcde\0")) ≡ None
-  pub name_far_behind_the_table : object_in (named_at (hex "ff") (hex "0a 00 00 00" ++ codes "abcde\0")) ≡ None
-  pub table_behind_the_file : object_in (named_at (hex "04") (hex "0b 00 00 00" ++ codes "abcde\0")) ≡ None
+  pub name_read : option_map (λ o. o.entries)
+      (object_in (named_at (hex "04") (hex "0a 00 00 00" ++ codes "abcde\0")))
+      ≡ Some (ASymbol (record { name = codes "abcde"; value = 0; section = 0; kind = 0; class = 2 })
+      ∷ [])
+  pub name_without_nul : object_in (named_at (hex "04") (hex "0a 00 00 00" ++ codes "abcdef"))
+      ≡ None
+  pub nul_behind_the_table : object_in (named_at (hex "04") (hex "09 00 00 00" ++ codes "abcde\0"))
+      ≡ None
+  pub name_behind_the_table : object_in (named_at (hex "0a") (hex "0a 00 00 00" ++ codes "abcde\0"))
+      ≡ None
+  pub name_far_behind_the_table : object_in
+      (named_at (hex "ff") (hex "0a 00 00 00" ++ codes "abcde\0")) ≡ None
+  pub table_behind_the_file : object_in (named_at (hex "04") (hex "0b 00 00 00" ++ codes "abcde\0"))
+      ≡ None
   pub no_table : object_in (named_at (hex "04") []) ≡ None
   -- a section's data and relocations
-  pub dll_read : dll_in (of_section (hex "08") (hex "3e") (hex "01") foo_and_nul) ≡ Some (codes "foo.dll")
+  pub dll_read : dll_in (of_section (hex "08") (hex "3e") (hex "01") foo_and_nul)
+      ≡ Some (codes "foo.dll")
   pub dll_without_nul : dll_in (of_section (hex "08") (hex "3e") (hex "01") foo_and_s) ≡ None
-  pub nul_behind_the_section : dll_in (of_section (hex "07") (hex "3e") (hex "01") foo_and_nul) ≡ None
-  pub data_behind_the_file : object_in (of_section (hex "0d") (hex "3e") (hex "01") foo_and_nul) ≡ None
-  pub relocation_behind_the_file : object_in (of_section (hex "08") (hex "3f") (hex "01") foo_and_nul) ≡ None
+  pub nul_behind_the_section : dll_in (of_section (hex "07") (hex "3e") (hex "01") foo_and_nul)
+      ≡ None
+  pub data_behind_the_file : object_in (of_section (hex "0d") (hex "3e") (hex "01") foo_and_nul)
+      ≡ None
+  pub relocation_behind_the_file : object_in
+      (of_section (hex "08") (hex "3f") (hex "01") foo_and_nul) ≡ None
   pub two_relocations : object_in (of_section (hex "08") (hex "3e") (hex "02") foo_and_nul) ≡ None
   pub header_cut : object_in (hex "64 86 00 00 00 00 00 00 00 00 00 00 00 00 00 00 00 00 00") ≡ None
 
 -- a short import for AMD64 of the size of one byte, with its types and its texts
 unfoldable pub short_import : List ℕ → List ℕ → List ℕ → List ℕ
 short_import size types texts =
-    concat (hex "00 00 ff ff 00 00 64 86 00 00 00 00" ∷ size ∷ hex "00 00 00 00 00" ∷ types ∷ texts ∷ [])
+    concat (hex "00 00 ff ff 00 00 64 86 00 00 00 00" ∷ size ∷ hex "00 00 00 00 00" ∷ types ∷ texts
+    ∷ [])
 
 -- the texts of bar and foo.dll
 abbrev pub both_texts : List ℕ
@@ -145,28 +161,35 @@ both_texts = codes "bar\0foo.dll\0"
 
 -- short imports
 pub record RefusedShortImports : Type 0 where
-  pub function : meaning_in (short_import (hex "0c") (hex "04 00") both_texts) ≡ Some (AnImport (record {
-    dll = codes "foo.dll";
-    declared = codes "__imp_bar" ∷ codes "bar" ∷ [];
-    ask = Name (codes "bar") 0;
-  }))
+  pub function : meaning_in (short_import (hex "0c") (hex "04 00") both_texts)
+      ≡ Some (AnImport (record {
+        dll = codes "foo.dll";
+        declared = codes "__imp_bar" ∷ codes "bar" ∷ [];
+        ask = Name (codes "bar") 0;
+      }))
   -- the import types are 0 to 2, and the name types 0 to 3
-  pub greatest_types : meaning_in (short_import (hex "0c") (hex "0e 00") both_texts) ≡ Some (AnImport (record {
-    dll = codes "foo.dll";
-    declared = codes "__imp_bar" ∷ codes "bar" ∷ [];
-    ask = Name (codes "bar") 0;
-  }))
-  pub import_type_read : option_map (λ r. r.import_type) (short_import_in (short_import (hex "0c") (hex "07 00") both_texts)) ≡ Some 3
+  pub greatest_types : meaning_in (short_import (hex "0c") (hex "0e 00") both_texts)
+      ≡ Some (AnImport (record {
+        dll = codes "foo.dll";
+        declared = codes "__imp_bar" ∷ codes "bar" ∷ [];
+        ask = Name (codes "bar") 0;
+      }))
+  pub import_type_read : option_map (λ r. r.import_type)
+      (short_import_in (short_import (hex "0c") (hex "07 00") both_texts)) ≡ Some 3
   pub import_type_of_3 : meaning_in (short_import (hex "0c") (hex "07 00") both_texts) ≡ None
-  pub name_type_read : option_map (λ r. r.name_type) (short_import_in (short_import (hex "0c") (hex "10 00") both_texts)) ≡ Some 4
+  pub name_type_read : option_map (λ r. r.name_type)
+      (short_import_in (short_import (hex "0c") (hex "10 00") both_texts)) ≡ Some 4
   pub name_type_of_4 : meaning_in (short_import (hex "0c") (hex "10 00") both_texts) ≡ None
   pub name_type_of_7 : meaning_in (short_import (hex "0c") (hex "1c 00") both_texts) ≡ None
   -- the size is that of both texts, each of which ends in its NUL, and nothing follows them
   pub size_too_small : short_import_in (short_import (hex "0b") (hex "04 00") both_texts) ≡ None
   pub size_too_great : short_import_in (short_import (hex "0d") (hex "04 00") both_texts) ≡ None
-  pub dll_without_nul : short_import_in (short_import (hex "0c") (hex "04 00") (codes "bar\0foo.dlls")) ≡ None
-  pub one_text : short_import_in (short_import (hex "0c") (hex "04 00") (codes "bar_foo.dll\0")) ≡ None
-  pub three_texts : short_import_in (short_import (hex "0c") (hex "04 00") (codes "bar\0foo\0dll\0")) ≡ None
+  pub dll_without_nul : short_import_in
+      (short_import (hex "0c") (hex "04 00") (codes "bar\0foo.dlls")) ≡ None
+  pub one_text : short_import_in (short_import (hex "0c") (hex "04 00") (codes "bar_foo.dll\0"))
+      ≡ None
+  pub three_texts : short_import_in
+      (short_import (hex "0c") (hex "04 00") (codes "bar\0foo\0dll\0")) ≡ None
   pub no_texts : short_import_in (short_import (hex "00") (hex "04 00") []) ≡ None
 
 -- names and numbers that are no machine's and no flavour's

@@ -1,8 +1,11 @@
--- What tables take and nothing else: every name, number, word, ending and byte that a table does not list is left
--- as it is, or refused. Tables that list one more contradict this.
+-- What tables take and nothing else: every name, number, word, ending and byte that a table does
+-- not list is left as it is, or refused. Tables that list one more contradict this.
 use Rattle.std.specs.Prelude.{◌≡◌, ◌≢◌, ℕ, ◌⊎◌, List, [], ◌∷◌, ◌++◌, Some, codes}
 use Rattle.implib.specs.declared.def.lexer.TokenKind.{TokenKind}
-use Rattle.implib.specs.declared.def.lexer.TokenKind.TheVariants.{Identifier, KwBase, KwConstant, KwData, KwExports, KwHeapsize, KwLibrary, KwName, KwNoname, KwPrivate, KwStacksize, KwVersion}
+use Rattle.implib.specs.declared.def.lexer.TokenKind.TheVariants.{Identifier, KwBase, KwConstant}
+use Rattle.implib.specs.declared.def.lexer.TokenKind.TheVariants.{KwData, KwExports, KwHeapsize}
+use Rattle.implib.specs.declared.def.lexer.TokenKind.TheVariants.{KwLibrary, KwName, KwNoname}
+use Rattle.implib.specs.declared.def.lexer.TokenKind.TheVariants.{KwPrivate, KwStacksize, KwVersion}
 use Rattle.implib.specs.declared.flavor.Flavor.{Flavor}
 use Rattle.implib.specs.declared.flavor.Flavor.TheVariants.{Msvc, Gnu}
 use Rattle.implib.specs.declared.machine.MachineType.{MachineType}
@@ -52,7 +55,8 @@ IsCutFrom dll base = (dll ≡ base) ⊎ ((dll ≡ base ++ codes ".dll") ⊎ (dll
 pub record TakeNothingElse : Type 0 where
   pub machine_names : (name : List ℕ) (machine : MachineType) → machine_named name ≡ Some machine →
       name ≡ only_name machine
-  pub machine_numbers : (number : ℕ) (machine : MachineType) → machine_numbered number ≡ Some machine →
+  pub machine_numbers : (number : ℕ) (machine : MachineType) →
+      machine_numbered number ≡ Some machine →
       number ≡ only_number machine
   pub flavor_names : (name : List ℕ) (flavor : Flavor) → flavor_named name ≡ Some flavor →
       name ≡ only_flavor_name flavor

@@ -34,10 +34,12 @@ pub record WorkedSettings : Type 0 where
       (record empty_definition { stack_reserve = 1; stack_commit = 2 })
   pub greatest_size : Parses (codes "HEAPSIZE 18446744073709551615") AMD64
       (record empty_definition { heap_reserve = 18446744073709551615 })
-  pub plus_and_zeros : Parses (codes "HEAPSIZE +0007") AMD64 (record empty_definition { heap_reserve = 7 })
+  pub plus_and_zeros : Parses (codes "HEAPSIZE +0007") AMD64
+      (record empty_definition { heap_reserve = 7 })
   pub version : Parses (codes "VERSION 1.2") AMD64
       (record empty_definition { major_image_version = 1; minor_image_version = 2 })
-  pub lone_major : Parses (codes "VERSION 1") AMD64 (record empty_definition { major_image_version = 1 })
+  pub lone_major : Parses (codes "VERSION 1") AMD64
+      (record empty_definition { major_image_version = 1 })
   pub greatest_version : Parses (codes "VERSION 4294967295.0") AMD64
       (record empty_definition { major_image_version = 4294967295 })
   pub minor_above_16_bits : Parses (codes "VERSION 1.70000") AMD64
@@ -51,7 +53,8 @@ pub record WorkedSettings : Type 0 where
   pub commit_above_32_bits : Parses (codes "STACKSIZE 4294967296,8589934592") AMD64
       (record empty_definition { stack_reserve = 4294967296; stack_commit = 8589934592 })
   pub name : Parses (codes "NAME foo") AMD64 (of_name (codes "foo"))
-  pub comment_before : Parses (codes ";\n; comment\nLIBRARY foo.dll") AMD64 (of_name (codes "foo.dll"))
+  pub comment_before : Parses (codes ";\n; comment\nLIBRARY foo.dll") AMD64
+      (of_name (codes "foo.dll"))
   pub quoted_keyword : Parses (codes "LIBRARY \"NAME\"") AMD64 (of_name (codes "NAME"))
   pub based : Parses (codes "NAME a.exe BASE=4096") AMD64
       (record empty_definition { import_name = codes "a.exe"; image_base = 4096 })
@@ -80,7 +83,8 @@ pub record WorkedExports : Type 0 where
   pub no_ordinal : Parses (codes "EXPORTS\nfoo @70000") AMD64
       (of_exports (plain_export (codes "foo") ∷ plain_export (codes "@70000") ∷ []))
   pub apart_ordinal : Parses (codes "EXPORTS\n\tf@8 @ 1 NONAME DATA ; x") I386
-      (of_exports (record empty_export { name = codes "f@8"; ordinal = 1; no_name = true; is_data = true }
+      (of_exports (record empty_export
+      { name = codes "f@8"; ordinal = 1; no_name = true; is_data = true }
       ∷ []))
   pub quoted_ordinal : Parses (codes "EXPORTS f @ \"7\"") AMD64
       (of_exports (record empty_export { name = codes "f"; ordinal = 7 } ∷ []))
@@ -116,7 +120,8 @@ pub record WorkedExports : Type 0 where
       ∷ []))
   pub greatest_ordinal : Parses (codes "EXPORTS f @65535") AMD64
       (of_exports (record empty_export { name = codes "f"; ordinal = 65535 } ∷ []))
-  pub no_keywords : Parses (codes "EXPORTS\nCONST\nSECTIONS\nDESCRIPTION\nIMPORTS\nEXPORT\nBASED\ndata DATA") AMD64
+  pub no_keywords : Parses
+      (codes "EXPORTS\nCONST\nSECTIONS\nDESCRIPTION\nIMPORTS\nEXPORT\nBASED\ndata DATA") AMD64
       (of_exports
       (plain_export (codes "CONST")
       ∷ plain_export (codes "SECTIONS")
@@ -140,7 +145,8 @@ pub record WorkedExports : Type 0 where
 pub record WorkedRefusals : Type 0 where
   pub word : Refuses (codes "foo") (UnknownDirective (codes "foo"))
   pub comma : Refuses (codes ",") (UnknownDirective (codes ","))
-  pub no_name_without_ordinal : Refuses (codes "EXPORTS foo NONAME") (UnknownDirective (codes "NONAME"))
+  pub no_name_without_ordinal : Refuses (codes "EXPORTS foo NONAME")
+      (UnknownDirective (codes "NONAME"))
   pub second_target : Refuses (codes "EXPORTS\nfoo = bar =") (UnknownDirective (codes "="))
   pub missing_size : Refuses (codes "HEAPSIZE 1,") (ExpectedIdentifier kind.Eof)
   pub size_too_great : Refuses (codes "HEAPSIZE 18446744073709551616") ExpectedInteger
@@ -172,7 +178,8 @@ front n = take n (codes "EXPORTS\nfoo = bar == baz @ 1 NONAME")
 -- the front of n bytes means a definition with `count` exports
 abbrev pub HasExports : ℕ → ℕ → Type 0
 HasExports count n =
-    (definition : DefinitionView) × Parses (front n) AMD64 definition × (length definition.exports ≡ count)
+    (definition : DefinitionView) × Parses (front n) AMD64 definition
+    × (length definition.exports ≡ count)
 
 -- every front of that text, by its length
 pub record WorkedFronts : Type 0 where
@@ -183,5 +190,6 @@ pub record WorkedFronts : Type 0 where
   pub part_of_directive : AllByRecursion (λ n. Refuses (front n) (UnknownDirective (front n)))
       (1 ∷ 2 ∷ 3 ∷ 4 ∷ 5 ∷ 6 ∷ [])
   pub second_sign : Refuses (front 19) (UnknownDirective (codes "="))
-  pub word_or_ordinal_expected : AllByRecursion (λ n. Refuses (front n) (ExpectedIdentifier kind.Eof))
+  pub word_or_ordinal_expected : AllByRecursion
+      (λ n. Refuses (front n) (ExpectedIdentifier kind.Eof))
       (13 ∷ 14 ∷ 20 ∷ 21 ∷ 26 ∷ 27 ∷ [])

@@ -26,7 +26,8 @@ ideographic_space = 0xE3 ∷ 0x80 ∷ 0x80 ∷ []
 pub record WorkedTokens : Type 0 where
   -- a sign is a token of its own, two `=` are one, and a quoted keyword is a name
   pub signs : Lexed (codes "=,==\"CODE\"BASE;")
-      (token kind.Equal (codes "=") 0 ∷ token kind.Comma (codes ",") 1 ∷ token kind.EqualEqual (codes "==") 2
+      (token kind.Equal (codes "=") 0 ∷ token kind.Comma (codes ",") 1
+      ∷ token kind.EqualEqual (codes "==") 2
       ∷ identifier (codes "CODE") 5 ∷ token kind.KwBase (codes "BASE") 10 ∷ eof 15 ∷ [])
   pub three_equal_signs : Lexed (codes "===")
       (token kind.EqualEqual (codes "==") 0 ∷ token kind.Equal (codes "=") 2 ∷ eof 3 ∷ [])
@@ -35,7 +36,8 @@ pub record WorkedTokens : Type 0 where
   -- the end of the text, and a NUL that ends it
   pub empty : Lexed [] (eof 0 ∷ [])
   pub nul : Lexed (codes "\0") (eof 0 ∷ [])
-  pub ignored_after_nul : Lexed (codes "a.dll \0EXPORTS x") (identifier (codes "a.dll") 0 ∷ eof 6 ∷ [])
+  pub ignored_after_nul : Lexed (codes "a.dll \0EXPORTS x")
+      (identifier (codes "a.dll") 0 ∷ eof 6 ∷ [])
   -- words of one character, a comment and a quoted name
   pub words : Lexed (codes "a=b;c\n\"d e\" f")
       (identifier (codes "a") 0
@@ -46,21 +48,24 @@ pub record WorkedTokens : Type 0 where
       ∷ eof 13
       ∷ [])
   -- a NUL in a comment, a word or a quoted name ends nothing
-  pub nul_in_comment : Lexed (codes "; a\0b\nDATA") (token kind.KwData (codes "DATA") 6 ∷ eof 10 ∷ [])
+  pub nul_in_comment : Lexed (codes "; a\0b\nDATA")
+      (token kind.KwData (codes "DATA") 6 ∷ eof 10 ∷ [])
   pub nul_in_word : Lexed (codes "LIBRARY a\0b")
       (token kind.KwLibrary (codes "LIBRARY") 0 ∷ identifier (codes "a\0b") 8 ∷ eof 11 ∷ [])
   pub nul_in_name : Lexed (codes "\"a\0b\"") (identifier (codes "a\0b") 1 ∷ eof 5 ∷ [])
-  -- a quoted name is trimmed, and is right after its quote where nothing is left; unclosed, it is empty
+  -- a quoted name is trimmed, and is right after its quote where nothing is left; unclosed, it is
+  -- empty
   pub blank_name : Lexed (codes "\" \"") (identifier [] 1 ∷ eof 3 ∷ [])
   pub trimmed_name : Lexed (codes "\" a b \"") (identifier (codes "a b") 2 ∷ eof 7 ∷ [])
   pub quotes_in_word : Lexed (codes "x\"y\"") (identifier (codes "x\"y\"") 0 ∷ eof 4 ∷ [])
   pub unclosed_quote : Lexed (codes "LIBRARY \"a.dll")
       (token kind.KwLibrary (codes "LIBRARY") 0 ∷ identifier [] 9 ∷ eof 14 ∷ [])
-  -- white space that is no delimiter, as a form feed, divides no word, but is skipped before one and trimmed
-  -- after it
+  -- white space that is no delimiter, as a form feed, divides no word, but is skipped before one
+  -- and trimmed after it
   pub form_feeds : Lexed (codes "a\u{c}b\nc\u{c}\n")
       (identifier (codes "a\u{c}b") 0 ∷ identifier (codes "c") 4 ∷ eof 7 ∷ [])
-  pub other_spaces : Lexed (no_break_space ++ codes "NAME" ++ em_space ++ codes "x" ++ ideographic_space)
+  pub other_spaces : Lexed
+      (no_break_space ++ codes "NAME" ++ em_space ++ codes "x" ++ ideographic_space)
       (identifier (codes "NAME" ++ em_space ++ codes "x") 2 ∷ eof 13 ∷ [])
   -- each keyword, words that are none, and each delimiter
   pub keywords : Lexed

@@ -22,10 +22,10 @@ pub struct ShortExport {
     /// it empty. It has no effect for GNU's linker.
     pub symbol_name: String,
     /// The name that the DLL is asked for, if it is not what the symbol says: whole, without the
-    /// `_` of I386. Parsing leaves it `None`. For Microsoft's linker it has to be the short import's
-    /// symbol or, on I386, what a name type makes of that; on other machines linkers cut a symbol
-    /// in two ways. `ImportLibrary::members` refuses any other with `NoNameType`. It has no effect
-    /// beside `no_name`.
+    /// `_` of I386. Parsing leaves it `None`. For Microsoft's linker it has to be the short
+    /// import's symbol or, on I386, what a name type makes of that; on other machines linkers cut a
+    /// symbol in two ways. `ImportLibrary::members` refuses any other with `NoNameType`. It has no
+    /// effect beside `no_name`.
     pub asked_name: Option<String>,
     /// The alias target (`==`): what the linker symbol is a weak external for; empty for none.
     pub alias_target: String,

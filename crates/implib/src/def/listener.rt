@@ -24,7 +24,8 @@ pub trait Listener {
     /// Hears the next token, and its role.
     fn hear(&mut self, role: Role, token: Token<'_>)
         ensures { (start : Self) (heard : List Heard) → has_heard start self.old heard
-            → has_heard start self.new (heard ++ (record { role = role; token = token_view token.entry }) ∷ []) };
+            → has_heard start self.new
+            (heard ++ (record { role = role; token = token_view token.entry }) ∷ []) };
 }
 
 /// A listener that does nothing.

@@ -40,8 +40,8 @@ impl Position {
         BEGINNING.advanced(bytes, offset)
     }
 
-    /// The position of a later offset in the bytes in which this is a position, in one pass over those
-    /// between them.
+    /// The position of a later offset in the bytes in which this is a position, in one pass over
+    /// those between them.
     pub fn advanced(self, bytes: &[u8], offset: usize) -> Position
         requires at { self ≡ position_at bytes.now self.offset }
         requires order { self.offset ≤ offset }

@@ -1,4 +1,5 @@
-//! Objects of exports for GNU's linker that are kept as what they say, and made when they are wanted.
+//! Objects of exports for GNU's linker that are kept as what they say, and made when they are
+//! wanted.
 
 ghost use Rattle.implib.specs.Definition.{export_view};
 ghost use Rattle.implib.specs.Formats.Layout.{contents_size, encoded, encoded_size};
@@ -15,8 +16,8 @@ ghost use Rattle.implib.specs.Views.KeptObjects.{kept_export, kept_name, kept_vi
 ghost use Rattle.implib.specs.Views.KeptObjects.{long_name_size, stub_size};
 ghost use Rattle.std.specs.List.{slice_get, sum_by};
 ghost use Rattle.std.specs.Option.{option_map};
-ghost use Rattle.std.specs.Prelude.{string_bytes, true, ℕ, min};
-ghost use Rattle.std.specs.Prelude.{◌≡◌, ◌≤◌, ◌∷◌, [], IfOk, IfSome, List, MatchOption, None, OnOk, false, length};
+ghost use Rattle.std.specs.Prelude.{string_bytes, true, ℕ, min, ◌≡◌, ◌≤◌, ◌∷◌, [], IfOk, IfSome};
+ghost use Rattle.std.specs.Prelude.{List, MatchOption, None, OnOk, false, length};
 
 use crate::def::definition::ShortExport;
 use crate::error::{Error, Fault};
@@ -176,7 +177,8 @@ impl KeptObject {
     // symbol of the head is never that of an address.
     fn names_size(&self, head: &str) -> usize
         requires { HasAddress self.now }
-        ensures { (machine : MachineType) → (linked : List ℕ) → head.now ≡ head_symbol machine linked
+        ensures { (machine : MachineType) → (linked : List ℕ) →
+            head.now ≡ head_symbol machine linked
             → result ≡ min u64.MAX
             (sum_by string_size (long_names (export_symbols head.now (kept_export self.now)))) }
     {

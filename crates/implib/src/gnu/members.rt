@@ -17,7 +17,8 @@ ghost use Rattle.implib.specs.Members.WeakExternal.{weak_spec};
 ghost use Rattle.implib.specs.Members.KeptMembers.{kept_members};
 ghost use Rattle.implib.specs.Members.NameRules.{names_refusal};
 ghost use Rattle.implib.specs.Views.KeptObjects.{KeepsObjects};
-ghost use Rattle.implib.specs.Views.MakingKept.{MakesKept, is_public_alias, kept_specs, public_among};
+ghost use Rattle.implib.specs.Views.MakingKept.{MakesKept, is_public_alias, kept_specs};
+ghost use Rattle.implib.specs.Views.MakingKept.{public_among};
 ghost use Rattle.implib.specs.Members.ReadBack.{ReadBack};
 ghost use Rattle.implib.specs.Renaming.{is_renamed};
 ghost use Rattle.implib.specs.declared.flavor.Flavor.TheVariants.{Gnu};
@@ -182,7 +183,8 @@ fn tail_member(
     dll: &str,
 ) -> Result<Member, Error>
     requires { holds 0 library.now ≡ false }
-    ensures { MakesMember (tail_spec machine (record { linked = library.now; text = dll.now })) result }
+    ensures { MakesMember (tail_spec machine (record { linked = library.now; text = dll.now }))
+        result }
 {
     let symbol = iname_symbol(alloc, machine, library)?;
     let bytes = tail_object(alloc, machine, library, dll, symbol.as_str())?;

@@ -20,7 +20,8 @@ fn position_of_full_stop(text: &[u8]) -> Option<usize>
 
 // Appends the library's name with each full stop as an underscore.
 fn push_mangled_name(out: &mut String, library: &str) -> Result<(), AllocError>
-    ensures { OnOk result (string_bytes out.new ≡ string_bytes out.old ++ mangled_name library.now) }
+    ensures { OnOk result
+        (string_bytes out.new ≡ string_bytes out.old ++ mangled_name library.now) }
 {
     let mut rest = library;
     while let Some(position) = position_of_full_stop(rest.as_bytes()) {
@@ -74,7 +75,8 @@ fn numbered_name(
     letter: &str,
     number: usize,
 ) -> Result<String, AllocError>
-    ensures { IfOk result (λ name. string_bytes name ≡ numbered_name library.now letter.now number) }
+    ensures { IfOk result
+        (λ name. string_bytes name ≡ numbered_name library.now letter.now number) }
 {
     let mut name = mangled_name_with(alloc, library, "_a_")?;
     name.push_str(letter)?;

@@ -314,7 +314,8 @@ fn write_export(
     machine: MachineType,
     symbols: &[SymbolRow],
 ) -> Result<Vec<u8>, Error>
-    requires { CanBeHeld (object_with machine (export_view export.now) (map symbol_row symbols.now)) }
+    requires { CanBeHeld
+        (object_with machine (export_view export.now) (map symbol_row symbols.now)) }
     ensures { EncodesObject (layout_of
         (object_with machine (export_view export.now) (map symbol_row symbols.now))) result }
 {

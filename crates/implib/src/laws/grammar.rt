@@ -7,7 +7,8 @@ ghost use Rattle.implib.specs.Text.Parses.{InGrammar, IsIllFormed, Parses, Refus
 ghost use Rattle.implib.specs.Text.SyntaxError.{IsSyntaxError, HasSyntaxError};
 ghost use Rattle.implib.specs.Text.Token.{EndsInEof, TokenView};
 ghost use Rattle.implib.specs.Worked.Positions.{WorkedLines, WorkedPositions};
-ghost use Rattle.implib.specs.Worked.Statements.{WorkedExports, WorkedFronts, WorkedRefusals, WorkedSettings};
+ghost use Rattle.implib.specs.Worked.Statements.{WorkedExports, WorkedFronts, WorkedRefusals};
+ghost use Rattle.implib.specs.Worked.Statements.{WorkedSettings};
 ghost use Rattle.implib.specs.declared.machine.MachineType.{MachineType};
 ghost use Rattle.std.specs.Prelude.{◌≡◌, ◌≤◌, ◌⊎◌, ℕ, length, List};
 

@@ -12,7 +12,9 @@ ghost use Rattle.implib.specs.Members.Members.{AreMembersOf};
 ghost use Rattle.implib.specs.Formats.Object.{object_in};
 ghost use Rattle.implib.specs.Renaming.{renamed};
 ghost use Rattle.implib.specs.Link.Linked.{AllLink, Links};
-ghost use Rattle.implib.specs.Link.LinkedMembers.{IsAscending, IsLinkInput, NoneIsPrefix, all_linked, bases_of, member_prefix, chosen_exports, linked_members, objects_in};
+ghost use Rattle.implib.specs.Link.LinkedMembers.{IsAscending, IsLinkInput, NoneIsPrefix};
+ghost use Rattle.implib.specs.Link.LinkedMembers.{all_linked, bases_of, member_prefix};
+ghost use Rattle.implib.specs.Link.LinkedMembers.{chosen_exports, linked_members, objects_in};
 ghost use Rattle.implib.specs.Worked.Links.{WorkedLinks};
 ghost use Rattle.implib.specs.declared.flavor.Flavor.TheVariants.{Gnu};
 ghost use Rattle.std.specs.List.{AllByRecursion, Contains, IsDistinct, flat_map};
@@ -97,10 +99,12 @@ pub fn gnu_links_many(
 pub fn loads_once()
     ensures dll { (image : List Range) (width descriptor : ℕ) (dll other : List ℕ)
         (asks others : List Ask) →
-        Loads image width descriptor dll asks → Loads image width descriptor other others → dll ≡ other }
+        Loads image width descriptor dll asks →
+        Loads image width descriptor other others → dll ≡ other }
     ensures asks { (image : List Range) (width descriptor : ℕ) (dll other : List ℕ)
         (asks others : List Ask) →
-        Loads image width descriptor dll asks → Loads image width descriptor other others → asks ≡ others }
+        Loads image width descriptor dll asks →
+        Loads image width descriptor other others → asks ≡ others }
 {}
 
 /// Members that were linked by hand have these tables and addresses.

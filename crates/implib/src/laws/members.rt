@@ -1,6 +1,7 @@
 //! Members that were worked by hand.
 
-ghost use Rattle.implib.specs.Worked.Members.{WorkedBytes, WorkedFields, WorkedMeanings, WorkedOutlines, WorkedRefusals};
+ghost use Rattle.implib.specs.Worked.Members.{WorkedBytes, WorkedFields, WorkedMeanings};
+ghost use Rattle.implib.specs.Worked.Members.{WorkedOutlines, WorkedRefusals};
 ghost use Rattle.implib.specs.Worked.Gnu.{WorkedGnuBytes, WorkedGnuOutlines, WorkedGnuRefusals};
 ghost use Rattle.implib.specs.Worked.MemberSpecs.{WorkedLists, WorkedMemberSpecs};
 ghost use Rattle.implib.specs.Worked.OlderSymbols.{WorkedOlderBytes, WorkedOlderOutlines};

@@ -6,7 +6,9 @@ ghost use Rattle.implib.specs.Worked.Layouts.{WorkedLayouts};
 ghost use Rattle.implib.specs.Worked.Objects.{WorkedObjects};
 ghost use Rattle.implib.specs.Worked.Records.{WorkedFieldsOfRecords};
 ghost use Rattle.implib.specs.Worked.Refused.{RefusedNames, RefusedObjects, RefusedShortImports};
-ghost use Rattle.implib.specs.Worked.Tables.{WorkedAskedNames, WorkedGnuNames, WorkedGnuTables, WorkedMsvcTables, WorkedNameTypes, WorkedNames, WorkedRecords};
+ghost use Rattle.implib.specs.Worked.Tables.{WorkedAskedNames, WorkedGnuNames, WorkedGnuTables};
+ghost use Rattle.implib.specs.Worked.Tables.{WorkedMsvcTables, WorkedNameTypes, WorkedNames};
+ghost use Rattle.implib.specs.Worked.Tables.{WorkedRecords};
 ghost use Rattle.std.specs.Prelude.{◌<◌, ◌^◌, ◌≡◌, ℕ, List, Some, length};
 
 use crate::machine::MachineType;

@@ -1,6 +1,7 @@
 //! Laws of the tokens of a text.
 
-ghost use Rattle.implib.specs.Text.Token.{DividesOnce, EndsInEof, IsKnown, IsSliceOf, Lexed, LexedOnce, TokenView};
+ghost use Rattle.implib.specs.Text.Token.{DividesOnce, EndsInEof, IsKnown, IsSliceOf, Lexed};
+ghost use Rattle.implib.specs.Text.Token.{LexedOnce, TokenView};
 ghost use Rattle.implib.specs.Worked.Tokens.{WorkedTokens};
 ghost use Rattle.std.specs.List.{AllByRecursion};
 ghost use Rattle.std.specs.Prelude.{List};

@@ -21,8 +21,8 @@ ghost use Rattle.implib.specs.declared.flavor.Flavor.TheVariants.{Msvc};
 ghost use Rattle.implib.specs.Views.Making.{MakesLists, MakesMembers, PushesAlias, PushesKept};
 ghost use Rattle.implib.specs.Views.Making.{PushesListed, PushesMembers};
 ghost use Rattle.std.specs.List.{list_all, sum_by};
-ghost use Rattle.std.specs.Prelude.{[], None, Some, false, map, string_bytes, true, ◌+◌, ◌∷◌, ◌≡◌, IfOk, OnOk};
-ghost use Rattle.std.specs.Prelude.{min};
+ghost use Rattle.std.specs.Prelude.{[], None, Some, false, map, string_bytes, true, ◌+◌, ◌∷◌, ◌≡◌};
+ghost use Rattle.std.specs.Prelude.{IfOk, OnOk, min};
 
 use crate::def::definition::{ModuleDef, ShortExport};
 use crate::error::Error;
@@ -83,8 +83,8 @@ fn named_members(def: &ModuleDef, machine: MachineType) -> Result<Vec<Member>, E
     build(def, machine, library.as_str())
 }
 
-/// The name that the members have and that their symbols are named after: the library's, with `.dll`,
-/// or the DLL's.
+/// The name that the members have and that their symbols are named after: the library's, with
+/// `.dll`, or the DLL's.
 ///
 /// # Errors
 ///

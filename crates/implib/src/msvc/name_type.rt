@@ -2,7 +2,8 @@
 //! Type"; docs/FORMATS.md, "Short imports").
 
 ghost use Rattle.implib.specs.Ascii.{at_sign};
-ghost use Rattle.implib.specs.Formats.ShortImport.{asked_by_name_type, before_at_sign, without_prefix};
+ghost use Rattle.implib.specs.Formats.ShortImport.{asked_by_name_type, before_at_sign};
+ghost use Rattle.implib.specs.Formats.ShortImport.{without_prefix};
 ghost use Rattle.std.specs.List.{position};
 ghost use Rattle.std.specs.Prelude.{◌==◌, ◌≡◌};
 

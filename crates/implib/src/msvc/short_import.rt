@@ -21,8 +21,9 @@ ghost use Rattle.implib.specs.Formats.ShortImport.{asked_by_name_type, before_at
 ghost use Rattle.implib.specs.Formats.ShortImport.{without_prefix};
 ghost use Rattle.std.specs.List.{list_all, list_any, position};
 ghost use Rattle.implib.specs.declared.machine.MachineType.{MachineType};
-ghost use Rattle.std.specs.Prelude.{false, map, nat_lt, string_bytes, true, ◌+◌, ◌++◌, ◌<◌, ◌∷◌, ◌==◌, ◌≡◌, ℕ, List, []};
-ghost use Rattle.std.specs.Prelude.{◌≤◌, IfNone, IfOk, IfSome, OnOk, length, option_map};
+ghost use Rattle.std.specs.Prelude.{false, map, nat_lt, string_bytes, true, ◌+◌, ◌++◌, ◌<◌, ◌∷◌};
+ghost use Rattle.std.specs.Prelude.{◌==◌, ◌≡◌, ℕ, List, [], ◌≤◌, IfNone, IfOk, IfSome, OnOk};
+ghost use Rattle.std.specs.Prelude.{length, option_map};
 
 use crate::coff::constants::import_type::{IMPORT_CODE, IMPORT_CONST, IMPORT_DATA};
 use crate::coff::pass::Pass;
@@ -34,13 +35,14 @@ use crate::machine::MachineType;
 use crate::member::Member;
 use std::alloc::{AllocError, Global};
 
-// The size in bytes of the header of a short import, and of the NULs after its symbol and its last text.
+// The size in bytes of the header of a short import, and of the NULs after its symbol and its last
+// text.
 const RECORD_HEADER_SIZE: usize = 20;
 
 const RECORD_NULS: usize = 2;
 
-/// The import type of an export's short import: data for one with DATA, else a constant for one with
-/// CONSTANT, else code ("Import Type").
+/// The import type of an export's short import: data for one with DATA, else a constant for one
+/// with CONSTANT, else code ("Import Type").
 pub fn import_type(export: &ShortExport) -> u16
     ensures number { result ≡ import_type_of (export_view export.now) }
     ensures at_most { result ≤ IMPORT_CONST }
@@ -54,8 +56,8 @@ pub fn import_type(export: &ShortExport) -> u16
     }
 }
 
-/// What a short import says (PE/COFF specification, "Import Library Format"; docs/FORMATS.md, "Short
-/// imports").
+/// What a short import says (PE/COFF specification, "Import Library Format"; docs/FORMATS.md,
+/// "Short imports").
 #[derive(Clone, Copy, Debug)]
 pub struct ShortImport<'a> {
     /// The machine that it is for.
@@ -64,7 +66,8 @@ pub struct ShortImport<'a> {
     pub ordinal: u16,
     /// "Import Type", at most 3.
     pub import_type: u16,
-    /// "Import Name Type", at most 7: how the name that the DLL is asked for follows from the symbol.
+    /// "Import Name Type", at most 7: how the name that the DLL is asked for follows from the
+    /// symbol.
     pub name_type: u16,
     /// The symbol.
     pub symbol: &'a str,
@@ -105,7 +108,8 @@ fn put_dll_texts(pass: &mut Pass, dll: &str, third: Option<&str>)
     ensures puts { Puts pass.old pass.new
         (dll_texts dll.now (option_map (λ name. name.now) third.entry) ++ 0 ∷ []) }
     ensures left { pass.new.left
-        + (length (dll_texts dll.now (option_map (λ name. name.now) third.entry)) + 1) ≡ pass.old.left }
+        + (length (dll_texts dll.now (option_map (λ name. name.now) third.entry)) + 1)
+        ≡ pass.old.left }
 {
     pass.put_bytes(dll.as_bytes());
     if let Some(name) = third {
@@ -207,8 +211,8 @@ fn short_import_bytes<'a>(
     import.to_bytes(alloc)
 }
 
-/// The archive symbols of a short import by this symbol: of the import's address and, where it is no
-/// data, of the import itself.
+/// The archive symbols of a short import by this symbol: of the import's address and, where it is
+/// no data, of the import itself.
 ///
 /// # Errors
 ///

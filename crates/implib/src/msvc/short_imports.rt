@@ -10,8 +10,8 @@ ghost use Rattle.implib.specs.Members.MsvcMembers.{short_import_spec};
 ghost use Rattle.implib.specs.Views.KeptImports.{IsKept, KeepsMembers, kept_import, kept_symbol};
 ghost use Rattle.implib.specs.Views.KeptImports.{kept_view};
 ghost use Rattle.std.specs.List.{slice_get};
-ghost use Rattle.std.specs.Prelude.{string_bytes, true, ℕ};
-ghost use Rattle.std.specs.Prelude.{◌≡◌, ◌≤◌, ◌==◌, ◌∷◌, [], IfOk, IfSome, List, MatchOption, None, OnOk, false, length};
+ghost use Rattle.std.specs.Prelude.{string_bytes, true, ℕ, ◌≡◌, ◌≤◌, ◌==◌, ◌∷◌, [], IfOk, IfSome};
+ghost use Rattle.std.specs.Prelude.{List, MatchOption, None, OnOk, false, length};
 
 use crate::coff::constants::import_type::IMPORT_DATA;
 use crate::def::definition::ShortExport;

@@ -1,6 +1,7 @@
 //! Names, archives and lists of members at the bounds.
 
-ghost use Rattle.implib_archive.specs.Refused.{ReadNames, RefusedArchives, WorkedBounds, WorkedFields};
+ghost use Rattle.implib_archive.specs.Refused.{ReadNames, RefusedArchives, WorkedBounds};
+ghost use Rattle.implib_archive.specs.Refused.{WorkedFields};
 
 /// Names at the bounds of a header's field, archives that are wrong in one place, and members at
 /// the bounds of what an archive can carry.

@@ -1,8 +1,9 @@
 //! Whether what the last call put is what other crates make of the same text.
 //!
-//! - `members` tells whether it encodes the members that `implib` makes, as `include/implib.h` says, and
-//!   `archive` whether it is their archive by `implib_archive`.
-//! - `written FLAGS` tells whether it is the library that the program `implib_dlltool` writes of the text:
+//! - `members` tells whether it encodes the members that `implib` makes, as `include/implib.h`
+//!   says, and `archive` whether it is their archive by `implib_archive`.
+//! - `written FLAGS` tells whether it is the library that the program `implib_dlltool` writes of
+//!   the text:
 //!   of the letters `k`, `n`, `a` and `d` each stands for an option, and `-` for none.
 
 use super::given::Given;

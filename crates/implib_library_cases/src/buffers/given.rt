@@ -1,9 +1,10 @@
 //! What a case sets: the arguments of the calls.
 //!
-//! - What a line makes (`crate::lines`) is appended to what is begun. `text`, `library` and `dll` have what is
-//!   begun be that argument, and begin anew.
+//! - What a line makes (`crate::lines`) is appended to what is begun. `text`, `library` and `dll`
+//!   have what is begun be that argument, and begin anew.
 //! - `made` has the library be what the last call put.
-//! - `machine NUMBER`, `flavor NUMBER` and `flags NUMBER` set these, and `named NAME` the name of the DLL.
+//! - `machine NUMBER`, `flavor NUMBER` and `flags NUMBER` set these, and `named NAME` the name of
+//!   the DLL.
 //! - `export FLAGS ORDINAL NAME TARGET` adds an export; `''` is no text.
 
 use crate::lines::{bytes_made, word_of};

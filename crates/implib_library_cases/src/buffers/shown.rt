@@ -1,11 +1,12 @@
 //! What is asked of what a call put, and of what C calls without a buffer for an answer.
 //!
-//! - `length` tells how many bytes the last call put, `put` these bytes, 16 to a line; `first COUNT` the first of them; and
-//!   `numbers COUNT` the first numbers of 8 bytes, the low byte first.
+//! - `length` tells how many bytes the last call put, `put` these bytes, 16 to a line; `first
+//!   COUNT` the first of them; and `numbers COUNT` the first numbers of 8 bytes, the low byte
+//!   first.
 //! - `holds TEXT` tells how often they have a text.
 //! - `position OFFSET` asks for the line and column of an offset in the text.
-//! - `status NUMBER` tells the text of a status, in a buffer of 32 bytes, and whether a buffer that is too
-//!   short for it stays as it was. `version` tells the version.
+//! - `status NUMBER` tells the text of a status, in a buffer of 32 bytes, and whether a buffer that
+//!   is too short for it stays as it was. `version` tells the version.
 
 use super::given::Given;
 use crate::lines::count_in;

@@ -3,12 +3,12 @@
 //! - `call WORDS` calls it with these arguments.
 //! - `retried WORDS` calls it once more where memory was refused.
 //! - `run MACHINE FLAVOUR` makes a run by itself, and tells the text of the error.
-//! - `perform WORDS` calls it with a command line, the program's name included, and `unread KIND` with one
-//!   that cannot be read.
+//! - `perform WORDS` calls it with a command line, the program's name included, and `unread KIND`
+//!   with one that cannot be read.
 //! - `apart WORDS` calls it for each document by itself, with ample devices, and tells whether the
 //!   listings, one after another, are what was written last.
-//! - `each_read STEP COUNT WORDS` and `each_write STEP COUNT WORDS` call it with a device that moves
-//!   at most STEP bytes in a call, and fails after no call, after one, and so on below COUNT.
+//! - `each_read STEP COUNT WORDS` and `each_write STEP COUNT WORDS` call it with a device that
+//!   moves at most STEP bytes in a call, and fails after no call, after one, and so on below COUNT.
 
 use super::devices::{AMPLE, MemorySink, MemorySource, Pace, SINGLE};
 use super::outcome::{Answers, Outcome, push_late, push_outcome};

@@ -1,12 +1,13 @@
 //! What is asked of listings.
 //!
-//! - `list` lists the members of the case, and `each_list STEP COUNT` lists them to writers that move at
-//!   most STEP bytes in a call, and fail after no call, after one, and so on below COUNT: it tells whether
-//!   what such a writer has is a beginning of what was kept.
-//! - `whole` tells what was written last, `heads` its lines that name members and symbols, `end COUNT`
-//!   its last lines, `sum` its length and a sum of its bytes, and `members` how many members it has.
-//! - `same` tells whether it is what was kept, and `begins COUNT` whether it is a beginning of that, not
-//!   the whole, with more than this many bytes.
+//! - `list` lists the members of the case, and `each_list STEP COUNT` lists them to writers that
+//!   move at most STEP bytes in a call, and fail after no call, after one, and so on below COUNT:
+//!   it tells whether what such a writer has is a beginning of what was kept.
+//! - `whole` tells what was written last, `heads` its lines that name members and symbols, `end
+//!   COUNT` its last lines, `sum` its length and a sum of its bytes, and `members` how many members
+//!   it has.
+//! - `same` tells whether it is what was kept, and `begins COUNT` whether it is a beginning of
+//!   that, not the whole, with more than this many bytes.
 
 use super::devices::{MemorySink, Pace};
 use super::outcome::{Answers, push_late};

@@ -1,11 +1,11 @@
 //! Readers and writers of std as the program's devices.
 //!
-//! - `streams WORDS` calls the program over a reader and a writer in memory, and `single WORDS` over such
-//!   that move one byte a call.
-//! - `reader ANSWER WORDS` and `writer ANSWER WORDS` call it over one whose first call is answered so,
-//!   `fault` for an error, and later ones with all.
-//! - `read ANSWER` reads four bytes from such a reader, and `write ANSWER COUNT` writes so many to such a
-//!   writer.
+//! - `streams WORDS` calls the program over a reader and a writer in memory, and `single WORDS`
+//!   over such that move one byte a call.
+//! - `reader ANSWER WORDS` and `writer ANSWER WORDS` call it over one whose first call is answered
+//!   so, `fault` for an error, and later ones with all.
+//! - `read ANSWER` reads four bytes from such a reader, and `write ANSWER COUNT` writes so many to
+//!   such a writer.
 
 ghost use Rattle.std.specs.Prelude.{◌≤◌, IfOk};
 

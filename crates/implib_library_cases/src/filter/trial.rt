@@ -1,13 +1,13 @@
 //! What a case sets: the input, members, and the devices.
 //!
-//! - What a line makes (`crate::lines`) is appended to the input. `input` begins it anew. `document` begins a
-//!   further document, after a separating line.
-//! - `member NAME BYTES` adds a member, and `counted COUNT TIMES NAME` one of this many bytes, which are
-//!   the numbers from 0 modulo 251, with a name this many times. `lists SYMBOL..` has the last one listed
-//!   for symbols.
-//! - `reads STEP CALLS` and `writes STEP CALLS` set how many bytes a device moves in a call at most, and
-//!   how many calls succeed, `any` for all. `tears` has the writer take half of the bytes of a call that
-//!   fails.
+//! - What a line makes (`crate::lines`) is appended to the input. `input` begins it anew.
+//!   `document` begins a further document, after a separating line.
+//! - `member NAME BYTES` adds a member, and `counted COUNT TIMES NAME` one of this many bytes,
+//!   which are the numbers from 0 modulo 251, with a name this many times. `lists SYMBOL..` has the
+//!   last one listed for symbols.
+//! - `reads STEP CALLS` and `writes STEP CALLS` set how many bytes a device moves in a call at
+//!   most, and how many calls succeed, `any` for all. `tears` has the writer take half of the bytes
+//!   of a call that fails.
 //! - `keep` keeps what was written last.
 
 use super::devices::{AMPLE, Pace};

@@ -1,10 +1,10 @@
 //! The calls for one linker, which give the members of a text.
 //!
 //! - `each` asks for the lengths of the members by the calls for one linker.
-//! - `lists` asks for the members for Microsoft's linker in three lists: the lengths of the first and the
-//!   last, and the short imports.
-//! - `kept` asks for those for GNU's whose objects are made when they are wanted: the lengths of the
-//!   members before, and the objects.
+//! - `lists` asks for the members for Microsoft's linker in three lists: the lengths of the first
+//!   and the last, and the short imports.
+//! - `kept` asks for those for GNU's whose objects are made when they are wanted: the lengths of
+//!   the members before, and the objects.
 //! - `older` asks for those with older symbols of addresses.
 //! - `count` asks how many members a library and its copy have.
 

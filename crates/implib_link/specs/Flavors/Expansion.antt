@@ -1,21 +1,25 @@
--- Expansion: a linker takes a short import for the object that it stands for (PE/COFF specification, "Import
--- Library Format"): a thunk in the address table and one in the lookup table, the hint and the name, a stub
--- for code, and its symbols. The specification names the symbols; the sections are those of this project's
--- model (docs/FORMATS.md, "Placement").
-use Rattle.std.specs.Prelude.{ℕ, ◌+◌, ◌-◌, Bool, ◌&&◌, ◌==◌, nat_le, not, List, [], ◌∷◌, ◌++◌, codes, Option, Some, None, if◌then◌else◌}
+-- Expansion: a linker takes a short import for the object that it stands for (PE/COFF
+-- specification, "Import Library Format"): a thunk in the address table and one in the lookup
+-- table, the hint and the name, a stub for code, and its symbols. The specification names the
+-- symbols; the sections are those of this project's model (docs/FORMATS.md, "Placement").
+use Rattle.std.specs.Prelude.{ℕ, ◌+◌, ◌-◌, Bool, ◌&&◌, ◌==◌, nat_le, not, List, [], ◌∷◌, ◌++◌}
+use Rattle.std.specs.Prelude.{codes, Option, Some, None, if◌then◌else◌}
 use Rattle.std.specs.Option.{option_and_then, option_map}
 use Rattle.implib.specs.declared.coff.object.Relocation.{Relocation}
 use Rattle.implib.specs.declared.machine.MachineType.{MachineType}
 use Rattle.implib.specs.Ascii.{full_stop, holds}
 use Rattle.implib.specs.Formats.Bytes.{u16_bytes}
-use Rattle.implib.specs.Formats.Constants.{align_2bytes, align_4bytes, class_external, class_static, cnt_code, cnt_initialized_data, mem_execute_read, mem_read_write, section_undefined}
+use Rattle.implib.specs.Formats.Constants.{align_2bytes, align_4bytes, class_external, class_static}
+use Rattle.implib.specs.Formats.Constants.{cnt_code, cnt_initialized_data, mem_execute_read}
+use Rattle.implib.specs.Formats.Constants.{mem_read_write, section_undefined}
 use Rattle.implib.specs.Formats.File.{File, ObjectFile, ShortImportFile, file_in}
 use Rattle.implib.specs.Members.Gnu.{section, stub_bytes, stub_relocations, text_name}
 use Rattle.implib.specs.Import.{Ask, Name, Ordinal, imp_symbol}
 use Rattle.implib.specs.Members.ImportTables.{relocation, thunk_flags, thunk_width, zeros}
 use Rattle.implib.specs.Machine.{machine_number}
 use Rattle.implib.specs.Formats.Object.{ASymbol, Entry, Object, ObjectSection}
-use Rattle.implib.specs.Formats.ShortImport.{ShortImport, ask_of_short_import, import_code, import_const, import_data, import_name_undecorate}
+use Rattle.implib.specs.Formats.ShortImport.{ShortImport, ask_of_short_import, import_code}
+use Rattle.implib.specs.Formats.ShortImport.{import_const, import_data, import_name_undecorate}
 use Rattle.implib_link.specs.Flavors.SectionSymbols.{with_section_symbols}
 
 -- what an import is used for ("Import Type")
@@ -48,7 +52,8 @@ abbrev pub entry : List ℕ → ℕ → ℕ → Entry
 entry name number class =
     ASymbol (record { name = name; value = 0; section = number; kind = 0; class = class })
 
--- the thunk that asks so: an ordinal with the top bit set, or zeros for the address of a hint and a name
+-- the thunk that asks so: an ordinal with the top bit set, or zeros for the address of a hint and a
+-- name
 abbrev pub thunk_asking : MachineType → Ask → List ℕ
 thunk_asking machine (Ordinal n) = u16_bytes n ++ (zeros (thunk_width machine - 3) ++ 0x80 ∷ [])
 thunk_asking machine (Name text hint) = zeros (thunk_width machine)
@@ -87,15 +92,17 @@ stub_relocations_for machine Code = stub_relocations machine 2
 stub_relocations_for machine Data = []
 stub_relocations_for machine Constant = []
 
--- the symbol itself: of the stub for code, of the entry of the address table for a constant, none for data
+-- the symbol itself: of the stub for code, of the entry of the address table for a constant, none
+-- for data
 abbrev pub use_entries : List ℕ → Use → List Entry
 use_entries symbol Code = entry symbol 1 class_external ∷ []
 use_entries symbol Data = []
 use_entries symbol Constant = entry symbol 2 class_external ∷ []
 
--- The object by which a DLL is asked so, under a symbol and for a use. For example, for bar of foo.dll on
--- AMD64, as code and by its name: `.text` of 8 bytes, `.idata$5` and `.idata$4` of 8 zeros, and `.idata$6`,
--- `00 00 62 61 72 00`; `__imp_bar` is in `.idata$5`, `bar` in `.text`, `__IMPORT_DESCRIPTOR_foo` undefined.
+-- The object by which a DLL is asked so, under a symbol and for a use. For example, for bar of
+-- foo.dll on AMD64, as code and by its name: `.text` of 8 bytes, `.idata$5` and `.idata$4` of 8
+-- zeros, and `.idata$6`, `00 00 62 61 72 00`; `__imp_bar` is in `.idata$5`, `bar` in `.text`,
+-- `__IMPORT_DESCRIPTOR_foo` undefined.
 unfoldable pub import_object : MachineType → List ℕ → List ℕ → Ask → Use → Object
 import_object machine dll symbol ask use_kind = record {
   machine = machine_number machine;
@@ -119,14 +126,16 @@ import_object machine dll symbol ask use_kind = record {
 
 -- whether a short import is for a machine and has a name type of the specification
 abbrev pub is_import_for : MachineType → ShortImport → Bool
-is_import_for machine r = (r.machine == machine_number machine) && nat_le r.name_type import_name_undecorate
+is_import_for machine r =
+    (r.machine == machine_number machine) && nat_le r.name_type import_name_undecorate
 
--- the object that a short import stands for: none, where it is for another machine, or one of its types is
--- none of the specification's
+-- the object that a short import stands for: none, where it is for another machine, or one of its
+-- types is none of the specification's
 abbrev pub expansion : MachineType → ShortImport → Option Object
 expansion machine r =
     if is_import_for machine r
-    then option_map (import_object machine r.dll r.symbol (ask_of_short_import r)) (use_of r.import_type)
+    then option_map (import_object machine r.dll r.symbol (ask_of_short_import r))
+    (use_of r.import_type)
     else None
 
 -- what a linker for a machine takes a file for

@@ -1,6 +1,9 @@
--- What lld imports by the short imports that it took, and where their `__imp_` symbols are: grouped by DLL in the
--- order of the first of each, and within a DLL in the order of symbols, as lld-link 14 and 19 do; docs/LINKERS.md.
-use Rattle.std.specs.Prelude.{◌≡◌, ℕ, ◌+◌, ◌*◌, ◌^◌, ◌<◌, Bool, ◌&&◌, true, false, List, [], ◌∷◌, ◌++◌, bytes_eq, codes, length, map, nat_le, nat_lt, slice_get, Option, Some, None, if◌then◌else◌}
+-- What lld imports by the short imports that it took, and where their `__imp_` symbols are: grouped
+-- by DLL in the order of the first of each, and within a DLL in the order of symbols, as lld-link
+-- 14 and 19 do; docs/LINKERS.md.
+use Rattle.std.specs.Prelude.{◌≡◌, ℕ, ◌+◌, ◌*◌, ◌^◌, ◌<◌, Bool, ◌&&◌, true, false, List, [], ◌∷◌}
+use Rattle.std.specs.Prelude.{◌++◌, bytes_eq, codes, length, map, nat_le, nat_lt, slice_get, Option}
+use Rattle.std.specs.Prelude.{Some, None, if◌then◌else◌}
 use Rattle.std.specs.List.{AllByRecursion, Contains, IsDistinct}
 use Rattle.std.specs.Option.{option_and_then}
 use Rattle.implib.specs.declared.machine.MachineType.{MachineType}
@@ -116,12 +119,14 @@ imp_symbols_of taken = map (λ r. imp_symbol r.symbol) taken
 -- `agree`: DLLs whose names differ by case alone are called alike;
 -- `placed`, `none_before`, `none_behind`: no other object defines one of their `__imp_` symbols;
 -- `pieces`: the image has the tables.
-pub record IsLldProgram (machine : MachineType) (descriptors addresses : ℕ) (taken : List ShortImport)
+pub record IsLldProgram (machine : MachineType) (descriptors addresses : ℕ)
+    (taken : List ShortImport)
     (image : List Range) (linked : List Placed) : Type 0 where
   pub writable : AllByRecursion
       (λ r. IsImportable (record { dll = r.dll; asks = ask_of_short_import r ∷ [] })) taken
   pub distinct : IsDistinct bytes_eq (imp_symbols_of taken)
-  pub agree : (r s : ShortImport) → Contains taken r → Contains taken s → in_small r.dll ≡ in_small s.dll →
+  pub agree : (r s : ShortImport) → Contains taken r → Contains taken s →
+      in_small r.dll ≡ in_small s.dll →
       r.dll ≡ s.dll
   pub before : List Placed
   pub behind : List Placed
@@ -131,14 +136,16 @@ pub record IsLldProgram (machine : MachineType) (descriptors addresses : ℕ) (t
   pub lookups : ℕ
   pub hints : ℕ
   pub names : ℕ
-  pub pieces : ArePiecesAt machine image descriptors lookups addresses hints names (imports_of_lld taken)
+  pub pieces : ArePiecesAt machine image descriptors lookups addresses hints names
+      (imports_of_lld taken)
   pub starts : AllByRecursion (λ r. 0 < r.start) image
   pub ends : AllByRecursion (λ r. range_end r < 2 ^ 31) image
 
--- A short import is imported by the i-th descriptor, at the j-th entry of its table: a strict loader finds its DLL
--- there, the j-th ask is its own, and its `__imp_` symbol has the address of this entry, also where any object leaves
--- it undefined.
-pub record IsImportedBy (machine : MachineType) (descriptors addresses : ℕ) (taken : List ShortImport)
+-- A short import is imported by the i-th descriptor, at the j-th entry of its table: a strict
+-- loader finds its DLL there, the j-th ask is its own, and its `__imp_` symbol has the address of
+-- this entry, also where any object leaves it undefined.
+pub record IsImportedBy (machine : MachineType) (descriptors addresses : ℕ)
+    (taken : List ShortImport)
     (image : List Range) (linked : List Placed) (r : ShortImport) : Type 0 where
   pub i : ℕ
   pub j : ℕ
@@ -154,7 +161,8 @@ pub record IsImportedBy (machine : MachineType) (descriptors addresses : ℕ) (t
         name = imp_symbol r.symbol;
         address = Some (loads.plain.addresses + thunk_width machine * j);
       } ∷ []
-  pub gets : GetsAddress linked (imp_symbol r.symbol) (loads.plain.addresses + thunk_width machine * j)
+  pub gets : GetsAddress linked (imp_symbol r.symbol)
+      (loads.plain.addresses + thunk_width machine * j)
 
 -- What lld's tables give:
 -- `directory`: at the descriptors is a directory of exactly these imports;

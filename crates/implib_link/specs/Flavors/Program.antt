@@ -1,7 +1,8 @@
--- Programs of DLLs in either flavour: objects that are linked, among them what a linker takes the chosen
--- members of several DLLs for, each made for Microsoft's linker or for GNU's, and what ends their directory. The
--- others hold no part of the import tables and claim no symbol of the members.
-use Rattle.std.specs.Prelude.{◌≡◌, ℕ, ◌+◌, ◌*◌, ◌%◌, false, not, List, [], ◌∷◌, ◌++◌, bytes_eq, length, map, slice_get, Some, if◌then◌else◌}
+-- Programs of DLLs in either flavour: objects that are linked, among them what a linker takes the
+-- chosen members of several DLLs for, each made for Microsoft's linker or for GNU's, and what ends
+-- their directory. The others hold no part of the import tables and claim no symbol of the members.
+use Rattle.std.specs.Prelude.{◌≡◌, ℕ, ◌+◌, ◌*◌, ◌%◌, false, not, List, [], ◌∷◌, ◌++◌, bytes_eq}
+use Rattle.std.specs.Prelude.{length, map, slice_get, Some, if◌then◌else◌}
 use Rattle.std.specs.List.{AllByRecursion, Contains, IsDistinct, filter, filter_map, flat_map}
 use Rattle.implib.specs.declared.flavor.Flavor.{Flavor}
 use Rattle.implib.specs.declared.flavor.Flavor.TheVariants.{Gnu, Msvc}
@@ -18,7 +19,8 @@ use Rattle.implib.specs.Link.Load.{LoadsStrictly}
 use Rattle.implib.specs.Members.MemberSpec.{MemberSpec, MemberView, member_of}
 use Rattle.implib.specs.Members.Members.{AreMembersOf}
 use Rattle.implib.specs.Members.Msvc.{short_import_symbol}
-use Rattle.implib.specs.Members.MsvcMembers.{descriptor_spec, null_descriptor_spec, null_thunk_spec, short_import_spec}
+use Rattle.implib.specs.Members.MsvcMembers.{descriptor_spec, null_descriptor_spec, null_thunk_spec}
+use Rattle.implib.specs.Members.MsvcMembers.{short_import_spec}
 use Rattle.implib.specs.Members.MsvcObjects.{descriptor_symbol, null_descriptor_symbol}
 use Rattle.implib.specs.Members.NameRules.{asked_in}
 use Rattle.implib.specs.Formats.Object.{Object}
@@ -27,10 +29,12 @@ use Rattle.implib.specs.Link.Resolution.{definitions_of}
 use Rattle.implib_link.specs.Directory.{DirectoryAt, Imported}
 use Rattle.implib_link.specs.Flavors.Expansion.{descriptor_symbol_by_name, expanded_in}
 use Rattle.implib_link.specs.Gnu.Packed.{group_end}
-use Rattle.implib_link.specs.Gnu.Program.{ClaimsNone, GetsAddress, HaveSame, has_tables, names_claimed_in, null_descriptor, thunks_before, with_tables}
+use Rattle.implib_link.specs.Gnu.Program.{ClaimsNone, GetsAddress, HaveSame, has_tables}
+use Rattle.implib_link.specs.Gnu.Program.{names_claimed_in, null_descriptor, thunks_before}
+use Rattle.implib_link.specs.Gnu.Program.{with_tables}
 
--- an input of a link in a flavour: a definition, its members for this flavour's linker, and the numbers of
--- the chosen exports
+-- an input of a link in a flavour: a definition, its members for this flavour's linker, and the
+-- numbers of the chosen exports
 pub record FlavorInput : Type 0 where
   pub flavor : Flavor
   pub input : LinkInput
@@ -71,8 +75,9 @@ abbrev pub descriptor_in : Flavor → MachineType → NamesOfDll → List ℕ
 descriptor_in Msvc machine dll = descriptor_symbol dll.linked
 descriptor_in Gnu machine dll = head_symbol machine dll.linked
 
--- the specifications of what is linked: for Microsoft's linker the import descriptor, the short imports of
--- the chosen exports and the null thunk, for GNU's the head, the chosen exports' members and the tail
+-- the specifications of what is linked: for Microsoft's linker the import descriptor, the short
+-- imports of the chosen exports and the null thunk, for GNU's the head, the chosen exports' members
+-- and the tail
 abbrev pub specs_in : Flavor → DefinitionView → MachineType → List ℕ → List MemberSpec
 specs_in Msvc d machine chosen =
     descriptor_spec machine (names_for Msvc d)
@@ -82,7 +87,8 @@ specs_in Gnu d machine chosen = linked_specs d machine chosen
 
 -- what is linked of an input
 abbrev pub members_linked : MachineType → FlavorInput → List MemberView
-members_linked machine p = map member_of (specs_in p.flavor p.input.definition machine p.input.chosen)
+members_linked machine p =
+    map member_of (specs_in p.flavor p.input.definition machine p.input.chosen)
 
 -- what is linked of all inputs, one after another
 abbrev pub all_members : MachineType → List FlavorInput → List MemberView
@@ -96,20 +102,20 @@ symbols_listed members = flat_map (λ m. m.symbols) members
 abbrev pub objects_taken : MachineType → List MemberView → List Object
 objects_taken machine members = filter_map (λ m. expanded_in machine m.bytes) members
 
--- the null descriptor of a library for Microsoft's linker, by its name for the linker; all libraries have the
--- same, but for its name
+-- the null descriptor of a library for Microsoft's linker, by its name for the linker; all
+-- libraries have the same, but for its name
 abbrev pub null_member : MachineType → List ℕ → MemberView
 null_member machine dll = member_of (null_descriptor_spec machine dll)
 
--- Linkers find a DLL's descriptor: GNU's members name it, and for Microsoft's the symbol that is looked for
--- by the DLL's name is the descriptor's. For example, that of foo.dll is found; that of foo.drv is found where
--- its library has the name foo, and not where it has none.
+-- Linkers find a DLL's descriptor: GNU's members name it, and for Microsoft's the symbol that is
+-- looked for by the DLL's name is the descriptor's. For example, that of foo.dll is found; that of
+-- foo.drv is found where its library has the name foo, and not where it has none.
 abbrev pub IsFoundByName : Flavor → NamesOfDll → Type 0
 IsFoundByName Msvc dll = descriptor_symbol_by_name dll.text ≡ descriptor_symbol dll.linked
 IsFoundByName Gnu dll = Unit {0}
 
--- What ends the import directory: the linker's own null descriptor, behind all members, or the null descriptor of a
--- library for Microsoft's linker, which is among them.
+-- What ends the import directory: the linker's own null descriptor, behind all members, or the null
+-- descriptor of a library for Microsoft's linker, which is among them.
 pub data Ending : Type 0 where
   OfLinker : Ending
   OfMember : Ending
@@ -120,11 +126,11 @@ WhereMember OfLinker fact = Unit {0}
 WhereMember OfMember fact = fact
 
 -- A library's null descriptor ends the directory:
--- `null_from`: an input for Microsoft's linker, whose null descriptor is linked, put in anywhere (`before`,
--- `behind`) among the members (`members`);
+-- `null_from`: an input for Microsoft's linker, whose null descriptor is linked, put in anywhere
+-- (`before`, `behind`) among the members (`members`);
 -- `tables`: the objects with import tables are what these are taken for.
-pub record AreEndedByMember (machine : MachineType) (inputs : List FlavorInput) (objects : List Object)
-    : Type 0 where
+pub record AreEndedByMember (machine : MachineType) (inputs : List FlavorInput)
+    (objects : List Object) : Type 0 where
   pub null_from : FlavorInput
   pub null_held : Contains inputs null_from
   pub null_flavor : null_from.flavor ≡ Msvc
@@ -132,15 +138,17 @@ pub record AreEndedByMember (machine : MachineType) (inputs : List FlavorInput) 
   pub behind : List MemberView
   pub members : before ++ behind ≡ all_members machine inputs
   pub tables : filter has_tables objects
-      ≡ objects_taken machine (before ++ null_member machine (linked_dll null_from.input.definition) ∷ behind)
+      ≡ objects_taken machine
+      (before ++ null_member machine (linked_dll null_from.input.definition) ∷ behind)
 
 -- The linker's null descriptor ends the directory:
 -- `gnu`: all members are for GNU's linker, since the others name a library's null descriptor;
 -- `tables`: the objects with import tables are the members and, after them, the null descriptor.
-pub record AreEndedByLinker (machine : MachineType) (inputs : List FlavorInput) (objects : List Object)
-    : Type 0 where
+pub record AreEndedByLinker (machine : MachineType) (inputs : List FlavorInput)
+    (objects : List Object) : Type 0 where
   pub gnu : AllByRecursion (λ p. p.flavor ≡ Gnu) inputs
-  pub tables : filter has_tables objects ≡ objects_in (all_members machine inputs) ++ null_descriptor ∷ []
+  pub tables : filter has_tables objects
+      ≡ objects_in (all_members machine inputs) ++ null_descriptor ∷ []
 
 -- the objects with import tables, by what ends the directory
 abbrev pub AreEnded : Ending → MachineType → List FlavorInput → List Object → Type 0
@@ -150,14 +158,16 @@ AreEnded OfMember machine inputs objects = AreEndedByMember machine inputs objec
 -- the symbols that the members are listed for, and a library's null descriptor
 abbrev pub own_names : Ending → MachineType → List FlavorInput → List (List ℕ)
 own_names OfLinker machine inputs = symbols_listed (all_members machine inputs)
-own_names OfMember machine inputs = null_descriptor_symbol ∷ symbols_listed (all_members machine inputs)
+own_names OfMember machine inputs =
+    null_descriptor_symbol ∷ symbols_listed (all_members machine inputs)
 
--- What may be linked with the members of these inputs, objects with the full names of their sections, as
--- `object_by_full_names` reads them:
+-- What may be linked with the members of these inputs, objects with the full names of their
+-- sections, as `object_by_full_names` reads them:
 -- `distinct`: no two members are listed for one symbol;
--- `ended`: the objects with import tables are what the members are taken for, and what ends the directory;
--- `others`: the other objects are anywhere before, between and after, and claim none of the members'
--- symbols;
+-- `ended`: the objects with import tables are what the members are taken for, and what ends the
+-- directory;
+-- `others`: the other objects are anywhere before, between and after, and claim none of the
+-- members' symbols;
 -- `found`: linkers find each descriptor by its DLL's name.
 pub record AreProgramObjects (machine : MachineType) (ending : Ending) (inputs : List FlavorInput)
     (objects : List Object) : Type 0 where
@@ -167,24 +177,29 @@ pub record AreProgramObjects (machine : MachineType) (ending : Ending) (inputs :
       (filter (λ o. not (has_tables o)) objects)
   pub found : AllByRecursion (λ p. IsFoundByName p.flavor (dll_names_in p)) inputs
 
--- A program of such objects: the bases are admissible; where a library's null descriptor ends the directory, the
--- tables begin at multiples of a thunk's width, and `.idata$3` begins where `.idata$2` ends.
-pub record IsProgramOf (machine : MachineType) (ending : Ending) (bases : Bases) (inputs : List FlavorInput)
+-- A program of such objects: the bases are admissible; where a library's null descriptor ends the
+-- directory, the tables begin at multiples of a thunk's width, and `.idata$3` begins where
+-- `.idata$2` ends.
+pub record IsProgramOf (machine : MachineType) (ending : Ending) (bases : Bases)
+    (inputs : List FlavorInput)
     (objects : List Object) : Type 0 where
   pub held : AreProgramObjects machine ending inputs objects
   pub admissible : IsAdmissible machine bases objects
   pub lookups : WhereMember ending (bases.lookups % thunk_width machine ≡ 0)
   pub addresses : WhereMember ending (bases.addresses % thunk_width machine ≡ 0)
-  pub follows : WhereMember ending (bases.directory_ends ≡ group_end Descriptors bases.descriptors objects)
+  pub follows : WhereMember ending
+      (bases.directory_ends ≡ group_end Descriptors bases.descriptors objects)
 
--- these symbols are at entries of `width` bytes, one after another from an address on, and nowhere else
+-- these symbols are at entries of `width` bytes, one after another from an address on, and nowhere
+-- else
 unfoldable pub SymbolsAt : List Placed → ℕ → ℕ → List (List ℕ) → Type 0
 SymbolsAt linked width address [] = Unit {0}
 SymbolsAt linked width address (name ∷ names) =
     (definitions_of name linked ≡ record { name = name; address = Some address } ∷ [])
     × SymbolsAt linked width (address + width) names
 
--- an undefined symbol of each of these names, in any object that is linked, has the address of its own entry
+-- an undefined symbol of each of these names, in any object that is linked, has the address of its
+-- own entry
 unfoldable pub SymbolsGet : List Placed → ℕ → ℕ → List (List ℕ) → Type 0
 SymbolsGet linked width address [] = Unit {0}
 SymbolsGet linked width address (name ∷ names) =
@@ -192,32 +207,35 @@ SymbolsGet linked width address (name ∷ names) =
 
 -- what a program imports by an input
 abbrev pub imported_in : MachineType → FlavorInput → Imported
-imported_in machine p = record { dll = dll_of p; asks = map (ask_in p.flavor machine) (exports_chosen p) }
+imported_in machine p =
+    record { dll = dll_of p; asks = map (ask_in p.flavor machine) (exports_chosen p) }
 
 -- the `__imp_` symbols of the chosen exports
 abbrev pub imp_symbols : FlavorInput → List (List ℕ)
 imp_symbols p = map (λ e. imp_symbol (symbol_in p.flavor e)) (exports_chosen p)
 
--- A DLL's chosen exports are imported by the descriptor at an address, whose symbol has this address: a
--- strict loader finds the DLL and what they ask for, the address table is at this address, and `__imp_`
--- symbols are its entries.
+-- A DLL's chosen exports are imported by the descriptor at an address, whose symbol has this
+-- address: a strict loader finds the DLL and what they ask for, the address table is at this
+-- address, and `__imp_` symbols are its entries.
 pub record InputImports (machine : MachineType) (image : List Range) (linked : List Placed)
     (descriptor table : ℕ) (p : FlavorInput) : Type 0 where
   pub top : definitions_of (descriptor_in p.flavor machine (dll_names_in p)) linked
-      ≡ record { name = descriptor_in p.flavor machine (dll_names_in p); address = Some descriptor } ∷ []
+      ≡ record { name = descriptor_in p.flavor machine (dll_names_in p); address = Some descriptor }
+      ∷ []
   pub loads : LoadsStrictly image (thunk_width machine) descriptor (dll_of p)
       (map (ask_in p.flavor machine) (exports_chosen p))
   pub table_located : loads.plain.addresses ≡ table
   pub entries : SymbolsAt linked (thunk_width machine) table (imp_symbols p)
   pub gets : SymbolsGet linked (thunk_width machine) table (imp_symbols p)
 
--- what is linked of an input are members of it, and a linker takes each for an object; for Microsoft's linker
--- they have a null descriptor, too
+-- what is linked of an input are members of it, and a linker takes each for an object; for
+-- Microsoft's linker they have a null descriptor, too
 pub record IsTaken (machine : MachineType) (p : FlavorInput) : Type 0 where
   pub from_members : AllByRecursion (Contains p.input.members) (members_linked machine p)
   pub read : map (λ m. expanded_in machine m.bytes) (members_linked machine p)
       ≡ map Some (objects_taken machine (members_linked machine p))
-  pub null : p.flavor ≡ Msvc → Contains p.input.members (null_member machine (linked_dll p.input.definition))
+  pub null : p.flavor ≡ Msvc →
+      Contains p.input.members (null_member machine (linked_dll p.input.definition))
 
 -- the thunks in the tables of the first few DLLs, with the null thunks that end them
 abbrev pub thunks_of : ℕ → List FlavorInput → ℕ
@@ -233,24 +251,28 @@ AreClaimed OfMember claimed own = HaveSame claimed own
 -- `imports`: the i-th DLL's descriptor is the i-th from the descriptors' base, its address table is
 -- after those of the DLLs before it, and its imports are as above;
 -- `directory`: at the base is a directory of exactly these imports;
--- `null`: where it is a library's null descriptor that ends it, its symbol has this address (`ended`);
+-- `null`: where it is a library's null descriptor that ends it, its symbol has this address
+-- (`ended`);
 -- `targets`: every relocation of a member finds its target;
 -- `defined`: every symbol that a member leaves to others is defined once, at an address;
 -- `listed`: every symbol that a member is listed for is defined once;
--- `claimed`: the names that the members claim are those that they are listed for, a library's null descriptor's
--- with them, and no others.
-pub record ProgramLinks (machine : MachineType) (ending : Ending) (bases : Bases) (inputs : List FlavorInput)
+-- `claimed`: the names that the members claim are those that they are listed for, a library's null
+-- descriptor's with them, and no others.
+pub record ProgramLinks (machine : MachineType) (ending : Ending) (bases : Bases)
+    (inputs : List FlavorInput)
     (objects : List Object) : Type 0 where
   pub linked : AllByRecursion (IsTaken machine) inputs
   pub imports : (i : ℕ) (p : FlavorInput) → slice_get inputs i ≡ Some p →
-      InputImports machine (image_of machine bases (placed_from bases objects)) (placed_from bases objects)
+      InputImports machine (image_of machine bases (placed_from bases objects))
+      (placed_from bases objects)
       (bases.descriptors + 20 * i) (bases.addresses + thunk_width machine * thunks_of i inputs) p
   pub directory : DirectoryAt (image_of machine bases (placed_from bases objects))
       (thunk_width machine) bases.descriptors (map (imported_in machine) inputs)
   pub null : WhereMember ending (definitions_of null_descriptor_symbol (placed_from bases objects)
       ≡ record { name = null_descriptor_symbol; address = Some bases.directory_ends } ∷ [])
   pub ended : WhereMember ending (bases.directory_ends ≡ bases.descriptors + 20 * length inputs)
-  pub targets : AllByRecursion (AllFind (placed_from bases objects)) (with_tables (placed_from bases objects))
+  pub targets : AllByRecursion (AllFind (placed_from bases objects))
+      (with_tables (placed_from bases objects))
   pub defined : AllByRecursion (IsDefinedAt (placed_from bases objects))
       (undefined_names (with_tables (placed_from bases objects)))
   pub listed : AllByRecursion (IsDefinedOnce (placed_from bases objects))
@@ -262,9 +284,12 @@ pub record ProgramLinks (machine : MachineType) (ending : Ending) (bases : Bases
 abbrev pub gnu_input : LinkInput → FlavorInput
 gnu_input p = record { flavor = Gnu; input = p }
 
--- a program of members for GNU's linker, which the linker's null descriptor ends, and what its link gives
+-- a program of members for GNU's linker, which the linker's null descriptor ends, and what its link
+-- gives
 abbrev pub IsProgram : MachineType → Bases → List LinkInput → List Object → Type 0
-IsProgram machine bases inputs objects = IsProgramOf machine OfLinker bases (map gnu_input inputs) objects
+IsProgram machine bases inputs objects =
+    IsProgramOf machine OfLinker bases (map gnu_input inputs) objects
 
 abbrev pub LinksAmong : MachineType → Bases → List LinkInput → List Object → Type 0
-LinksAmong machine bases inputs objects = ProgramLinks machine OfLinker bases (map gnu_input inputs) objects
+LinksAmong machine bases inputs objects =
+    ProgramLinks machine OfLinker bases (map gnu_input inputs) objects

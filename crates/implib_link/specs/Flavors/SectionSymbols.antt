@@ -1,12 +1,15 @@
--- Undefined symbols of class section (PE/COFF specification, "Storage Class"): such a symbol stands for the
--- section of its name. Where its object has no section of this name, it makes a contribution without bytes to
--- the group of the name, so that its address is where the object's part of the group begins.
-use Rattle.std.specs.Prelude.{ℕ, ◌+◌, Bool, false, true, ◌&&◌, ◌==◌, List, [], ◌∷◌, ◌++◌, bytes_eq, map, not, Option, Some, None, if◌then◌else◌}
+-- Undefined symbols of class section (PE/COFF specification, "Storage Class"): such a symbol stands
+-- for the section of its name. Where its object has no section of this name, it makes a
+-- contribution without bytes to the group of the name, so that its address is where the object's
+-- part of the group begins.
+use Rattle.std.specs.Prelude.{ℕ, ◌+◌, Bool, false, true, ◌&&◌, ◌==◌, List, [], ◌∷◌, ◌++◌, bytes_eq}
+use Rattle.std.specs.Prelude.{map, not, Option, Some, None, if◌then◌else◌}
 use Rattle.std.specs.List.{list_any}
 use Rattle.implib.specs.Formats.Constants.{class_section, class_static, section_undefined}
 use Rattle.implib.specs.Members.Gnu.{section}
 use Rattle.implib.specs.Members.ImportTables.{table_flags}
-use Rattle.implib.specs.Formats.Object.{ASymbol, Auxiliary, Entry, Object, ObjectSection, ObjectSymbol}
+use Rattle.implib.specs.Formats.Object.{ASymbol, Auxiliary, Entry, Object, ObjectSection}
+use Rattle.implib.specs.Formats.Object.{ObjectSymbol}
 use Rattle.implib.specs.Link.Placement.{Group, group_named}
 
 -- whether a name is that of a group
@@ -38,8 +41,8 @@ section_number_from number [] name = section_undefined
 section_number_from number (s ∷ sections) name =
     if bytes_eq s.name name then number else section_number_from (number + 1) sections name
 
--- an entry of an object with these sections: a symbol that stands for a section is a static one at its front,
--- whatever value it has
+-- an entry of an object with these sections: a symbol that stands for a section is a static one at
+-- its front, whatever value it has
 abbrev pub entry_with : List ObjectSection → Entry → Entry
 entry_with sections (Auxiliary bytes) = Auxiliary bytes
 entry_with sections (ASymbol s) =
@@ -51,8 +54,9 @@ entry_with sections (ASymbol s) =
     })
     else ASymbol s
 
--- An object with the sections that its symbols stand for. For example, the import descriptor gets a section
--- 3, `.idata$4`, and a section 4, `.idata$5`, without bytes, in which its symbols 3 and 4 are.
+-- An object with the sections that its symbols stand for. For example, the import descriptor gets a
+-- section 3, `.idata$4`, and a section 4, `.idata$5`, without bytes, in which its symbols 3 and 4
+-- are.
 unfoldable pub with_section_symbols : Object → Object
 with_section_symbols o = record o {
   sections = sections_with o.sections o.entries;

@@ -14,7 +14,8 @@ use Rattle.implib.specs.Members.Members.{AreMembersOf}
 use Rattle.implib.specs.Formats.Object.{Object}
 use Rattle.implib.specs.Text.Parses.{Parses}
 use Rattle.implib.specs.Link.Placement.{Bases, Placed, placed_from}
-use Rattle.implib_link.specs.Flavors.Program.{Ending, FlavorInput, InputImports, ask_in, symbol_in, thunks_of, ProgramLinks, IsProgramOf}
+use Rattle.implib_link.specs.Flavors.Program.{Ending, FlavorInput, InputImports, ask_in, symbol_in}
+use Rattle.implib_link.specs.Flavors.Program.{thunks_of, ProgramLinks, IsProgramOf}
 use Rattle.implib_link.specs.Gnu.Texts.{Source, ask_stated, chosen_stated, link_input_of, source_of}
 
 -- a source in a flavour
@@ -25,7 +26,8 @@ pub record FlavorSource : Type 0 where
 -- what `ImportLibrary::new` and then `members` promise when they succeed, for a flavour
 pub record IsFlavorSource (machine : MachineType) (s : FlavorSource) : Type 0 where
   pub of_text : LibraryOf s.source.text machine s.flavor s.source.library
-  pub made : AreMembersOf s.source.library.definition s.source.library.machine s.source.library.flavor
+  pub made : AreMembersOf s.source.library.definition s.source.library.machine
+      s.source.library.flavor
       s.source.members
 
 -- what is linked of a source
@@ -39,8 +41,8 @@ input_parsed d s = record {
   input = record { definition = d; members = s.source.members; chosen = s.source.chosen };
 }
 
--- A text's chosen exports are imported by the descriptor at an address, with the address table at this
--- address, each under its name, and each asks for the word of its own statement.
+-- A text's chosen exports are imported by the descriptor at an address, with the address table at
+-- this address, each under its name, and each asks for the word of its own statement.
 pub record FlavorTextLinks (machine : MachineType) (image : List Range) (linked : List Placed)
     (descriptor table : ℕ) (s : FlavorSource) : Type 0 where
   pub parsed : DefinitionView
@@ -59,7 +61,8 @@ pub record FlavorTextsLink (machine : MachineType) (ending : Ending) (bases : Ba
     (sources : List FlavorSource) (objects : List Object) : Type 0 where
   pub among : ProgramLinks machine ending bases (map input_of sources) objects
   pub imports : (i : ℕ) (s : FlavorSource) → slice_get sources i ≡ Some s →
-      FlavorTextLinks machine (image_of machine bases (placed_from bases objects)) (placed_from bases objects)
+      FlavorTextLinks machine (image_of machine bases (placed_from bases objects))
+      (placed_from bases objects)
       (bases.descriptors + 20 * i)
       (bases.addresses + thunk_width machine * thunks_of i (map input_of sources)) s
 
@@ -68,11 +71,13 @@ abbrev pub flavor_source : Flavor → List ℕ → LibraryView → List MemberVi
 flavor_source flavor text library members chosen =
     record { flavor = flavor; source = source_of text library members chosen }
 
--- Members are those of a text for a flavour's linker, and link as it says: whichever exports are chosen, at
--- whichever bases, among whichever objects of a program.
+-- Members are those of a text for a flavour's linker, and link as it says: whichever exports are
+-- chosen, at whichever bases, among whichever objects of a program.
 abbrev pub LinkInFlavor : List ℕ → MachineType → Flavor → List MemberView → Type 0
 LinkInFlavor text machine flavor members =
     (library : LibraryView) × (LibraryOf text machine flavor library ×
     ((ending : Ending) (chosen : List ℕ) (bases : Bases) (objects : List Object) →
-    IsProgramOf machine ending bases (input_of (flavor_source flavor text library members chosen) ∷ []) objects →
-    FlavorTextsLink machine ending bases (flavor_source flavor text library members chosen ∷ []) objects))
+    IsProgramOf machine ending bases
+    (input_of (flavor_source flavor text library members chosen) ∷ []) objects →
+    FlavorTextsLink machine ending bases (flavor_source flavor text library members chosen ∷ [])
+    objects))

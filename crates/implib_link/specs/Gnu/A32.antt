@@ -1,5 +1,6 @@
--- ARMNT's stub, which is A32 code: `ldr ip, [pc]`, `ldr pc, [ip]` and a literal. Where its jump reads its target, by the
--- rule of these two instructions. Addresses of code count from the image's base; what a jump reads at does not.
+-- ARMNT's stub, which is A32 code: `ldr ip, [pc]`, `ldr pc, [ip]` and a literal. Where its jump
+-- reads its target, by the rule of these two instructions. Addresses of code count from the image's
+-- base; what a jump reads at does not.
 use Rattle.std.specs.Prelude.{◌≡◌, ℕ, ◌+◌, ◌-◌, ◌%◌, ◌^◌, ◌≤◌, List, length}
 use Rattle.std.specs.List.{Contains}
 use Rattle.implib.specs.declared.coff.object.Relocation.{Relocation}
@@ -14,8 +15,9 @@ use Rattle.implib_link.specs.Stub.{bits_of, with_bits}
 abbrev pub distance_from : ℕ → ℕ → ℕ
 distance_from position target = (target + (2 ^ 32 - (position + 4) % 2 ^ 32)) % 2 ^ 32
 
--- Each empty REL32 field of linked code (IMAGE_REL_ARM_REL32), within its section, that no other relocation meets, holds
--- the target relative to the byte after the field (PE/COFF specification, "Type Indicators").
+-- Each empty REL32 field of linked code (IMAGE_REL_ARM_REL32), within its section, that no other
+-- relocation meets, holds the target relative to the byte after the field (PE/COFF specification,
+-- "Type Indicators").
 abbrev pub HoldDistances : List LinkedCode → (LinkedCode → ℕ → ℕ) → Type 0
 HoldDistances codes targets =
     (c : LinkedCode) (r : Relocation) → Contains codes c → r.kind ≡ arm_rel32 →
@@ -23,11 +25,12 @@ HoldDistances codes targets =
     field_at c.code.bytes r.offset 4 ≡ 0 →
     field_at c.bytes r.offset 4 ≡ distance_from (c.position + r.offset) (targets c r.symbol)
 
--- At an address of memory are two instructions of A32, by the bytes that are there, whose jump reads its target at an
--- address:
+-- At an address of memory are two instructions of A32, by the bytes that are there, whose jump
+-- reads its target at an address:
 -- `load_there`, `is_load`: `ldr ip, [pc, n]`, whatever the flags are; its pc is 8 bytes beyond it;
 -- `literal_there`: so ip is the word that is n bytes from there;
--- `jump_there`: `ldr pc, [ip]`, whatever the flags are: it goes to the address that is where ip says.
+-- `jump_there`: `ldr pc, [ip]`, whatever the flags are: it goes to the address that is where ip
+-- says.
 pub record A32JumpReads (memory : List Range) (address reads : ℕ) : Type 0 where
   pub load : ℕ
   pub load_there : NumberAt memory 4 address load

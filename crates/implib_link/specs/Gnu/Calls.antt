@@ -1,11 +1,14 @@
--- Calls of imports in the code of any object that is linked: by the import's entry of the address table, or by
--- its stub. Addresses of code count from the image's base.
-use Rattle.std.specs.Prelude.{◌≡◌, ℕ, ◌+◌, ◌*◌, ◌%◌, ◌^◌, ◌<◌, ◌≤◌, ◌⊎◌, ◌&&◌, ◌==◌, true, List, [], ◌∷◌, ◌++◌, bytes_eq, length, map, slice_get, take, Option, Some, None, if◌then◌else◌}
+-- Calls of imports in the code of any object that is linked: by the import's entry of the address
+-- table, or by its stub. Addresses of code count from the image's base.
+use Rattle.std.specs.Prelude.{◌≡◌, ℕ, ◌+◌, ◌*◌, ◌%◌, ◌^◌, ◌<◌, ◌≤◌, ◌⊎◌, ◌&&◌, ◌==◌, true, List, []}
+use Rattle.std.specs.Prelude.{◌∷◌, ◌++◌, bytes_eq, length, map, slice_get, take, Option, Some, None}
+use Rattle.std.specs.Prelude.{if◌then◌else◌}
 use Rattle.std.specs.List.{AllByRecursion, Contains}
 use Rattle.implib.specs.declared.coff.object.Relocation.{Relocation}
 use Rattle.implib.specs.declared.machine.MachineType.{MachineType}
 use Rattle.implib.specs.declared.machine.MachineType.TheVariants.{I386, ARMNT, AMD64, ARM64}
-use Rattle.implib.specs.Formats.Constants.{amd64_rel32, arm64_pagebase_rel21, arm64_pageoffset_12l, i386_dir32}
+use Rattle.implib.specs.Formats.Constants.{amd64_rel32, arm64_pagebase_rel21, arm64_pageoffset_12l}
+use Rattle.implib.specs.Formats.Constants.{i386_dir32}
 use Rattle.implib.specs.Formats.File.{is_defined_external}
 use Rattle.implib.specs.Formats.Object.{ASymbol, Entry, ObjectSection, ObjectSymbol}
 use Rattle.implib.specs.Members.Gnu.{stub_bytes, stub_relocations}
@@ -13,7 +16,8 @@ use Rattle.implib.specs.Link.Image.{Range}
 use Rattle.implib.specs.Link.Load.{BytesAt}
 use Rattle.implib.specs.Link.Placement.{Placed}
 use Rattle.implib.specs.Link.Resolution.{is_undefined_external, symbol_address}
-use Rattle.implib_link.specs.Stub.{adrp_immediate, bits_of, jump_reads, ldr_immediate, page, plus_signed, with_adrp, with_bits, word_at}
+use Rattle.implib_link.specs.Stub.{adrp_immediate, bits_of, jump_reads, ldr_immediate, page}
+use Rattle.implib_link.specs.Stub.{plus_signed, with_adrp, with_bits, word_at}
 
 -- a section of a placed object, by its number, which counts from 1, with the address of its code
 pub record PlacedCode : Type 0 where
@@ -22,12 +26,14 @@ pub record PlacedCode : Type 0 where
   pub code : ObjectSection
   pub position : ℕ
 
--- I386's relocation by 32 bits relative to the byte after the field (PE/COFF specification, "Type Indicators":
+-- I386's relocation by 32 bits relative to the byte after the field (PE/COFF specification, "Type
+-- Indicators":
 -- IMAGE_REL_I386_REL32)
 abbrev pub i386_rel32 : ℕ
 i386_rel32 = 0x14
 
--- ARM64's relocation of a branch by 26 bits, which count in words from the branch itself (IMAGE_REL_ARM64_BRANCH26)
+-- ARM64's relocation of a branch by 26 bits, which count in words from the branch itself
+-- (IMAGE_REL_ARM64_BRANCH26)
 abbrev pub arm64_branch26 : ℕ
 arm64_branch26 = 3
 
@@ -46,7 +52,8 @@ pub record Resolves (linked : List Placed) (codes : List PlacedCode) (targets : 
   pub tables : (c : PlacedCode) (index address : ℕ) (entry : Entry) → Contains codes c →
       slice_get c.from.object.entries index ≡ Some entry →
       symbol_address linked c.from entry ≡ Some address → targets c index ≡ address
-  pub code : (c d : PlacedCode) (index : ℕ) (s t : ObjectSymbol) → Contains codes c → Contains codes d →
+  pub code : (c d : PlacedCode) (index : ℕ) (s t : ObjectSymbol) → Contains codes c →
+      Contains codes d →
       slice_get c.from.object.entries index ≡ Some (ASymbol s) → is_undefined_external s ≡ true →
       Defines d t → t.name ≡ s.name → targets c index ≡ d.position + t.value
 
@@ -61,21 +68,25 @@ amd64_addr64 = 1
 abbrev pub arm64_addr64 : ℕ
 arm64_addr64 = 0xE
 
--- How many bytes a relocation of a type changes at most: 8 if it is by 64 bits, or else 4 ("Type Indicators"). Of
--- ARMNT's, some of which have fields in two instructions, nothing less than 8 is claimed.
+-- How many bytes a relocation of a type changes at most: 8 if it is by 64 bits, or else 4 ("Type
+-- Indicators"). Of ARMNT's, some of which have fields in two instructions, nothing less than 8 is
+-- claimed.
 abbrev pub field_width : MachineType → ℕ → ℕ
 field_width I386 type = 4
 field_width ARMNT type = 8
 field_width AMD64 type = if type == amd64_addr64 then 8 else 4
 field_width ARM64 type = if type == arm64_addr64 then 8 else 4
 
--- a relocation changes nothing in so many bytes from an offset on: its field is before or after them
+-- a relocation changes nothing in so many bytes from an offset on: its field is before or after
+-- them
 abbrev pub IsAside : MachineType → ℕ → ℕ → Relocation → Type 0
-IsAside machine offset count r = (r.offset + field_width machine r.kind ≤ offset) ⊎ (offset + count ≤ r.offset)
+IsAside machine offset count r =
+    (r.offset + field_width machine r.kind ≤ offset) ⊎ (offset + count ≤ r.offset)
 
--- Code has instructions at an offset, with these relocations against the symbol of an index: the symbol is an
--- undefined one of this name, and no other relocation changes the instructions.
-pub record HasInstructions (machine : MachineType) (c : PlacedCode) (offset : ℕ) (name bytes : List ℕ)
+-- Code has instructions at an offset, with these relocations against the symbol of an index: the
+-- symbol is an undefined one of this name, and no other relocation changes the instructions.
+pub record HasInstructions (machine : MachineType) (c : PlacedCode) (offset : ℕ)
+    (name bytes : List ℕ)
     (relocations : ℕ → List Relocation) : Type 0 where
   pub front : List ℕ
   pub back : List ℕ
@@ -84,7 +95,8 @@ pub record HasInstructions (machine : MachineType) (c : PlacedCode) (offset : �
   pub index : ℕ
   pub before : List Relocation
   pub behind : List Relocation
-  pub relocated : c.code.relocations ≡ before ++ (map (moved_by offset) (relocations index) ++ behind)
+  pub relocated : c.code.relocations
+      ≡ before ++ (map (moved_by offset) (relocations index) ++ behind)
   pub aside_before : AllByRecursion (IsAside machine offset (length bytes)) before
   pub aside_behind : AllByRecursion (IsAside machine offset (length bytes)) behind
   pub symbol : ObjectSymbol
@@ -92,8 +104,8 @@ pub record HasInstructions (machine : MachineType) (c : PlacedCode) (offset : �
   pub undefined : is_undefined_external symbol ≡ true
   pub named : symbol.name ≡ name
 
--- A call through a pointer, with empty fields: I386 `call [disp32]`; AMD64 `call [rip + disp32]`; ARM64
--- `adrp x16, page`, `ldr x16, [x16, offset]`, `blr x16`.
+-- A call through a pointer, with empty fields: I386 `call [disp32]`; AMD64 `call [rip + disp32]`;
+-- ARM64 `adrp x16, page`, `ldr x16, [x16, offset]`, `blr x16`.
 abbrev pub call_bytes : MachineType → List ℕ
 call_bytes I386 = 0xFF ∷ 0x15 ∷ 0 ∷ 0 ∷ 0 ∷ 0 ∷ []
 call_bytes ARMNT = []
@@ -112,10 +124,11 @@ call_relocations ARM64 index =
 
 -- code has such a call of a name at an offset
 abbrev pub HasCall : MachineType → PlacedCode → ℕ → List ℕ → Type 0
-HasCall machine c offset name = HasInstructions machine c offset name (call_bytes machine) (call_relocations machine)
+HasCall machine c offset name =
+    HasInstructions machine c offset name (call_bytes machine) (call_relocations machine)
 
--- Where a call through a pointer at an address reads its target, by the rule of its instructions: I386 at the
--- displacement; AMD64 that far after the call; ARM64 at the offset in the page.
+-- Where a call through a pointer at an address reads its target, by the rule of its instructions:
+-- I386 at the displacement; AMD64 that far after the call; ARM64 at the offset in the page.
 abbrev pub call_reads : MachineType → ℕ → List ℕ → Option ℕ
 call_reads I386 address bytes =
     if bytes_eq (take 2 bytes) (0xFF ∷ 0x15 ∷ []) then Some (word_at bytes 2) else None
@@ -125,14 +138,15 @@ call_reads AMD64 address bytes =
     then Some (plus_signed 32 1 (word_at bytes 2) (address + 6))
     else None
 call_reads ARM64 address bytes =
-    if (with_adrp 0 (word_at bytes 0) == 0x9000_0010) && (with_bits 10 12 0 (word_at bytes 4) == 0xF940_0210)
+    if (with_adrp 0 (word_at bytes 0) == 0x9000_0010)
+    && (with_bits 10 12 0 (word_at bytes 4) == 0xF940_0210)
     && (word_at bytes 8 == 0xD63F_0200) then
     Some (plus_signed 21 4096 (adrp_immediate (word_at bytes 0)) (page address * 4096)
     + ldr_immediate (word_at bytes 4))
     else None
 
--- At an address of memory is a call, by the bytes that are there, whose target is read at a place where these
--- bytes are: say, the address of a DLL's function.
+-- At an address of memory is a call, by the bytes that are there, whose target is read at a place
+-- where these bytes are: say, the address of a DLL's function.
 pub record CallArrives (machine : MachineType) (image_base : ℕ) (memory : List Range) (address : ℕ)
     (bytes : List ℕ) : Type 0 where
   pub instructions : List ℕ
@@ -142,10 +156,10 @@ pub record CallArrives (machine : MachineType) (image_base : ℕ) (memory : List
   pub reads : call_reads machine (image_base + address) instructions ≡ Some (image_base + entry)
   pub located : BytesAt memory entry bytes
 
--- Code is the stub of the entry at an address: its bytes and relocations are a stub's, its symbol 2 has the entry's
--- address, and the name that it stands for is at its beginning.
-pub record StubAt (machine : MachineType) (linked : List Placed) (d : PlacedCode) (t : ObjectSymbol) (entry : ℕ)
-    : Type 0 where
+-- Code is the stub of the entry at an address: its bytes and relocations are a stub's, its symbol 2
+-- has the entry's address, and the name that it stands for is at its beginning.
+pub record StubAt (machine : MachineType) (linked : List Placed) (d : PlacedCode) (t : ObjectSymbol)
+    (entry : ℕ) : Type 0 where
   pub bytes : d.code.bytes ≡ stub_bytes machine
   pub relocations : d.code.relocations ≡ stub_relocations machine 2
   pub begins : t.value ≡ 0
@@ -172,18 +186,20 @@ abbrev pub HasDirectCall : MachineType → PlacedCode → ℕ → List ℕ → T
 HasDirectCall machine c offset name =
     HasInstructions machine c offset name (direct_bytes machine) (direct_relocations machine)
 
--- A call at an address can reach code at another: on ARM64, both are at multiples of 4, and at most 2^27 bytes
--- apart, as the branch's field has room for. Of ARMNT nothing is claimed.
+-- A call at an address can reach code at another: on ARM64, both are at multiples of 4, and at most
+-- 2^27 bytes apart, as the branch's field has room for. Of ARMNT nothing is claimed.
 abbrev pub CanBranch : MachineType → ℕ → ℕ → Type 0
 CanBranch I386 from to = Unit {0}
 CanBranch ARMNT from to = ⊥
 CanBranch AMD64 from to = Unit {0}
-CanBranch ARM64 from to = (from % 4 ≡ 0) × (to % 4 ≡ 0) × (from ≤ to + 2 ^ 27) × (to < from + 2 ^ 27)
+CanBranch ARM64 from to =
+    (from % 4 ≡ 0) × (to % 4 ≡ 0) × (from ≤ to + 2 ^ 27) × (to < from + 2 ^ 27)
 
 -- where `call rel32` at an address leads: so far after it
 abbrev pub rel32_leads : ℕ → List ℕ → Option ℕ
 rel32_leads address bytes =
-    if bytes_eq (take 1 bytes) (0xE8 ∷ []) then Some (plus_signed 32 1 (word_at bytes 1) (address + 5)) else None
+    if bytes_eq (take 1 bytes) (0xE8 ∷ [])
+    then Some (plus_signed 32 1 (word_at bytes 1) (address + 5)) else None
 
 -- where a direct call leads: ARM64's `bl`, so many words from itself
 abbrev pub direct_leads : MachineType → ℕ → List ℕ → Option ℕ
@@ -195,9 +211,10 @@ direct_leads ARM64 address bytes =
     then Some (plus_signed 26 4 (bits_of 0 26 (word_at bytes 0)) address)
     else None
 
--- At an address of memory is a direct call, by the bytes that are there; where it leads is a stub, by the bytes
--- that are there; and where this reads its target are these bytes.
-pub record DirectCallArrives (machine : MachineType) (image_base : ℕ) (memory : List Range) (address : ℕ)
+-- At an address of memory is a direct call, by the bytes that are there; where it leads is a stub,
+-- by the bytes that are there; and where this reads its target are these bytes.
+pub record DirectCallArrives (machine : MachineType) (image_base : ℕ) (memory : List Range)
+    (address : ℕ)
     (bytes : List ℕ) : Type 0 where
   pub instruction : List ℕ
   pub here : BytesAt memory address instruction

@@ -1,5 +1,5 @@
--- A program in memory at a base: as it was linked for it, or moved there from the base that it was linked for. Addresses
--- count from the image's base.
+-- A program in memory at a base: as it was linked for it, or moved there from the base that it was
+-- linked for. Addresses count from the image's base.
 use Rattle.std.specs.Prelude.{◌≡◌, ℕ, ◌+◌, ◌%◌, ◌≤◌, ◌⊎◌, true, List, ◌++◌, length, slice_get, Some}
 use Rattle.std.specs.List.{AllByRecursion, Contains, flat_map, list_any}
 use Rattle.implib.specs.declared.coff.object.Relocation.{Relocation}
@@ -11,7 +11,8 @@ use Rattle.implib.specs.Link.Placement.{Placed}
 use Rattle.implib.specs.Link.Resolution.{symbol_address}
 use Rattle.implib_link.specs.Gnu.Choices.{ArePlacesApart}
 use Rattle.implib_link.specs.Gnu.Fields.{AreLinkedBeside, LinkedCode, ranges_of_codes}
-use Rattle.implib_link.specs.Gnu.Rebased.{IsRebased, Place, absolute_width, covers, places_at, table_places}
+use Rattle.implib_link.specs.Gnu.Rebased.{IsRebased, Place, absolute_width, covers, places_at}
+use Rattle.implib_link.specs.Gnu.Rebased.{table_places}
 
 -- where relocations of linked code store addresses whole
 abbrev pub places_of_code : MachineType → LinkedCode → List Place
@@ -19,23 +20,28 @@ places_of_code machine c = places_at machine c.position c.code.relocations
 
 -- and those of all sections, in the import tables and in the code beside them
 abbrev pub absolute_places : MachineType → List Placed → List LinkedCode → List Place
-absolute_places machine linked codes = table_places machine linked ++ flat_map (places_of_code machine) codes
+absolute_places machine linked codes =
+    table_places machine linked ++ flat_map (places_of_code machine) codes
 
 -- A program that was linked for one base is in memory at another:
 -- `beside`: its code was linked beside its import tables, for the first base;
 -- `within`: each field of code that stores an address whole is within the code;
--- `needed`: where code stores the address of a symbol of the import tables, there is a base relocation;
+-- `needed`: where code stores the address of a symbol of the import tables, there is a base
+-- relocation;
 -- `only`: base relocations change linked bytes only in fields that store addresses whole;
 -- `rebased`: the base relocations were applied, and nothing else.
-pub record AreMoved (machine : MachineType) (from to : ℕ) (image : List Range) (linked : List Placed)
-    (codes : List LinkedCode) (targets : LinkedCode → ℕ → ℕ) (places : List Place) (memory : List Range)
-    : Type 0 where
+pub record AreMoved (machine : MachineType) (from to : ℕ) (image : List Range)
+    (linked : List Placed)
+    (codes : List LinkedCode) (targets : LinkedCode → ℕ → ℕ) (places : List Place)
+    (memory : List Range) : Type 0 where
   pub beside : AreLinkedBeside machine from image linked codes targets
   pub within : AllByRecursion
-      (λ c. AllByRecursion (λ p. p.address + p.width ≤ c.position + length c.code.bytes) (places_of_code machine c))
+      (λ c. AllByRecursion (λ p. p.address + p.width ≤ c.position + length c.code.bytes)
+      (places_of_code machine c))
       codes
   pub needed : (c : LinkedCode) (r : Relocation) (width address : ℕ) (entry : Entry) →
-      Contains codes c → Contains c.code.relocations r → absolute_width machine r.kind ≡ Some width →
+      Contains codes c → Contains c.code.relocations r →
+      absolute_width machine r.kind ≡ Some width →
       slice_get c.from.object.entries r.symbol ≡ Some entry →
       symbol_address linked c.from entry ≡ Some address →
       Contains places (record { address = c.position + r.offset; width = width })
@@ -44,7 +50,8 @@ pub record AreMoved (machine : MachineType) (from to : ℕ) (image : List Range)
       list_any (covers address) (absolute_places machine linked codes) ≡ true
   pub rebased : IsRebased from to places (image ++ ranges_of_codes codes) memory
 
--- what a move asks of bases: on ARM64, whose instructions count in pages, that they differ by whole pages
+-- what a move asks of bases: on ARM64, whose instructions count in pages, that they differ by whole
+-- pages
 abbrev pub ArePaged : MachineType → ℕ → ℕ → Type 0
 ArePaged I386 from to = Unit {0}
 ArePaged ARMNT from to = Unit {0}
@@ -52,16 +59,20 @@ ArePaged AMD64 from to = Unit {0}
 ArePaged ARM64 from to = from % 4096 ≡ to % 4096
 
 -- the program is in memory at a base: linked for it, or moved there
-abbrev pub AreInMemory : MachineType → ℕ → List Range → List Placed → List LinkedCode → (LinkedCode → ℕ → ℕ) →
+abbrev pub AreInMemory : MachineType → ℕ → List Range → List Placed → List LinkedCode →
+    (LinkedCode → ℕ → ℕ) →
     List Range → Type 0
 AreInMemory machine image_base image linked codes targets memory =
-    (AreLinkedBeside machine image_base image linked codes targets × (memory ≡ image ++ ranges_of_codes codes))
+    (AreLinkedBeside machine image_base image linked codes targets
+    × (memory ≡ image ++ ranges_of_codes codes))
     ⊎ ((from : ℕ) × ((places : List Place) × (ArePaged machine from image_base
     × AreMoved machine from image_base image linked codes targets places memory)))
 
--- Fields of each section that store addresses whole are within it, and no two of them have an address in common.
+-- Fields of each section that store addresses whole are within it, and no two of them have an
+-- address in common.
 pub record CanBeMoved (machine : MachineType) (codes : List LinkedCode) : Type 0 where
   pub within : AllByRecursion
-      (λ c. AllByRecursion (λ p. p.address + p.width ≤ c.position + length c.code.bytes) (places_of_code machine c))
+      (λ c. AllByRecursion (λ p. p.address + p.width ≤ c.position + length c.code.bytes)
+      (places_of_code machine c))
       codes
   pub apart : AllByRecursion (λ c. ArePlacesApart (places_of_code machine c)) codes

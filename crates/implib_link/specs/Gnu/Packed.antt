@@ -1,8 +1,10 @@
--- Packed placement: the groups of the import tables one after another, each at the first multiple of 8, and
--- what ends the descriptors right after them, at the first multiple of 4.
+-- Packed placement: the groups of the import tables one after another, each at the first multiple
+-- of 8, and what ends the descriptors right after them, at the first multiple of 4.
 use Rattle.std.specs.Prelude.{ℕ, ◌+◌, List, [], ◌∷◌, length, Option, Some, None, if◌then◌else◌}
 use Rattle.implib.specs.Formats.Object.{Object, ObjectSection}
-use Rattle.implib.specs.Link.Placement.{Addresses, Bases, Descriptors, DirectoryEnds, DllNames, Group, HintNames, Lookups, alignment, group_named, next_multiple, same_group}
+use Rattle.implib.specs.Link.Placement.{Addresses, Bases, Descriptors, DirectoryEnds, DllNames}
+use Rattle.implib.specs.Link.Placement.{Group, HintNames, Lookups, alignment, group_named}
+use Rattle.implib.specs.Link.Placement.{next_multiple, same_group}
 
 -- the end of a group after an end and a section of this group or of another one or of none
 abbrev pub end_with : Group → ℕ → ObjectSection → Option Group → ℕ
@@ -34,7 +36,8 @@ packed_directory_ends first objects =
     next_multiple 4 (group_end Descriptors (packed_descriptors first) objects)
 
 abbrev pub packed_lookups : ℕ → List Object → ℕ
-packed_lookups first objects = base_behind DirectoryEnds (packed_directory_ends first objects) objects
+packed_lookups first objects =
+    base_behind DirectoryEnds (packed_directory_ends first objects) objects
 
 abbrev pub packed_addresses : ℕ → List Object → ℕ
 packed_addresses first objects = base_behind Lookups (packed_lookups first objects) objects

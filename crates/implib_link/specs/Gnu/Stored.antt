@@ -2,7 +2,8 @@
 -- defines or that the tables do: stored whole, as in a table of functions; from the image's base,
 -- as a handler in unwind data; and on ARM64 as the page of an `adrp` and the offset of an `add`. Of
 -- an import's bare name it is the address of its stub. Addresses count from the image's base.
-use Rattle.std.specs.Prelude.{◌≡◌, ℕ, ◌+◌, ◌*◌, ◌%◌, ◌^◌, ◌≤◌, ◌⊎◌, true, List, ◌++◌, length, slice_get, Some}
+use Rattle.std.specs.Prelude.{◌≡◌, ℕ, ◌+◌, ◌*◌, ◌%◌, ◌^◌, ◌≤◌, ◌⊎◌, true, List, ◌++◌, length}
+use Rattle.std.specs.Prelude.{slice_get, Some}
 use Rattle.std.specs.List.{Contains}
 use Rattle.implib.specs.declared.coff.object.Relocation.{Relocation}
 use Rattle.implib.specs.declared.machine.MachineType.{MachineType}
@@ -14,7 +15,8 @@ use Rattle.implib.specs.Link.Placement.{Placed}
 use Rattle.implib.specs.Link.Resolution.{is_undefined_external}
 use Rattle.implib.specs.Members.ImportTables.{thunk_width}
 use Rattle.implib_link.specs.Gnu.Calls.{field_width}
-use Rattle.implib_link.specs.Gnu.Fields.{AreLinkedBeside, DefinesIn, LinkedCode, MeetsAlone, field_at, ranges_of_codes}
+use Rattle.implib_link.specs.Gnu.Fields.{AreLinkedBeside, DefinesIn, LinkedCode, MeetsAlone}
+use Rattle.implib_link.specs.Gnu.Fields.{field_at, ranges_of_codes}
 use Rattle.implib_link.specs.Gnu.Moves.{AreMoved, ArePaged}
 use Rattle.implib_link.specs.Gnu.Operands.{HasField, HasPageField, HasPointer}
 use Rattle.implib_link.specs.Gnu.Rebased.{Place, absolute_width}

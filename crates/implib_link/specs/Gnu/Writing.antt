@@ -1,24 +1,27 @@
--- A loader that writes as it goes: each of its reads sees what it has written before. Its memory is a list of
--- ranges of which the first counts, and what it writes comes in front.
+-- A loader that writes as it goes: each of its reads sees what it has written before. Its memory is
+-- a list of ranges of which the first counts, and what it writes comes in front.
 use Rattle.std.specs.Prelude.{◌≡◌, ℕ, ◌+◌, ◌<◌, List, [], ◌∷◌}
 use Rattle.implib.specs.Import.{Ask}
 use Rattle.implib.specs.Link.Image.{Range, byte_at}
 use Rattle.implib.specs.Link.Load.{NumberAt, TextAt, ThunkAt}
 use Rattle.implib_link.specs.Directory.{Imported, StopsAt}
 
--- One table: at each thunk, one after another, the loader reads what it asks for and writes what the DLL
--- gives for it at the next entry of the address table, before it reads the next thunk; it ends at a thunk of
--- 0.
+-- One table: at each thunk, one after another, the loader reads what it asks for and writes what
+-- the DLL gives for it at the next entry of the address table, before it reads the next thunk; it
+-- ends at a thunk of 0.
 unfoldable pub FillsTable : ℕ → (Ask → List ℕ) → ℕ → ℕ → List Range → List Ask → List Range → Type 0
-FillsTable width gives thunk entry memory [] after = NumberAt memory width thunk 0 × (after ≡ memory)
+FillsTable width gives thunk entry memory [] after =
+    NumberAt memory width thunk 0 × (after ≡ memory)
 FillsTable width gives thunk entry memory (ask ∷ asks) after =
     ThunkAt memory width thunk ask
     × FillsTable width gives (thunk + width) (entry + width)
     (record { start = entry; bytes = gives ask } ∷ memory) asks after
 
--- One descriptor by which the loader goes on: it reads the name of the DLL, the address of the address table
--- and that of the lookup table, neither name nor address table at 0, and fills the address table.
-pub record FillsBy (width : ℕ) (gives : List ℕ → Ask → List ℕ) (descriptor : ℕ) (memory : List Range)
+-- One descriptor by which the loader goes on: it reads the name of the DLL, the address of the
+-- address table and that of the lookup table, neither name nor address table at 0, and fills the
+-- address table.
+pub record FillsBy (width : ℕ) (gives : List ℕ → Ask → List ℕ) (descriptor : ℕ)
+    (memory : List Range)
     (found : Imported) (after : List Range) : Type 0 where
   pub name : ℕ
   pub name_field : NumberAt memory 4 (descriptor + 12) name
@@ -31,10 +34,11 @@ pub record FillsBy (width : ℕ) (gives : List ℕ → Ask → List ℕ) (descri
   pub lookups_field : NumberAt memory 4 descriptor lookups
   pub fills : FillsTable width (gives found.dll) lookups addresses memory found.asks after
 
--- A loader from a descriptor on: by these it goes on, one after another, and at the next it stops (PE/COFF
--- specification, "Import Directory Table", "Import Address Table"). What it found, in its order, and the
--- memory that it leaves.
-unfoldable pub WritesAsItGoes : ℕ → (List ℕ → Ask → List ℕ) → ℕ → List Range → List Imported → List Range → Type 0
+-- A loader from a descriptor on: by these it goes on, one after another, and at the next it stops
+-- (PE/COFF specification, "Import Directory Table", "Import Address Table"). What it found, in its
+-- order, and the memory that it leaves.
+unfoldable pub WritesAsItGoes : ℕ → (List ℕ → Ask → List ℕ) → ℕ → List Range → List Imported →
+    List Range → Type 0
 WritesAsItGoes width gives descriptor memory [] after = StopsAt memory descriptor × (after ≡ memory)
 WritesAsItGoes width gives descriptor memory (found ∷ others) after =
     (between : List Range) × (FillsBy width gives descriptor memory found between

@@ -1,8 +1,10 @@
--- Archive search where exports have aliases, in an archive of the members of several libraries. An alias is
--- a weak external: a member that a linker takes for the weak name, and that leaves the alias's target to
--- others.
-use Rattle.std.specs.Prelude.{◌≡◌, ℕ, Bool, false, ◌&&◌, ◌==◌, List, [], ◌∷◌, ◌++◌, bytes_eq, not, reverse, true, Option, Some, None, if◌then◌else◌}
-use Rattle.std.specs.List.{AllByRecursion, Contains, IsDistinct, filter, filter_map, flat_map, list_any}
+-- Archive search where exports have aliases, in an archive of the members of several libraries. An
+-- alias is a weak external: a member that a linker takes for the weak name, and that leaves the
+-- alias's target to others.
+use Rattle.std.specs.Prelude.{◌≡◌, ℕ, Bool, false, ◌&&◌, ◌==◌, List, [], ◌∷◌, ◌++◌, bytes_eq, not}
+use Rattle.std.specs.Prelude.{reverse, true, Option, Some, None, if◌then◌else◌}
+use Rattle.std.specs.List.{AllByRecursion, Contains, IsDistinct, filter, filter_map, flat_map}
+use Rattle.std.specs.List.{list_any}
 use Rattle.implib.specs.declared.flavor.Flavor.TheVariants.{Gnu}
 use Rattle.implib.specs.declared.machine.MachineType.{MachineType}
 use Rattle.implib.specs.Formats.Constants.{class_weak_external}
@@ -35,8 +37,8 @@ archive_of libraries = flat_map (λ l. l.members) libraries
 abbrev pub exports_of : Library → List ExportView
 exports_of l = public_exports (renamed l.definition)
 
--- the symbols that an archive lists for the members of an export, each once: `__imp_` with its name, and its
--- name, where it is no data or has an alias
+-- the symbols that an archive lists for the members of an export, each once: `__imp_` with its
+-- name, and its name, where it is no data or has an alias
 abbrev pub symbols_of_export : ExportView → List (List ℕ)
 symbols_of_export e =
     if e.is_data && not (is_alias e.alias_target e.name) then imp_symbol e.name ∷ []
@@ -85,7 +87,8 @@ abbrev pub inputs_wanted : List Library → List (List ℕ) → List LinkInput
 inputs_wanted libraries wanted =
     filter_map (λ l. input_if_any l (exports_wanted l.definition wanted)) libraries
 
--- an archive of libraries whose listed symbols are distinct, but for those that one export's members share
+-- an archive of libraries whose listed symbols are distinct, but for those that one export's
+-- members share
 pub record IsArchive (machine : MachineType) (libraries : List Library) : Type 0 where
   pub made : AllByRecursion (IsLibrary machine) libraries
   pub distinct : IsDistinct bytes_eq (flat_map (symbols_of_library machine) libraries)
@@ -95,9 +98,10 @@ abbrev pub NamesNoHeadOrTailOf : MachineType → List Library → List (List ℕ
 NamesNoHeadOrTailOf machine libraries names =
     AllByRecursion (λ l. NamesNoHeadOrTail machine (linked_name l.definition) names) libraries
 
--- A weak external of an export that is data and whose bare name is among these. For every other name of an
--- export, its own member is the first.
-pub record IsWeakData (libraries : List Library) (names : List (List ℕ)) (m : MemberView) : Type 0 where
+-- A weak external of an export that is data and whose bare name is among these. For every other
+-- name of an export, its own member is the first.
+pub record IsWeakData (libraries : List Library) (names : List (List ℕ))
+    (m : MemberView) : Type 0 where
   pub library : Library
   pub held : Contains libraries library
   pub export : ExportView
@@ -106,10 +110,11 @@ pub record IsWeakData (libraries : List Library) (names : List (List ℕ)) (m : 
   pub named : Contains names export.name
   pub listed : m.symbols ≡ export.name ∷ []
 
--- What a linker takes of such an archive: apart from weak externals, exactly what is linked of the libraries, of
--- each the exports that are wanted, by the program or by a weak external that is taken; and weak externals of
--- data alone.
-pub record TakesOfLibraries (machine : MachineType) (libraries : List Library) (wanted : List (List ℕ))
+-- What a linker takes of such an archive: apart from weak externals, exactly what is linked of the
+-- libraries, of each the exports that are wanted, by the program or by a weak external that is
+-- taken; and weak externals of data alone.
+pub record TakesOfLibraries (machine : MachineType) (libraries : List Library)
+    (wanted : List (List ℕ))
     (taken : List MemberView) : Type 0 where
   pub inputs : HaveSame (others_among taken)
       (all_linked machine (inputs_wanted libraries (wanted_with wanted taken)))

@@ -1,6 +1,7 @@
--- Closed programs: objects that are given, and what a linker takes for them of an archive of libraries. Nothing
--- is wanted but what the objects leave unresolved.
-use Rattle.std.specs.Prelude.{◌≡◌, ℕ, ◌+◌, ◌*◌, false, List, [], ◌∷◌, ◌++◌, IsPermutation, bytes_eq, not, slice_get, Option, Some, ◌⊎◌}
+-- Closed programs: objects that are given, and what a linker takes for them of an archive of
+-- libraries. Nothing is wanted but what the objects leave unresolved.
+use Rattle.std.specs.Prelude.{◌≡◌, ℕ, ◌+◌, ◌*◌, false, List, [], ◌∷◌, ◌++◌, IsPermutation, bytes_eq}
+use Rattle.std.specs.Prelude.{not, slice_get, Option, Some, ◌⊎◌}
 use Rattle.std.specs.List.{AllByRecursion, Contains, filter, flat_map, list_any}
 use Rattle.implib.specs.declared.machine.MachineType.{MachineType}
 use Rattle.implib.specs.Definition.{ExportView}
@@ -14,9 +15,11 @@ use Rattle.implib.specs.Link.Resolution.{definitions_of}
 use Rattle.implib.specs.Members.Gnu.{archive_symbols}
 use Rattle.implib.specs.Members.ImportTables.{thunk_width}
 use Rattle.implib.specs.Members.MemberSpec.{MemberView}
-use Rattle.implib_link.specs.Gnu.Program.{ClaimsNone, claimed_names, has_tables, null_descriptor, thunks_before, HaveSame}
+use Rattle.implib_link.specs.Gnu.Program.{ClaimsNone, claimed_names, has_tables, null_descriptor}
+use Rattle.implib_link.specs.Gnu.Program.{thunks_before, HaveSame}
 use Rattle.implib_link.specs.Flavors.Program.{LinksAmong, IsProgram}
-use Rattle.implib_link.specs.Search.Archives.{Library, NamesNoHeadOrTailOf, TakesOfLibraries, archive_of, inputs_wanted, wanted_with, weak_among}
+use Rattle.implib_link.specs.Search.Archives.{Library, NamesNoHeadOrTailOf, TakesOfLibraries}
+use Rattle.implib_link.specs.Search.Archives.{archive_of, inputs_wanted, wanted_with, weak_among}
 use Rattle.implib_link.specs.Search.Search.{first_listed, names_undefined, objects_as, undefined_in}
 
 -- the names that objects leave to others, and those that they claim
@@ -31,30 +34,36 @@ abbrev pub unresolved : List Object → List (List ℕ)
 unresolved objects =
     filter (λ name. not (list_any (bytes_eq name) (claims_of objects))) (references_of objects)
 
--- An unresolved name pulls in a member: the given objects and the members that are taken leave it unresolved, and
--- the first member that it is listed for is this one, which is not taken.
-pub record PullsIntoAs (reads : List ℕ → Option Object) (archive : List MemberView) (own : List Object)
+-- An unresolved name pulls in a member: the given objects and the members that are taken leave it
+-- unresolved, and the first member that it is listed for is this one, which is not taken.
+pub record PullsIntoAs (reads : List ℕ → Option Object) (archive : List MemberView)
+    (own : List Object)
     (taken : List MemberView) (name : List ℕ) (m : MemberView) : Type 0 where
   pub named : Contains (unresolved (own ++ objects_as reads taken)) name
   pub listed : first_listed archive name ≡ Some m
   pub new : Contains taken m → ⊥
 
--- Members are taken one after another, the last one first: each is pulled in by some name that is unresolved
--- after those before it. The linker may take up the unresolved names in any order.
-unfoldable pub AreTakenIntoAs : (List ℕ → Option Object) → List MemberView → List Object → List MemberView → Type 0
+-- Members are taken one after another, the last one first: each is pulled in by some name that is
+-- unresolved after those before it. The linker may take up the unresolved names in any order.
+unfoldable pub AreTakenIntoAs : (List ℕ → Option Object) → List MemberView → List Object →
+    List MemberView → Type 0
 AreTakenIntoAs reads archive own [] = Unit {0}
 AreTakenIntoAs reads archive own (m ∷ earlier) =
-    ((name : List ℕ) × PullsIntoAs reads archive own earlier name m) × AreTakenIntoAs reads archive own earlier
+    ((name : List ℕ) × PullsIntoAs reads archive own earlier name m)
+    × AreTakenIntoAs reads archive own earlier
 
--- What a linker takes of an archive for given objects: it takes members in turn until no unresolved name pulls
--- in another.
-pub record TakesIntoAs (reads : List ℕ → Option Object) (archive : List MemberView) (own : List Object)
+-- What a linker takes of an archive for given objects: it takes members in turn until no unresolved
+-- name pulls in another.
+pub record TakesIntoAs (reads : List ℕ → Option Object) (archive : List MemberView)
+    (own : List Object)
     (taken : List MemberView) : Type 0 where
   pub in_turn : AreTakenIntoAs reads archive own taken
   pub ended : (name : List ℕ) (m : MemberView) → PullsIntoAs reads archive own taken name m → ⊥
 
--- The same for a linker that reads members as the objects that their bytes are: an unresolved name pulls in a member.
-abbrev pub PullsInto : List MemberView → List Object → List MemberView → List ℕ → MemberView → Type 0
+-- The same for a linker that reads members as the objects that their bytes are: an unresolved name
+-- pulls in a member.
+abbrev pub PullsInto : List MemberView → List Object → List MemberView → List ℕ → MemberView →
+    Type 0
 PullsInto = PullsIntoAs object_in
 
 -- members are taken one after another
@@ -69,8 +78,8 @@ TakesInto = TakesIntoAs object_in
 abbrev pub listed_in : List MemberView → List (List ℕ)
 listed_in archive = flat_map (λ m. m.symbols) archive
 
--- what is wanted in a closed program: what the given objects leave unresolved, and the targets of the weak
--- externals that are taken for them
+-- what is wanted in a closed program: what the given objects leave unresolved, and the targets of
+-- the weak externals that are taken for them
 abbrev pub wanted_in : List Object → List MemberView → List (List ℕ)
 wanted_in own taken = wanted_with (unresolved own) taken
 
@@ -80,14 +89,17 @@ inputs_in arranged own taken = inputs_wanted arranged (wanted_in own taken)
 
 -- What is linked for given objects and members that are taken of libraries:
 -- `order`: the libraries are linked in this order, which may be another than that of the archive;
--- `others`: the objects without import tables are those that are given and the weak externals that are taken;
--- `tables`: those with import tables are the other members that are taken and, after them, the null descriptor;
+-- `others`: the objects without import tables are those that are given and the weak externals that
+-- are taken;
+-- `tables`: those with import tables are the other members that are taken and, after them, the null
+-- descriptor;
 -- `admissible`: the bases are.
 pub record AreLinkedFor (machine : MachineType) (libraries : List Library) (own : List Object)
     (taken : List MemberView) (arranged : List Library) (bases : Bases) (objects : List Object)
     : Type 0 where
   pub order : IsPermutation libraries arranged
-  pub others : HaveSame (filter (λ o. not (has_tables o)) objects) (own ++ objects_in (weak_among taken))
+  pub others : HaveSame (filter (λ o. not (has_tables o)) objects)
+      (own ++ objects_in (weak_among taken))
   pub tables : filter has_tables objects
       ≡ objects_in (all_linked machine (inputs_in arranged own taken)) ++ null_descriptor ∷ []
   pub admissible : IsAdmissible machine bases objects
@@ -95,8 +107,8 @@ pub record AreLinkedFor (machine : MachineType) (libraries : List Library) (own 
 -- A closed program of given objects and what is taken of libraries:
 -- `takes`: a linker takes these members for the given objects;
 -- `linked`: both are linked, and the null descriptor;
--- `claims`: the given objects claim no name that members which are taken are listed for or leave to others; of
--- the libraries' other symbols they may;
+-- `claims`: the given objects claim no name that members which are taken are listed for or leave to
+-- others; of the libraries' other symbols they may;
 -- `names`: no head's or tail's symbol is wanted.
 pub record IsClosed (machine : MachineType) (libraries : List Library) (own : List Object)
     (taken : List MemberView) (arranged : List Library) (bases : Bases) (objects : List Object)
@@ -106,8 +118,8 @@ pub record IsClosed (machine : MachineType) (libraries : List Library) (own : Li
   pub claims : AllByRecursion (ClaimsNone (listed_in taken ++ names_undefined taken)) own
   pub names : NamesNoHeadOrTailOf machine libraries (wanted_in own taken)
 
--- A name is that of an import of a linked program: `__imp_T`, which is defined once, at T's own entry of its
--- DLL's address table; or T itself, which is no data, and is defined once.
+-- A name is that of an import of a linked program: `__imp_T`, which is defined once, at T's own
+-- entry of its DLL's address table; or T itself, which is no data, and is defined once.
 pub record IsImported (machine : MachineType) (linked : List Placed) (bases : Bases)
     (inputs : List LinkInput) (name : List ℕ) : Type 0 where
   pub number : ℕ
@@ -137,7 +149,8 @@ IsUsed wanted e = (name : List ℕ) × Contains (archive_symbols e) name × Cont
 -- `taken_is`: what is taken is exactly what the names want that the given objects leave unresolved;
 -- `program`, `links`: what is linked is a program, and links as such;
 -- `used`: each import in its directory is used: a given object or an alias that is taken names it;
--- `resolved`: each name that is wanted and that the libraries list is that of an import, or an alias;
+-- `resolved`: each name that is wanted and that the libraries list is that of an import, or an
+-- alias;
 -- `closed`: no name is left unresolved that the libraries list.
 pub record LinksClosed (machine : MachineType) (libraries : List Library) (own : List Object)
     (taken : List MemberView) (arranged : List Library) (bases : Bases) (objects : List Object)

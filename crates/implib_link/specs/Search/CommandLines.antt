@@ -1,13 +1,15 @@
--- Searches of several archives, in the order of a command line. The members of all are in one list, and an archive is the
--- numbers of its members there, in its order: one that stands twice on a command line has the same members twice.
+-- Searches of several archives, in the order of a command line. The members of all are in one list,
+-- and an archive is the numbers of its members there, in its order: one that stands twice on a
+-- command line has the same members twice.
 --
--- GNU `ld` (binutils, ld/ldlang.c, `open_input_bfds`) goes through its inputs once. It sweeps an archive until a sweep takes
--- nothing, and goes through a group (`--start-group`) until none of its archives has more to give. What later inputs leave
--- unresolved leads it back to none.
+-- GNU `ld` (binutils, ld/ldlang.c, `open_input_bfds`) goes through its inputs once. It sweeps an
+-- archive until a sweep takes nothing, and goes through a group (`--start-group`) until none of its
+-- archives has more to give. What later inputs leave unresolved leads it back to none.
 --
--- lld (COFF/SymbolTable.cpp, `addLazyArchive`, `addUndefined`) keeps the symbols of each archive that it has read, and takes a
--- member as soon as a name is both unresolved and listed.
-use Rattle.std.specs.Prelude.{◌≡◌, ℕ, zero, suc, Bool, false, ◌==◌, List, [], ◌∷◌, ◌++◌, ◌≤◌, bytes_eq, length, not, slice_get, Option, None, Some, ◌⊎◌}
+-- lld (COFF/SymbolTable.cpp, `addLazyArchive`, `addUndefined`) keeps the symbols of each archive
+-- that it has read, and takes a member as soon as a name is both unresolved and listed.
+use Rattle.std.specs.Prelude.{◌≡◌, ℕ, zero, suc, Bool, false, ◌==◌, List, [], ◌∷◌, ◌++◌, ◌≤◌}
+use Rattle.std.specs.Prelude.{bytes_eq, length, not, slice_get, Option, None, Some, ◌⊎◌}
 use Rattle.std.specs.List.{AllByRecursion, Contains, filter, flat_map, list_any}
 use Rattle.implib.specs.Formats.Object.{Object, object_in}
 use Rattle.implib.specs.declared.machine.MachineType.{MachineType}
@@ -20,7 +22,8 @@ use Rattle.implib_link.specs.Search.Closed.{PullsIntoAs, listed_in, references_o
 use Rattle.implib_link.specs.Search.Search.{claimed_as, first_listed, objects_as, undefined_in}
 use Rattle.implib_link.specs.Search.Sweeps.{index_at, members_at, numbers_from, sweeps, swept}
 
--- an input: an object, or archives that are searched as a group; an archive by itself is a group of one
+-- an input: an object, or archives that are searched as a group; an archive by itself is a group of
+-- one
 pub data Input : Type 0 where
   AnObject : Object → Input
   Archives : List (List ℕ) → Input
@@ -43,37 +46,44 @@ objects_given inputs = flat_map object_of inputs
 
 -- GNU `ld`
 
--- What is taken after an archive was swept, from what was taken before: some sweeps over its index, until one takes nothing.
-pub record IsSwept (reads : List ℕ → Option Object) (members : List MemberView) (own : List Object) (archive : List ℕ)
+-- What is taken after an archive was swept, from what was taken before: some sweeps over its index,
+-- until one takes nothing.
+pub record IsSwept (reads : List ℕ → Option Object) (members : List MemberView) (own : List Object)
+    (archive : List ℕ)
     (before after : List ℕ) : Type 0 where
   pub count : ℕ
   pub taken : sweeps reads members own (index_at members archive) count before ≡ after
   pub ended : swept reads members own (index_at members archive) after ≡ after
 
 -- archives are swept one after another
-unfoldable pub AreSwept : (List ℕ → Option Object) → List MemberView → List Object → List (List ℕ) → List ℕ → List ℕ → Type 0
+unfoldable pub AreSwept : (List ℕ → Option Object) → List MemberView → List Object → List (List ℕ) →
+    List ℕ → List ℕ → Type 0
 AreSwept reads members own [] before after = before ≡ after
 AreSwept reads members own (archive ∷ archives) before after =
     (between : List ℕ) × IsSwept reads members own archive before between
     × AreSwept reads members own archives between after
 
 -- a group is gone through so many times
-unfoldable pub AreRounds : (List ℕ → Option Object) → List MemberView → List Object → List (List ℕ) → ℕ → List ℕ → List ℕ → Type 0
+unfoldable pub AreRounds : (List ℕ → Option Object) → List MemberView → List Object →
+    List (List ℕ) → ℕ → List ℕ → List ℕ → Type 0
 AreRounds reads members own archives zero before after = before ≡ after
 AreRounds reads members own archives (suc count) before after =
     (between : List ℕ) × AreSwept reads members own archives before between
     × AreRounds reads members own archives count between after
 
--- What is taken after a group was searched: rounds through it (`taken`), until a sweep over none of its archives takes
--- anything (`ended`).
-pub record IsGroupSearched (reads : List ℕ → Option Object) (members : List MemberView) (own : List Object)
+-- What is taken after a group was searched: rounds through it (`taken`), until a sweep over none of
+-- its archives takes anything (`ended`).
+pub record IsGroupSearched (reads : List ℕ → Option Object) (members : List MemberView)
+    (own : List Object)
     (archives : List (List ℕ)) (before after : List ℕ) : Type 0 where
   pub rounds : ℕ
   pub taken : AreRounds reads members own archives rounds before after
-  pub ended : AllByRecursion (λ archive. swept reads members own (index_at members archive) after ≡ after) archives
+  pub ended : AllByRecursion
+      (λ archive. swept reads members own (index_at members archive) after ≡ after) archives
 
 -- What is taken after inputs, for the objects that were read before them.
-unfoldable pub SearchesFrom : (List ℕ → Option Object) → List MemberView → List Object → List Input → List ℕ → List ℕ → Type 0
+unfoldable pub SearchesFrom : (List ℕ → Option Object) → List MemberView → List Object →
+    List Input → List ℕ → List ℕ → Type 0
 SearchesFrom reads members own [] before after = before ≡ after
 SearchesFrom reads members own (AnObject o ∷ inputs) before after =
     SearchesFrom reads members (own ++ o ∷ []) inputs before after
@@ -82,20 +92,23 @@ SearchesFrom reads members own (Archives archives ∷ inputs) before after =
     × SearchesFrom reads members own inputs between after
 
 -- what GNU `ld` takes for a command line: the numbers of the members, the last one first
-abbrev pub SearchesCommandLine : (List ℕ → Option Object) → List MemberView → List Input → List ℕ → Type 0
+abbrev pub SearchesCommandLine : (List ℕ → Option Object) → List MemberView → List Input → List ℕ →
+    Type 0
 SearchesCommandLine reads members inputs taken = SearchesFrom reads members [] inputs [] taken
 
 -- lld
 
 -- members are taken one after another, behind those before them
-unfoldable pub AreTakenBehind : (List ℕ → Option Object) → List MemberView → List Object → List MemberView → List MemberView → Type 0
+unfoldable pub AreTakenBehind : (List ℕ → Option Object) → List MemberView → List Object →
+    List MemberView → List MemberView → Type 0
 AreTakenBehind reads archive own before [] = Unit {0}
 AreTakenBehind reads archive own before (m ∷ more) =
     ((name : List ℕ) × PullsIntoAs reads archive own (more ++ before) name m)
     × AreTakenBehind reads archive own before more
 
 -- Members are taken until no unresolved name pulls in another of the archives that were read.
-pub record IsClosedOver (reads : List ℕ → Option Object) (archive : List MemberView) (own : List Object)
+pub record IsClosedOver (reads : List ℕ → Option Object) (archive : List MemberView)
+    (own : List Object)
     (before after : List MemberView) : Type 0 where
   pub more : List MemberView
   pub taken : more ++ before ≡ after
@@ -103,15 +116,19 @@ pub record IsClosedOver (reads : List ℕ → Option Object) (archive : List Mem
   pub ended : (name : List ℕ) (m : MemberView) → PullsIntoAs reads archive own after name m → ⊥
 
 -- What is taken after inputs, for the objects and the archives that were read before them.
-unfoldable pub LldSearchesFrom : (List ℕ → Option Object) → List MemberView → List Object → List ℕ → List Input → List MemberView → List MemberView → Type 0
+unfoldable pub LldSearchesFrom : (List ℕ → Option Object) → List MemberView → List Object → List ℕ →
+    List Input → List MemberView → List MemberView → Type 0
 LldSearchesFrom reads members own read [] before after = before ≡ after
 LldSearchesFrom reads members own read (input ∷ inputs) before after =
     (between : List MemberView)
-    × IsClosedOver reads (members_at members (read ++ numbers_of input)) (own ++ object_of input) before between
-    × LldSearchesFrom reads members (own ++ object_of input) (read ++ numbers_of input) inputs between after
+    × IsClosedOver reads (members_at members (read ++ numbers_of input)) (own ++ object_of input)
+    before between
+    × LldSearchesFrom reads members (own ++ object_of input) (read ++ numbers_of input) inputs
+    between after
 
 -- what lld takes for a command line, the last one first
-abbrev pub LldSearches : (List ℕ → Option Object) → List MemberView → List Input → List MemberView → Type 0
+abbrev pub LldSearches : (List ℕ → Option Object) → List MemberView → List Input → List MemberView →
+    Type 0
 LldSearches reads members inputs taken = LldSearchesFrom reads members [] [] inputs [] taken
 
 -- What is asked of command lines.
@@ -120,8 +137,8 @@ LldSearches reads members inputs taken = LldSearchesFrom reads members [] [] inp
 abbrev pub listed_at : List MemberView → List ℕ → List (List ℕ)
 listed_at members numbers = listed_in (members_at members numbers)
 
--- No object claims a name that an archive in front of it lists: a linker that needed the name there has taken that member,
--- and the object defines it again.
+-- No object claims a name that an archive in front of it lists: a linker that needed the name there
+-- has taken that member, and the object defines it again.
 unfoldable pub AreUnclaimedBehind : List MemberView → List ℕ → List Input → Type 0
 AreUnclaimedBehind members read [] = Unit {0}
 AreUnclaimedBehind members read (input ∷ inputs) =
@@ -130,40 +147,48 @@ AreUnclaimedBehind members read (input ∷ inputs) =
 
 -- an object leaves none of these names to others
 abbrev pub LeavesNone : List (List ℕ) → Object → Type 0
-LeavesNone names o = AllByRecursion (λ name. list_any (bytes_eq name) (undefined_in o) ≡ false) names
+LeavesNone names o =
+    AllByRecursion (λ name. list_any (bytes_eq name) (undefined_in o) ≡ false) names
 
 -- the numbers of all members but some
 abbrev pub numbers_but : List MemberView → List ℕ → List ℕ
 numbers_but members some =
-    filter (λ number. not (list_any (λ other. other == number) some)) (numbers_from (length members) 0)
+    filter (λ number. not (list_any (λ other. other == number) some))
+    (numbers_from (length members) 0)
 
--- The order that GNU `ld` wants: what an object or a member leaves to others is listed by archives of the same input or
--- behind it alone, of all that list it.
+-- The order that GNU `ld` wants: what an object or a member leaves to others is listed by archives
+-- of the same input or behind it alone, of all that list it.
 unfoldable pub IsOrdered : (List ℕ → Option Object) → List MemberView → List Input → Type 0
 IsOrdered reads members [] = Unit {0}
 IsOrdered reads members (input ∷ inputs) =
-    AllByRecursion (LeavesNone (listed_at members (numbers_but members (numbers_of input ++ numbers_in inputs))))
+    AllByRecursion
+    (LeavesNone (listed_at members (numbers_but members (numbers_of input ++ numbers_in inputs))))
     (object_of input ++ objects_as reads (members_at members (numbers_of input)))
     × IsOrdered reads members inputs
 
--- No name that is left unresolved in the end is listed for a member: so it is in each link that ends without an "undefined
--- reference" to what its archives have, in whatever order these are.
-abbrev pub NoneIsLost : (List ℕ → Option Object) → List MemberView → List Object → List MemberView → Type 0
+-- No name that is left unresolved in the end is listed for a member: so it is in each link that
+-- ends without an "undefined reference" to what its archives have, in whatever order these are.
+abbrev pub NoneIsLost : (List ℕ → Option Object) → List MemberView → List Object → List MemberView →
+    Type 0
 NoneIsLost reads members own taken =
-    AllByRecursion (λ name. first_listed members name ≡ None) (unresolved (own ++ objects_as reads taken))
+    AllByRecursion (λ name. first_listed members name ≡ None)
+    (unresolved (own ++ objects_as reads taken))
 
 -- the inputs have each member
 abbrev pub HaveAll : List MemberView → List Input → Type 0
-HaveAll members inputs = (m : MemberView) → Contains members m → Contains (members_at members (numbers_in inputs)) m
+HaveAll members inputs =
+    (m : MemberView) → Contains members m → Contains (members_at members (numbers_in inputs)) m
 
--- Each member that is taken, and that is listed for one of these names, is the first that is listed for it.
+-- Each member that is taken, and that is listed for one of these names, is the first that is listed
+-- for it.
 abbrev pub AreFirst : List MemberView → List (List ℕ) → List MemberView → Type 0
 AreFirst members names taken = (name : List ℕ) (m : MemberView) → Contains names name →
     Contains taken m → Contains m.symbols name → first_listed members name ≡ Some m
 
 -- the same by numbers
 abbrev pub TakesFirst : List MemberView → List (List ℕ) → List ℕ → Type 0
-TakesFirst members names taken = (name : List ℕ) (n k : ℕ) (m x : MemberView) → Contains names name →
+TakesFirst members names taken =
+    (name : List ℕ) (n k : ℕ) (m x : MemberView) → Contains names name →
     Contains taken n → slice_get members n ≡ Some m → Contains m.symbols name →
     slice_get members k ≡ Some x → Contains x.symbols name → n ≤ k
 
@@ -171,12 +196,16 @@ TakesFirst members names taken = (name : List ℕ) (n k : ℕ) (m x : MemberView
 abbrev pub names_left : (List ℕ → Option Object) → List Object → List MemberView → List (List ℕ)
 names_left reads own taken = references_of (own ++ objects_as reads taken)
 
--- each member is listed for exactly the names that it claims, as an archive's index is made by tools
+-- each member is listed for exactly the names that it claims, as an archive's index is made by
+-- tools
 abbrev pub AreListedWhole : (List ℕ → Option Object) → List MemberView → Type 0
-AreListedWhole reads members = AllByRecursion (λ m. HaveSame (claimed_as reads (m ∷ [])) m.symbols) members
+AreListedWhole reads members =
+    AllByRecursion (λ m. HaveSame (claimed_as reads (m ∷ [])) m.symbols) members
 
--- Members that are as if they were given: those that are taken beside the given objects, and the other members.
-abbrev pub given_with : (List ℕ → Option Object) → (MemberView → Bool) → List Object → List MemberView → List Object
+-- Members that are as if they were given: those that are taken beside the given objects, and the
+-- other members.
+abbrev pub given_with : (List ℕ → Option Object) → (MemberView → Bool) → List Object →
+    List MemberView → List Object
 given_with reads is_given own taken = own ++ objects_as reads (filter is_given taken)
 
 abbrev pub others_of : (MemberView → Bool) → List MemberView → List MemberView
@@ -186,10 +215,12 @@ others_of is_given members = filter (λ m. not (is_given m)) members
 -- `libraries_are`: the members that are not as given are those of libraries, archive by archive;
 -- `first`, `unclaimed`, `ordered`, `whole`: what is asked of the command line;
 -- `searches`: the search.
-pub record SearchesFor (reads : List ℕ → Option Object) (of_libraries members : List MemberView) (inputs : List Input)
+pub record SearchesFor (reads : List ℕ → Option Object) (of_libraries members : List MemberView)
+    (inputs : List Input)
     (is_given : MemberView → Bool) (taken : List ℕ) : Type 0 where
   pub libraries_are : others_of is_given members ≡ of_libraries
-  pub first : TakesFirst members (names_left reads (objects_given inputs) (members_at members taken)) taken
+  pub first : TakesFirst members
+      (names_left reads (objects_given inputs) (members_at members taken)) taken
   pub unclaimed : AreUnclaimedBehind members [] inputs
   pub ordered : IsOrdered reads members inputs
       ⊎ NoneIsLost reads members (objects_given inputs) (members_at members taken)
@@ -197,9 +228,12 @@ pub record SearchesFor (reads : List ℕ → Option Object) (of_libraries member
   pub searches : SearchesCommandLine reads members inputs taken
 
 -- of libraries for it
-abbrev pub SearchesLibraries : MachineType → List Library → List MemberView → List Input → (MemberView → Bool) → List ℕ → Type 0
+abbrev pub SearchesLibraries : MachineType → List Library → List MemberView → List Input →
+    (MemberView → Bool) → List ℕ → Type 0
 SearchesLibraries machine libraries = SearchesFor object_in (archive_of libraries)
 
--- of libraries of which some are for it and others for Microsoft's linker, whose short imports it expands
-abbrev pub SearchesFlavors : MachineType → List FlavorLibrary → List MemberView → List Input → (MemberView → Bool) → List ℕ → Type 0
+-- of libraries of which some are for it and others for Microsoft's linker, whose short imports it
+-- expands
+abbrev pub SearchesFlavors : MachineType → List FlavorLibrary → List MemberView → List Input →
+    (MemberView → Bool) → List ℕ → Type 0
 SearchesFlavors machine libraries = SearchesFor (expanded_in machine) (archive_of_both libraries)

@@ -1,5 +1,5 @@
--- What is asked of the objects that are given to a linker with libraries, so that what it takes for them closes the
--- program: of the objects and of the definitions alone, without a search.
+-- What is asked of the objects that are given to a linker with libraries, so that what it takes for
+-- them closes the program: of the objects and of the definitions alone, without a search.
 use Rattle.std.specs.Prelude.{ℕ, Bool, List, ◌++◌, ◌&&◌, map}
 use Rattle.std.specs.List.{AllByRecursion, filter, flat_map}
 use Rattle.implib.specs.declared.machine.MachineType.{MachineType}
@@ -38,8 +38,8 @@ abbrev pub symbols_wanted : List Library → List (List ℕ) → List (List ℕ)
 symbols_wanted libraries names =
     flat_map (λ l. flat_map archive_symbols (filter (is_wanted names) (exports_of l))) libraries
 
--- the symbols that members alone may claim: heads' and tails', aliases' targets, and those of the exports that
--- are wanted
+-- the symbols that members alone may claim: heads' and tails', aliases' targets, and those of the
+-- exports that are wanted
 abbrev pub symbols_kept : MachineType → List Library → List Object → List (List ℕ)
 symbols_kept machine libraries own =
     heads_of machine libraries
@@ -47,8 +47,10 @@ symbols_kept machine libraries own =
     ++ (alias_targets libraries ++ symbols_wanted libraries (wanted_at_most libraries own)))
 
 -- Objects that may be given to a linker with libraries:
--- `claims`: they claim no symbol that members alone may claim; of exports that they do not want they may;
+-- `claims`: they claim no symbol that members alone may claim; of exports that they do not want
+-- they may;
 -- `names`: they leave no head's or tail's symbol unresolved, and none is the target of an alias.
-pub record AreGiven (machine : MachineType) (libraries : List Library) (own : List Object) : Type 0 where
+pub record AreGiven (machine : MachineType) (libraries : List Library)
+    (own : List Object) : Type 0 where
   pub claims : AllByRecursion (ClaimsNone (symbols_kept machine libraries own)) own
   pub names : NamesNoHeadOrTailOf machine libraries (wanted_at_most libraries own)

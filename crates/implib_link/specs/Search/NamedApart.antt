@@ -1,5 +1,7 @@
--- Libraries for GNU's linker whose names are apart, by the texts of their definitions: what a reader can check.
-use Rattle.std.specs.Prelude.{◌≡◌, ℕ, Bool, true, false, ◌==◌, List, [], ◌∷◌, ◌++◌, bytes_eq, map, not}
+-- Libraries for GNU's linker whose names are apart, by the texts of their definitions: what a
+-- reader can check.
+use Rattle.std.specs.Prelude.{◌≡◌, ℕ, Bool, true, false, ◌==◌, List, [], ◌∷◌, ◌++◌, bytes_eq, map}
+use Rattle.std.specs.Prelude.{not}
 use Rattle.std.specs.List.{AllByRecursion, IsDistinct, flat_map, list_any}
 use Rattle.implib.specs.declared.machine.MachineType.{MachineType}
 use Rattle.implib.specs.Import.{imp_symbol, underscore}
@@ -29,10 +31,12 @@ AreNone names others = AllByRecursion (λ name. list_any (bytes_eq name) others 
 -- `stems`: the DLLs' names differ, as symbols have them: those of a.b.dll and a_b.dll do not;
 -- `begin`: and begin with no underscore or full stop;
 -- `exports`: the exports' names differ, in all libraries together;
--- `plain`: and none is a symbol that is made of a name: a tail's, a head's, or `__imp_` and an export's.
+-- `plain`: and none is a symbol that is made of a name: a tail's, a head's, or `__imp_` and an
+-- export's.
 pub record AreNamedApart (machine : MachineType) (libraries : List Library) : Type 0 where
   pub stems : IsDistinct bytes_eq (map stem libraries)
   pub begin : AllByRecursion (λ l. begins_plain (stem l) ≡ true) libraries
   pub exports : IsDistinct bytes_eq (names_in libraries)
   pub plain : AreNone (names_in libraries)
-      (tails_of machine libraries ++ (heads_of machine libraries ++ map imp_symbol (names_in libraries)))
+      (tails_of machine libraries
+      ++ (heads_of machine libraries ++ map imp_symbol (names_in libraries)))

@@ -1,8 +1,10 @@
--- Archive search: which members of an archive a linker takes for the names that are undefined. The archive
--- lists symbols for each member; what a member leaves to others is read in its bytes. Nothing in the search
--- knows who wrote the members.
-use Rattle.std.specs.Prelude.{◌≡◌, ℕ, ◌+◌, Bool, false, List, [], ◌∷◌, ◌++◌, bytes_eq, map, not, Option, Some, None, if◌then◌else◌}
-use Rattle.std.specs.List.{AllByRecursion, Contains, IsDistinct, filter, filter_map, flat_map, list_any}
+-- Archive search: which members of an archive a linker takes for the names that are undefined. The
+-- archive lists symbols for each member; what a member leaves to others is read in its bytes.
+-- Nothing in the search knows who wrote the members.
+use Rattle.std.specs.Prelude.{◌≡◌, ℕ, ◌+◌, Bool, false, List, [], ◌∷◌, ◌++◌, bytes_eq, map, not}
+use Rattle.std.specs.Prelude.{Option, Some, None, if◌then◌else◌}
+use Rattle.std.specs.List.{AllByRecursion, Contains, IsDistinct, filter, filter_map, flat_map}
+use Rattle.std.specs.List.{list_any}
 use Rattle.implib.specs.declared.machine.MachineType.{MachineType}
 use Rattle.implib.specs.Definition.{DefinitionView, ExportView}
 use Rattle.implib.specs.Members.Gnu.{archive_symbols, head_symbol, iname_symbol}
@@ -15,7 +17,8 @@ use Rattle.implib.specs.Members.GnuMembers.{head_spec, tail_spec}
 use Rattle.implib.specs.Formats.Object.{Object, object_in}
 use Rattle.implib.specs.Link.Placement.{Bases}
 use Rattle.implib.specs.Renaming.{renamed}
-use Rattle.implib_link.specs.Gnu.Program.{ClaimsNone, HaveSame, claimed_names, has_tables, null_descriptor}
+use Rattle.implib_link.specs.Gnu.Program.{ClaimsNone, HaveSame, claimed_names, has_tables}
+use Rattle.implib_link.specs.Gnu.Program.{null_descriptor}
 use Rattle.implib_link.specs.Flavors.Program.{LinksAmong}
 use Rattle.implib.specs.LibraryName.{NamesOfDll}
 
@@ -44,30 +47,36 @@ left_as reads members = flat_map undefined_in (objects_as reads members)
 unfoldable pub claimed_as : (List ℕ → Option Object) → List MemberView → List (List ℕ)
 claimed_as reads members = flat_map claimed_names (objects_as reads members)
 
--- An undefined name pulls in a member: the name is wanted or left by a member that is taken, no member that
--- is taken defines it, and the first member that it is listed for is this one, which is not taken.
-pub record PullsInAs (reads : List ℕ → Option Object) (archive : List MemberView) (wanted : List (List ℕ))
+-- An undefined name pulls in a member: the name is wanted or left by a member that is taken, no
+-- member that is taken defines it, and the first member that it is listed for is this one, which is
+-- not taken.
+pub record PullsInAs (reads : List ℕ → Option Object) (archive : List MemberView)
+    (wanted : List (List ℕ))
     (taken : List MemberView) (name : List ℕ) (m : MemberView) : Type 0 where
   pub named : Contains (wanted ++ left_as reads taken) name
   pub undefined : list_any (bytes_eq name) (claimed_as reads taken) ≡ false
   pub listed : first_listed archive name ≡ Some m
   pub new : Contains taken m → ⊥
 
--- Members are taken one after another, the last one first: each is pulled in by some name that is undefined
--- after those before it. The linker may take up the undefined names in any order.
-unfoldable pub AreTakenInTurnAs : (List ℕ → Option Object) → List MemberView → List (List ℕ) → List MemberView → Type 0
+-- Members are taken one after another, the last one first: each is pulled in by some name that is
+-- undefined after those before it. The linker may take up the undefined names in any order.
+unfoldable pub AreTakenInTurnAs : (List ℕ → Option Object) → List MemberView → List (List ℕ) →
+    List MemberView → Type 0
 AreTakenInTurnAs reads archive wanted [] = Unit {0}
 AreTakenInTurnAs reads archive wanted (m ∷ earlier) =
-    ((name : List ℕ) × PullsInAs reads archive wanted earlier name m) × AreTakenInTurnAs reads archive wanted earlier
+    ((name : List ℕ) × PullsInAs reads archive wanted earlier name m)
+    × AreTakenInTurnAs reads archive wanted earlier
 
--- What a linker takes of an archive for wanted names: it takes members in turn until no undefined name pulls
--- in another.
-pub record TakesAs (reads : List ℕ → Option Object) (archive : List MemberView) (wanted : List (List ℕ))
+-- What a linker takes of an archive for wanted names: it takes members in turn until no undefined
+-- name pulls in another.
+pub record TakesAs (reads : List ℕ → Option Object) (archive : List MemberView)
+    (wanted : List (List ℕ))
     (taken : List MemberView) : Type 0 where
   pub in_turn : AreTakenInTurnAs reads archive wanted taken
   pub ended : (name : List ℕ) (m : MemberView) → PullsInAs reads archive wanted taken name m → ⊥
 
--- The same for a linker that reads members as the objects that their bytes are: the names that members leave to others.
+-- The same for a linker that reads members as the objects that their bytes are: the names that
+-- members leave to others.
 abbrev pub names_undefined : List MemberView → List (List ℕ)
 names_undefined = left_as object_in
 
@@ -76,7 +85,8 @@ abbrev pub names_claimed : List MemberView → List (List ℕ)
 names_claimed = claimed_as object_in
 
 -- an undefined name pulls in a member
-abbrev pub PullsIn : List MemberView → List (List ℕ) → List MemberView → List ℕ → MemberView → Type 0
+abbrev pub PullsIn : List MemberView → List (List ℕ) → List MemberView → List ℕ → MemberView →
+    Type 0
 PullsIn = PullsInAs object_in
 
 -- members are taken one after another
@@ -87,7 +97,8 @@ IsTakenInTurn = AreTakenInTurnAs object_in
 abbrev pub Takes : List MemberView → List (List ℕ) → List MemberView → Type 0
 Takes = TakesAs object_in
 
--- whether an export is wanted: one of its symbols is, its name, where it is no data, or `__imp_` and its name
+-- whether an export is wanted: one of its symbols is, its name, where it is no data, or `__imp_`
+-- and its name
 abbrev pub is_wanted : List (List ℕ) → ExportView → Bool
 is_wanted wanted e = list_any (λ name. list_any (bytes_eq name) wanted) (archive_symbols e)
 
@@ -98,7 +109,8 @@ numbers_passing test number (e ∷ exports) =
     if test e then number ∷ numbers_passing test (number + 1) exports
     else numbers_passing test (number + 1) exports
 
--- the numbers of a definition's exports that are wanted, which count those that are not private from 0
+-- the numbers of a definition's exports that are wanted, which count those that are not private
+-- from 0
 abbrev pub exports_wanted : DefinitionView → List (List ℕ) → List ℕ
 exports_wanted d wanted = numbers_passing (is_wanted wanted) 0 (public_exports (renamed d))
 
@@ -107,17 +119,21 @@ abbrev pub linked_if_any : DefinitionView → MachineType → List ℕ → List 
 linked_if_any d machine [] = []
 linked_if_any d machine (n ∷ chosen) = linked_members d machine (n ∷ chosen)
 
--- no wanted name is one of the two by which only members name each other: the descriptor's and the DLL name's
-pub record NamesNoHeadOrTail (machine : MachineType) (dll : List ℕ) (wanted : List (List ℕ)) : Type 0 where
+-- no wanted name is one of the two by which only members name each other: the descriptor's and the
+-- DLL name's
+pub record NamesNoHeadOrTail (machine : MachineType) (dll : List ℕ)
+    (wanted : List (List ℕ)) : Type 0 where
   pub head : list_any (bytes_eq (head_symbol machine dll)) wanted ≡ false
   pub name : list_any (bytes_eq (iname_symbol machine dll)) wanted ≡ false
 
--- what is taken, each member once, in an order in which the head is first and the tail last, as linkers
--- have it that sort by member name
-pub record IsArranged (machine : MachineType) (dll : NamesOfDll) (taken arranged : List MemberView) : Type 0 where
+-- what is taken, each member once, in an order in which the head is first and the tail last, as
+-- linkers have it that sort by member name
+pub record IsArranged (machine : MachineType) (dll : NamesOfDll)
+    (taken arranged : List MemberView) : Type 0 where
   pub between : List MemberView
   pub order : arranged
-      ≡ member_of (head_spec machine dll.linked) ∷ (between ++ member_of (tail_spec machine dll) ∷ [])
+      ≡ member_of (head_spec machine dll.linked)
+      ∷ (between ++ member_of (tail_spec machine dll) ∷ [])
   pub same : HaveSame taken arranged
   pub once : IsDistinct bytes_eq (map (λ m. m.name) arranged)
 
@@ -128,10 +144,11 @@ pub record IsLinkedOfWanted (machine : MachineType) (d : DefinitionView) (wanted
   pub same : HaveSame chosen (exports_wanted d wanted)
   pub linked : arranged ≡ linked_members d machine chosen
 
--- A program of what a linker took of an archive, in such an order, and of other objects: the objects with
--- import tables are those members and, after them, the null descriptor; the others claim no symbol of
--- theirs.
-pub record IsLinkedWith (machine : MachineType) (dll : NamesOfDll) (bases : Bases) (taken : List MemberView)
+-- A program of what a linker took of an archive, in such an order, and of other objects: the
+-- objects with import tables are those members and, after them, the null descriptor; the others
+-- claim no symbol of theirs.
+pub record IsLinkedWith (machine : MachineType) (dll : NamesOfDll) (bases : Bases)
+    (taken : List MemberView)
     (objects : List Object) : Type 0 where
   pub arranged : List MemberView
   pub is_arranged : IsArranged machine dll taken arranged

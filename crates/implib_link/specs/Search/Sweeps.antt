@@ -1,7 +1,9 @@
--- Archive search as GNU `ld` does it (binutils, `_bfd_generic_link_add_archive_symbols`): it sweeps the archive's index,
--- entry after entry, and takes the member of an entry whose name is unresolved then. The index has the members in their
--- order (PE/COFF specification, "First Linker Member": the offsets ascend).
-use Rattle.std.specs.Prelude.{◌≡◌, ℕ, zero, suc, Bool, ◌&&◌, ◌==◌, List, [], ◌∷◌, ◌++◌, bytes_eq, length, map, not, slice_get, Option, Some, None, if◌then◌else◌}
+-- Archive search as GNU `ld` does it (binutils, `_bfd_generic_link_add_archive_symbols`): it sweeps
+-- the archive's index, entry after entry, and takes the member of an entry whose name is unresolved
+-- then. The index has the members in their order (PE/COFF specification, "First Linker Member": the
+-- offsets ascend).
+use Rattle.std.specs.Prelude.{◌≡◌, ℕ, zero, suc, Bool, ◌&&◌, ◌==◌, List, [], ◌∷◌, ◌++◌, bytes_eq}
+use Rattle.std.specs.Prelude.{length, map, not, slice_get, Option, Some, None, if◌then◌else◌}
 use Rattle.std.specs.List.{filter_map, flat_map, list_any}
 use Rattle.implib.specs.Formats.Object.{Object}
 use Rattle.implib.specs.Members.MemberSpec.{MemberView}
@@ -36,18 +38,22 @@ abbrev pub members_at : List MemberView → List ℕ → List MemberView
 members_at archive numbers = filter_map (slice_get archive) numbers
 
 -- whether the given objects and the members of these numbers leave a name unresolved
-abbrev pub is_left : (List ℕ → Option Object) → List MemberView → List Object → List ℕ → List ℕ → Bool
+abbrev pub is_left : (List ℕ → Option Object) → List MemberView → List Object → List ℕ → List ℕ →
+    Bool
 is_left reads archive own numbers name =
     list_any (bytes_eq name) (unresolved (own ++ objects_as reads (members_at archive numbers)))
 
 -- whether an entry's member is taken: its name is left unresolved, and it is not taken yet
-abbrev pub is_due : (List ℕ → Option Object) → List MemberView → List Object → List ℕ → IndexEntry → Bool
+abbrev pub is_due : (List ℕ → Option Object) → List MemberView → List Object → List ℕ → IndexEntry →
+    Bool
 is_due reads archive own numbers e =
-    is_left reads archive own numbers e.name && not (list_any (λ number. number == e.number) numbers)
+    is_left reads archive own numbers e.name
+    && not (list_any (λ number. number == e.number) numbers)
 
--- The numbers of the members that are taken after a sweep over entries, the last one first. What a member leaves
--- unresolved counts from the next entry on.
-unfoldable pub swept : (List ℕ → Option Object) → List MemberView → List Object → List IndexEntry → List ℕ → List ℕ
+-- The numbers of the members that are taken after a sweep over entries, the last one first. What a
+-- member leaves unresolved counts from the next entry on.
+unfoldable pub swept : (List ℕ → Option Object) → List MemberView → List Object → List IndexEntry →
+    List ℕ → List ℕ
 swept reads archive own [] numbers = numbers
 swept reads archive own (e ∷ index) numbers =
     if is_due reads archive own numbers e
@@ -55,14 +61,16 @@ swept reads archive own (e ∷ index) numbers =
     else swept reads archive own index numbers
 
 -- those after some sweeps over entries
-unfoldable pub sweeps : (List ℕ → Option Object) → List MemberView → List Object → List IndexEntry → ℕ → List ℕ → List ℕ
+unfoldable pub sweeps : (List ℕ → Option Object) → List MemberView → List Object → List IndexEntry →
+    ℕ → List ℕ → List ℕ
 sweeps reads archive own index zero numbers = numbers
 sweeps reads archive own index (suc count) numbers =
     sweeps reads archive own index count (swept reads archive own index numbers)
 
--- What GNU `ld` takes of an archive for given objects: it sweeps the index so often (`taken`), until a sweep takes nothing
--- (`ended`).
-pub record SweepsTake (reads : List ℕ → Option Object) (archive : List MemberView) (own : List Object) (count : ℕ)
+-- What GNU `ld` takes of an archive for given objects: it sweeps the index so often (`taken`),
+-- until a sweep takes nothing (`ended`).
+pub record SweepsTake (reads : List ℕ → Option Object) (archive : List MemberView)
+    (own : List Object) (count : ℕ)
     (numbers : List ℕ) : Type 0 where
   pub taken : sweeps reads archive own (index_of archive) count [] ≡ numbers
   pub ended : swept reads archive own (index_of archive) numbers ≡ numbers

@@ -2,7 +2,8 @@
 
 ghost use Rattle.implib_link.specs.Gnu.Fields.{AreLinkedBeside};
 ghost use Rattle.implib_link.specs.Gnu.Reading.{ReadsAndWrites};
-ghost use Rattle.implib_link.specs.Tables.{AreSteady, AreTables, CanReadFrom, Table, TableEntry, Tables};
+ghost use Rattle.implib_link.specs.Tables.{AreSteady, AreTables, CanReadFrom, Table, TableEntry};
+ghost use Rattle.implib_link.specs.Tables.{Tables};
 ghost use Rattle.implib.specs.Formats.Layout.{object_of};
 ghost use Rattle.implib.specs.Import.{Ask};
 ghost use Rattle.implib.specs.Link.Image.{Range};
@@ -16,9 +17,9 @@ ghost use Rattle.implib_link.specs.Gnu.Aliases.{ResolvesAliases, weak_target};
 ghost use Rattle.implib_link.specs.Gnu.Operands.{AllLeadTo};
 ghost use Rattle.std.specs.Prelude.{◌≡◌, ◌+◌, ◌∷◌, ◌++◌, [], ℕ, List, Some, length, slice_get};
 
-/// A field of code against an alias, which nothing defines but which a weak external replaces by the
-/// symbol of an entry of any import tables, leads to the entry, where is what the DLL gives. The
-/// members for aliases are such weak externals.
+/// A field of code against an alias, which nothing defines but which a weak external replaces by
+/// the symbol of an entry of any import tables, leads to the entry, where is what the DLL gives.
+/// The members for aliases are such weak externals.
 pub fn aliases_of_any_tables_lead()
     ensures leads { (machine : MachineType) (image_base : ℕ) (t : Tables)
         (codes : List LinkedCode) (targets : LinkedCode → ℕ → ℕ)

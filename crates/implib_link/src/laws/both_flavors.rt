@@ -16,7 +16,8 @@ ghost use Rattle.implib_link.specs.Search.BothFlavors.{archive_of_both, inputs_o
 ghost use Rattle.implib_link.specs.Search.BothFlavors.{msvc_among};
 ghost use Rattle.implib_link.specs.Search.Closed.{unresolved};
 ghost use Rattle.implib_link.specs.Search.Msvc.{TakesFor};
-ghost use Rattle.implib_link.specs.Search.MsvcArchives.{first_null, short_inputs, wanted_with_weak, weak_in, TakesIntoFor};
+ghost use Rattle.implib_link.specs.Search.MsvcArchives.{first_null, short_inputs, wanted_with_weak};
+ghost use Rattle.implib_link.specs.Search.MsvcArchives.{weak_in, TakesIntoFor};
 ghost use Rattle.implib_link.specs.Gnu.Program.{HaveSame};
 ghost use Rattle.std.specs.List.{filter};
 ghost use Rattle.std.specs.Prelude.{◌≡◌, ◌<◌, ◌^◌, ◌++◌, ℕ, IsPermutation, List, length, not};

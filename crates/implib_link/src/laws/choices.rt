@@ -9,9 +9,10 @@ ghost use Rattle.implib_link.specs.Gnu.Fields.{AreBeside, IsRelocated, LinkedCod
 ghost use Rattle.std.specs.List.{AllByRecursion};
 ghost use Rattle.std.specs.Prelude.{◌≡◌, ℕ, List, map};
 
-/// A linker can choose addresses for all symbols of placed code, for any base of the image, where no
-/// name is defined twice: however the code is relocated with them, the laws of calls and pointers
-/// find it beside the tables. That it can be relocated is `laws::operands::linked_bytes_exist`.
+/// A linker can choose addresses for all symbols of placed code, for any base of the image, where
+/// no name is defined twice: however the code is relocated with them, the laws of calls and
+/// pointers find it beside the tables. That it can be relocated is
+/// `laws::operands::linked_bytes_exist`.
 pub fn symbols_have_addresses()
     ensures exists { (machine : MachineType) (image_base : ℕ) (bases : Bases)
         (objects : List Object) (codes : List PlacedCode) →

@@ -23,20 +23,23 @@ ghost use Rattle.std.specs.Prelude.{ℕ, [], Bool, List, Option};
 ///
 /// A taken member that is listed for a name which objects or taken members leave to others is the
 /// first that is; and no object claims a name that an archive in front of it lists.
-/// GNU `ld` wants an order, too, in which what is left unresolved is listed behind it, or in the same
-/// group (`gnu`); or that nothing which an archive lists is left in the end, as in each link without
-/// an undefined reference (`complete`). lld takes any order (`lld`). An archive may stand on the command line more than once.
+/// GNU `ld` wants an order, too, in which what is left unresolved is listed behind it, or in the
+/// same group (`gnu`); or that nothing which an archive lists is left in the end, as in each link
+/// without an undefined reference (`complete`). lld takes any order (`lld`). An archive may stand
+/// on the command line more than once.
 /// However the linker reads members.
 pub fn command_lines_are_searched()
     ensures gnu { (reads : List ℕ → Option Object) (members : List MemberView)
         (inputs : List Input) (taken : List ℕ) →
-        TakesFirst members (names_left reads (objects_given inputs) (members_at members taken)) taken →
+        TakesFirst members (names_left reads (objects_given inputs) (members_at members taken))
+        taken →
         AreUnclaimedBehind members [] inputs → IsOrdered reads members inputs →
         SearchesCommandLine reads members inputs taken →
         TakesIntoAs reads members (objects_given inputs) (members_at members taken) }
     ensures complete { (reads : List ℕ → Option Object) (members : List MemberView)
         (inputs : List Input) (taken : List ℕ) →
-        TakesFirst members (names_left reads (objects_given inputs) (members_at members taken)) taken →
+        TakesFirst members (names_left reads (objects_given inputs) (members_at members taken))
+        taken →
         AreUnclaimedBehind members [] inputs →
         NoneIsLost reads members (objects_given inputs) (members_at members taken) →
         SearchesCommandLine reads members inputs taken →
@@ -61,7 +64,8 @@ pub fn linkers_take_alike()
         TakesIntoAs reads members own other → HaveSame taken other }
     ensures linkers { (reads : List ℕ → Option Object) (members : List MemberView)
         (inputs : List Input) (taken : List ℕ) (other : List MemberView) →
-        TakesFirst members (names_left reads (objects_given inputs) (members_at members taken)) taken →
+        TakesFirst members (names_left reads (objects_given inputs) (members_at members taken))
+        taken →
         AreFirst members (names_left reads (objects_given inputs) other) other →
         AreListedWhole reads members → AreUnclaimedBehind members [] inputs →
         IsOrdered reads members inputs → HaveAll members inputs →
@@ -70,8 +74,8 @@ pub fn linkers_take_alike()
         HaveSame (members_at members taken) other }
 {}
 
-/// Members that are taken are as if they were given as objects: of the others a linker takes what it
-/// takes for these and the given objects. So what is proved of libraries holds of them beside
+/// Members that are taken are as if they were given as objects: of the others a linker takes what
+/// it takes for these and the given objects. So what is proved of libraries holds of them beside
 /// archives of anything else, as of a C library's objects.
 pub fn taken_members_are_as_given()
     ensures { (reads : List ℕ → Option Object) (members : List MemberView) (own : List Object)

@@ -8,7 +8,8 @@ ghost use Rattle.implib_link.specs.Gnu.Moves.{AreInMemory};
 ghost use Rattle.implib_link.specs.Gnu.Operands.{HasBranch};
 ghost use Rattle.implib_link.specs.Gnu.Reading.{ReadsAndWrites};
 ghost use Rattle.implib_link.specs.Tables.{AreSteady, AreTables, Block, CanReadFrom, DefineEntries};
-ghost use Rattle.implib_link.specs.Tables.{Table, TableEntry, Tables, imported_by_table, packed_tables};
+ghost use Rattle.implib_link.specs.Tables.{Table, TableEntry, Tables, imported_by_table};
+ghost use Rattle.implib_link.specs.Tables.{packed_tables};
 ghost use Rattle.std.specs.Prelude.{Some, length, map, slice_get, ◌++◌, ◌+◌, ◌≡◌};
 ghost use Rattle.implib.specs.Formats.ShortImport.{ShortImport};
 ghost use Rattle.implib.specs.Link.Image.{AllApart, Range, range_end};
@@ -17,7 +18,8 @@ ghost use Rattle.implib.specs.Members.ImportTables.{thunk_width};
 ghost use Rattle.implib.specs.declared.machine.MachineType.{MachineType};
 ghost use Rattle.implib_link.specs.Directory.{DirectoryAt, Imported};
 ghost use Rattle.implib_link.specs.Flavors.LldImports.{IsLldProgram, LldLinks};
-ghost use Rattle.implib_link.specs.Flavors.LldTables.{ArePiecesAt, IsImportable, addresses_at, built, hints_at, lookups_at, names_at};
+ghost use Rattle.implib_link.specs.Flavors.LldTables.{ArePiecesAt, IsImportable, addresses_at};
+ghost use Rattle.implib_link.specs.Flavors.LldTables.{built, hints_at, lookups_at, names_at};
 ghost use Rattle.std.specs.List.{AllByRecursion, Contains};
 ghost use Rattle.std.specs.Prelude.{◌<◌, ◌^◌, ℕ, List};
 
@@ -25,8 +27,8 @@ ghost use Rattle.std.specs.Prelude.{◌<◌, ◌^◌, ℕ, List};
 /// these imports, wherever each piece stands. What lld writes where nothing else has import tables,
 /// one piece that is apart from all else, has the five at their addresses.
 ///
-/// They are import tables where each entry's symbol has one definition, the entry; whatever files lld
-/// took the imports from: short imports with the DLL's own name as a third text, too.
+/// They are import tables where each entry's symbol has one definition, the entry; whatever files
+/// lld took the imports from: short imports with the DLL's own name as a third text, too.
 pub fn pieces_are_a_directory()
     ensures directory { (machine : MachineType) (image : List Range)
         (descriptors lookups addresses hints names : ℕ) (imports : List Imported) →

@@ -16,9 +16,9 @@ ghost use Rattle.std.specs.List.{AllByRecursion, Contains};
 ghost use Rattle.std.specs.Prelude.{◌≡◌, ◌+◌, ◌<◌, ℕ, List, map};
 
 /// What the usual instructions are in these terms. Where every field against a name leads to the
-/// only definition of another (its own, or an alias's target), and bytes that no relocation meets are as they were: a call and a load through
-/// the name's pointer, and on ARM64 an `adrp` and a load of any registers, arrive there, at any
-/// place of the linked code. Not on ARMNT.
+/// only definition of another (its own, or an alias's target), and bytes that no relocation meets
+/// are as they were: a call and a load through the name's pointer, and on ARM64 an `adrp` and a
+/// load of any registers, arrive there, at any place of the linked code. Not on ARMNT.
 pub fn usual_instructions_lead()
     ensures calls { (machine : MachineType) (image_base : ℕ) (linked : List Placed)
         (codes : List LinkedCode) (memory : List Range) (called name bytes : List ℕ)

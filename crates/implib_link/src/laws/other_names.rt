@@ -14,13 +14,15 @@ ghost use Rattle.implib_link.specs.Gnu.Fields.{ranges_of_codes};
 ghost use Rattle.implib_link.specs.Gnu.Moves.{AreInMemory};
 ghost use Rattle.implib_link.specs.Gnu.Operands.{AllLeadTo, HasBranch};
 ghost use Rattle.implib_link.specs.Gnu.Reading.{ReadsAndWrites};
-ghost use Rattle.implib_link.specs.Tables.{AreSteady, AreTables, CanReadFrom, Table, TableEntry, Tables};
+ghost use Rattle.implib_link.specs.Tables.{AreSteady, AreTables, CanReadFrom, Table, TableEntry};
+ghost use Rattle.implib_link.specs.Tables.{Tables};
 ghost use Rattle.std.specs.List.{Contains};
 ghost use Rattle.std.specs.Prelude.{◌≡◌, ◌+◌, ◌*◌, ◌++◌, ℕ, List, Some, length, slice_get};
 
-/// A name that stands for another, as `/alternatename:a=b` and `--defsym=a=b` have it: fields against
-/// it lead to the entry whose symbol the other is, where is what the DLL gives; and in memory at any
-/// base a call of it leads there through the stub of the other, or through lld's thunk.
+/// A name that stands for another, as `/alternatename:a=b` and `--defsym=a=b` have it: fields
+/// against it lead to the entry whose symbol the other is, where is what the DLL gives; and in
+/// memory at any base a call of it leads there through the stub of the other, or through lld's
+/// thunk.
 pub fn names_that_stand_for_others_lead()
     ensures leads { (machine : MachineType) (image_base : ℕ) (t : Tables)
         (codes : List LinkedCode) (targets : LinkedCode → ℕ → ℕ)

@@ -9,10 +9,12 @@ ghost use Rattle.implib.specs.Members.OlderSymbols.{AreOlderMembersOf};
 ghost use Rattle.implib.specs.declared.machine.MachineType.{MachineType};
 ghost use Rattle.implib_link.specs.Flavors.Program.{IsProgram};
 ghost use Rattle.implib_link.specs.Gnu.Calls.{Defines, PlacedCode, StubAt};
-ghost use Rattle.implib_link.specs.Parts.{IsPart, IsProgramOfParts, Part, older_linked, older_part_of, part_of, stores_none};
+ghost use Rattle.implib_link.specs.Parts.{IsPart, IsProgramOfParts, Part, older_linked};
+ghost use Rattle.implib_link.specs.Parts.{older_part_of, part_of, stores_none};
 ghost use Rattle.implib_link.specs.Tables.{AreSteady, AreTables, Table, tables_at};
 ghost use Rattle.std.specs.List.{AllByRecursion, Contains, list_all};
-ghost use Rattle.std.specs.Prelude.{◌≡◌, ◌+◌, ◌*◌, ℕ, Bool, List, Some, false, map, slice_get, true};
+ghost use Rattle.std.specs.Prelude.{◌≡◌, ◌+◌, ◌*◌, ℕ, Bool, List, Some, false, map, slice_get};
+ghost use Rattle.std.specs.Prelude.{true};
 
 /// A program of import libraries of any makers has import tables, each DLL's of exactly the entries
 /// that are read of its library's objects.
@@ -29,11 +31,12 @@ pub fn parts_have_tables()
         AreSteady machine (placed_from bases objects) }
 {}
 
-/// What is linked of a definition for GNU's linker is such a library's part, and stores no address whole.
+/// What is linked of a definition for GNU's linker is such a library's part, and stores no address
+/// whole.
 /// A program of such members alone is one of their parts.
 ///
-/// So is what is linked of members that have older symbols of addresses, as `-C` asks for them: each
-/// entry has both symbols, and the part names it by either.
+/// So is what is linked of members that have older symbols of addresses, as `-C` asks for them:
+/// each entry has both symbols, and the part names it by either.
 pub fn members_are_part()
     ensures part { (machine : MachineType) (p : LinkInput) →
         IsMade machine p →
@@ -61,13 +64,15 @@ pub fn members_are_part()
 /// makers, is the stub of the export's own entry; so it is where members have older symbols.
 pub fn names_are_stubs_beside_others()
     ensures stubs { (machine : MachineType) (bases : Bases) (parts : List Part)
-        (objects : List Object) (i j : ℕ) (x : Table) (p : LinkInput) (e : ExportView) (d : PlacedCode)
+        (objects : List Object) (i j : ℕ) (x : Table) (p : LinkInput) (e : ExportView)
+        (d : PlacedCode)
         (t : ObjectSymbol) →
         AllByRecursion (IsPart machine) parts →
         IsProgramOfParts machine bases parts objects →
         IsMade machine p →
         slice_get parts i ≡ Some (part_of machine p) →
-        slice_get (tables_at machine bases objects (map (λ (q : Part). q.table) parts)).tables i ≡ Some x →
+        slice_get (tables_at machine bases objects (map (λ (q : Part). q.table) parts)).tables i
+        ≡ Some x →
         slice_get (chosen_exports p.definition p.chosen) j ≡ Some e →
         e.is_data ≡ false →
         Contains (placed_from bases objects) d.from →
@@ -77,11 +82,13 @@ pub fn names_are_stubs_beside_others()
         StubAt machine (placed_from bases objects) d t (x.address + thunk_width machine * j) }
     ensures older { (machine : MachineType) (bases : Bases) (parts : List Part)
         (objects : List Object) (i j : ℕ) (x : Table) (p : LinkInput) (older : ExportView → Bool)
-        (e : ExportView) (d : PlacedCode) (t : ObjectSymbol) → AllByRecursion (IsPart machine) parts →
+        (e : ExportView) (d : PlacedCode) (t : ObjectSymbol) →
+        AllByRecursion (IsPart machine) parts →
         IsProgramOfParts machine bases parts objects →
         AreOlderMembersOf p.definition machine p.members →
         slice_get parts i ≡ Some (older_part_of machine older p) →
-        slice_get (tables_at machine bases objects (map (λ (q : Part). q.table) parts)).tables i ≡ Some x →
+        slice_get (tables_at machine bases objects (map (λ (q : Part). q.table) parts)).tables i
+        ≡ Some x →
         slice_get (chosen_exports p.definition p.chosen) j ≡ Some e →
         (e.is_data ≡ false) →
         Contains (placed_from bases objects) d.from →

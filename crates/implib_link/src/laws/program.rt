@@ -26,8 +26,9 @@ pub fn links_in_any_order()
         AllLink machine bases inputs (objects_in (all_linked machine inputs)) }
 {}
 
-/// The chosen members of several DLLs, each for GNU's linker or for Microsoft's, and what ends their
-/// directory link among any other objects that hold no import tables and claim no symbol of theirs:
+/// The chosen members of several DLLs, each for GNU's linker or for Microsoft's, and what ends
+/// their directory link among any other objects that hold no import tables and claim no symbol of
+/// theirs:
 /// the import directory lists exactly these DLLs with exactly the chosen exports, and each `__imp_`
 /// symbol is its export's own entry, from whichever object it is named.
 ///

@@ -2,11 +2,14 @@
 
 ghost use Rattle.implib.specs.Formats.Object.{section_numbered};
 ghost use Rattle.implib_link.specs.Flavors.Program.{Ending, FlavorInput, IsCode, IsMadeFor};
-ghost use Rattle.implib_link.specs.Flavors.Program.{IsProgramOf, exports_chosen, symbol_in, thunks_of};
-ghost use Rattle.implib_link.specs.Gnu.Calls.{CanBranch, Defines, DirectCallArrives, HasDirectCall, PlacedCode, StubAt};
+ghost use Rattle.implib_link.specs.Flavors.Program.{IsProgramOf, exports_chosen, symbol_in};
+ghost use Rattle.implib_link.specs.Flavors.Program.{thunks_of};
+ghost use Rattle.implib_link.specs.Gnu.Calls.{CanBranch, Defines, DirectCallArrives, HasDirectCall};
+ghost use Rattle.implib_link.specs.Gnu.Calls.{PlacedCode, StubAt};
 ghost use Rattle.implib_link.specs.Gnu.Fields.{placed_code};
 ghost use Rattle.implib_link.specs.Gnu.Rebased.{StubArrives};
-ghost use Rattle.implib_link.specs.Tables.{AreSteady, AreTables, CanReadFrom, Table, TableEntry, Tables};
+ghost use Rattle.implib_link.specs.Tables.{AreSteady, AreTables, CanReadFrom, Table, TableEntry};
+ghost use Rattle.implib_link.specs.Tables.{Tables};
 ghost use Rattle.implib.specs.Definition.{ExportView};
 ghost use Rattle.implib.specs.Link.Image.{Range, image_of};
 ghost use Rattle.implib.specs.Import.{Ask};
@@ -44,7 +47,8 @@ pub fn stubs_jump()
 /// export's own entry.
 pub fn names_of_code_are_stubs()
     ensures stubs { (machine : MachineType) (ending : Ending) (bases : Bases)
-        (inputs : List FlavorInput) (objects : List Object) (i j : ℕ) (p : FlavorInput) (e : ExportView) (d : PlacedCode)
+        (inputs : List FlavorInput) (objects : List Object) (i j : ℕ) (p : FlavorInput)
+        (e : ExportView) (d : PlacedCode)
         (t : ObjectSymbol) →
         AllByRecursion (IsMadeFor machine) inputs →
         IsProgramOf machine ending bases inputs objects →
@@ -113,7 +117,8 @@ pub fn stubs_of_any_tables_jump()
 /// into its field what its type asks, and the image is below 2^32.
 pub fn armnt_stubs_miss_their_entries()
     ensures reads { (image_base : ℕ) (ending : Ending) (bases : Bases)
-        (inputs : List FlavorInput) (objects : List Object) (codes : List LinkedCode) (targets : LinkedCode → ℕ → ℕ)
+        (inputs : List FlavorInput) (objects : List Object) (codes : List LinkedCode)
+        (targets : LinkedCode → ℕ → ℕ)
         (memory : List Range) (gives : List ℕ → Ask → List ℕ) →
         AllByRecursion (IsMadeFor ARMNT) inputs →
         IsProgramOf ARMNT ending bases inputs objects →
@@ -134,7 +139,8 @@ pub fn armnt_stubs_miss_their_entries()
         (distance_from (d.position + 8)
         (bases.addresses + thunk_width ARMNT * thunks_of i inputs + thunk_width ARMNT * j)) }
     ensures misses { (image_base : ℕ) (ending : Ending) (bases : Bases)
-        (inputs : List FlavorInput) (objects : List Object) (codes : List LinkedCode) (targets : LinkedCode → ℕ → ℕ)
+        (inputs : List FlavorInput) (objects : List Object) (codes : List LinkedCode)
+        (targets : LinkedCode → ℕ → ℕ)
         (memory : List Range) (gives : List ℕ → Ask → List ℕ) →
         AllByRecursion (IsMadeFor ARMNT) inputs →
         IsProgramOf ARMNT ending bases inputs objects →
@@ -153,6 +159,7 @@ pub fn armnt_stubs_miss_their_entries()
         t.name ≡ symbol_in p.flavor e →
         image_base + 2 ^ 31 ≤ 2 ^ 32 →
         A32JumpReads (written ++ memory) d.position
-        (image_base + (bases.addresses + thunk_width ARMNT * thunks_of i inputs + thunk_width ARMNT * j)) →
+        (image_base + (bases.addresses + thunk_width ARMNT * thunks_of i inputs
+        + thunk_width ARMNT * j)) →
         ⊥ }
 {}

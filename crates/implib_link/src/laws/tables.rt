@@ -17,8 +17,8 @@ ghost use Rattle.implib_link.specs.Gnu.Moves.{AreInMemory, ArePaged, CanBeMoved}
 ghost use Rattle.implib_link.specs.Gnu.Operands.{AllLead, AreKept, BranchArrives, BranchStays};
 ghost use Rattle.implib_link.specs.Gnu.Operands.{HasBranch};
 ghost use Rattle.implib_link.specs.Gnu.Reading.{ReadsAndWrites};
-ghost use Rattle.implib_link.specs.Tables.{AreSteady, AreTables, AreTablesLoaded, CanReadFrom, Table};
-ghost use Rattle.implib_link.specs.Tables.{TableEntry, Tables, block_of_flavor};
+ghost use Rattle.implib_link.specs.Tables.{AreSteady, AreTables, AreTablesLoaded, CanReadFrom};
+ghost use Rattle.implib_link.specs.Tables.{Table, TableEntry, Tables, block_of_flavor};
 ghost use Rattle.implib_link.specs.Tables.{imported_by_table, tables_at, tables_of_lld};
 ghost use Rattle.std.specs.List.{AllByRecursion, Contains};
 ghost use Rattle.std.specs.Prelude.{◌≡◌, ◌+◌, ◌++◌, ◌∷◌, ◌<◌, ◌^◌, ℕ, List, Some, length, map};
@@ -74,10 +74,11 @@ pub fn any_tables_load()
 {}
 
 /// Any import tables are in memory with code beside them, at the base that they were linked for or
-/// at another, which changes none of them. A loader that reads them there loads the same imports. Every field of code against
-/// the symbol of an entry leads, by the processor's rule, to the entry, where the loader wrote what
-/// the DLL gives, whatever instruction holds the field; a branch to a name leads to where code
-/// defines it, and but for its distance is as it was; other bytes of code are as they were.
+/// at another, which changes none of them. A loader that reads them there loads the same imports.
+/// Every field of code against the symbol of an entry leads, by the processor's rule, to the entry,
+/// where the loader wrote what the DLL gives, whatever instruction holds the field; a branch to a
+/// name leads to where code defines it, and but for its distance is as it was; other bytes of code
+/// are as they were.
 pub fn fields_lead_to_any_tables()
     ensures loads { (machine : MachineType) (image_base : ℕ) (t : Tables)
         (codes : List LinkedCode) (targets : LinkedCode → ℕ → ℕ) (memory : List Range)

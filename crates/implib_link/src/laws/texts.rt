@@ -9,8 +9,8 @@ ghost use Rattle.implib_link.specs.Flavors.Texts.{input_of};
 ghost use Rattle.std.specs.List.{AllByRecursion};
 ghost use Rattle.std.specs.Prelude.{List, map};
 
-/// The members of texts, each for GNU's linker or for Microsoft's, link among any other objects to a
-/// program whose import directory lists exactly their DLLs, each with exactly its chosen exports,
+/// The members of texts, each for GNU's linker or for Microsoft's, link among any other objects to
+/// a program whose import directory lists exactly their DLLs, each with exactly its chosen exports,
 /// each by the word of its own statement.
 pub fn texts_link()
     ensures links { (machine : MachineType) (ending : Ending) (bases : Bases)

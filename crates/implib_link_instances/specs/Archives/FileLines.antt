@@ -1,5 +1,5 @@
--- Command lines of files: an object of gcc 12, a library of llvm-dlltool 19 and an archive of GNU `ar`, the library first for
--- lld and last, or in a group, for GNU `ld`.
+-- Command lines of files: an object of gcc 12, a library of llvm-dlltool 19 and an archive of GNU
+-- `ar`, the library first for lld and last, or in a group, for GNU `ld`.
 use Rattle.std.specs.Prelude.{◌≡◌, List, [], ◌∷◌, ◌++◌, codes, drop, take}
 use Rattle.implib.specs.declared.machine.MachineType.{MachineType}
 use Rattle.implib.specs.declared.machine.MachineType.TheVariants.{I386, AMD64}
@@ -10,22 +10,29 @@ use Rattle.implib_archive_link.specs.Files.{ArchiveFile, members_in_files}
 use Rattle.implib_archive_link.specs.LldFiles.{SearchesByLld, read_by_lld}
 use Rattle.implib_archive_link.specs.LldWay.{AreCalledAlike, LldArrives}
 use Rattle.implib_link.specs.Search.BothFlavors.{FlavorLibrary, archive_of_both, msvc_among}
-use Rattle.implib_link.specs.Search.CommandLines.{AnObject, Archives, Input, SearchesFlavors, given_with, others_of}
+use Rattle.implib_link.specs.Search.CommandLines.{AnObject, Archives, Input, SearchesFlavors}
+use Rattle.implib_link.specs.Search.CommandLines.{given_with, others_of}
 use Rattle.implib_link.specs.Search.MsvcArchives.{IsMsvcArchive}
 use Rattle.implib_link.specs.Search.Sweeps.{members_at}
 use Rattle.implib_link_instances.specs.But.ArchiveLinks.{MissesSearchesByLld}
-use Rattle.implib_link_instances.specs.Archives.Files.{i386_kernel_lib, i386_libquit, kernel_lib, libquit}
+use Rattle.implib_link_instances.specs.Archives.Files.{i386_kernel_lib, i386_libquit, kernel_lib}
+use Rattle.implib_link_instances.specs.Archives.Files.{libquit}
 use Rattle.implib_link_instances.specs.Worked.CommandLines.{i386_wants_bytes, inputs_of, is_quit}
 use Rattle.implib_link_instances.specs.Worked.CommandLines.{quit_bytes, quit_member, quitting}
 use Rattle.implib_link_instances.specs.Worked.CommandLines.{read_or_none, wants_bytes}
-use Rattle.implib_link_instances.specs.Worked.FlavorLines.{amd64_kernels, amd64_shorts, i386_kernels, i386_shorts, shorts_grouped, shorts_last, shorts_taken}
+use Rattle.implib_link_instances.specs.Worked.FlavorLines.{amd64_kernels, amd64_shorts}
+use Rattle.implib_link_instances.specs.Worked.FlavorLines.{i386_kernels, i386_shorts}
+use Rattle.implib_link_instances.specs.Worked.FlavorLines.{shorts_grouped, shorts_last}
+use Rattle.implib_link_instances.specs.Worked.FlavorLines.{shorts_taken}
 
 -- the library and the archive on each machine
 abbrev pub amd64_files : List ArchiveFile
-amd64_files = record { kind = Coff; bytes = kernel_lib } ∷ record { kind = Gnu; bytes = libquit } ∷ []
+amd64_files =
+    record { kind = Coff; bytes = kernel_lib } ∷ record { kind = Gnu; bytes = libquit } ∷ []
 
 abbrev pub i386_files : List ArchiveFile
-i386_files = record { kind = Coff; bytes = i386_kernel_lib } ∷ record { kind = Gnu; bytes = i386_libquit } ∷ []
+i386_files = record { kind = Coff; bytes = i386_kernel_lib }
+    ∷ record { kind = Gnu; bytes = i386_libquit } ∷ []
 
 -- the library in front of the archive
 abbrev pub shorts_first : List Object → List Input
@@ -35,17 +42,21 @@ shorts_first own = inputs_of own ++ Archives ((0 ∷ 1 ∷ 2 ∷ 3 ∷ []) ∷ [
 abbrev pub lld_taken : List MemberView → List MemberView
 lld_taken members = members_at members (3 ∷ 4 ∷ [])
 
--- On one machine, where these are the members and the object: the members are in the files; lld takes the short import,
--- and so its program arrives; GNU `ld` takes it in an order of its.
-pub record WorkedFileLine (machine : MachineType) (libraries : List FlavorLibrary) (files : List ArchiveFile)
+-- On one machine, where these are the members and the object: the members are in the files; lld
+-- takes the short import, and so its program arrives; GNU `ld` takes it in an order of its.
+pub record WorkedFileLine (machine : MachineType) (libraries : List FlavorLibrary)
+    (files : List ArchiveFile)
     (members : List MemberView) (own : List Object) (inputs : List Input) : Type 0 where
   pub members_are : members_in_files files ≡ members
   pub archive : IsMsvcArchive machine (msvc_among libraries)
   pub alike : AreCalledAlike (msvc_among libraries)
-  pub lld : SearchesByLld machine (msvc_among libraries) (members_in_files files) (shorts_first own) is_quit (lld_taken members)
-  pub arrives : LldArrives machine (msvc_among libraries) (given_with (read_by_lld machine) is_quit own (lld_taken members))
+  pub lld : SearchesByLld machine (msvc_among libraries) (members_in_files files) (shorts_first own)
+      is_quit (lld_taken members)
+  pub arrives : LldArrives machine (msvc_among libraries)
+      (given_with (read_by_lld machine) is_quit own (lld_taken members))
       (others_of is_quit (lld_taken members))
-  pub flavors : SearchesFlavors machine libraries (members_in_files files) inputs is_quit shorts_taken
+  pub flavors : SearchesFlavors machine libraries (members_in_files files) inputs is_quit
+      shorts_taken
 
 pub record WorkedFileLines : Type 0 where
   pub amd64 : WorkedFileLine AMD64 amd64_kernels amd64_files amd64_shorts (read_or_none wants_bytes)
@@ -64,7 +75,8 @@ other_quit = quit_member (codes "quit") (take 4 quit_bytes ++ 1 ∷ drop 5 quit_
 
 -- the archive's member, listed for a name more
 abbrev pub listed_more : MemberView
-listed_more = record { name = codes "quit.o"; bytes = quit_bytes; symbols = codes "quit" ∷ codes "more" ∷ [] }
+listed_more =
+    record { name = codes "quit.o"; bytes = quit_bytes; symbols = codes "quit" ∷ codes "more" ∷ [] }
 
 -- the members with the second one, and a command line with it in front; and the library's with the
 -- one that is listed for a name more
@@ -91,7 +103,8 @@ pub record NearSearchesByLld : Type 0 where
   pub first : MissesSearchesByLld (codes "first") AMD64 (msvc_among amd64_kernels) with_other
       other_first is_quit (members_at with_other (3 ∷ 5 ∷ []))
   pub unclaimed : MissesSearchesByLld (codes "unclaimed") AMD64 (msvc_among amd64_kernels)
-      amd64_shorts (shorts_first wanting_own ++ AnObject quitting ∷ []) is_quit (lld_taken amd64_shorts)
+      amd64_shorts (shorts_first wanting_own ++ AnObject quitting ∷ []) is_quit
+      (lld_taken amd64_shorts)
   pub all : MissesSearchesByLld (codes "all") AMD64 (msvc_among amd64_kernels) amd64_shorts
       (inputs_of wanting_own ++ Archives ((0 ∷ 1 ∷ 2 ∷ 3 ∷ []) ∷ []) ∷ []) is_quit []
   pub whole : MissesSearchesByLld (codes "whole") AMD64 (msvc_among amd64_kernels) with_more_listed

@@ -1,5 +1,5 @@
--- Archives of one object each, as GNU `ar` 2.40 wrote them (`ar rcsD`), and a library of llvm-dlltool 19, read by hand: the
--- members in the bytes.
+-- Archives of one object each, as GNU `ar` 2.40 wrote them (`ar rcsD`), and a library of
+-- llvm-dlltool 19, read by hand: the members in the bytes.
 use Rattle.std.specs.Prelude.{ℕ, List, [], ◌∷◌, ◌++◌, codes}
 use Rattle.implib.specs.Members.MemberSpec.{MemberView}
 use Rattle.implib.specs.Worked.Digits.{hex}
@@ -7,7 +7,8 @@ use Rattle.implib_archive.specs.declared.kind.Kind.TheVariants.{Coff, Gnu}
 use Rattle.implib_archive_link.specs.Files.{HasMembers, HasMembersAs}
 use Rattle.implib_link.specs.Search.BothFlavors.{archive_of_both}
 use Rattle.implib_link_instances.specs.But.ArchiveLinks.{MissesHasMembersAs}
-use Rattle.implib_link_instances.specs.Worked.CommandLines.{i386_quit_bytes, quit_bytes, quit_member}
+use Rattle.implib_link_instances.specs.Worked.CommandLines.{i386_quit_bytes, quit_bytes}
+use Rattle.implib_link_instances.specs.Worked.CommandLines.{quit_member}
 use Rattle.implib_link_instances.specs.Worked.FlavorLines.{amd64_kernels, i386_kernels}
 
 abbrev pub libquit : List ℕ
@@ -22,9 +23,11 @@ i386_libquit =
     codes "!<arch>\n/               0           0     0     0       14        `\n"
     ++ (0 ∷ 0 ∷ 0 ∷ 1 ∷ 0 ∷ 0 ∷ 0 ∷ 82 ∷ [])
     ++ codes "_quit" ++ (0 ∷ [])
-    ++ codes "quit.o/         0           0     0     644     391       `\n" ++ i386_quit_bytes ++ (10 ∷ [])
+    ++ codes "quit.o/         0           0     0     644     391       `\n" ++ i386_quit_bytes
+    ++ (10 ∷ [])
 
--- A library for Microsoft's linker, as llvm-dlltool 19 wrote it (`-m i386:x86-64`): of kernel32.dll, with ExitProcess.
+-- A library for Microsoft's linker, as llvm-dlltool 19 wrote it (`-m i386:x86-64`): of
+-- kernel32.dll, with ExitProcess.
 abbrev pub kernel_lib : List ℕ
 kernel_lib =
     hex "21 3c 61 72 63 68 3e 0a 2f 20 20 20 20 20 20 20 20 20 20 20 20 20 20 20 30 20 20 20 20 20 20 20 20 20 20 20"
@@ -108,7 +111,8 @@ i386_kernel_lib =
     ++ hex "36 34 34 20 20 20 20 20 34 38 20 20 20 20 20 20 20 20 60 0a 00 00 ff ff 00 00 4c 01 00 00 00 00 1c 00 00 00"
     ++ hex "00 00 08 00 5f 45 78 69 74 50 72 6f 63 65 73 73 40 34 00 6b 65 72 6e 65 6c 33 32 2e 64 6c 6c 00"
 
--- the archive's object on each machine, listed for its function; and the library's members, which are ours
+-- the archive's object on each machine, listed for its function; and the library's members, which
+-- are ours
 pub record WorkedFiles : Type 0 where
   pub amd64 : HasMembers libquit (quit_member (codes "quit") quit_bytes ∷ [])
   pub i386 : HasMembers i386_libquit (quit_member (codes "_quit") i386_quit_bytes ∷ [])

@@ -1,4 +1,5 @@
--- Fields of the ways that no instance fails alone: where all other fields hold, the whole record does.
+-- Fields of the ways that no instance fails alone: where all other fields hold, the whole record
+-- does.
 use Rattle.std.specs.Prelude.{List, codes}
 use Rattle.implib.specs.declared.machine.MachineType.{MachineType}
 use Rattle.implib.specs.Formats.Object.{Object}

@@ -9,7 +9,8 @@ use Rattle.implib_archive_link.specs.BothWay.{AreLinkedForBoth, BothArrive}
 use Rattle.implib_link.specs.Flavors.Program.{objects_taken}
 use Rattle.implib_link_instances.specs.But.ArchiveLinks.{MissesAreLinkedForBoth, MissesBothArrive}
 use Rattle.implib_link.specs.Search.BothFlavors.{FlavorLibrary}
-use Rattle.implib_link_instances.specs.Worked.BothFlavors.{foo_and_zed, mixed_bases, mixed_objects, mixed_taken, zed_and_foo}
+use Rattle.implib_link_instances.specs.Worked.BothFlavors.{foo_and_zed, mixed_bases, mixed_objects}
+use Rattle.implib_link_instances.specs.Worked.BothFlavors.{mixed_taken, zed_and_foo}
 use Rattle.implib_link_instances.specs.Worked.Closed.{choosing, foo_alias, foo_linked}
 use Rattle.implib_link_instances.specs.Worked.MsvcArchives.{null_named}
 use Rattle.implib_link_instances.specs.Worked.MsvcClosed.{zed_members}
@@ -17,7 +18,8 @@ use Rattle.implib_link_instances.specs.Worked.Programs.{program_objects, touchin
 
 -- what is linked for one object of foo.dll and zed.dll
 abbrev pub LinkedAt : List FlavorLibrary → Bases → List Object → Type 0
-LinkedAt arranged bases objects = AreLinkedForBoth AMD64 foo_and_zed (choosing ∷ []) mixed_taken arranged bases objects
+LinkedAt arranged bases objects =
+    AreLinkedForBoth AMD64 foo_and_zed (choosing ∷ []) mixed_taken arranged bases objects
 
 -- the null descriptor alone
 abbrev pub null_alone : List MemberView
@@ -53,7 +55,8 @@ pub record NearAreLinkedForBoth : Type 0 where
       mixed_taken zed_and_foo (record mixed_bases { directory_ends = 0x202C }) mixed_objects
 
 -- Nothing is linked but the object, so that no loader finds a directory; and no library, with a
--- linked program that imports from two DLLs. By the directory that `links` says, a loader ends as `ends` says, which follows from it.
+-- linked program that imports from two DLLs. By the directory that `links` says, a loader ends as
+-- `ends` says, which follows from it.
 pub record NearBothArrive : Type 0 where
   pub links : MissesBothArrive (codes "links") AMD64 foo_and_zed (choosing ∷ []) [] zed_and_foo
       mixed_bases (choosing ∷ [])

@@ -31,20 +31,22 @@ use Rattle.implib_link_instances.specs.Worked.MsvcArchives.{msvc_foo, msvc_zed, 
 use Rattle.implib_link_instances.specs.Worked.NearPrograms.{defines_mid, lld_addresses, lld_defines}
 use Rattle.implib_link_instances.specs.Worked.NearPrograms.{lld_range, mid_alone}
 use Rattle.implib_link_instances.specs.Worked.NearSearches.{asking, zed_short}
-use Rattle.implib_link_instances.specs.Worked.Programs.{code_object, program_objects, symbol_of_class, touching_8}
+use Rattle.implib_link_instances.specs.Worked.Programs.{code_object, program_objects}
+use Rattle.implib_link_instances.specs.Worked.Programs.{symbol_of_class, touching_8}
 use Rattle.implib_link_instances.specs.Worked.Search.{members_of, three, wanted}
 
 -- the archive of the COFF kind whose second linker member leads `f` to the second member
 abbrev pub two_indexes : List ℕ
 two_indexes = take 174 worked_coff ++ 2 ∷ drop 175 worked_coff
 
--- Each linker member is read by itself: in these bytes `f` leads to the first member by the one, and to the second by
--- the other.
+-- Each linker member is read by itself: in these bytes `f` leads to the first member by the one,
+-- and to the second by the other.
 pub record WorkedIndexes : Type 0 where
   pub first : header_by First two_indexes (codes "f") ≡ Some 270
   pub second : header_by Second two_indexes (codes "f") ≡ Some 334
 
--- a name that nothing wants; the header of the second member that `f` is listed for; and the one that is taken
+-- a name that nothing wants; the header of the second member that `f` is listed for; and the one
+-- that is taken
 pub record NearPullsInAt : Type 0 where
   pub asked : MissesPullsInAt (codes "asked") Gnu First worked_gnu (asks_for []) [] (codes "f") 182
   pub found : MissesPullsInAt (codes "found") Gnu First worked_gnu (asks_for (codes "f" ∷ [])) []
@@ -76,13 +78,15 @@ pub record NearIsSearchOf : Type 0 where
   pub takes : MissesIsSearchOf (codes "takes") Gnu First worked_members
       (asks_for (codes "f" ∷ [])) []
 
--- What is taken is read: in the archive of three exports' members, after the headers that a search takes, a reader finds
--- the members that it takes of the list; and a name leads to what a reader finds as the first member that it is listed
--- for, in the archive of two.
+-- What is taken is read: in the archive of three exports' members, after the headers that a search
+-- takes, a reader finds the members that it takes of the list; and a name leads to what a reader
+-- finds as the first member that it is listed for, in the archive of two.
 pub record WorkedReads : Type 0 where
-  pub taken : (taken : List ℕ) → TakesAt Gnu First (archive_of Gnu (members_of three)) (asks_for wanted) taken →
+  pub taken : (taken : List ℕ) →
+      TakesAt Gnu First (archive_of Gnu (members_of three)) (asks_for wanted) taken →
       (found : List MemberView) × (Takes (members_of three) wanted found
-      × (map (member_at Gnu (archive_of Gnu (members_of three))) taken ≡ map (λ m. Some (read_view m)) found))
+      × (map (member_at Gnu (archive_of Gnu (members_of three))) taken
+      ≡ map (λ m. Some (read_view m)) found))
   pub led : option_and_then (member_at Gnu worked_gnu) (header_by First worked_gnu (codes "g"))
       ≡ Some (read (codes "long_member_name.o") (4 ∷ 5 ∷ []))
 

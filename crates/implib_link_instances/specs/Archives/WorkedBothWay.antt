@@ -1,6 +1,7 @@
--- The whole way by hand for libraries of both flavours, on AMD64: foo.dll, which exports `bar`, for GNU's linker, and zed.dll,
--- which exports `queue`, for Microsoft's; and a program of two objects, each of which calls one of them through its entry. The
--- archive's bytes are of the COFF kind, and a linker looks names up in the second linker member.
+-- The whole way by hand for libraries of both flavours, on AMD64: foo.dll, which exports `bar`, for
+-- GNU's linker, and zed.dll, which exports `queue`, for Microsoft's; and a program of two objects,
+-- each of which calls one of them through its entry. The archive's bytes are of the COFF kind, and
+-- a linker looks names up in the second linker member.
 use Rattle.std.specs.Prelude.{◌≡◌, ◌<◌, ℕ, List, [], ◌∷◌, ◌++◌, codes, length, map, Some}
 use Rattle.implib.specs.declared.flavor.Flavor.TheVariants.{Gnu, Msvc}
 use Rattle.implib.specs.declared.machine.MachineType.TheVariants.{AMD64}
@@ -25,11 +26,13 @@ use Rattle.implib_link.specs.Gnu.Choices.{AreSections}
 use Rattle.implib_link.specs.Gnu.Fields.{AreBeside, LinkedCode, placed_code, ranges_of_codes}
 use Rattle.implib_link.specs.Gnu.Packed.{packed}
 use Rattle.implib_link.specs.Gnu.Reading.{ReadsAndWrites}
-use Rattle.implib_link.specs.Search.BothFlavors.{AreGivenForBoth, FlavorLibrary, IsFlavorArchive, archive_of_both, msvc_among}
+use Rattle.implib_link.specs.Search.BothFlavors.{AreGivenForBoth, FlavorLibrary, IsFlavorArchive}
+use Rattle.implib_link.specs.Search.BothFlavors.{archive_of_both, msvc_among}
 use Rattle.implib_link.specs.Search.Closed.{unresolved}
 use Rattle.implib_link.specs.Search.MsvcArchives.{short_inputs}
 use Rattle.implib_link_instances.specs.Worked.Calls.{given_on}
-use Rattle.implib_link_instances.specs.Worked.MsvcArchives.{descriptor_named, msvc_library, null_named, short_named, thunk_named}
+use Rattle.implib_link_instances.specs.Worked.MsvcArchives.{descriptor_named, msvc_library}
+use Rattle.implib_link_instances.specs.Worked.MsvcArchives.{null_named, short_named, thunk_named}
 use Rattle.implib_link_instances.specs.Worked.Programs.{symbol_of_class}
 
 abbrev pub bar_for_gnu : FlavorLibrary
@@ -52,7 +55,8 @@ calling name symbol = record {
   optional_header_size = 0;
   characteristics = 0;
   sections = code ∷ [];
-  entries = ASymbol (symbol_of_class name 1 class_external) ∷ ASymbol (symbol_of_class symbol 0 class_external) ∷ [];
+  entries = ASymbol (symbol_of_class name 1 class_external)
+      ∷ ASymbol (symbol_of_class symbol 0 class_external) ∷ [];
 }
 
 abbrev pub calls_bar : Object
@@ -85,7 +89,8 @@ taken =
     ∷ bar_member
     ∷ []
 
--- what is linked: the program's objects, foo.dll's members, and zed.dll's with the null descriptor before the thunk
+-- what is linked: the program's objects, foo.dll's members, and zed.dll's with the null descriptor
+-- before the thunk
 abbrev pub before_null : List MemberView
 before_null =
     head_member
@@ -120,8 +125,9 @@ code_at o position = record {
 abbrev pub placed : List PlacedCode
 placed = code_at calls_bar 0x3000 ∷ code_at calls_queue 0x3020 ∷ []
 
--- All premises are met. There are linked bytes of both codes, with which by the law a loader stops after two descriptors, and
--- the calls at 0x3004 and 0x3024 arrive at what foo.dll gives for `bar`, 0x1000_0030, and zed.dll for `queue`, 0x1000_0050.
+-- All premises are met. There are linked bytes of both codes, with which by the law a loader stops
+-- after two descriptors, and the calls at 0x3004 and 0x3024 arrive at what foo.dll gives for `bar`,
+-- 0x1000_0030, and zed.dll for `queue`, 0x1000_0050.
 pub record WorkedBothWay : Type 0 where
   pub archive : IsFlavorArchive AMD64 both
   pub ready : HaveArchive Coff Second (archive_of_both both)

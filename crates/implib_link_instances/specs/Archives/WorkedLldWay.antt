@@ -1,10 +1,11 @@
--- The way for lld by hand: foo.dll, which exports `bar` and `baz`, on AMD64; and a program that lld-link 14.0.6 and
--- 19.1.7 wrote, whose code calls `bar` through its entry and by its name. The library's bytes are those of the archive of
--- its members for Microsoft's linker.
+-- The way for lld by hand: foo.dll, which exports `bar` and `baz`, on AMD64; and a program that
+-- lld-link 14.0.6 and 19.1.7 wrote, whose code calls `bar` through its entry and by its name. The
+-- library's bytes are those of the archive of its members for Microsoft's linker.
 use Rattle.std.specs.Prelude.{◌≡◌, ℕ, ◌+◌, Bool, true, List, [], ◌∷◌, ◌++◌, codes, map, slice_get}
 use Rattle.std.specs.List.{filter}
 use Rattle.implib.specs.declared.machine.MachineType.TheVariants.{AMD64}
-use Rattle.implib.specs.Formats.Constants.{align_16bytes, amd64_rel32, class_external, cnt_code, mem_execute_read}
+use Rattle.implib.specs.Formats.Constants.{align_16bytes, amd64_rel32, class_external, cnt_code}
+use Rattle.implib.specs.Formats.Constants.{mem_execute_read}
 use Rattle.implib.specs.Formats.Object.{ASymbol, Object, ObjectSection}
 use Rattle.implib.specs.Formats.ShortImport.{ShortImport}
 use Rattle.implib.specs.Link.Image.{Range}
@@ -15,10 +16,12 @@ use Rattle.implib.specs.Worked.Members.{of_dll}
 use Rattle.implib.specs.Worked.Statements.{plain_export}
 use Rattle.implib_archive.specs.declared.kind.Kind.TheVariants.{Coff}
 use Rattle.implib_archive_link.specs.InBytes.{Second}
-use Rattle.implib_archive_link.specs.LldWay.{AreCalledAlike, IsBuiltByLld, IsWantedBy, asks_of_lld, short_of_export, shorts_in}
+use Rattle.implib_archive_link.specs.LldWay.{AreCalledAlike, IsBuiltByLld, IsWantedBy, asks_of_lld}
+use Rattle.implib_archive_link.specs.LldWay.{short_of_export, shorts_in}
 use Rattle.implib_archive_link.specs.Results.{HaveArchive, IsSearchOf}
 use Rattle.implib_link.specs.Flavors.LldImports.{placed_by_lld}
-use Rattle.implib_link.specs.Flavors.LldThunks.{BranchArrivesByThunk, IsThunk, placed_thunk, thunk_section}
+use Rattle.implib_link.specs.Flavors.LldThunks.{BranchArrivesByThunk, IsThunk, placed_thunk}
+use Rattle.implib_link.specs.Flavors.LldThunks.{thunk_section}
 use Rattle.implib_link.specs.Gnu.Fields.{LinkedCode, ranges_of_codes}
 use Rattle.implib_link.specs.Gnu.Moves.{AreInMemory}
 use Rattle.implib_link.specs.Gnu.Operands.{AllLead, HasBranch, HasInstruction}
@@ -33,7 +36,8 @@ use Rattle.implib_link_instances.specs.Worked.Programs.{symbol_of_class}
 
 abbrev pub lld_library : Library
 lld_library =
-    msvc_library (of_dll (codes "foo.dll") (plain_export (codes "bar") ∷ plain_export (codes "baz") ∷ []))
+    msvc_library
+    (of_dll (codes "foo.dll") (plain_export (codes "bar") ∷ plain_export (codes "baz") ∷ []))
 
 abbrev pub lld_libraries : List Library
 lld_libraries = lld_library ∷ []
@@ -46,7 +50,8 @@ loud_library = msvc_library (of_dll (codes "FOO.dll") (plain_export (codes "qux"
 abbrev pub two_calls : ObjectSection
 two_calls = section text_name (cnt_code + align_16bytes + mem_execute_read)
     (0xFF ∷ 0x15 ∷ 0 ∷ 0 ∷ 0 ∷ 0 ∷ 0xE8 ∷ 0 ∷ 0 ∷ 0 ∷ 0 ∷ 0xC3 ∷ [])
-    (record { offset = 2; symbol = 1; kind = amd64_rel32 } ∷ record { offset = 7; symbol = 2; kind = amd64_rel32 } ∷ [])
+    (record { offset = 2; symbol = 1; kind = amd64_rel32 }
+    ∷ record { offset = 7; symbol = 2; kind = amd64_rel32 } ∷ [])
 
 abbrev pub calling_twice : Object
 calling_twice = record {
@@ -119,7 +124,8 @@ abbrev pub lld_codes : List LinkedCode
 lld_codes = calls_linked ∷ thunk_linked ∷ []
 
 abbrev pub lld_targets : LinkedCode → ℕ → ℕ
-lld_targets c index = taken_address (λ name. 0x1010) lld_linked c.from (slice_get c.from.object.entries index)
+lld_targets c index =
+    taken_address (λ name. 0x1010) lld_linked c.from (slice_get c.from.object.entries index)
 
 abbrev pub lld_memory : List Range
 lld_memory = lld_image ++ ranges_of_codes lld_codes
@@ -128,36 +134,44 @@ lld_memory = lld_image ++ ranges_of_codes lld_codes
 abbrev pub bar_address : List ℕ
 bar_address = 0x30 ∷ 0 ∷ 0 ∷ 0x10 ∷ 0 ∷ 0 ∷ 0 ∷ 0 ∷ []
 
--- All premises are met, for the base that it was linked for and for another: the archive has the members; lld takes for
--- the object, in the bytes, the short import of `bar` alone; and what it wrote of it is memory with its code. By the law
--- a loader stops after one descriptor, the call at 0x1000 reads what foo.dll gives for `bar`, 0x1000_0030, and the call
--- at 0x1006 arrives there by the thunk. The object does not want `baz`; after the short import no descriptor is asked
--- for; two DLLs whose names differ by case alone are refused; and lld writes no tables of none that is live.
+-- All premises are met, for the base that it was linked for and for another: the archive has the
+-- members; lld takes for the object, in the bytes, the short import of `bar` alone; and what it
+-- wrote of it is memory with its code. By the law a loader stops after one descriptor, the call at
+-- 0x1000 reads what foo.dll gives for `bar`, 0x1000_0030, and the call at 0x1006 arrives there by
+-- the thunk. The object does not want `baz`; after the short import no descriptor is asked for; two
+-- DLLs whose names differ by case alone are refused; and lld writes no tables of none that is live.
 pub record WorkedLldWay : Type 0 where
   pub archive : IsMsvcArchive AMD64 lld_libraries
   pub alike : AreCalledAlike lld_libraries
   pub ready : HaveArchive Coff Second (archive_of lld_libraries)
-  pub takes : IsSearchOf Coff Second (archive_of lld_libraries) (asks_of_lld AMD64 lld_own) lld_taken
+  pub takes : IsSearchOf Coff Second (archive_of lld_libraries) (asks_of_lld AMD64 lld_own)
+      lld_taken
   pub wanted : IsWantedBy lld_libraries lld_own lld_library (plain_export (codes "bar"))
   pub read : shorts_in AMD64 lld_taken ≡ bar_short ∷ []
   pub built : IsBuiltByLld AMD64 0x2000 0x2038 live_shorts lld_image lld_linked
   pub steady : AreSteady AMD64 lld_linked
   pub at : AreInMemory AMD64 0x1_4000_0000 lld_image lld_linked lld_codes lld_targets lld_memory
-  pub moved : AreInMemory AMD64 0x7FF6_1234_0000 lld_image lld_linked lld_codes lld_targets lld_memory
+  pub moved : AreInMemory AMD64 0x7FF6_1234_0000 lld_image lld_linked lld_codes lld_targets
+      lld_memory
   pub thunk : IsThunk AMD64 thunk_linked bar_short
   pub call : HasInstruction AMD64 calls_linked 0 (0xFF ∷ 0x15 ∷ []) [] (codes "__imp_bar")
   pub branch : HasBranch AMD64 calls_linked 7 0 (codes "bar")
-  pub leads : (n : ℕ) (written : List Range) → ReadsAndWrites lld_memory 8 (given_on AMD64) n 0x2000 written →
+  pub leads : (n : ℕ) (written : List Range) →
+      ReadsAndWrites lld_memory 8 (given_on AMD64) n 0x2000 written →
       (n ≡ 1)
-      × AllLead AMD64 0x1_4000_0000 lld_linked lld_codes (written ++ lld_memory) (codes "__imp_bar") bar_address
+      × AllLead AMD64 0x1_4000_0000 lld_linked lld_codes (written ++ lld_memory) (codes "__imp_bar")
+      bar_address
   pub leads_moved : (n : ℕ) (written : List Range) →
       ReadsAndWrites lld_memory 8 (given_on AMD64) n 0x2000 written →
-      AllLead AMD64 0x7FF6_1234_0000 lld_linked lld_codes (written ++ lld_memory) (codes "__imp_bar") bar_address
-  pub calls : (n : ℕ) (written : List Range) → ReadsAndWrites lld_memory 8 (given_on AMD64) n 0x2000 written →
+      AllLead AMD64 0x7FF6_1234_0000 lld_linked lld_codes (written ++ lld_memory)
+      (codes "__imp_bar") bar_address
+  pub calls : (n : ℕ) (written : List Range) →
+      ReadsAndWrites lld_memory 8 (given_on AMD64) n 0x2000 written →
       BranchArrivesByThunk AMD64 0x1_4000_0000 (written ++ lld_memory) 0x1007 0 bar_address
   pub unwanted : IsWantedBy lld_libraries lld_own lld_library (plain_export (codes "baz")) → ⊥
   pub asked : asks_of_lld AMD64 lld_own [] (codes "bar")
   pub settled : asks_of_lld AMD64 lld_own (map (λ m. m.bytes) lld_taken) (codes "bar") → ⊥
-  pub no_descriptor : asks_of_lld AMD64 lld_own (map (λ m. m.bytes) lld_taken) (codes "__IMPORT_DESCRIPTOR_foo") → ⊥
+  pub no_descriptor : asks_of_lld AMD64 lld_own (map (λ m. m.bytes) lld_taken)
+      (codes "__IMPORT_DESCRIPTOR_foo") → ⊥
   pub loud : AreCalledAlike (lld_library ∷ loud_library ∷ []) → ⊥
   pub dead : IsBuiltByLld AMD64 0x2000 0x2038 [] lld_image lld_linked → ⊥

@@ -1,8 +1,9 @@
--- The whole way by hand: a text of foo.dll, which exports `bar`, on AMD64; and a program whose code calls `bar` through its
--- entry. The library's bytes are those of its archive in GNU's kind.
+-- The whole way by hand: a text of foo.dll, which exports `bar`, on AMD64; and a program whose code
+-- calls `bar` through its entry. The library's bytes are those of its archive in GNU's kind.
 use Rattle.std.specs.Prelude.{◌≡◌, ℕ, ◌+◌, List, [], ◌∷◌, ◌++◌, codes, map, Some}
 use Rattle.implib.specs.declared.machine.MachineType.TheVariants.{AMD64}
-use Rattle.implib.specs.Formats.Constants.{align_16bytes, class_external, cnt_code, mem_execute_read}
+use Rattle.implib.specs.Formats.Constants.{align_16bytes, class_external, cnt_code}
+use Rattle.implib.specs.Formats.Constants.{mem_execute_read}
 use Rattle.implib.specs.Formats.Object.{ASymbol, Object, ObjectSection}
 use Rattle.implib.specs.Link.Image.{Range, image_of}
 use Rattle.implib.specs.Link.LinkedMembers.{objects_in}
@@ -19,7 +20,8 @@ use Rattle.implib.specs.Worked.Statements.{plain_export}
 use Rattle.implib_archive.specs.declared.kind.Kind.TheVariants.{Gnu}
 use Rattle.implib_archive_link.specs.InBytes.{First, asks_with}
 use Rattle.implib_archive_link.specs.Results.{HaveArchive, IsSearchOf}
-use Rattle.implib_link.specs.Gnu.Calls.{CallArrives, HasCall, PlacedCode, call_bytes, call_relocations, moved_by}
+use Rattle.implib_link.specs.Gnu.Calls.{CallArrives, HasCall, PlacedCode, call_bytes}
+use Rattle.implib_link.specs.Gnu.Calls.{call_relocations, moved_by}
 use Rattle.implib_link.specs.Gnu.Program.{null_descriptor}
 use Rattle.implib_link.specs.Gnu.Reading.{ReadsAndWrites}
 use Rattle.implib_link.specs.Search.Archives.{IsArchive, Library, archive_of}
@@ -118,11 +120,12 @@ targets c index = target_address linked c.from index
 abbrev pub memory : List Range
 memory = image_of AMD64 bases linked ++ code_ranges AMD64 0x1_4000_0000 targets (placed_code ∷ [])
 
--- The text means the definition. All premises are met: the archive has the members, the program may be given, and a linker takes for it, in the
--- bytes, tail, head and `bar`; what is linked is a program, with its code beside the tables. The call is relocated
--- to `call [rip - 0xFD2]`, which reads the entry at 0x2038. By the law a loader stops after one descriptor, and
--- the call at 0x3004 arrives at what foo.dll gives for `bar`, 0x1000_0030. An object with a `bar` of its own may
--- not be given.
+-- The text means the definition. All premises are met: the archive has the members, the program may
+-- be given, and a linker takes for it, in the bytes, tail, head and `bar`; what is linked is a
+-- program, with its code beside the tables. The call is relocated to `call [rip - 0xFD2]`, which
+-- reads the entry at 0x2038. By the law a loader stops after one descriptor, and the call at 0x3004
+-- arrives at what foo.dll gives for `bar`, 0x1000_0030. An object with a `bar` of its own may not
+-- be given.
 pub record WorkedWay : Type 0 where
   pub parses : Parses bar_text AMD64 bar_definition
   pub archive : IsArchive AMD64 libraries

@@ -1,5 +1,6 @@
--- The whole way by hand for two libraries for GNU's linker, on a machine: foo.dll, which exports `bar`, and zed.dll, which
--- exports `queue`; and the program of Way. The archive's bytes are of the COFF kind.
+-- The whole way by hand for two libraries for GNU's linker, on a machine: foo.dll, which exports
+-- `bar`, and zed.dll, which exports `queue`; and the program of Way. The archive's bytes are of the
+-- COFF kind.
 use Rattle.std.specs.Prelude.{◌≡◌, ◌+◌, ℕ, List, [], ◌∷◌, ◌++◌, map}
 use Rattle.implib.specs.declared.flavor.Flavor.TheVariants.{Gnu}
 use Rattle.implib.specs.declared.machine.MachineType.{MachineType}
@@ -25,8 +26,10 @@ use Rattle.implib_link.specs.Search.Closed.{AreLinkedFor}
 use Rattle.implib_link.specs.Search.Given.{AreGiven}
 use Rattle.implib_link_instances.specs.Worked.Calls.{given_on}
 use Rattle.implib_link_instances.specs.Machines.Closed.{IsPointerAt}
-use Rattle.implib_link_instances.specs.Machines.Parts.{bar, foo, head_on, library_on, queue, queue_on, tail_on, zed}
-use Rattle.implib_link_instances.specs.Machines.Way.{bar_member, calls_bar, calls_queue, own, placed}
+use Rattle.implib_link_instances.specs.Machines.Parts.{bar, foo, head_on, library_on, queue}
+use Rattle.implib_link_instances.specs.Machines.Parts.{queue_on, tail_on, zed}
+use Rattle.implib_link_instances.specs.Machines.Way.{bar_member, calls_bar, calls_queue, own}
+use Rattle.implib_link_instances.specs.Machines.Way.{placed}
 
 abbrev pub foo_library : MachineType → Library
 foo_library machine = library_on machine Gnu (of_dll foo (plain_export (bar machine) ∷ []))
@@ -58,15 +61,18 @@ bases machine first = packed first (objects machine)
 abbrev pub Arrives : MachineType → ℕ → ℕ → List LinkedCode → List Range → ℕ → List ℕ → Type 0
 Arrives machine image_base first codes written at bytes =
     CallArrives machine image_base
-    (written ++ (image_of machine (bases machine first) (placed_from (bases machine first) (objects machine)) ++ ranges_of_codes codes))
+    (written ++ (image_of machine (bases machine first)
+    (placed_from (bases machine first) (objects machine)) ++ ranges_of_codes codes))
     at bytes
 
 -- All premises are met, as in Way, and what follows by the law.
-pub record WorkedGnuWay (machine : MachineType) (image_base first bar_at queue_at : ℕ) (bar_given queue_given : List ℕ) : Type 0 where
+pub record WorkedGnuWay (machine : MachineType) (image_base first bar_at queue_at : ℕ)
+    (bar_given queue_given : List ℕ) : Type 0 where
   pub archive : IsArchive machine (both machine)
   pub ready : HaveArchive Coff Second (archive_of (both machine))
   pub given : AreGiven machine (both machine) (own machine)
-  pub takes : IsSearchOf Coff Second (archive_of (both machine)) (asks_with (own machine)) (taken machine)
+  pub takes : IsSearchOf Coff Second (archive_of (both machine)) (asks_with (own machine))
+      (taken machine)
   pub linked_for : AreLinkedFor machine (both machine) (own machine) (taken machine) (both machine)
       (bases machine first) (objects machine)
   pub sections : AreSections machine (bases machine first) (objects machine) (placed machine first)
@@ -77,7 +83,8 @@ pub record WorkedGnuWay (machine : MachineType) (image_base first bar_at queue_a
       × ((map placed_code codes ≡ placed machine first)
       × (AreBeside machine image_base (bases machine first) (objects machine) codes targets
       × ((n : ℕ) (written : List Range) →
-      ReadsAndWrites (image_of machine (bases machine first) (placed_from (bases machine first) (objects machine)))
+      ReadsAndWrites
+      (image_of machine (bases machine first) (placed_from (bases machine first) (objects machine)))
       (thunk_width machine) (given_on machine) n (bases machine first).descriptors written →
       (n ≡ 2)
       × Arrives machine image_base first codes written (first + 0x1000 + 4) bar_given

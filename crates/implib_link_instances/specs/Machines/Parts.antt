@@ -1,5 +1,5 @@
--- What the programs are made of, on each machine: foo.dll with data `bar`, an alias of its function `baz`; zed.dll with two
--- functions; and an object.
+-- What the programs are made of, on each machine: foo.dll with data `bar`, an alias of its function
+-- `baz`; zed.dll with two functions; and an object.
 use Rattle.std.specs.Prelude.{ℕ, true, List, [], ◌∷◌, codes, map}
 use Rattle.implib.specs.declared.flavor.Flavor.{Flavor}
 use Rattle.implib.specs.declared.machine.MachineType.{MachineType}
@@ -12,7 +12,8 @@ use Rattle.implib.specs.Members.Gnu.{weak_name}
 use Rattle.implib.specs.Members.GnuMembers.{export_spec, head_spec, tail_spec}
 use Rattle.implib.specs.Members.Members.{member_specs}
 use Rattle.implib.specs.Members.MemberSpec.{MemberView, member_of}
-use Rattle.implib.specs.Members.MsvcMembers.{descriptor_spec, null_descriptor_spec, null_thunk_spec, short_import_spec}
+use Rattle.implib.specs.Members.MsvcMembers.{descriptor_spec, null_descriptor_spec, null_thunk_spec}
+use Rattle.implib.specs.Members.MsvcMembers.{short_import_spec}
 use Rattle.implib.specs.Members.WeakExternal.{weak_spec}
 use Rattle.implib.specs.Renaming.{renamed}
 use Rattle.implib.specs.Worked.Members.{of_dll}
@@ -43,13 +44,15 @@ foo_on machine = of_dll foo
     ∷ [])
 
 abbrev pub zed_on : MachineType → DefinitionView
-zed_on machine = of_dll zed (plain_export (queue machine) ∷ plain_export (symbol_on machine (codes "stack")) ∷ [])
+zed_on machine = of_dll zed
+    (plain_export (queue machine) ∷ plain_export (symbol_on machine (codes "stack")) ∷ [])
 
 abbrev pub library_on : MachineType → Flavor → DefinitionView → Library
-library_on machine flavor d = record { definition = d; members = map member_of (member_specs (renamed d) machine flavor) }
+library_on machine flavor d =
+    record { definition = d; members = map member_of (member_specs (renamed d) machine flavor) }
 
--- an object that names data of foo.dll by its alias, a function of zed.dll by its pointer, and one of another library; and
--- that has a function of its own, `stack`, which zed.dll exports, too
+-- an object that names data of foo.dll by its alias, a function of zed.dll by its pointer, and one
+-- of another library; and that has a function of its own, `stack`, which zed.dll exports, too
 abbrev pub choosing_on : MachineType → Object
 choosing_on machine = code_object (
     symbol_of_class (symbol_on machine (codes "main")) 1 class_external
@@ -86,7 +89,8 @@ abbrev pub thunk_on : MachineType → List ℕ → MemberView
 thunk_on machine dll = member_of (null_thunk_spec machine dll)
 
 abbrev pub short_on : MachineType → List ℕ → List ℕ → MemberView
-short_on machine dll name = member_of (short_import_spec machine (own_names dll) (plain_export name))
+short_on machine dll name =
+    member_of (short_import_spec machine (own_names dll) (plain_export name))
 
 abbrev pub short_alias_on : MachineType → MemberView
 short_alias_on machine = member_of (weak_spec machine foo (bar machine) (baz machine))

@@ -1,5 +1,5 @@
--- ARMNT's stub by hand: the stub of `open` behind the import tables and in front of them, what its jump reads, and code
--- that is no such jump.
+-- ARMNT's stub by hand: the stub of `open` behind the import tables and in front of them, what its
+-- jump reads, and code that is no such jump.
 use Rattle.std.specs.Prelude.{ℕ, ◌+◌, List, [], ◌∷◌, ◌++◌, codes, slice_get}
 use Rattle.implib.specs.declared.machine.MachineType.TheVariants.{ARMNT}
 use Rattle.implib.specs.Formats.Constants.{align_4bytes, cnt_code, mem_execute_read}
@@ -17,7 +17,8 @@ use Rattle.implib_link.specs.Gnu.Reading.{ReadsAndWrites}
 use Rattle.implib_link_instances.specs.But.Links.{MissesA32JumpReads}
 use Rattle.implib_link_instances.specs.Worked.Jumps.{far_4}
 use Rattle.implib_link_instances.specs.Worked.Loads.{gives_by_hand}
-use Rattle.implib_link_instances.specs.Worked.Programs.{both_inputs, program_image, program_objects, program_placed, touching_4}
+use Rattle.implib_link_instances.specs.Worked.Programs.{both_inputs, program_image, program_objects}
+use Rattle.implib_link_instances.specs.Worked.Programs.{program_placed, touching_4}
 use Rattle.implib_link_instances.specs.Worked.Rebased.{placed_or_calling}
 use Rattle.implib_link_instances.specs.Worked.Relocated.{as_placed}
 
@@ -30,7 +31,8 @@ abbrev pub armnt_stub : Bases → ℕ → List ℕ → LinkedCode
 armnt_stub bases position literal = record {
   from = placed_or_calling ARMNT (slice_get (program_placed ARMNT bases) 3);
   number = 1;
-  code = section text_name (cnt_code + align_4bytes + mem_execute_read) (stub_bytes ARMNT) (stub_relocations ARMNT 2);
+  code = section text_name (cnt_code + align_4bytes + mem_execute_read) (stub_bytes ARMNT)
+      (stub_relocations ARMNT 2);
   position = position;
   bytes = two_loads ++ literal;
 }
@@ -44,19 +46,23 @@ abbrev pub armnt_memory : Bases → ℕ → List ℕ → List Range
 armnt_memory bases position literal =
     program_image ARMNT bases ++ record { start = position; bytes = two_loads ++ literal } ∷ []
 
--- The program with its linked stub meets what the law asks for; whatever a loader writes, the stub's jump reads at the
--- distance of its entry, and not at its entry.
-pub record WorkedArmntStub (image_base : ℕ) (bases : Bases) (position : ℕ) (literal : List ℕ) (reads entry : ℕ)
-    : Type 0 where
+-- The program with its linked stub meets what the law asks for; whatever a loader writes, the
+-- stub's jump reads at the distance of its entry, and not at its entry.
+pub record WorkedArmntStub (image_base : ℕ) (bases : Bases) (position : ℕ) (literal : List ℕ)
+    (reads entry : ℕ) : Type 0 where
   pub program : IsProgram ARMNT bases (both_inputs ARMNT) (program_objects ARMNT)
-  pub beside : AreBeside ARMNT image_base bases (program_objects ARMNT) (armnt_stub bases position literal ∷ [])
+  pub beside : AreBeside ARMNT image_base bases (program_objects ARMNT)
+      (armnt_stub bases position literal ∷ [])
       (as_placed (armnt_targets bases))
-  pub distances : HoldDistances (armnt_stub bases position literal ∷ []) (as_placed (armnt_targets bases))
+  pub distances : HoldDistances (armnt_stub bases position literal ∷ [])
+      (as_placed (armnt_targets bases))
   pub there : BytesAt (armnt_memory bases position literal) position (two_loads ++ literal)
   pub loaded : (n : ℕ) (written : List Range) →
-      ReadsAndWrites (armnt_memory bases position literal) 4 (gives_by_hand ARMNT) n bases.descriptors written →
+      ReadsAndWrites (armnt_memory bases position literal) 4 (gives_by_hand ARMNT) n
+      bases.descriptors written →
       A32JumpReads (written ++ armnt_memory bases position literal) position reads
-      × (A32JumpReads (written ++ armnt_memory bases position literal) position (image_base + entry) → ⊥)
+      × (A32JumpReads (written ++ armnt_memory bases position literal) position
+      (image_base + entry) → ⊥)
 
 -- code at 0x1000, and nothing else
 abbrev pub a32_code : List ℕ → List Range
@@ -66,13 +72,15 @@ a32_code bytes = record { start = 0x1000; bytes = bytes } ∷ []
 abbrev pub entry_address : List ℕ
 entry_address = 0x60 ∷ 0 ∷ 0x40 ∷ 0 ∷ []
 
--- The stubs at 0x1000 and at 0x200, whose entries are at 0x60 and at 0x5260; a literal that is the entry's address is no
--- distance; and where the literal is an address, right behind the loads or further on, the jump reads there.
+-- The stubs at 0x1000 and at 0x200, whose entries are at 0x60 and at 0x5260; a literal that is the
+-- entry's address is no distance; and where the literal is an address, right behind the loads or
+-- further on, the jump reads there.
 pub record WorkedArmntStubs : Type 0 where
   -- 0x60 - 0x100C, and 0x5260 - 0x20C
   pub behind : WorkedArmntStub 0x40_0000 touching_4 0x1000 (0x54 ∷ 0xF0 ∷ 0xFF ∷ 0xFF ∷ []) 0xFFFF_F054 0x60
   pub in_front : WorkedArmntStub 0x1000_0000 far_4 0x200 (0x54 ∷ 0x50 ∷ 0 ∷ 0 ∷ []) 0x5054 0x5260
-  pub address : HoldDistances (armnt_stub touching_4 0x1000 entry_address ∷ []) (as_placed (armnt_targets touching_4)) → ⊥
+  pub address : HoldDistances (armnt_stub touching_4 0x1000 entry_address ∷ [])
+      (as_placed (armnt_targets touching_4)) → ⊥
   pub reads_address : A32JumpReads (a32_code (two_loads ++ entry_address)) 0x1000 0x40_0060
   -- ldr ip, [pc, 8]; ldr pc, [ip]
   pub reads_further : A32JumpReads

@@ -1,6 +1,6 @@
--- Calls and pointers by an alias, by hand: a program as in Worked/Calls on AMD64, whose code calls through
--- `__imp_opened` and reads a pointer through it, with the weak external that makes this an alias of
--- `__imp_open`; and a program of both flavours with such code.
+-- Calls and pointers by an alias, by hand: a program as in Worked/Calls on AMD64, whose code calls
+-- through `__imp_opened` and reads a pointer through it, with the weak external that makes this an
+-- alias of `__imp_open`; and a program of both flavours with such code.
 use Rattle.implib_link.specs.Gnu.Fields.{LinkedCode, TakesSymbols}
 use Rattle.std.specs.Prelude.{◌≡◌, ℕ, List, [], ◌∷◌, ◌++◌, codes, Some, None}
 use Rattle.implib.specs.declared.machine.MachineType.TheVariants.{AMD64}
@@ -17,10 +17,15 @@ use Rattle.implib_link.specs.Gnu.Calls.{HasCall, PlacedCode, call_reads}
 use Rattle.implib_link.specs.Gnu.Pointers.{HasLoad, load_reads}
 use Rattle.implib_link.specs.Gnu.Program.{null_descriptor}
 use Rattle.implib_link_instances.specs.Worked.Calls.{calling, calling_code, first_bytes, last_bytes}
-use Rattle.implib_link_instances.specs.Worked.Flavors.{both_inputs as flavor_inputs, flavor_bases_8, members_with_null}
-use Rattle.implib_link_instances.specs.Worked.Pointers.{loading, loading_code, loading_at, tables_of}
-use Rattle.implib_link_instances.specs.Worked.Programs.{another, both_inputs, foo_input, input_objects, symbol_of_class, touching_8, zed_input}
-use Rattle.implib_link_instances.specs.Worked.Relocated.{CodesBeside, as_placed, code_range, linked_codes, linked_by}
+use Rattle.implib_link_instances.specs.Worked.Flavors.{both_inputs as flavor_inputs, flavor_bases_8}
+use Rattle.implib_link_instances.specs.Worked.Flavors.{members_with_null}
+use Rattle.implib_link_instances.specs.Worked.Pointers.{loading, loading_code, loading_at}
+use Rattle.implib_link_instances.specs.Worked.Pointers.{tables_of}
+use Rattle.implib_link_instances.specs.Worked.Programs.{another, both_inputs, foo_input}
+use Rattle.implib_link_instances.specs.Worked.Programs.{input_objects, symbol_of_class, touching_8}
+use Rattle.implib_link_instances.specs.Worked.Programs.{zed_input}
+use Rattle.implib_link_instances.specs.Worked.Relocated.{CodesBeside, as_placed, code_range}
+use Rattle.implib_link_instances.specs.Worked.Relocated.{linked_codes, linked_by}
 
 -- the alias and its target
 abbrev pub opened_name : List ℕ
@@ -41,13 +46,15 @@ alias_loading = record (loading AMD64) {
       ∷ [];
 }
 
--- what is linked: both objects, the weak external, foo.dll's members, zed.dll's members, the null descriptor
+-- what is linked: both objects, the weak external, foo.dll's members, zed.dll's members, the null
+-- descriptor
 abbrev pub alias_objects : List Object
 alias_objects =
     alias_calling
     ∷ (alias_loading
     ∷ (object_of (weak_object AMD64 opened_name (imp_symbol (codes "open")))
-    ∷ (input_objects AMD64 (foo_input AMD64) ++ (input_objects AMD64 (zed_input AMD64) ++ null_descriptor ∷ []))))
+    ∷ (input_objects AMD64 (foo_input AMD64)
+    ++ (input_objects AMD64 (zed_input AMD64) ++ null_descriptor ∷ []))))
 
 abbrev pub alias_placed : List Placed
 alias_placed = placed_from touching_8 alias_objects
@@ -77,12 +84,13 @@ alias_codes = alias_at ∷ alias_load_at ∷ []
 abbrev pub all_at : ℕ → PlacedCode → ℕ → ℕ
 all_at address c index = address
 
--- The program meets all that the law of aliases asks for; the entry of `open` is at 0x80, which the call at 0x1004 and
--- the load at 0x1014 read.
+-- The program meets all that the law of aliases asks for; the entry of `open` is at 0x80, which the
+-- call at 0x1004 and the load at 0x1014 read.
 pub record WorkedAlias : Type 0 where
   pub program : IsProgram AMD64 touching_8 (both_inputs AMD64) alias_objects
   pub beside : CodesBeside AMD64 0x1_4000_0000 touching_8 alias_objects alias_codes (all_at 0x80)
-  pub resolves : ResolvesAliases alias_placed (linked_codes AMD64 0x1_4000_0000 (all_at 0x80) alias_codes)
+  pub resolves : ResolvesAliases alias_placed
+      (linked_codes AMD64 0x1_4000_0000 (all_at 0x80) alias_codes)
       (as_placed (all_at 0x80))
   pub undefined : definitions_of opened_name alias_placed ≡ []
   pub weak : weak_target opened_name alias_placed ≡ Some (imp_symbol (codes "open"))
@@ -97,15 +105,16 @@ pub record WorkedAlias : Type 0 where
   -- mov rax, [rip - 0xF9B]
   pub load_is : (code_range AMD64 0x1_4000_0000 (all_at 0x80) alias_load_at).bytes
       ≡ first_bytes AMD64 ++ (0x48 ∷ 0x8B ∷ 5 ∷ 0x65 ∷ 0xF0 ∷ 0xFF ∷ 0xFF ∷ last_bytes AMD64)
-  -- the member of an alias is such a weak external: of the alias `bar` of `baz` for its address, say
+  -- the member of an alias is such a weak external: of the alias `bar` of `baz` for its address,
+  -- say
   pub member : weak_target (codes "__imp_bar") (record {
     object = object_of (weak_object AMD64 (codes "__imp_bar") (codes "__imp_baz"));
     section_addresses = [];
   } ∷ alias_placed) ≡ Some (codes "__imp_baz")
 
--- what is linked of both flavours: the calling object, the reading one, a weak external of `__imp_opened`, what
--- the members of foo.dll for Microsoft's linker, its null descriptor, and those of zed.dll for GNU's are taken
--- for, and another object
+-- what is linked of both flavours: the calling object, the reading one, a weak external of
+-- `__imp_opened`, what the members of foo.dll for Microsoft's linker, its null descriptor, and
+-- those of zed.dll for GNU's are taken for, and another object
 abbrev pub alias_flavors : List ℕ → List Object
 alias_flavors target =
     alias_calling
@@ -120,12 +129,14 @@ opened_flavors = alias_flavors (imp_symbol (codes "open"))
 abbrev pub opened_placed : List Placed
 opened_placed = placed_from flavor_bases_8 opened_flavors
 
--- The program of both flavours meets all that the law of aliases asks for; the entry of `open` is at 0x88, which the
--- call at 0x1004 and the load at 0x1014 read.
+-- The program of both flavours meets all that the law of aliases asks for; the entry of `open` is
+-- at 0x88, which the call at 0x1004 and the load at 0x1014 read.
 pub record WorkedFlavorAlias : Type 0 where
   pub program : IsProgramOf AMD64 OfMember flavor_bases_8 (flavor_inputs AMD64) opened_flavors
-  pub beside : CodesBeside AMD64 0x1_4000_0000 flavor_bases_8 opened_flavors alias_codes (all_at 0x88)
-  pub resolves : ResolvesAliases opened_placed (linked_codes AMD64 0x1_4000_0000 (all_at 0x88) alias_codes)
+  pub beside : CodesBeside AMD64 0x1_4000_0000 flavor_bases_8 opened_flavors alias_codes
+      (all_at 0x88)
+  pub resolves : ResolvesAliases opened_placed
+      (linked_codes AMD64 0x1_4000_0000 (all_at 0x88) alias_codes)
       (as_placed (all_at 0x88))
   pub undefined : definitions_of opened_name opened_placed ≡ []
   pub weak : weak_target opened_name opened_placed ≡ Some (imp_symbol (codes "open"))
@@ -142,16 +153,19 @@ pub record WorkedFlavorAlias : Type 0 where
   pub load_reads_it : load_reads AMD64 0x1_4000_1014 (0x48 ∷ 0x8B ∷ 5 ∷ 0x6D ∷ 0xF0 ∷ 0xFF ∷ 0xFF ∷ [])
       ≡ Some 0x1_4000_0088
   -- weak for `__imp_stat`, whose entry is at 0x90, it is not at 0x88
-  pub astray : ResolvesAliases (placed_from flavor_bases_8 (alias_flavors (imp_symbol (codes "stat"))))
+  pub astray : ResolvesAliases
+      (placed_from flavor_bases_8 (alias_flavors (imp_symbol (codes "stat"))))
       (linked_codes AMD64 0x1_4000_0000 (all_at 0x88) alias_codes) (as_placed (all_at 0x88)) → ⊥
 
--- A name that is weak for another and defined, too: what is linked is the code of Worked/Pointers, which reads a pointer
--- through `__imp_stat`, a weak external that would make this an alias of `__imp_open`, and the members.
+-- A name that is weak for another and defined, too: what is linked is the code of Worked/Pointers,
+-- which reads a pointer through `__imp_stat`, a weak external that would make this an alias of
+-- `__imp_open`, and the members.
 abbrev pub overridden_objects : List Object
 overridden_objects =
     loading AMD64
     ∷ (object_of (weak_object AMD64 (imp_symbol (codes "stat")) (imp_symbol (codes "open")))
-    ∷ (input_objects AMD64 (foo_input AMD64) ++ (input_objects AMD64 (zed_input AMD64) ++ null_descriptor ∷ [])))
+    ∷ (input_objects AMD64 (foo_input AMD64)
+    ++ (input_objects AMD64 (zed_input AMD64) ++ null_descriptor ∷ [])))
 
 abbrev pub overridden_placed : List Placed
 overridden_placed = placed_from touching_8 overridden_objects
@@ -161,11 +175,13 @@ overridden_code = linked_by AMD64 0x1_4000_0000 (tables_of overridden_placed) (l
 
 -- The definition counts: `__imp_stat` is its own entry at 0x88, where its target is at 0x80.
 pub record OverriddenAlias : Type 0 where
-  pub weak : weak_target (imp_symbol (codes "stat")) overridden_placed ≡ Some (imp_symbol (codes "open"))
+  pub weak : weak_target (imp_symbol (codes "stat")) overridden_placed
+      ≡ Some (imp_symbol (codes "open"))
   pub defined : definitions_of (imp_symbol (codes "stat")) overridden_placed
       ≡ record { name = imp_symbol (codes "stat"); address = Some 0x88 } ∷ []
   pub target : definitions_of (imp_symbol (codes "open")) overridden_placed
       ≡ record { name = imp_symbol (codes "open"); address = Some 0x80 } ∷ []
   pub resolves : ResolvesAliases overridden_placed (overridden_code ∷ []) (λ c index. 0x88)
-  pub taken : (targets : LinkedCode → ℕ → ℕ) → TakesSymbols overridden_placed (overridden_code ∷ []) targets →
+  pub taken : (targets : LinkedCode → ℕ → ℕ) →
+      TakesSymbols overridden_placed (overridden_code ∷ []) targets →
       targets overridden_code 1 ≡ 0x88

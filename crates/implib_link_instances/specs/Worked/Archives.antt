@@ -5,7 +5,8 @@ use Rattle.implib.specs.Definition.{DefinitionView}
 use Rattle.implib.specs.Members.MemberSpec.{MemberView}
 use Rattle.implib.specs.Worked.Members.{of_dll}
 use Rattle.implib.specs.Worked.Statements.{plain_export}
-use Rattle.implib_link.specs.Search.Archives.{IsArchive, Library, NamesNoHeadOrTailOf, archive_of, inputs_wanted, weak_among, wanted_with}
+use Rattle.implib_link.specs.Search.Archives.{IsArchive, Library, NamesNoHeadOrTailOf, archive_of}
+use Rattle.implib_link.specs.Search.Archives.{inputs_wanted, weak_among, wanted_with}
 use Rattle.implib_link.specs.Search.Search.{Takes}
 use Rattle.implib_link_instances.specs.Worked.Search.{aliased, members_of}
 
@@ -16,16 +17,18 @@ library_of d = record { definition = d; members = members_of d }
 abbrev pub two_libraries : List Library
 two_libraries =
     library_of aliased
-    ∷ library_of (of_dll (codes "zed.dll") (plain_export (codes "queue") ∷ plain_export (codes "stack") ∷ []))
+    ∷ library_of
+    (of_dll (codes "zed.dll") (plain_export (codes "queue") ∷ plain_export (codes "stack") ∷ []))
     ∷ []
 
--- what a program wants: the data by its bare name, a function of zed.dll, and a name of another library
+-- what a program wants: the data by its bare name, a function of zed.dll, and a name of another
+-- library
 abbrev pub both_wanted : List (List ℕ)
 both_wanted = codes "bar" ∷ codes "__imp_queue" ∷ codes "printf" ∷ []
 
--- The two are an archive that the law speaks of. For `bar` a linker takes its weak external, for which `baz`
--- is wanted, and `baz` brings the head and the tail of foo.dll; for `__imp_queue` it takes the members of
--- zed.dll that belong to it.
+-- The two are an archive that the law speaks of. For `bar` a linker takes its weak external, for
+-- which `baz` is wanted, and `baz` brings the head and the tail of foo.dll; for `__imp_queue` it
+-- takes the members of zed.dll that belong to it.
 pub record WorkedArchives : Type 0 where
   pub archive : IsArchive AMD64 two_libraries
   pub taken : List MemberView

@@ -12,8 +12,8 @@ use Rattle.implib_link_instances.specs.Worked.Programs.{code_object, symbol_of_c
 abbrev pub common_block : List ℕ → ℕ → ObjectSymbol
 common_block name size = record { name = name; value = size; section = 0; kind = 0; class = 2 }
 
--- an object with code of its own, a common block, an absolute symbol, a weak external, a name that it leaves to
--- others, and a symbol for itself alone
+-- an object with code of its own, a common block, an absolute symbol, a weak external, a name that
+-- it leaves to others, and a symbol for itself alone
 abbrev pub claiming : Object
 claiming = code_object (
     symbol_of_class (codes "main") 1 2
@@ -24,11 +24,14 @@ claiming = code_object (
     ∷ symbol_of_class (codes "local") 1 3
     ∷ [])
 
--- the first four are claimed; exactly the fifth is left to others, of the external ones without a value
+-- the first four are claimed; exactly the fifth is left to others, of the external ones without a
+-- value
 pub record WorkedClaims : Type 0 where
-  pub claimed : claimed_names claiming ≡ codes "main" ∷ codes "block" ∷ codes "fixed" ∷ codes "weak" ∷ []
+  pub claimed : claimed_names claiming
+      ≡ codes "main" ∷ codes "block" ∷ codes "fixed" ∷ codes "weak" ∷ []
 
--- the relocation of the field of a direct call against the symbol 3: type 20 on I386, 4 on AMD64, 3 on ARM64
+-- the relocation of the field of a direct call against the symbol 3: type 20 on I386, 4 on AMD64, 3
+-- on ARM64
 abbrev pub i386_call : Relocation
 i386_call = record { offset = 1; symbol = 3; kind = 20 }
 
@@ -38,8 +41,8 @@ amd64_call = record { offset = 1; symbol = 3; kind = 4 }
 abbrev pub arm64_call : Relocation
 arm64_call = record { offset = 0; symbol = 3; kind = 3 }
 
--- Direct calls at 0x1000 to code at 0x2000 and at 0x800: their fields are relative to the byte after them, and ARM64's to
--- the instruction itself, in words. In an
+-- Direct calls at 0x1000 to code at 0x2000 and at 0x800: their fields are relative to the byte
+-- after them, and ARM64's to the instruction itself, in words. In an
 -- image with the base 0x400000 they lead there.
 pub record WorkedDirectCalls : Type 0 where
   pub i386 : direct_relocations I386 3 ≡ i386_call ∷ []

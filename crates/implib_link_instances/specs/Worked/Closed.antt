@@ -15,15 +15,16 @@ use Rattle.implib.specs.Worked.Statements.{plain_export}
 use Rattle.implib_link.specs.Gnu.Packed.{packed}
 use Rattle.implib_link.specs.Gnu.Program.{null_descriptor}
 use Rattle.implib_link.specs.Search.Archives.{IsArchive, Library, archive_of}
-use Rattle.implib_link.specs.Search.Closed.{IsClosed, LinksClosed, PullsInto, TakesInto, inputs_in, unresolved, wanted_in}
+use Rattle.implib_link.specs.Search.Closed.{IsClosed, LinksClosed, PullsInto, TakesInto, inputs_in}
+use Rattle.implib_link.specs.Search.Closed.{unresolved, wanted_in}
 use Rattle.implib_link.specs.Search.Given.{AreGiven, symbols_kept}
 use Rattle.implib_link_instances.specs.Worked.Archives.{library_of, two_libraries}
 use Rattle.implib_link_instances.specs.Worked.Programs.{code_object, symbol_of_class}
 use Rattle.implib_link_instances.specs.Worked.Search.{aliased}
 use Rattle.implib.specs.LibraryName.{own_names}
 
--- an object that names data of foo.dll by its alias, a function of zed.dll by its pointer, and one of another
--- library; and that has a function of its own, `stack`, which zed.dll exports, too
+-- an object that names data of foo.dll by its alias, a function of zed.dll by its pointer, and one
+-- of another library; and that has a function of its own, `stack`, which zed.dll exports, too
 abbrev pub choosing : Object
 choosing = code_object (
     symbol_of_class (codes "main") 1 class_external
@@ -43,7 +44,8 @@ clashing = code_object (
     ∷ symbol_of_class (codes "printf") 0 class_external
     ∷ [])
 
--- the members that are taken: of foo.dll the alias, and of both the head, an export's member and the tail
+-- the members that are taken: of foo.dll the alias, and of both the head, an export's member and
+-- the tail
 abbrev pub foo_alias : MemberView
 foo_alias = member_of (weak_spec AMD64 (weak_name (codes "foo.dll") 0) (codes "bar") (codes "baz"))
 
@@ -87,21 +89,24 @@ without_last =
 -- the libraries as they are linked, zed.dll first
 abbrev pub zed_first : List Library
 zed_first =
-    library_of (of_dll (codes "zed.dll") (plain_export (codes "queue") ∷ plain_export (codes "stack") ∷ []))
+    library_of (of_dll (codes "zed.dll")
+    (plain_export (codes "queue") ∷ plain_export (codes "stack") ∷ []))
     ∷ library_of aliased
     ∷ []
 
 -- what is linked: the alias, zed.dll's members, the object, foo.dll's members, the null descriptor
 abbrev pub closed_objects : List Object
 closed_objects =
-    objects_in (foo_alias ∷ zed_linked) ++ choosing ∷ (objects_in foo_linked ++ null_descriptor ∷ [])
+    objects_in (foo_alias ∷ zed_linked) ++ choosing
+    ∷ (objects_in foo_linked ++ null_descriptor ∷ [])
 
 abbrev pub closed_bases : Bases
 closed_bases = packed 0x2000 closed_objects
 
--- The object leaves three names unresolved, for which a linker takes seven members; with them it is a closed
--- program, in which `printf` alone is left. The pointer to `queue` is zed.dll's first entry, and that to `baz`
--- foo.dll's. A search that stops before the last member is none; a name that the object claims pulls in nothing;
+-- The object leaves three names unresolved, for which a linker takes seven members; with them it is
+-- a closed program, in which `printf` alone is left. The pointer to `queue` is zed.dll's first
+-- entry, and that to `baz` foo.dll's. A search that stops before the last member is none; a name
+-- that the object claims pulls in nothing;
 -- and an object with a `queue` of its own is not closed by these members.
 pub record WorkedClosed : Type 0 where
   pub archive : IsArchive AMD64 two_libraries
@@ -111,7 +116,8 @@ pub record WorkedClosed : Type 0 where
       ≡ codes "bar" ∷ codes "__imp_queue" ∷ codes "printf" ∷ codes "baz" ∷ []
   pub chosen : map (λ p. p.chosen) (inputs_in zed_first (choosing ∷ []) closed_taken)
       ≡ (0 ∷ []) ∷ (1 ∷ []) ∷ []
-  pub closed : IsClosed AMD64 two_libraries (choosing ∷ []) closed_taken zed_first closed_bases closed_objects
+  pub closed : IsClosed AMD64 two_libraries (choosing ∷ []) closed_taken zed_first closed_bases
+      closed_objects
   pub links : LinksClosed AMD64 two_libraries (choosing ∷ []) closed_taken zed_first closed_bases
       closed_objects
   pub left : unresolved closed_objects ≡ codes "printf" ∷ []
@@ -125,13 +131,16 @@ pub record WorkedClosed : Type 0 where
   pub clashes : (arranged : List Library) (bases : Bases) (objects : List Object) →
       IsClosed AMD64 two_libraries (clashing ∷ []) closed_taken arranged bases objects → ⊥
 
--- The first object may be given: so the search for it ends, and what was taken closes the program. What members
--- alone may claim are these names, `queue` among them: so the object that has one of its own may not.
+-- The first object may be given: so the search for it ends, and what was taken closes the program.
+-- What members alone may claim are these names, `queue` among them: so the object that has one of
+-- its own may not.
 pub record WorkedGiven : Type 0 where
   pub given : AreGiven AMD64 two_libraries (choosing ∷ [])
   pub kept : symbols_kept AMD64 two_libraries (choosing ∷ [])
-      ≡ codes "_head_foo_dll" ∷ codes "_head_zed_dll" ∷ codes "foo_dll_iname" ∷ codes "zed_dll_iname"
+      ≡ codes "_head_foo_dll" ∷ codes "_head_zed_dll" ∷ codes "foo_dll_iname"
+      ∷ codes "zed_dll_iname"
       ∷ codes "baz" ∷ codes "baz" ∷ codes "__imp_baz" ∷ codes "queue" ∷ codes "__imp_queue" ∷ []
   pub ends : (taken : List MemberView) × TakesInto (archive_of two_libraries) (choosing ∷ []) taken
-  pub closed : IsClosed AMD64 two_libraries (choosing ∷ []) closed_taken zed_first closed_bases closed_objects
+  pub closed : IsClosed AMD64 two_libraries (choosing ∷ []) closed_taken zed_first closed_bases
+      closed_objects
   pub refused : AreGiven AMD64 two_libraries (clashing ∷ []) → ⊥

@@ -1,7 +1,9 @@
--- Command lines of an object, the library of kernel32.dll and an archive of one object, which leaves `ExitProcess` to
--- others. The objects are of gcc 12 (mingw-w64), of `void start(void) { quit(); }` and `void quit(void) { ExitProcess(0); }`.
--- GNU ld 2.40 says of the library in front of the archive "undefined reference to `ExitProcess'", and links them in the
--- other order, in a group, and with the library a second time behind; ld.lld and lld-link 14.0.6 link them in any order.
+-- Command lines of an object, the library of kernel32.dll and an archive of one object, which
+-- leaves `ExitProcess` to others. The objects are of gcc 12 (mingw-w64), of `void start(void) {
+-- quit(); }` and `void quit(void) { ExitProcess(0); }`.
+-- GNU ld 2.40 says of the library in front of the archive "undefined reference to `ExitProcess'",
+-- and links them in the other order, in a group, and with the library a second time behind; ld.lld
+-- and lld-link 14.0.6 link them in any order.
 use Rattle.std.specs.Prelude.{◌≡◌, ℕ, Bool, true, List, [], ◌∷◌, ◌++◌, bytes_eq, codes, map}
 use Rattle.std.specs.List.{IsDistinct, list_any}
 use Rattle.implib.specs.declared.flavor.Flavor.TheVariants.{Gnu}
@@ -17,11 +19,15 @@ use Rattle.implib.specs.Worked.Statements.{plain_export}
 use Rattle.implib_link.specs.Gnu.Program.{HaveSame}
 use Rattle.implib_link.specs.Search.Archives.{IsArchive, Library, archive_of}
 use Rattle.implib_link.specs.Search.Closed.{TakesIntoAs, listed_in, unresolved}
-use Rattle.implib_link.specs.Search.CommandLines.{AnObject, Archives, AreFirst, AreListedWhole, AreUnclaimedBehind, HaveAll, Input, IsOrdered, LldSearches, SearchesCommandLine, SearchesLibraries, given_with}
+use Rattle.implib_link.specs.Search.CommandLines.{AnObject, Archives, AreFirst, AreListedWhole}
+use Rattle.implib_link.specs.Search.CommandLines.{AreUnclaimedBehind, HaveAll, Input, IsOrdered}
+use Rattle.implib_link.specs.Search.CommandLines.{LldSearches, SearchesCommandLine}
+use Rattle.implib_link.specs.Search.CommandLines.{SearchesLibraries, given_with}
 use Rattle.implib_link.specs.Search.Given.{AreGiven}
 use Rattle.implib_link.specs.Search.Search.{objects_as}
 use Rattle.implib_link.specs.Search.Sweeps.{members_at}
-use Rattle.implib_link_instances.specs.But.Links.{MissesIsClosedOver, MissesIsGroupSearched, MissesIsSwept, MissesSearchesFor}
+use Rattle.implib_link_instances.specs.But.Links.{MissesIsClosedOver, MissesIsGroupSearched}
+use Rattle.implib_link_instances.specs.But.Links.{MissesIsSwept, MissesSearchesFor}
 use Rattle.implib_link_instances.specs.Worked.Programs.{code_object, symbol_of_class}
 
 abbrev pub wants_bytes : List ℕ
@@ -120,7 +126,8 @@ is_quit m = bytes_eq m.name (codes "quit.o")
 
 -- The members: of the library 0, 1 and 2, and that of the archive, 3.
 abbrev pub members_on : MachineType → List ℕ → List ℕ → List ℕ → List MemberView
-members_on machine symbol quit bytes = (kernel_on machine symbol).members ++ quit_member quit bytes ∷ []
+members_on machine symbol quit bytes =
+    (kernel_on machine symbol).members ++ quit_member quit bytes ∷ []
 
 abbrev pub amd64_members : List MemberView
 amd64_members = members_on AMD64 (codes "ExitProcess") (codes "quit") quit_bytes
@@ -149,24 +156,29 @@ abbrev pub in_group : List Object → List Input
 in_group own = inputs_of own ++ Archives (of_kernel ∷ of_quit ∷ []) ∷ []
 
 abbrev pub library_twice : List Object → List Input
-library_twice own = inputs_of own ++ Archives (of_kernel ∷ []) ∷ Archives (of_quit ∷ []) ∷ Archives (of_kernel ∷ []) ∷ []
+library_twice own = inputs_of own ++ Archives (of_kernel ∷ []) ∷ Archives (of_quit ∷ [])
+    ∷ Archives (of_kernel ∷ []) ∷ []
 
 -- what is taken of all, the last one first
 abbrev pub all_taken : List ℕ
 all_taken = 0 ∷ 1 ∷ 2 ∷ 3 ∷ []
 
 -- On one machine, where `own` is the object and `import` the name of the function:
--- `lost`, `left`: with the library first GNU ld takes the archive's member alone, and the function is left unresolved;
+-- `lost`, `left`: with the library first GNU ld takes the archive's member alone, and the function
+-- is left unresolved;
 -- `unordered`: which is no order of its;
 -- `by_lld`: lld takes all;
--- `first`, `ordered`, `takes`: in the other order GNU ld takes all, and by the law as one search does;
+-- `first`, `ordered`, `takes`: in the other order GNU ld takes all, and by the law as one search
+-- does;
 -- `group`, `again`: so it does in a group, and with the library twice;
 -- `alike`: by the law both linkers take the same of the group.
-pub record WorkedCommandLine (members : List MemberView) (own : List Object) (import : List ℕ) : Type 0 where
+pub record WorkedCommandLine (members : List MemberView) (own : List Object)
+    (import : List ℕ) : Type 0 where
   pub distinct : IsDistinct bytes_eq (listed_in members)
   pub whole : AreListedWhole object_in members
   pub lost : SearchesCommandLine object_in members (library_first own) of_quit
-  pub left : list_any (bytes_eq import) (unresolved (own ++ objects_as object_in (members_at members of_quit))) ≡ true
+  pub left : list_any (bytes_eq import)
+      (unresolved (own ++ objects_as object_in (members_at members of_quit))) ≡ true
   pub unordered : IsOrdered object_in members (library_first own) → ⊥
   pub by_lld : LldSearches object_in members (library_first own) members
   pub first : SearchesCommandLine object_in members (library_last own) all_taken
@@ -178,16 +190,20 @@ pub record WorkedCommandLine (members : List MemberView) (own : List Object) (im
       HaveSame (members_at members all_taken) other
 
 -- as a search of libraries: the archive's member is as given
-pub record WorkedLibraries (machine : MachineType) (l : Library) (members : List MemberView) (own : List Object) : Type 0 where
+pub record WorkedLibraries (machine : MachineType) (l : Library) (members : List MemberView)
+    (own : List Object) : Type 0 where
   pub archive : IsArchive machine (l ∷ [])
   pub searches : SearchesLibraries machine (l ∷ []) members (library_last own) is_quit all_taken
-  pub given : AreGiven machine (l ∷ []) (given_with object_in is_quit own (members_at members all_taken))
+  pub given : AreGiven machine (l ∷ [])
+      (given_with object_in is_quit own (members_at members all_taken))
 
 pub record WorkedCommandLines : Type 0 where
   pub amd64 : WorkedCommandLine amd64_members (read_or_none wants_bytes) (codes "ExitProcess")
   pub i386 : WorkedCommandLine i386_members (read_or_none i386_wants_bytes) (codes "_ExitProcess@4")
-  pub libraries : WorkedLibraries AMD64 (kernel_on AMD64 (codes "ExitProcess")) amd64_members (read_or_none wants_bytes)
-  pub i386_libraries : WorkedLibraries I386 (kernel_on I386 (codes "_ExitProcess@4")) i386_members (read_or_none i386_wants_bytes)
+  pub libraries : WorkedLibraries AMD64 (kernel_on AMD64 (codes "ExitProcess")) amd64_members
+      (read_or_none wants_bytes)
+  pub i386_libraries : WorkedLibraries I386 (kernel_on I386 (codes "_ExitProcess@4")) i386_members
+      (read_or_none i386_wants_bytes)
 
 -- Near misses, on AMD64.
 
@@ -199,7 +215,8 @@ kernel = kernel_on AMD64 (codes "ExitProcess")
 
 -- nothing is due, and more is said to be taken; a sweep less than it takes
 pub record NearIsSwept : Type 0 where
-  pub taken : MissesIsSwept (codes "taken") object_in amd64_members wanting_own of_kernel [] all_taken
+  pub taken : MissesIsSwept (codes "taken") object_in amd64_members wanting_own of_kernel []
+      all_taken
   pub ended : MissesIsSwept (codes "ended") object_in amd64_members wanting_own of_kernel of_quit
       (2 ∷ 3 ∷ [])
 
@@ -221,9 +238,10 @@ pub record NearIsClosedOver : Type 0 where
 abbrev pub quitting : Object
 quitting = code_object (symbol_of_class (codes "quit") 1 class_external ∷ [])
 
--- a command line of libraries, but for one thing: there are no libraries; the second of two members that are listed
--- for a name is taken; an object behind
--- the archive claims its name; the library is first; the member is listed for a name more; it is not taken
+-- a command line of libraries, but for one thing: there are no libraries; the second of two members
+-- that are listed for a name is taken; an object behind
+-- the archive claims its name; the library is first; the member is listed for a name more; it is
+-- not taken
 abbrev pub with_quit_twice : List MemberView
 with_quit_twice = amd64_members ++ quit_member (codes "quit") quit_bytes ∷ []
 
@@ -233,17 +251,23 @@ second_quit = inputs_of wanting_own ++ Archives ((4 ∷ []) ∷ []) ∷ Archives
 abbrev pub with_more : List MemberView
 with_more =
     kernel.members
-    ++ record { name = codes "quit.o"; bytes = quit_bytes; symbols = codes "quit" ∷ codes "more" ∷ [] }
+    ++ record {
+      name = codes "quit.o";
+      bytes = quit_bytes;
+      symbols = codes "quit" ∷ codes "more" ∷ [];
+    }
     ∷ []
 
 pub record NearSearchesFor : Type 0 where
-  pub libraries_are : MissesSearchesFor (codes "libraries_are") object_in (archive_of []) amd64_members
+  pub libraries_are : MissesSearchesFor (codes "libraries_are") object_in (archive_of [])
+      amd64_members
       (library_last wanting_own) is_quit all_taken
   pub first : MissesSearchesFor (codes "first") object_in (archive_of (kernel ∷ [])) with_quit_twice
       second_quit is_quit (0 ∷ 1 ∷ 2 ∷ 4 ∷ [])
   pub unclaimed : MissesSearchesFor (codes "unclaimed") object_in (archive_of (kernel ∷ []))
       amd64_members (library_last wanting_own ++ AnObject quitting ∷ []) is_quit all_taken
-  pub ordered : MissesSearchesFor (codes "ordered") object_in (archive_of (kernel ∷ [])) amd64_members
+  pub ordered : MissesSearchesFor (codes "ordered") object_in (archive_of (kernel ∷ []))
+      amd64_members
       (library_first wanting_own) is_quit of_quit
   pub whole : MissesSearchesFor (codes "whole") object_in (archive_of (kernel ∷ [])) with_more
       (library_last wanting_own) is_quit all_taken
@@ -260,14 +284,17 @@ other_spare = record { name = codes "other.o"; bytes = []; symbols = codes "spar
 abbrev pub with_spares : List MemberView
 with_spares = quit_member (codes "quit") quit_bytes ∷ spare_member ∷ other_spare ∷ []
 
--- Predicates: an object behind an archive that claims its name; an archive that no input has; a member that is listed for a
--- name less than it claims; of two members that are listed for one name the first is taken, and not
--- the second. That an order is
+-- Predicates: an object behind an archive that claims its name; an archive that no input has; a
+-- member that is listed for a name less than it claims; of two members that are listed for one name
+-- the first is taken, and not the second. That an order is
 -- refused is in the worked rows.
 pub record RefusedCommandLines : Type 0 where
-  pub unclaimed : AreUnclaimedBehind amd64_members [] (Archives (of_quit ∷ []) ∷ AnObject quitting ∷ []) → ⊥
-  pub claimed_before : AreUnclaimedBehind amd64_members [] (AnObject quitting ∷ Archives (of_quit ∷ []) ∷ [])
+  pub unclaimed : AreUnclaimedBehind amd64_members []
+      (Archives (of_quit ∷ []) ∷ AnObject quitting ∷ []) → ⊥
+  pub claimed_before : AreUnclaimedBehind amd64_members []
+      (AnObject quitting ∷ Archives (of_quit ∷ []) ∷ [])
   pub all : HaveAll amd64_members (inputs_of wanting_own ++ Archives (of_kernel ∷ []) ∷ []) → ⊥
   pub whole : AreListedWhole object_in (quit_member (codes "more") quit_bytes ∷ []) → ⊥
-  pub first : AreFirst with_spares (codes "quit" ∷ codes "spare" ∷ []) (quit_member (codes "quit") quit_bytes ∷ spare_member ∷ [])
+  pub first : AreFirst with_spares (codes "quit" ∷ codes "spare" ∷ [])
+      (quit_member (codes "quit") quit_bytes ∷ spare_member ∷ [])
   pub second : AreFirst with_spares (codes "quit" ∷ codes "spare" ∷ []) (other_spare ∷ []) → ⊥

@@ -10,7 +10,8 @@ use Rattle.implib_link.specs.Flavors.Program.{OfMember, imported_in, ProgramLink
 use Rattle.implib_link.specs.Gnu.Loaded.{Writes}
 use Rattle.implib_link.specs.Gnu.Packed.{packed}
 use Rattle.implib_link.specs.Stub.{CanJump, JumpsThrough}
-use Rattle.implib_link_instances.specs.Worked.Flavors.{both_inputs, flavor_bases_4, flavor_bases_8, flavor_image, flavor_objects, flavor_placed}
+use Rattle.implib_link_instances.specs.Worked.Flavors.{both_inputs, flavor_bases_4, flavor_bases_8}
+use Rattle.implib_link_instances.specs.Worked.Flavors.{flavor_image, flavor_objects, flavor_placed}
 use Rattle.implib_link_instances.specs.Worked.Loads.{entry_of, gives_by_hand}
 use Rattle.implib_link_instances.specs.Worked.Programs.{symbol_on}
 
@@ -34,25 +35,30 @@ flavors_written_4 machine =
     ∷ []
 
 -- The program of a machine links, a loader writes this, and packed it is a program, too.
-pub record WorkedFlavorLoad (machine : MachineType) (count : ℕ) (bases : Bases) (written : List Range)
-    : Type 0 where
-  pub links : ProgramLinks machine OfMember bases (both_inputs machine) (flavor_objects machine count)
-  pub writes : Writes (flavor_image machine count bases) (thunk_width machine) (gives_by_hand machine)
+pub record WorkedFlavorLoad (machine : MachineType) (count : ℕ) (bases : Bases)
+    (written : List Range) : Type 0 where
+  pub links : ProgramLinks machine OfMember bases (both_inputs machine)
+      (flavor_objects machine count)
+  pub writes : Writes (flavor_image machine count bases) (thunk_width machine)
+      (gives_by_hand machine)
       bases.descriptors (map (imported_in machine) (both_inputs machine)) written
   pub loaded : AreTablesLoaded machine
-      (tables_at machine bases (flavor_objects machine count) (map (block_of_flavor machine) (both_inputs machine)))
+      (tables_at machine bases (flavor_objects machine count)
+      (map (block_of_flavor machine) (both_inputs machine)))
       (gives_by_hand machine) written
-  pub packed_program : IsProgramOf machine OfMember (packed 1 (flavor_objects machine count)) (both_inputs machine)
+  pub packed_program : IsProgramOf machine OfMember (packed 1 (flavor_objects machine count))
+      (both_inputs machine)
       (flavor_objects machine count)
 
--- The stubs of `open` and `_f@8`, for Microsoft's linker, and of `queue`, for GNU's, jump through their
--- entries.
+-- The stubs of `open` and `_f@8`, for Microsoft's linker, and of `queue`, for GNU's, jump through
+-- their entries.
 pub record WorkedFlavorCall (machine : MachineType) (count image_base : ℕ) (bases : Bases)
     (open_entry f_entry queue_entry : ℕ) : Type 0 where
   pub can : CanJump machine image_base bases
   pub open_jumps : JumpsThrough machine image_base (flavor_placed machine count bases)
       (symbol_on machine (codes "open")) open_entry
-  pub f_jumps : JumpsThrough machine image_base (flavor_placed machine count bases) (codes "_f@8") f_entry
+  pub f_jumps : JumpsThrough machine image_base (flavor_placed machine count bases) (codes "_f@8")
+      f_entry
   pub queue_jumps : JumpsThrough machine image_base (flavor_placed machine count bases)
       (symbol_on machine (codes "queue")) queue_entry
 

@@ -1,7 +1,8 @@
--- Programs of DLLs in both flavours, linked by hand: foo.dll by members for Microsoft's linker, with four
--- exports chosen in an order of its own, and zed.dll by members for GNU's, with one, between a caller and
--- another object; and tables at addresses where no loader finds them.
-use Rattle.std.specs.Prelude.{◌≡◌, ℕ, ◌+◌, List, [], ◌∷◌, ◌++◌, codes, drop, map, take, true, Option, Some}
+-- Programs of DLLs in both flavours, linked by hand: foo.dll by members for Microsoft's linker,
+-- with four exports chosen in an order of its own, and zed.dll by members for GNU's, with one,
+-- between a caller and another object; and tables at addresses where no loader finds them.
+use Rattle.std.specs.Prelude.{◌≡◌, ℕ, ◌+◌, List, [], ◌∷◌, ◌++◌, codes, drop, map, take, true}
+use Rattle.std.specs.Prelude.{Option, Some}
 use Rattle.std.specs.List.{AllByRecursion}
 use Rattle.implib.specs.declared.flavor.Flavor.TheVariants.{Gnu, Msvc}
 use Rattle.implib.specs.declared.machine.MachineType.{MachineType}
@@ -21,8 +22,10 @@ use Rattle.implib.specs.Link.Resolution.{symbol_address}
 use Rattle.implib.specs.Worked.Links.{addresses_of, bytes_from, nameless, numbers_from}
 use Rattle.implib.specs.Worked.Members.{of_dll}
 use Rattle.implib.specs.Worked.Statements.{plain_export}
-use Rattle.implib_link.specs.Flavors.Program.{OfMember, FlavorInput, IsMadeFor, all_members, null_member, objects_taken, IsProgramOf}
-use Rattle.implib_link_instances.specs.Worked.Programs.{another, caller, symbol_of_class, symbol_on, zed_dll}
+use Rattle.implib_link.specs.Flavors.Program.{OfMember, FlavorInput, IsMadeFor, all_members}
+use Rattle.implib_link.specs.Flavors.Program.{null_member, objects_taken, IsProgramOf}
+use Rattle.implib_link_instances.specs.Worked.Programs.{another, caller, symbol_of_class, symbol_on}
+use Rattle.implib_link_instances.specs.Worked.Programs.{zed_dll}
 
 -- four exports: a function with the hint 258, data, one by its ordinal, and one with a symbol name
 abbrev pub foo_exports : MachineType → List ExportView
@@ -64,12 +67,14 @@ both_inputs machine = foo_input machine ∷ zed_input machine ∷ []
 abbrev pub members_with_null : MachineType → ℕ → List MemberView
 members_with_null machine count =
     take count (all_members machine (both_inputs machine))
-    ++ null_member machine (codes "foo.dll") ∷ drop count (all_members machine (both_inputs machine))
+    ++ null_member machine (codes "foo.dll")
+    ∷ drop count (all_members machine (both_inputs machine))
 
 -- what is linked: the caller, what these are taken for, the other object
 abbrev pub flavor_objects : MachineType → ℕ → List Object
 flavor_objects machine count =
-    caller machine ∷ (objects_taken machine (members_with_null machine count) ++ another machine ∷ [])
+    caller machine
+    ∷ (objects_taken machine (members_with_null machine count) ++ another machine ∷ [])
 
 -- bases whose ranges touch or nearly do, for thunks of 8 and of 4 bytes
 abbrev pub flavor_bases_8 : Bases
@@ -101,9 +106,9 @@ flavor_hints =
     ∷ 0 ∷ 0 ∷ (codes "f" ++ 0
     ∷ 0 ∷ 0 ∷ (codes "queue" ++ 0 ∷ []))))
 
--- what an image holds: the fields of both descriptors and of the null descriptor, the thunks of a table, the
--- addresses of the entries of `nine`, `open`, `stat`, `_f@8`, `queue`, and of the symbol that the caller
--- names
+-- what an image holds: the fields of both descriptors and of the null descriptor, the thunks of a
+-- table, the addresses of the entries of `nine`, `open`, `stat`, `_f@8`, `queue`, and of the symbol
+-- that the caller names
 pub record FlavorExpected : Type 0 where
   pub descriptors : List ℕ
   pub thunks : List ℕ
@@ -114,7 +119,8 @@ abbrev pub flavor_expected_8 : FlavorExpected
 flavor_expected_8 = record {
   descriptors = 72 ∷ 0 ∷ 0 ∷ 184 ∷ 128 ∷ 112 ∷ 0 ∷ 0 ∷ 224 ∷ 168 ∷ 0 ∷ 0 ∷ 0 ∷ 0 ∷ 0 ∷ [];
   thunks = 0x8000_0000_0000_0009 ∷ 192 ∷ 200 ∷ 208 ∷ 0 ∷ 212 ∷ 0 ∷ [];
-  entries = (Some 128 ∷ []) ∷ (Some 136 ∷ []) ∷ (Some 144 ∷ []) ∷ (Some 152 ∷ []) ∷ (Some 168 ∷ []) ∷ [];
+  entries = (Some 128 ∷ []) ∷ (Some 136 ∷ []) ∷ (Some 144 ∷ []) ∷ (Some 152 ∷ []) ∷ (Some 168 ∷ [])
+      ∷ [];
   named = Some 136;
 }
 
@@ -122,7 +128,8 @@ abbrev pub flavor_expected_4 : FlavorExpected
 flavor_expected_4 = record {
   descriptors = 68 ∷ 0 ∷ 0 ∷ 124 ∷ 96 ∷ 88 ∷ 0 ∷ 0 ∷ 164 ∷ 116 ∷ 0 ∷ 0 ∷ 0 ∷ 0 ∷ 0 ∷ [];
   thunks = 0x8000_0009 ∷ 132 ∷ 140 ∷ 148 ∷ 0 ∷ 152 ∷ 0 ∷ [];
-  entries = (Some 96 ∷ []) ∷ (Some 100 ∷ []) ∷ (Some 104 ∷ []) ∷ (Some 108 ∷ []) ∷ (Some 116 ∷ []) ∷ [];
+  entries = (Some 96 ∷ []) ∷ (Some 100 ∷ []) ∷ (Some 104 ∷ []) ∷ (Some 108 ∷ []) ∷ (Some 116 ∷ [])
+      ∷ [];
   named = Some 100;
 }
 
@@ -132,31 +139,36 @@ flavor_placed machine count bases = placed_from bases (flavor_objects machine co
 abbrev pub flavor_image : MachineType → ℕ → Bases → List Range
 flavor_image machine count bases = image_of machine bases (flavor_placed machine count bases)
 
--- The program of a machine, with the null descriptor after the first few members, meets all that the law
--- asks for, and its image holds what is expected.
-pub record WorkedFlavorProgram (machine : MachineType) (count : ℕ) (bases : Bases) (expected : FlavorExpected)
-    : Type 0 where
+-- The program of a machine, with the null descriptor after the first few members, meets all that
+-- the law asks for, and its image holds what is expected.
+pub record WorkedFlavorProgram (machine : MachineType) (count : ℕ) (bases : Bases)
+    (expected : FlavorExpected) : Type 0 where
   pub made : AllByRecursion (IsMadeFor machine) (both_inputs machine)
-  pub program : IsProgramOf machine OfMember bases (both_inputs machine) (flavor_objects machine count)
+  pub program : IsProgramOf machine OfMember bases (both_inputs machine)
+      (flavor_objects machine count)
   pub descriptors : numbers_from (flavor_image machine count bases) 4 15 bases.descriptors
       ≡ Some expected.descriptors
-  pub lookups : numbers_from (flavor_image machine count bases) (thunk_width machine) 7 bases.lookups
+  pub lookups : numbers_from (flavor_image machine count bases) (thunk_width machine) 7
+      bases.lookups
       ≡ Some expected.thunks
-  pub addresses : numbers_from (flavor_image machine count bases) (thunk_width machine) 7 bases.addresses
+  pub addresses : numbers_from (flavor_image machine count bases) (thunk_width machine) 7
+      bases.addresses
       ≡ Some expected.thunks
   pub hints : bytes_from (flavor_image machine count bases) 36 bases.hint_names ≡ Some flavor_hints
   pub zed : bytes_from (flavor_image machine count bases) 8 (bases.dll_names + 4)
       ≡ Some (codes "zed.dll" ++ 0 ∷ [])
   pub entries : map
       (λ name. addresses_of (imp_symbol name) (flavor_placed machine count bases))
-      (symbol_on machine (codes "nine") ∷ symbol_on machine (codes "open") ∷ symbol_on machine (codes "stat")
+      (symbol_on machine (codes "nine") ∷ symbol_on machine (codes "open")
+      ∷ symbol_on machine (codes "stat")
       ∷ codes "_f@8" ∷ symbol_on machine (codes "queue") ∷ []) ≡ expected.entries
   pub named : symbol_address (flavor_placed machine count bases)
       (record { object = caller machine; section_addresses = [] })
       (ASymbol (symbol_of_class (imp_symbol (symbol_on machine (codes "open"))) 0 class_external))
       ≡ expected.named
 
--- on all four machines: the null descriptor in front of all members, between those of foo.dll, and after all
+-- on all four machines: the null descriptor in front of all members, between those of foo.dll, and
+-- after all
 pub record WorkedFlavors : Type 0 where
   pub amd64 : WorkedFlavorProgram AMD64 0 flavor_bases_8 flavor_expected_8
   pub i386 : WorkedFlavorProgram I386 2 flavor_bases_4 flavor_expected_4
@@ -171,10 +183,12 @@ foo_asks = Ordinal 9 ∷ Name (codes "open") 258 ∷ Name (codes "stat") 0 ∷ N
 abbrev pub shifted_bases : Bases
 shifted_bases = record flavor_bases_8 { lookups = 68 }
 
--- Such bases are admissible, and yet no program's: the import descriptor leads to 68, where zeros fill the
--- gap before the first thunk, and the eight bytes there are not the thunk. No strict loader takes that.
+-- Such bases are admissible, and yet no program's: the import descriptor leads to 68, where zeros
+-- fill the gap before the first thunk, and the eight bytes there are not the thunk. No strict
+-- loader takes that.
 pub record RefusedTables : Type 0 where
   pub admissible : IsAdmissible AMD64 shifted_bases (flavor_objects AMD64 0)
   pub field : numbers_from (flavor_image AMD64 0 shifted_bases) 4 1 8 ≡ Some (68 ∷ [])
   pub thunk : numbers_from (flavor_image AMD64 0 shifted_bases) 8 1 68 ≡ Some (0x9_0000_0000 ∷ [])
-  pub refused : LoadsStrictly (flavor_image AMD64 0 shifted_bases) 8 8 (codes "foo.dll") foo_asks → ⊥
+  pub refused : LoadsStrictly (flavor_image AMD64 0 shifted_bases) 8 8 (codes "foo.dll") foo_asks →
+      ⊥

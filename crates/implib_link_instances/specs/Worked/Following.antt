@@ -15,7 +15,8 @@ use Rattle.implib_link.specs.Search.BothFlavors.{FlavorLibrary, LinksClosedForBo
 use Rattle.implib_link.specs.Search.Closed.{LinksClosed}
 use Rattle.implib_archive_link.specs.LldWay.{LldArrives}
 use Rattle.implib_link_instances.specs.But.ArchiveLinks.{LldArrivesBut}
-use Rattle.implib_link_instances.specs.But.Links.{AreBoundedBut, InputImportsBut, IsImportedByBut, LinksClosedBut, LinksClosedForBothBut}
+use Rattle.implib_link_instances.specs.But.Links.{AreBoundedBut, InputImportsBut, IsImportedByBut}
+use Rattle.implib_link_instances.specs.But.Links.{LinksClosedBut, LinksClosedForBothBut}
 
 -- What undefined symbols get follows from where the entries' own symbols are. That each import is
 -- used follows from the choice of inputs, which are those of wanted exports. In a program of lld

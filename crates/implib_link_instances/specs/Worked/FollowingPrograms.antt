@@ -1,5 +1,5 @@
--- Fields of records of programs that no instance fails alone: where all other fields hold, the whole
--- record does.
+-- Fields of records of programs that no instance fails alone: where all other fields hold, the
+-- whole record does.
 use Rattle.std.specs.Prelude.{ℕ, List, codes}
 use Rattle.implib.specs.declared.machine.MachineType.{MachineType}
 use Rattle.implib.specs.Formats.Object.{Object}
@@ -11,8 +11,8 @@ use Rattle.implib_link.specs.Flavors.LldImports.{LldLinks}
 use Rattle.implib_link.specs.Gnu.Bounds.{AreBounded}
 use Rattle.implib_link_instances.specs.But.Links.{AreBoundedBut, LldLinksBut}
 
--- Where each short import is imported by a descriptor of the directory, the imports of a group are of
--- its DLL. Each address of tables that begin so and are so long is in an entry.
+-- Where each short import is imported by a descriptor of the directory, the imports of a group are
+-- of its DLL. Each address of tables that begin so and are so long is in an entry.
 pub record FollowingOfPrograms : Type 0 where
   pub only : (machine : MachineType) (descriptors addresses : ℕ) (taken : List ShortImport)
       (image : List Range) (linked : List Placed) →

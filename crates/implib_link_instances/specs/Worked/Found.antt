@@ -10,7 +10,9 @@ use Rattle.implib_link.specs.Flavors.Program.{IsFoundByName}
 pub record WorkedFound : Type 0 where
   pub plain : IsFoundByName Msvc (names_for Msvc (of_dll (codes "foo.dll") []))
   pub drv : IsFoundByName Msvc (names_for Msvc (of_library (codes "foo") (codes "foo.drv") []))
-  pub capitals : IsFoundByName Msvc (names_for Msvc (of_library (codes "KERNEL32") (codes "KERNEL32.DLL") []))
+  pub capitals : IsFoundByName Msvc
+      (names_for Msvc (of_library (codes "KERNEL32") (codes "KERNEL32.DLL") []))
   pub no_ending : IsFoundByName Msvc (names_for Msvc (of_library (codes "zoo") (codes "zoo") []))
   pub drv_nameless : IsFoundByName Msvc (names_for Msvc (of_dll (codes "foo.drv") [])) → ⊥
-  pub with_ending : IsFoundByName Msvc (names_for Msvc (of_library (codes "foo.drv") (codes "foo.drv") [])) → ⊥
+  pub with_ending : IsFoundByName Msvc
+      (names_for Msvc (of_library (codes "foo.drv") (codes "foo.drv") [])) → ⊥

@@ -1,6 +1,6 @@
--- Instructions by hand: what is read as a call or as a load of a pointer, and what differs from it in one
--- part and is not; and at their bounds the conditions under which code is reached, and what tables have room
--- for.
+-- Instructions by hand: what is read as a call or as a load of a pointer, and what differs from it
+-- in one part and is not; and at their bounds the conditions under which code is reached, and what
+-- tables have room for.
 use Rattle.std.specs.Prelude.{◌≡◌, ℕ, true, false, List, [], ◌∷◌, ◌++◌, codes, Some, None}
 use Rattle.implib.specs.declared.machine.MachineType.TheVariants.{I386, ARMNT, AMD64, ARM64}
 use Rattle.implib.specs.Definition.{ExportView, empty_export}
@@ -21,8 +21,8 @@ use Rattle.implib_link_instances.specs.Worked.Relocated.{CodesBeside}
 abbrev pub blr_x16 : List ℕ
 blr_x16 = 0 ∷ 2 ∷ 0x3F ∷ 0xD6 ∷ []
 
--- calls through a pointer: not jumps, pushes, direct calls; on ARM64 not code with one other instruction, or
--- without its last
+-- calls through a pointer: not jumps, pushes, direct calls; on ARM64 not code with one other
+-- instruction, or without its last
 pub record ReadCalls : Type 0 where
   pub amd64 : call_reads AMD64 0x1_4000_0000 (0xFF ∷ 0x15 ∷ 0x7A ∷ 0x50 ∷ 0 ∷ 0 ∷ []) ≡ Some 0x1_4000_5080
   pub amd64_jump : call_reads AMD64 0x1_4000_0000 (0xFF ∷ 0x25 ∷ 0x7A ∷ 0x50 ∷ 0 ∷ 0 ∷ []) ≡ None
@@ -32,7 +32,8 @@ pub record ReadCalls : Type 0 where
   pub i386 : call_reads I386 0x40_0200 (0xFF ∷ 0x15 ∷ 0x60 ∷ 0x52 ∷ 0x40 ∷ 0 ∷ []) ≡ Some 0x40_5260
   pub i386_jump : call_reads I386 0x40_0200 (0xFF ∷ 0x25 ∷ 0x60 ∷ 0x52 ∷ 0x40 ∷ 0 ∷ []) ≡ None
   pub i386_direct : call_reads I386 0x40_0200 (0xE8 ∷ 0x15 ∷ 0x60 ∷ 0x52 ∷ 0x40 ∷ 0 ∷ []) ≡ None
-  pub arm64 : call_reads ARM64 0x1_4000_0200 (adrp_5_pages ++ (ldr_0x280 ++ blr_x16)) ≡ Some 0x1_4000_5280
+  pub arm64 : call_reads ARM64 0x1_4000_0200 (adrp_5_pages ++ (ldr_0x280 ++ blr_x16))
+      ≡ Some 0x1_4000_5280
   pub arm64_br : call_reads ARM64 0x1_4000_0200 (adrp_5_pages ++ (ldr_0x280 ++ br_x16)) ≡ None
   pub arm64_blr_x17 : call_reads ARM64 0x1_4000_0200 (adrp_5_pages ++ (ldr_0x280 ++ 0x20 ∷ 2 ∷ 0x3F ∷ 0xD6 ∷ [])) ≡ None
   pub arm64_no_blr : call_reads ARM64 0x1_4000_0200 (adrp_5_pages ++ ldr_0x280) ≡ None
@@ -62,7 +63,8 @@ adrp_x8 = 0x28 ∷ 0 ∷ 0 ∷ 0xB0 ∷ []
 abbrev pub ldr_x8 : List ℕ
 ldr_x8 = 8 ∷ 0x41 ∷ 0x41 ∷ 0xF9 ∷ []
 
--- loads of a pointer: not stores, not into other registers, not of half its size, not of an address itself
+-- loads of a pointer: not stores, not into other registers, not of half its size, not of an address
+-- itself
 pub record ReadLoads : Type 0 where
   pub i386 : load_reads I386 0x40_0200 (0xA1 ∷ 0x60 ∷ 0x52 ∷ 0x40 ∷ 0 ∷ []) ≡ Some 0x40_5260
   pub i386_store : load_reads I386 0x40_0200 (0xA3 ∷ 0x60 ∷ 0x52 ∷ 0x40 ∷ 0 ∷ []) ≡ None

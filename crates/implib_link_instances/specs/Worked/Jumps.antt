@@ -1,4 +1,5 @@
--- Jumps by hand: stubs in front of the tables, how far a jump reaches, and code that is no such jump.
+-- Jumps by hand: stubs in front of the tables, how far a jump reaches, and code that is no such
+-- jump.
 use Rattle.std.specs.Prelude.{◌≡◌, ℕ, List, [], ◌∷◌, ◌++◌, codes, Some, None}
 use Rattle.implib.specs.declared.machine.MachineType.TheVariants.{I386, ARMNT, AMD64, ARM64}
 use Rattle.implib.specs.Formats.Constants.{class_external}
@@ -46,7 +47,8 @@ pub record FarStubs : Type 0 where
       ≡ Some (0x30 ∷ 0 ∷ 0 ∷ 0xB0 ∷ 0x10 ∷ 0x42 ∷ 0x41 ∷ 0xF9 ∷ 0 ∷ 2 ∷ 0x1F ∷ 0xD6 ∷ [])
   pub arm64_reads : open_reads ARM64 far_8 0x1_4000_0000 0x200 ≡ Some 0x1_4000_5280
 
--- the code of ARM64's stub by its instructions: for a page and an offset in it, and a register to branch to
+-- the code of ARM64's stub by its instructions: for a page and an offset in it, and a register to
+-- branch to
 abbrev pub adrp_5_pages : List ℕ
 adrp_5_pages = 0x30 ∷ 0 ∷ 0 ∷ 0xB0 ∷ []
 
@@ -56,8 +58,9 @@ ldr_0x280 = 0x10 ∷ 0x42 ∷ 0x41 ∷ 0xF9 ∷ []
 abbrev pub br_x16 : List ℕ
 br_x16 = 0 ∷ 2 ∷ 0x1F ∷ 0xD6 ∷ []
 
--- How far jumps reach from an address on, and code that is no jump through an entry: a call, a jump to an
--- address, a jump by a register; on ARM64 code with one other instruction, or without its last.
+-- How far jumps reach from an address on, and code that is no jump through an entry: a call, a jump
+-- to an address, a jump by a register; on ARM64 code with one other instruction, or without its
+-- last.
 pub record WorkedJumps : Type 0 where
   pub amd64_on : jump_reads AMD64 0x1_4000_0000 (0xFF ∷ 0x25 ∷ 0xFF ∷ 0xFF ∷ 0xFF ∷ 0x7F ∷ [])
       ≡ Some 0x1_C000_0005
@@ -91,8 +94,8 @@ pub record WorkedJumps : Type 0 where
   -- of ARMNT's stub nothing is said
   pub armnt : jump_reads ARMNT 0x40_0200 (stub_bytes ARMNT) ≡ None
 
--- an export's object with AMD64's stub, whose relocation leads to the entry of a symbol, and with a table
--- section that defines the symbol
+-- an export's object with AMD64's stub, whose relocation leads to the entry of a symbol, and with a
+-- table section that defines the symbol
 abbrev pub stub_through : List ℕ → Object
 stub_through table = record {
   machine = 0x8664;
@@ -105,8 +108,8 @@ stub_through table = record {
   entries = ASymbol (symbol_of_class (codes "__imp_bar") 2 class_external) ∷ [];
 }
 
--- A reader of the stub names its target where that is in the address table, `.idata$5`, and there alone: not
--- where it is in the lookup table, nor in a section of another name.
+-- A reader of the stub names its target where that is in the address table, `.idata$5`, and there
+-- alone: not where it is in the lookup table, nor in a section of another name.
 pub record WorkedTargets : Type 0 where
   pub entry : code_relocations (stub_through (codes ".idata$5"))
       ≡ Some (record { offset = 2; kind = 4; target = Some (codes "__imp_bar") } ∷ [])

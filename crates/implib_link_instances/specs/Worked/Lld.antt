@@ -1,5 +1,5 @@
--- The import tables that lld-link 19.1.7 wrote of three short imports of llvm-dlltool 19.1.7, for two DLLs, one of them
--- by its ordinal: what the linker read and what it wrote, byte by byte.
+-- The import tables that lld-link 19.1.7 wrote of three short imports of llvm-dlltool 19.1.7, for
+-- two DLLs, one of them by its ordinal: what the linker read and what it wrote, byte by byte.
 use Rattle.std.specs.Prelude.{◌≡◌, ℕ, false, List, [], ◌∷◌, bytes_eq, codes, Some}
 use Rattle.std.specs.List.{filter_map}
 use Rattle.implib.specs.declared.machine.MachineType.TheVariants.{AMD64}
@@ -9,7 +9,8 @@ use Rattle.implib.specs.Link.Image.{Range}
 use Rattle.implib.specs.Link.Placement.{Placed}
 use Rattle.implib.specs.Link.Resolution.{definitions_of}
 use Rattle.implib_link.specs.Directory.{DirectoryAt, Imported}
-use Rattle.implib_link.specs.Flavors.LldImports.{IsLldProgram, imports_of_lld, placed_by_lld, short_for}
+use Rattle.implib_link.specs.Flavors.LldImports.{IsLldProgram, imports_of_lld, placed_by_lld}
+use Rattle.implib_link.specs.Flavors.LldImports.{short_for}
 use Rattle.implib_link.specs.Flavors.LldTables.{ArePiecesAt, built_bytes}
 
 -- the short imports `zeta` and `mid` of beta.dll and `gee` of alpha.dll
@@ -45,7 +46,8 @@ written_by_lld =
 abbrev pub shorts_of : List (List ℕ) → List ShortImport
 shorts_of files = filter_map (short_for AMD64) files
 
--- The program names `zeta`, `gee` and `mid`, in this order, and lld took their members so; the last one is in front.
+-- The program names `zeta`, `gee` and `mid`, in this order, and lld took their members so; the last
+-- one is in front.
 abbrev pub three_taken : List ShortImport
 three_taken = shorts_of (mid_bytes ∷ gee_bytes ∷ zeta_bytes ∷ [])
 
@@ -63,12 +65,15 @@ lld_linked = placed_by_lld AMD64 0x2068 three_taken ∷ []
 
 -- a name has this one address
 abbrev pub IsOnceAt : List ℕ → ℕ → Type 0
-IsOnceAt name address = definitions_of name lld_linked ≡ record { name = name; address = Some address } ∷ []
+IsOnceAt name address =
+    definitions_of name lld_linked ≡ record { name = name; address = Some address } ∷ []
 
--- Of the short imports' bytes, the definitions give exactly the bytes that lld wrote, and the premises of the law hold;
--- by the laws it has five pieces at these addresses, and its directory is this one. The calls in lld's code go through these entries: `call [rip + 0x106A]` after
--- 0x1006, `[rip + 0x1074]` after 0x100C and `[rip + 0x1056]` after 0x1012. Short imports that are taken in another
--- order, or a DLL's in another order, have other tables.
+-- Of the short imports' bytes, the definitions give exactly the bytes that lld wrote, and the
+-- premises of the law hold;
+-- by the laws it has five pieces at these addresses, and its directory is this one. The calls in
+-- lld's code go through these entries: `call [rip + 0x106A]` after 0x1006, `[rip + 0x1074]` after
+-- 0x100C and `[rip + 0x1056]` after 0x1012. Short imports that are taken in another order, or a
+-- DLL's in another order, have other tables.
 pub record WorkedLld : Type 0 where
   pub imports : imports_of_lld three_taken ≡ two_dlls
   pub written : built_bytes AMD64 0x2000 two_dlls ≡ written_by_lld
@@ -80,7 +85,8 @@ pub record WorkedLld : Type 0 where
   pub gee : IsOnceAt (codes "__imp_gee") 0x2080
   pub mid : IsOnceAt (codes "__imp_mid") 0x2068
   pub other_dll_first : bytes_eq
-      (built_bytes AMD64 0x2000 (imports_of_lld (shorts_of (mid_bytes ∷ zeta_bytes ∷ gee_bytes ∷ []))))
+      (built_bytes AMD64 0x2000
+      (imports_of_lld (shorts_of (mid_bytes ∷ zeta_bytes ∷ gee_bytes ∷ []))))
       written_by_lld ≡ false
   pub other_import_first : bytes_eq
       (built_bytes AMD64 0x2000

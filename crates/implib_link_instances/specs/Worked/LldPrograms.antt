@@ -1,11 +1,15 @@
--- Programs that lld-link 14.0.6 and 19.1.7 wrote for three machines, the same bytes by both: the short imports of
--- llvm-dlltool 19.1.7, the code of an object before and after the link, the thunk, and the import tables.
-use Rattle.std.specs.Prelude.{◌≡◌, ℕ, ◌+◌, List, [], ◌∷◌, ◌++◌, codes, drop, slice_get, take, Option, None, Some}
+-- Programs that lld-link 14.0.6 and 19.1.7 wrote for three machines, the same bytes by both: the
+-- short imports of llvm-dlltool 19.1.7, the code of an object before and after the link, the thunk,
+-- and the import tables.
+use Rattle.std.specs.Prelude.{◌≡◌, ℕ, ◌+◌, List, [], ◌∷◌, ◌++◌, codes, drop, slice_get, take}
+use Rattle.std.specs.Prelude.{Option, None, Some}
 use Rattle.std.specs.List.{filter_map}
 use Rattle.implib.specs.declared.coff.object.Relocation.{Relocation}
 use Rattle.implib.specs.declared.machine.MachineType.{MachineType}
 use Rattle.implib.specs.declared.machine.MachineType.TheVariants.{I386, ARMNT, AMD64, ARM64}
-use Rattle.implib.specs.Formats.Constants.{align_16bytes, amd64_rel32, arm64_pagebase_rel21, arm64_pageoffset_12l, class_external, cnt_code, i386_dir32, mem_execute_read}
+use Rattle.implib.specs.Formats.Constants.{align_16bytes, amd64_rel32, arm64_pagebase_rel21}
+use Rattle.implib.specs.Formats.Constants.{arm64_pageoffset_12l, class_external, cnt_code}
+use Rattle.implib.specs.Formats.Constants.{i386_dir32, mem_execute_read}
 use Rattle.implib.specs.Formats.Object.{ASymbol, Auxiliary, Entry, Object, ObjectSection}
 use Rattle.implib.specs.Formats.ShortImport.{ShortImport, import_code}
 use Rattle.implib.specs.Import.{imp_symbol}
@@ -14,19 +18,23 @@ use Rattle.implib.specs.Link.Placement.{Placed, Unplaced}
 use Rattle.implib.specs.Link.Resolution.{symbol_address}
 use Rattle.implib.specs.Machine.{machine_number}
 use Rattle.implib.specs.Members.Gnu.{section, text_name}
-use Rattle.implib_link.specs.Flavors.LldImports.{IsLldProgram, imports_of_lld, placed_by_lld, short_for}
+use Rattle.implib_link.specs.Flavors.LldImports.{IsLldProgram, imports_of_lld, placed_by_lld}
+use Rattle.implib_link.specs.Flavors.LldImports.{short_for}
 use Rattle.implib_link.specs.Flavors.LldTables.{built_bytes}
-use Rattle.implib_link.specs.Flavors.LldThunks.{BranchArrivesByThunk, IsThunk, placed_thunk, thunk_section}
+use Rattle.implib_link.specs.Flavors.LldThunks.{BranchArrivesByThunk, IsThunk, placed_thunk}
+use Rattle.implib_link.specs.Flavors.LldThunks.{thunk_section}
 use Rattle.implib_link.specs.Gnu.Calls.{arm64_branch26, i386_rel32}
 use Rattle.implib_link.specs.Gnu.Fields.{IsRelocated, LinkedCode, ranges_of_codes}
 use Rattle.implib_link.specs.Gnu.Moves.{AreInMemory}
 use Rattle.implib_link.specs.Gnu.Operands.{HasBranch, HasInstruction, HasOffsetField, HasPageField}
 use Rattle.implib_link.specs.Gnu.Rebased.{Place}
-use Rattle.implib_link.specs.Tables.{AreSteady, AreTables, CanReadFrom, IsInTable, RiseFrom, Table, Tables, tables_of_lld}
+use Rattle.implib_link.specs.Tables.{AreSteady, AreTables, CanReadFrom, IsInTable, RiseFrom, Table}
+use Rattle.implib_link.specs.Tables.{Tables, tables_of_lld}
 use Rattle.implib_link_instances.specs.Worked.Lld.{gee_bytes, mid_bytes, written_by_lld, zeta_bytes}
 use Rattle.implib_link_instances.specs.Worked.Programs.{symbol_of_class, symbol_on}
 
--- The short imports, as they were read: `mid` and `zeta` of beta.dll, the first by its ordinal, `gee` of alpha.dll.
+-- The short imports, as they were read: `mid` and `zeta` of beta.dll, the first by its ordinal,
+-- `gee` of alpha.dll.
 -- ARM64's differ from AMD64's in the machine alone.
 abbrev pub on_arm64 : List ℕ → List ℕ
 on_arm64 bytes = take 7 bytes ++ 0xAA ∷ drop 8 bytes
@@ -97,9 +105,9 @@ addresses_on ARMNT = 0
 addresses_on AMD64 = 0x2068
 addresses_on ARM64 = 0x2068
 
--- The code of the object. I386: `call [__imp__zeta]`, `mov eax, [__imp__gee]`, `call _mid`, `ret`; AMD64: the same of
--- `__imp_zeta`, `__imp_gee`, into `rax`, and `mid`; ARM64: `adrp x8`, `ldr x8, [x8]`, `blr x8` for `__imp_zeta`,
--- `adrp x9`, `ldr x10, [x9]` for `__imp_gee`, `bl mid`, `ret`.
+-- The code of the object. I386: `call [__imp__zeta]`, `mov eax, [__imp__gee]`, `call _mid`, `ret`;
+-- AMD64: the same of `__imp_zeta`, `__imp_gee`, into `rax`, and `mid`; ARM64: `adrp x8`, `ldr x8,
+-- [x8]`, `blr x8` for `__imp_zeta`, `adrp x9`, `ldr x10, [x9]` for `__imp_gee`, `bl mid`, `ret`.
 abbrev pub object_code : MachineType → List ℕ
 object_code I386 =
     0xFF ∷ 0x15 ∷ 0 ∷ 0 ∷ 0 ∷ 0 ∷ 0xA1 ∷ 0 ∷ 0 ∷ 0 ∷ 0 ∷ 0xE8 ∷ 0 ∷ 0 ∷ 0 ∷ 0 ∷ 0xC3 ∷ []
@@ -156,7 +164,8 @@ thunk_address ARM64 = 0x101C
 
 abbrev pub object_section : MachineType → ObjectSection
 object_section machine =
-    section text_name (cnt_code + align_16bytes + mem_execute_read) (object_code machine) (object_relocations machine)
+    section text_name (cnt_code + align_16bytes + mem_execute_read) (object_code machine)
+    (object_relocations machine)
 
 abbrev pub calling_object : MachineType → Object
 calling_object machine = record {
@@ -173,7 +182,8 @@ calling_object machine = record {
 }
 
 abbrev pub placed_object : MachineType → Placed
-placed_object machine = record { object = calling_object machine; section_addresses = Unplaced ∷ [] }
+placed_object machine =
+    record { object = calling_object machine; section_addresses = Unplaced ∷ [] }
 
 -- what is linked: the object, lld's tables, the thunk
 abbrev pub lld_linked_on : MachineType → List Placed
@@ -215,17 +225,19 @@ or_thunk thunk (Some address) = address
 abbrev pub taken_address : (List ℕ → ℕ) → List Placed → Placed → Option Entry → ℕ
 taken_address outside linked p None = 0
 taken_address outside linked p (Some (Auxiliary bytes)) = 0
-taken_address outside linked p (Some (ASymbol s)) = or_thunk (outside s.name) (symbol_address linked p (ASymbol s))
+taken_address outside linked p (Some (ASymbol s)) =
+    or_thunk (outside s.name) (symbol_address linked p (ASymbol s))
 
 abbrev pub lld_targets : MachineType → LinkedCode → ℕ → ℕ
 lld_targets machine c index =
-    taken_address (λ name. thunk_address machine) (lld_linked_on machine) c.from (slice_get c.from.object.entries index)
+    taken_address (λ name. thunk_address machine) (lld_linked_on machine) c.from
+    (slice_get c.from.object.entries index)
 
 abbrev pub lld_memory : MachineType → List Range
 lld_memory machine = lld_image_on machine ++ ranges_of_codes (lld_codes machine)
 
--- With I386's base relocations applied, for 0x10000000: of the call, the load and the thunk, as in lld's `.reloc`. The
--- other two have none.
+-- With I386's base relocations applied, for 0x10000000: of the call, the load and the thunk, as in
+-- lld's `.reloc`. The other two have none.
 abbrev pub lld_places : MachineType → List Place
 lld_places I386 =
     record { address = 0x1002; width = 4 }
@@ -246,13 +258,17 @@ lld_moved_memory ARMNT = []
 lld_moved_memory AMD64 = lld_memory AMD64
 lld_moved_memory ARM64 = lld_memory ARM64
 
--- The program is one of the laws, its code is linked beside its tables, and it is in memory at a base; it has the thunk
--- of `mid`, and a call of it, whose field is so far from the code's beginning.
-pub record WorkedLldProgram (machine : MachineType) (image_base : ℕ) (memory : List Range) (call : ℕ) : Type 0 where
-  pub program : IsLldProgram machine 0x2000 (addresses_on machine) (shorts_on machine) (lld_image_on machine)
+-- The program is one of the laws, its code is linked beside its tables, and it is in memory at a
+-- base; it has the thunk of `mid`, and a call of it, whose field is so far from the code's
+-- beginning.
+pub record WorkedLldProgram (machine : MachineType) (image_base : ℕ) (memory : List Range)
+    (call : ℕ) : Type 0 where
+  pub program : IsLldProgram machine 0x2000 (addresses_on machine) (shorts_on machine)
+      (lld_image_on machine)
       (lld_linked_on machine)
   pub steady : AreSteady machine (lld_linked_on machine)
-  pub at : AreInMemory machine image_base (lld_image_on machine) (lld_linked_on machine) (lld_codes machine)
+  pub at : AreInMemory machine image_base (lld_image_on machine) (lld_linked_on machine)
+      (lld_codes machine)
       (lld_targets machine) memory
   pub thunk : IsThunk machine (code_of_thunk machine) (mid_on machine)
   pub branch : HasBranch machine (code_of_object machine) call 0 (symbol_on machine (codes "mid"))
@@ -264,8 +280,8 @@ four_bytes low = low ∷ 0 ∷ 0 ∷ 0x10 ∷ []
 abbrev pub eight_bytes : ℕ → List ℕ
 eight_bytes low = low ∷ 0 ∷ 0 ∷ 0x10 ∷ 0 ∷ 0 ∷ 0 ∷ 0 ∷ []
 
--- The three programs, at the bases that they were linked for and at others; the fields of their code; the short imports
--- and the tables, byte for byte.
+-- The three programs, at the bases that they were linked for and at others; the fields of their
+-- code; the short imports and the tables, byte for byte.
 pub record WorkedLldPrograms : Type 0 where
   pub i386 : WorkedLldProgram I386 0x40_0000 (lld_memory I386) 12
   pub i386_moved : WorkedLldProgram I386 0x1000_0000 (lld_moved_memory I386) 12
@@ -273,10 +289,13 @@ pub record WorkedLldPrograms : Type 0 where
   pub amd64_moved : WorkedLldProgram AMD64 0x7FF6_1234_0000 (lld_moved_memory AMD64) 14
   pub arm64 : WorkedLldProgram ARM64 0x1_4000_0000 (lld_memory ARM64) 20
   pub arm64_moved : WorkedLldProgram ARM64 0x4000_0000 (lld_moved_memory ARM64) 20
-  pub i386_call : HasInstruction I386 (code_of_object I386) 0 (0xFF ∷ 0x15 ∷ []) [] (codes "__imp__zeta")
+  pub i386_call : HasInstruction I386 (code_of_object I386) 0 (0xFF ∷ 0x15 ∷ []) []
+      (codes "__imp__zeta")
   pub i386_load : HasInstruction I386 (code_of_object I386) 6 (0xA1 ∷ []) [] (codes "__imp__gee")
-  pub amd64_call : HasInstruction AMD64 (code_of_object AMD64) 0 (0xFF ∷ 0x15 ∷ []) [] (codes "__imp_zeta")
-  pub amd64_load : HasInstruction AMD64 (code_of_object AMD64) 6 (0x48 ∷ 0x8B ∷ 5 ∷ []) [] (codes "__imp_gee")
+  pub amd64_call : HasInstruction AMD64 (code_of_object AMD64) 0 (0xFF ∷ 0x15 ∷ []) []
+      (codes "__imp_zeta")
+  pub amd64_load : HasInstruction AMD64 (code_of_object AMD64) 6 (0x48 ∷ 0x8B ∷ 5 ∷ []) []
+      (codes "__imp_gee")
   pub arm64_page : HasPageField (code_of_object ARM64) 12 (codes "__imp_gee")
   pub arm64_offset : HasOffsetField (code_of_object ARM64) 16 (codes "__imp_gee")
   pub i386_shorts : filter_map (short_for I386) (short_files I386) ≡ shorts_on I386
@@ -290,7 +309,8 @@ pub record WorkedLldPrograms : Type 0 where
 
 -- AMD64's tables, with another directory, another first address or other tables
 abbrev pub tables_with : List Range → List Placed → ℕ → ℕ → Tables
-tables_with image linked directory addresses = tables_of_lld AMD64 directory addresses (shorts_on AMD64) image linked
+tables_with image linked directory addresses =
+    tables_of_lld AMD64 directory addresses (shorts_on AMD64) image linked
 
 abbrev pub own_tables : Tables
 own_tables = tables_with (lld_image_on AMD64) (lld_linked_on AMD64) 0x2000 0x2068
@@ -314,7 +334,8 @@ pub record RefusedTables : Type 0 where
 
 -- no linker makes a thunk that leads to another entry
 pub record RefusedThunks : Type 0 where
-  pub linked : IsRelocated AMD64 0x1_4000_0000 (lld_targets AMD64 (code_of_thunk AMD64)) 0x1020 (thunk_section AMD64)
+  pub linked : IsRelocated AMD64 0x1_4000_0000 (lld_targets AMD64 (code_of_thunk AMD64)) 0x1020
+      (thunk_section AMD64)
       (0xFF ∷ 0x25 ∷ 0x4A ∷ 0x10 ∷ 0 ∷ 0 ∷ []) → ⊥
 
 -- The call of `mid` on AMD64, by its field, the thunk's code at 0x1020, and what is at its entry.
@@ -327,7 +348,8 @@ call_memory address field code =
 
 abbrev pub CallOfMid : ℕ → List ℕ → List ℕ → Type 0
 CallOfMid address field code =
-    BranchArrivesByThunk AMD64 0x1_4000_0000 (call_memory address field code) 0x100E 0 (eight_bytes 0)
+    BranchArrivesByThunk AMD64 0x1_4000_0000 (call_memory address field code) 0x100E 0
+    (eight_bytes 0)
 
 -- The field a byte further on; a call that leads into the thunk; and code there that calls.
 pub record RefusedCalls : Type 0 where

@@ -1,5 +1,5 @@
--- The programs by hand, loaded by hand and called: that they meet what the laws ask for, and what the laws say
--- of them.
+-- The programs by hand, loaded by hand and called: that they meet what the laws ask for, and what
+-- the laws say of them.
 use Rattle.implib_link.specs.Tables.{AreTablesLoaded, block_of_flavor, tables_at}
 use Rattle.std.specs.Prelude.{◌≡◌, ℕ, ◌-◌, List, [], ◌∷◌, codes, length, map, slice_index}
 use Rattle.implib.specs.declared.machine.MachineType.{MachineType}
@@ -12,7 +12,9 @@ use Rattle.implib_link.specs.Directory.{WalkFinds, imported}
 use Rattle.implib_link.specs.Gnu.Loaded.{Writes}
 use Rattle.implib_link.specs.Flavors.Program.{LinksAmong}
 use Rattle.implib_link.specs.Stub.{CanJump, JumpsThrough}
-use Rattle.implib_link_instances.specs.Worked.Programs.{both_inputs, program_image, program_objects, program_placed, symbol_on, touching_4, touching_8}
+use Rattle.implib_link_instances.specs.Worked.Programs.{both_inputs, program_image, program_objects}
+use Rattle.implib_link_instances.specs.Worked.Programs.{program_placed, symbol_on, touching_4}
+use Rattle.implib_link_instances.specs.Worked.Programs.{touching_8}
 use Rattle.implib_link.specs.Flavors.Program.{gnu_input}
 
 -- what DLLs give by hand: the ordinal or the name's first letter, the DLL's first letter, and zeros
@@ -26,7 +28,8 @@ abbrev pub entry_of : MachineType → ℕ → ℕ → ℕ → Range
 entry_of machine address first second =
     record { start = address; bytes = first ∷ second ∷ zeros (thunk_width machine - 2) }
 
--- what a loader writes: for `nine`, `open`, `stat` and `move` of foo.dll, and for `queue` of zed.dll
+-- what a loader writes: for `nine`, `open`, `stat` and `move` of foo.dll, and for `queue` of
+-- zed.dll
 abbrev pub written_8 : MachineType → List Range
 written_8 machine =
     entry_of machine 120 9 0x66
@@ -45,29 +48,34 @@ written_4 machine =
     ∷ entry_of machine 112 0x71 0x7A
     ∷ []
 
--- The program of a machine links, a walk of its directory finds what it imports, and a loader writes this.
+-- The program of a machine links, a walk of its directory finds what it imports, and a loader
+-- writes this.
 pub record WorkedLoad (machine : MachineType) (bases : Bases) (written : List Range) : Type 0 where
   pub links : LinksAmong machine bases (both_inputs machine) (program_objects machine)
   pub walk : WalkFinds (program_image machine bases) (thunk_width machine) bases.descriptors
       (map (imported machine) (both_inputs machine))
-  pub given : (dll : List ℕ) (ask : Ask) → length (gives_by_hand machine dll ask) ≡ thunk_width machine
+  pub given : (dll : List ℕ) (ask : Ask) →
+      length (gives_by_hand machine dll ask) ≡ thunk_width machine
   pub writes : Writes (program_image machine bases) (thunk_width machine) (gives_by_hand machine)
       bases.descriptors (map (imported machine) (both_inputs machine)) written
   pub loaded : AreTablesLoaded machine
-      (tables_at machine bases (program_objects machine) (map (block_of_flavor machine) (map gnu_input (both_inputs machine))))
+      (tables_at machine bases (program_objects machine)
+      (map (block_of_flavor machine) (map gnu_input (both_inputs machine))))
       (gives_by_hand machine) written
 
 -- The stubs of `open` and of `queue` jump through their entries.
-pub record WorkedCall (machine : MachineType) (image_base : ℕ) (bases : Bases) (open_entry queue_entry : ℕ)
-    : Type 0 where
+pub record WorkedCall (machine : MachineType) (image_base : ℕ) (bases : Bases)
+    (open_entry queue_entry : ℕ) : Type 0 where
   pub can : CanJump machine image_base bases
-  pub open_jumps : JumpsThrough machine image_base (program_placed machine bases) (symbol_on machine (codes "open"))
+  pub open_jumps : JumpsThrough machine image_base (program_placed machine bases)
+      (symbol_on machine (codes "open"))
       open_entry
-  pub queue_jumps : JumpsThrough machine image_base (program_placed machine bases) (symbol_on machine (codes "queue"))
+  pub queue_jumps : JumpsThrough machine image_base (program_placed machine bases)
+      (symbol_on machine (codes "queue"))
       queue_entry
 
--- on all machines that have such stubs; and where there are none: an image that does not end below 2^32, an
--- image or address tables at no multiple of 8, and ARMNT
+-- on all machines that have such stubs; and where there are none: an image that does not end below
+-- 2^32, an image or address tables at no multiple of 8, and ARMNT
 pub record WorkedLoads : Type 0 where
   pub amd64 : WorkedLoad AMD64 touching_8 (written_8 AMD64)
   pub arm64 : WorkedLoad ARM64 touching_8 (written_8 ARM64)

@@ -7,7 +7,8 @@ use Rattle.implib.specs.declared.machine.MachineType.TheVariants.{I386, ARMNT, A
 use Rattle.implib.specs.Definition.{DefinitionView}
 use Rattle.implib.specs.Members.Members.{AreMembersOf, member_specs}
 use Rattle.implib.specs.Members.MemberSpec.{MemberView, member_of}
-use Rattle.implib.specs.Members.MsvcMembers.{descriptor_spec, null_descriptor_spec, null_thunk_spec, short_import_spec}
+use Rattle.implib.specs.Members.MsvcMembers.{descriptor_spec, null_descriptor_spec, null_thunk_spec}
+use Rattle.implib.specs.Members.MsvcMembers.{short_import_spec}
 use Rattle.implib.specs.Members.MsvcObjects.{descriptor_symbol}
 use Rattle.implib.specs.Renaming.{renamed}
 use Rattle.implib.specs.Worked.Members.{of_dll}
@@ -38,7 +39,8 @@ one_wanted machine = symbol_on machine (codes "baz") ∷ symbol_on machine (code
 -- the members that are taken for them, the last one first
 abbrev pub baz_member : MachineType → MemberView
 baz_member machine =
-    member_of (short_import_spec machine (own_names (codes "foo.dll")) (plain_export (symbol_on machine (codes "baz"))))
+    member_of (short_import_spec machine (own_names (codes "foo.dll"))
+    (plain_export (symbol_on machine (codes "baz"))))
 
 abbrev pub four_taken : MachineType → List MemberView
 four_taken machine =
@@ -48,10 +50,10 @@ four_taken machine =
     ∷ baz_member machine
     ∷ []
 
--- The members of three exports are an archive that the law speaks of. For one of them a linker may take its
--- short import, then the import descriptor, and for it the null descriptor and the null thunk; neither of the
--- other two. A name of another library takes nothing. A short import alone is no end of the search, and a
--- name that it is not listed for does not take it.
+-- The members of three exports are an archive that the law speaks of. For one of them a linker may
+-- take its short import, then the import descriptor, and for it the null descriptor and the null
+-- thunk; neither of the other two. A name of another library takes nothing. A short import alone is
+-- no end of the search, and a name that it is not listed for does not take it.
 pub record WorkedMsvcSearch (machine : MachineType) : Type 0 where
   pub made : AreMembersOf (three_on machine) machine Msvc (short_members machine)
   pub distinct : IsDistinct bytes_eq (flat_map (λ m. m.symbols) (short_members machine))
@@ -61,11 +63,13 @@ pub record WorkedMsvcSearch (machine : MachineType) : Type 0 where
   pub takes : TakesFor machine (short_members machine) (one_wanted machine) (four_taken machine)
   pub just : HaveSame (four_taken machine) (msvc_if_any (three_on machine) machine (1 ∷ []))
   pub nothing : TakesFor machine (short_members machine) (codes "printf" ∷ []) []
-  pub unfinished : TakesFor machine (short_members machine) (one_wanted machine) (baz_member machine ∷ []) → ⊥
-  pub unasked : TakesFor machine (short_members machine) (codes "printf" ∷ []) (baz_member machine ∷ []) → ⊥
+  pub unfinished : TakesFor machine (short_members machine) (one_wanted machine)
+      (baz_member machine ∷ []) → ⊥
+  pub unasked : TakesFor machine (short_members machine) (codes "printf" ∷ [])
+      (baz_member machine ∷ []) → ⊥
 
--- on each machine; there is such a search, which takes at most the archive's six members; and names by which only
--- members name each other are left out
+-- on each machine; there is such a search, which takes at most the archive's six members; and names
+-- by which only members name each other are left out
 pub record WorkedMsvcSearches : Type 0 where
   pub amd64 : WorkedMsvcSearch AMD64
   pub arm64 : WorkedMsvcSearch ARM64
@@ -77,6 +81,7 @@ pub record WorkedMsvcSearches : Type 0 where
       (codes "__NULL_IMPORT_DESCRIPTOR" ∷ [])
   pub no_null_thunk : MissesNamesNoHeader (codes "null_thunk") (codes "foo.dll")
       ((0x7F ∷ codes "foo_NULL_THUNK_DATA") ∷ [])
-  pub ends : (taken : List MemberView) × TakesFor AMD64 (short_members AMD64) (one_wanted AMD64) taken
+  pub ends : (taken : List MemberView)
+      × TakesFor AMD64 (short_members AMD64) (one_wanted AMD64) taken
   pub bounded : length (four_taken AMD64) ≤ length (short_members AMD64)
   pub members : length (short_members AMD64) ≡ 6

@@ -5,7 +5,8 @@ use Rattle.std.specs.Prelude.{ℕ, List, [], ◌∷◌, codes}
 use Rattle.implib.specs.declared.coff.object.Relocation.{Relocation}
 use Rattle.implib.specs.declared.machine.MachineType.{MachineType}
 use Rattle.implib.specs.declared.machine.MachineType.TheVariants.{I386, AMD64, ARM64}
-use Rattle.implib.specs.Formats.Constants.{amd64_rel32, arm64_pagebase_rel21, arm64_pageoffset_12l, i386_dir32}
+use Rattle.implib.specs.Formats.Constants.{amd64_rel32, arm64_pagebase_rel21, arm64_pageoffset_12l}
+use Rattle.implib.specs.Formats.Constants.{i386_dir32}
 use Rattle.implib.specs.Formats.Object.{ObjectSection}
 use Rattle.implib.specs.Link.Image.{Range}
 use Rattle.implib.specs.Members.Gnu.{section}
@@ -15,12 +16,24 @@ use Rattle.implib_link.specs.Gnu.Calls.{amd64_addr64, arm64_addr64, arm64_branch
 use Rattle.implib_link.specs.Gnu.Fields.{LinkedCode}
 use Rattle.implib_link.specs.Gnu.Rebased.{amd64_addr32}
 use Rattle.implib_link.specs.Gnu.Operands.{BranchArrives, OperandArrives, PointerArrives}
-use Rattle.implib_link_instances.specs.But.Links.{MissesAllLeadTo, MissesAmd64Holds, MissesArm64Holds, MissesBranchArrives, MissesBranchArrivesByThunk, MissesCanBeMoved, MissesI386Holds, MissesIsRebased, MissesIsRelocated, MissesIsThunk, MissesOperandArrives, MissesPointerArrives, MissesThunkArrives}
-use Rattle.implib_link_instances.specs.Worked.LldPrograms.{call_memory, code_of_thunk, eight_bytes, linked_thunk, mid_on, zeta_on}
-use Rattle.implib_link_instances.specs.Worked.NearLinks.{leading_out, leading_section, return_section}
-use Rattle.implib_link_instances.specs.Worked.Operands.{amd64_rel32_1, field, imp_open, moved_memory, overlapping_at, passing_at, passing_code, passing_memory, passing_placed, passing_places}
+use Rattle.implib_link_instances.specs.But.Links.{MissesAllLeadTo, MissesAmd64Holds}
+use Rattle.implib_link_instances.specs.But.Links.{MissesArm64Holds, MissesBranchArrives}
+use Rattle.implib_link_instances.specs.But.Links.{MissesBranchArrivesByThunk, MissesCanBeMoved}
+use Rattle.implib_link_instances.specs.But.Links.{MissesI386Holds, MissesIsRebased}
+use Rattle.implib_link_instances.specs.But.Links.{MissesIsRelocated, MissesIsThunk}
+use Rattle.implib_link_instances.specs.But.Links.{MissesOperandArrives, MissesPointerArrives}
+use Rattle.implib_link_instances.specs.But.Links.{MissesThunkArrives}
+use Rattle.implib_link_instances.specs.Worked.LldPrograms.{call_memory, code_of_thunk, eight_bytes}
+use Rattle.implib_link_instances.specs.Worked.LldPrograms.{linked_thunk, mid_on, zeta_on}
+use Rattle.implib_link_instances.specs.Worked.NearLinks.{leading_out, leading_section}
+use Rattle.implib_link_instances.specs.Worked.NearLinks.{return_section}
+use Rattle.implib_link_instances.specs.Worked.Operands.{amd64_rel32_1, field, imp_open}
+use Rattle.implib_link_instances.specs.Worked.Operands.{moved_memory, overlapping_at, passing_at}
+use Rattle.implib_link_instances.specs.Worked.Operands.{passing_code, passing_memory}
+use Rattle.implib_link_instances.specs.Worked.Operands.{passing_placed, passing_places}
 use Rattle.implib_link_instances.specs.Worked.Programs.{touching_4, touching_8}
-use Rattle.implib_link_instances.specs.Worked.RefusedFields.{linked_on_amd64, open_address, two_ranges}
+use Rattle.implib_link_instances.specs.Worked.RefusedFields.{linked_on_amd64, open_address}
+use Rattle.implib_link_instances.specs.Worked.RefusedFields.{two_ranges}
 use Rattle.implib_link_instances.specs.Worked.Rules.{other_address}
 
 -- the address of the next byte in a call's field, and the distance of the next byte in a jump's

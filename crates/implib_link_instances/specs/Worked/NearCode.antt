@@ -1,5 +1,5 @@
--- Near misses of instructions in code and of what arrives. A record `NearX` has those of `X`, each by the name of the
--- field that refuses it.
+-- Near misses of instructions in code and of what arrives. A record `NearX` has those of `X`, each
+-- by the name of the field that refuses it.
 use Rattle.implib_link.specs.Gnu.Fields.{placed_code}
 use Rattle.std.specs.Prelude.{ℕ, List, [], ◌∷◌, codes}
 use Rattle.implib.specs.declared.coff.object.Relocation.{Relocation}
@@ -9,12 +9,17 @@ use Rattle.implib.specs.Formats.Constants.{amd64_rel32, arm64_pagebase_rel21, cl
 use Rattle.implib.specs.Formats.Object.{ASymbol, ObjectSymbol}
 use Rattle.implib.specs.Link.Image.{Range}
 use Rattle.implib.specs.Link.Placement.{Unplaced}
-use Rattle.implib_link.specs.Gnu.Calls.{PlacedCode, StubAt, call_bytes, call_relocations, direct_bytes, direct_relocations}
-use Rattle.implib_link_instances.specs.But.Links.{MissesCallArrives, MissesDefines, MissesDirectCallArrives, MissesHasInstructions, MissesLoadArrives, MissesStubArrives, MissesStubAt}
+use Rattle.implib_link.specs.Gnu.Calls.{PlacedCode, StubAt, call_bytes, call_relocations}
+use Rattle.implib_link.specs.Gnu.Calls.{direct_bytes, direct_relocations}
+use Rattle.implib_link_instances.specs.But.Links.{MissesCallArrives, MissesDefines}
+use Rattle.implib_link_instances.specs.But.Links.{MissesDirectCallArrives, MissesHasInstructions}
+use Rattle.implib_link_instances.specs.But.Links.{MissesLoadArrives, MissesStubArrives}
+use Rattle.implib_link_instances.specs.But.Links.{MissesStubAt}
 use Rattle.implib_link.specs.Gnu.Pages.{page_word}
 use Rattle.implib_link.specs.Gnu.Pointers.{load_bytes, load_relocations}
 use Rattle.implib_link_instances.specs.Worked.Calls.{calling, calling_code}
-use Rattle.implib_link_instances.specs.Worked.Operands.{field, open_on, passing_placed, stub_linked, stub_of_open, stub_section}
+use Rattle.implib_link_instances.specs.Worked.Operands.{field, open_on, passing_placed, stub_linked}
+use Rattle.implib_link_instances.specs.Worked.Operands.{stub_of_open, stub_section}
 use Rattle.implib_link_instances.specs.Worked.Programs.{symbol_of_class, touching_8, code_object}
 use Rattle.implib_link_instances.specs.Worked.RefusedFields.{open_address, two_ranges}
 use Rattle.implib_link_instances.specs.Worked.Rules.{other_address}
@@ -56,8 +61,9 @@ page_code = 9 ∷ 0 ∷ 0 ∷ 0x90 ∷ []
 abbrev pub imp_f : List ℕ
 imp_f = codes "__imp_f"
 
--- A call; a jump; no relocation; one of another type, and one at another offset; one more before it in the list and one
--- after it, that change its bytes; a symbol that the object defines; and another name
+-- A call; a jump; no relocation; one of another type, and one at another offset; one more before it
+-- in the list and one after it, that change its bytes; a symbol that the object defines; and
+-- another name
 pub record NearHasInstructions : Type 0 where
   pub instructions : MissesHasInstructions (codes "instructions") AMD64
       (code_of jump_code (field 2 1 amd64_rel32 ∷ []) (left imp_f)) 0 imp_f
@@ -84,7 +90,8 @@ pub record NearHasInstructions : Type 0 where
       (code_of call_code (field 2 2 amd64_rel32 ∷ []) (left imp_f)) 0 imp_f
       (call_bytes AMD64) (call_relocations AMD64)
   pub undefined : MissesHasInstructions (codes "undefined") AMD64
-      (code_of call_code (field 2 1 amd64_rel32 ∷ []) (symbol_of_class imp_f 1 class_external)) 0 imp_f
+      (code_of call_code (field 2 1 amd64_rel32 ∷ []) (symbol_of_class imp_f 1 class_external)) 0
+      imp_f
       (call_bytes AMD64) (call_relocations AMD64)
   pub named : MissesHasInstructions (codes "named") AMD64
       (code_of call_code (field 2 1 amd64_rel32 ∷ []) (left (codes "__imp_g"))) 0 imp_f
@@ -130,11 +137,15 @@ pub record NearHasPage : Type 0 where
       (code_of page_code (field 0 1 arm64_pagebase_rel21 ∷ []) (left (codes "__imp_g"))) 0 imp_f
       (u32_bytes (page_word 9)) page_relocations
 
--- code that defines `f`, as a symbol of its object's; an object without it, a name that is left, and another section
+-- code that defines `f`, as a symbol of its object's; an object without it, a name that is left,
+-- and another section
 pub record NearDefines : Type 0 where
-  pub held : MissesDefines (codes "held") (code_of [] [] (left imp_f)) (symbol_of_class (codes "f") 1 class_external)
-  pub external : MissesDefines (codes "external") (code_of [] [] (symbol_of_class (codes "f") 1 3)) (symbol_of_class (codes "f") 1 3)
-  pub here : MissesDefines (codes "here") (code_of [] [] (symbol_of_class (codes "f") 2 class_external))
+  pub held : MissesDefines (codes "held") (code_of [] [] (left imp_f))
+      (symbol_of_class (codes "f") 1 class_external)
+  pub external : MissesDefines (codes "external") (code_of [] [] (symbol_of_class (codes "f") 1 3))
+      (symbol_of_class (codes "f") 1 3)
+  pub here : MissesDefines (codes "here")
+      (code_of [] [] (symbol_of_class (codes "f") 2 class_external))
       (symbol_of_class (codes "f") 2 class_external)
 
 -- code that is cut after its first bytes, and what is at the entry of `open` where the missing ones
@@ -227,8 +238,8 @@ open_code = placed_code (stub_of_open AMD64 touching_8)
 abbrev pub open_symbol : ObjectSymbol
 open_symbol = symbol_of_class (open_on AMD64) 1 class_external
 
--- a call in the place of the jump; a field that nothing relocates; a name behind the beginning; an object without
--- symbols; and the entry of another export
+-- a call in the place of the jump; a field that nothing relocates; a name behind the beginning; an
+-- object without symbols; and the entry of another export
 pub record NearStubAt : Type 0 where
   pub stands : StubAt AMD64 (passing_placed AMD64 touching_8) open_code open_symbol 0x80
   pub bytes : MissesStubAt (codes "bytes") AMD64 (passing_placed AMD64 touching_8)

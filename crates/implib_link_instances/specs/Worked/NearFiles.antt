@@ -12,7 +12,8 @@ use Rattle.implib_image.specs.Files.{DataDirectory, LoadsFile, MappedFile, mappe
 use Rattle.implib_image.specs.Laws.{HasTable, IsInDirectory}
 use Rattle.implib_link.specs.Tables.{Table}
 use Rattle.implib_link_instances.specs.But.Images.{MissesIsFileOf, MissesIsInDirectory}
-use Rattle.implib_link_instances.specs.Worked.Files.{amd64_pdata, amd64_reloc, data_on, file_on, mapped_on, rdata_on, text_on}
+use Rattle.implib_link_instances.specs.Worked.Files.{amd64_pdata, amd64_reloc, data_on, file_on}
+use Rattle.implib_link_instances.specs.Worked.Files.{mapped_on, rdata_on, text_on}
 use Rattle.implib_link_instances.specs.Worked.LldPrograms.{lld_image_on}
 
 -- the machine and the tables, of another number and with another first byte

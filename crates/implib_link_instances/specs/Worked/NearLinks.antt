@@ -1,24 +1,40 @@
--- Near misses of searches that are not over, of objects that may not be given, of code that is not beside the tables, and
--- of programs that are not moved. A record `NearX` has those of `X`, each by the name of the field that refuses it.
+-- Near misses of searches that are not over, of objects that may not be given, of code that is not
+-- beside the tables, and of programs that are not moved. A record `NearX` has those of `X`, each by
+-- the name of the field that refuses it.
 use Rattle.implib.specs.Link.Placement.{Placed, Unplaced}
 use Rattle.implib.specs.Members.Gnu.{section, text_name}
 use Rattle.implib.specs.Import.{Ordinal}
 use Rattle.implib.specs.Members.ImportTables.{zeros}
 use Rattle.std.specs.Prelude.{ℕ, List, [], ◌∷◌, ◌++◌, codes, take, ◌+◌}
 use Rattle.implib.specs.declared.machine.MachineType.TheVariants.{I386, AMD64}
-use Rattle.implib.specs.Formats.Constants.{align_4bytes, amd64_rel32, class_external, class_static, cnt_code, i386_dir32, mem_execute_read}
+use Rattle.implib.specs.Formats.Constants.{align_4bytes, amd64_rel32, class_external, class_static}
+use Rattle.implib.specs.Formats.Constants.{cnt_code, i386_dir32, mem_execute_read}
 use Rattle.implib.specs.Formats.Object.{ASymbol, ObjectSection, ObjectSymbol, object_in}
 use Rattle.implib.specs.Link.Image.{Range}
 use Rattle.implib_link.specs.Directory.{Imported}
 use Rattle.implib_link.specs.Gnu.Fields.{LinkedCode, placed_code, ranges_of_codes}
-use Rattle.implib_link_instances.specs.But.Links.{MissesAreGiven, MissesAreLinkedBeside, MissesAreMoved, MissesArePiecesAt, MissesAreSections, MissesDefinesIn, MissesFindsBy, MissesHasBranch, MissesHasField, MissesHasInstruction, MissesHasOperand, MissesJumpsThrough, MissesNames, MissesResolves, MissesTakesAs, MissesTakesIntoAs, MissesTakesSymbols}
+use Rattle.implib_link_instances.specs.But.Links.{MissesAreGiven, MissesAreLinkedBeside}
+use Rattle.implib_link_instances.specs.But.Links.{MissesAreMoved, MissesArePiecesAt}
+use Rattle.implib_link_instances.specs.But.Links.{MissesAreSections, MissesDefinesIn, MissesFindsBy}
+use Rattle.implib_link_instances.specs.But.Links.{MissesHasBranch, MissesHasField}
+use Rattle.implib_link_instances.specs.But.Links.{MissesHasInstruction, MissesHasOperand}
+use Rattle.implib_link_instances.specs.But.Links.{MissesJumpsThrough, MissesNames, MissesResolves}
+use Rattle.implib_link_instances.specs.But.Links.{MissesTakesAs, MissesTakesIntoAs}
+use Rattle.implib_link_instances.specs.But.Links.{MissesTakesSymbols}
 use Rattle.implib_link_instances.specs.Worked.Calls.{calling_at, calling_objects, calling_placed}
 use Rattle.implib_link_instances.specs.Worked.Lld.{lld_image, two_dlls}
 use Rattle.implib_link_instances.specs.Worked.NearSearches.{asking, listing, zed_library}
 use Rattle.implib_link_instances.specs.Worked.NearStored.{with_other}
-use Rattle.implib_link_instances.specs.Worked.Operands.{field, imp_open, moved_memory, open_on, overlapping_at, passing, passing_at, passing_code, passing_codes, passing_image, passing_memory, passing_placed, passing_targets}
-use Rattle.implib_link_instances.specs.Worked.Programs.{code_object, symbol_of_class, touching_4, touching_8}
-use Rattle.implib_link_instances.specs.Worked.RefusedLinks.{descriptor_bytes, five_and_six, foo, image_by_hand, named_otherwise, ordinal_8, right_image, table_8}
+use Rattle.implib_link_instances.specs.Worked.Operands.{field, imp_open, moved_memory, open_on}
+use Rattle.implib_link_instances.specs.Worked.Operands.{overlapping_at, passing, passing_at}
+use Rattle.implib_link_instances.specs.Worked.Operands.{passing_code, passing_codes, passing_image}
+use Rattle.implib_link_instances.specs.Worked.Operands.{passing_memory, passing_placed}
+use Rattle.implib_link_instances.specs.Worked.Operands.{passing_targets}
+use Rattle.implib_link_instances.specs.Worked.Programs.{code_object, symbol_of_class, touching_4}
+use Rattle.implib_link_instances.specs.Worked.Programs.{touching_8}
+use Rattle.implib_link_instances.specs.Worked.RefusedLinks.{descriptor_bytes, five_and_six, foo}
+use Rattle.implib_link_instances.specs.Worked.RefusedLinks.{image_by_hand, named_otherwise}
+use Rattle.implib_link_instances.specs.Worked.RefusedLinks.{ordinal_8, right_image, table_8}
 use Rattle.implib_link_instances.specs.Worked.Rules.{early_caller, late_open}
 use Rattle.implib_link_instances.specs.Worked.Walks.{without_addresses, without_name}
 
@@ -46,9 +62,10 @@ jump_section = section text_name (cnt_code + align_4bytes + mem_execute_read)
 abbrev pub jumping : ℕ → ℕ → List ObjectSection → List Placed
 jumping number value sections =
     record {
-      object = record (code_object (record (symbol_of_class (codes "f") number class_external) { value = value } ∷ [])) {
-        sections = sections;
-      };
+      object = record (code_object
+          (record (symbol_of_class (codes "f") number class_external) { value = value } ∷ [])) {
+            sections = sections;
+          };
       section_addresses = Unplaced ∷ [];
     }
     ∷ []
@@ -89,8 +106,8 @@ pub record NearJumpsThrough : Type 0 where
   pub jumps : MissesJumpsThrough (codes "jumps") I386 0x40_0000 (jumping 1 0 (jump_section ∷ []))
       (codes "f") 0x64
 
--- code of an object that is not linked, and of a section that the object does not have; too high; and code over the
--- address tables
+-- code of an object that is not linked, and of a section that the object does not have; too high;
+-- and code over the address tables
 pub record NearAreSections : Type 0 where
   pub held : MissesAreSections (codes "held") AMD64 touching_8 [] (calling_at AMD64 0x1000 ∷ [])
   pub sections : MissesAreSections (codes "sections") AMD64 touching_8 (calling_objects AMD64)

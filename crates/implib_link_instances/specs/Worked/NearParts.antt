@@ -1,7 +1,8 @@
 -- Near misses of parts, and of programs of them: the files of GNU dlltool for aaa.dll, changed in
 -- one thing. A record `NearX` has those of `X`, each by the name of the field that refuses it: all
 -- other fields hold.
-use Rattle.std.specs.Prelude.{ℕ, List, [], ◌∷◌, ◌++◌, Option, None, Some, bytes_eq, codes, map, if◌then◌else◌}
+use Rattle.std.specs.Prelude.{ℕ, List, [], ◌∷◌, ◌++◌, Option, None, Some, bytes_eq, codes, map}
+use Rattle.std.specs.Prelude.{if◌then◌else◌}
 use Rattle.implib.specs.declared.machine.MachineType.TheVariants.{AMD64}
 use Rattle.implib.specs.Formats.Constants.{class_external}
 use Rattle.implib.specs.Formats.Object.{Object, ObjectSection, object_in}
@@ -37,7 +38,8 @@ aone = asking (codes "aone") 1 (codes "__imp_aone")
 
 -- an object with another section in place of that of a name
 abbrev pub with_instead : List ℕ → ObjectSection → Object → Object
-with_instead name other o = record o { sections = map (λ s. if bytes_eq s.name name then other else s) o.sections }
+with_instead name other o =
+    record o { sections = map (λ s. if bytes_eq s.name name then other else s) o.sections }
 
 -- and with one more section
 abbrev pub with_more : ObjectSection → Object → Object
@@ -50,8 +52,8 @@ one_descriptor = section (codes ".idata$2") table_flags (zeros 20) []
 abbrev pub no_table : ObjectSection
 no_table = section (codes ".idata$9") table_flags [] []
 
--- a descriptor; no lookup; an entry in a section that is aligned at 8; and another symbol, that of the code, and an
--- older one, which the object has not
+-- a descriptor; no lookup; an entry in a section that is aligned at 8; and another symbol, that of
+-- the code, and an older one, which the object has not
 pub record NearIsEntry : Type 0 where
   pub descriptors : MissesIsEntry (codes "descriptors") AMD64
       (with_more one_descriptor aone_object) aone
@@ -100,7 +102,8 @@ endless_part = record aaa_part {
 abbrev pub beyond_part : Part
 beyond_part = record {
   objects = aaa_head
-      ∷ with_instead (codes ".idata$7") (section (codes ".idata$7") table_flags [] (relocation AMD64 0 0 ∷ [])) aone_object
+      ∷ with_instead (codes ".idata$7")
+      (section (codes ".idata$7") table_flags [] (relocation AMD64 0 0 ∷ [])) aone_object
       ∷ aaa_tail
       ∷ [];
   table = record { dll = codes "aaa.dll"; entries = aone ∷ [] };
@@ -115,7 +118,8 @@ pub record NearIsPart : Type 0 where
 abbrev pub own_zone : Object
 own_zone = code_object (symbol_of_class (codes "zone") 1 class_external ∷ [])
 
--- no null descriptor; zzz.dll twice; a `zone` of the program's own; and descriptors at no multiple of 4
+-- no null descriptor; zzz.dll twice; a `zone` of the program's own; and descriptors at no multiple
+-- of 4
 pub record NearIsProgramOfParts : Type 0 where
   pub tables : MissesIsProgramOfParts (codes "tables") AMD64 linker_bases (zzz_part ∷ [])
       zzz_objects

@@ -30,8 +30,12 @@ use Rattle.implib_link_instances.specs.But.Links.{MissesAreProgramObjects, Misse
 use Rattle.implib_link_instances.specs.But.Links.{MissesIsImportable, MissesIsLldProgram}
 use Rattle.implib_link_instances.specs.But.Links.{MissesIsProgramBeside, MissesIsProgramOf}
 use Rattle.implib_link_instances.specs.But.Links.{MissesLldLinks}
-use Rattle.implib_link_instances.specs.Worked.Flavors.{both_inputs as flavor_inputs, flavor_bases_8, flavor_objects, zed_input as zed_flavor, foo_input as foo_flavor}
-use Rattle.implib_link_instances.specs.Worked.Programs.{both_inputs, code_object, foo_input, input_objects, program_objects, symbol_of_class, touching_8, zed_input}
+use Rattle.implib_link_instances.specs.Worked.Flavors.{both_inputs as flavor_inputs, flavor_bases_8}
+use Rattle.implib_link_instances.specs.Worked.Flavors.{flavor_objects, zed_input as zed_flavor}
+use Rattle.implib_link_instances.specs.Worked.Flavors.{foo_input as foo_flavor}
+use Rattle.implib_link_instances.specs.Worked.Programs.{both_inputs, code_object, foo_input}
+use Rattle.implib_link_instances.specs.Worked.Programs.{input_objects, program_objects}
+use Rattle.implib_link_instances.specs.Worked.Programs.{symbol_of_class, touching_8, zed_input}
 use Rattle.implib_link.specs.Flavors.Program.{OfLinker, gnu_input, all_members}
 use Rattle.implib.specs.Link.LinkedMembers.{objects_in}
 
@@ -39,7 +43,8 @@ use Rattle.implib.specs.Link.LinkedMembers.{objects_in}
 abbrev pub own_queue : Object
 own_queue = code_object (symbol_of_class (codes "queue") 1 class_external ∷ [])
 
--- the program of Worked/Programs with the null descriptor in front; and of a library for Microsoft's linker
+-- the program of Worked/Programs with the null descriptor in front; and of a library for
+-- Microsoft's linker
 pub record NearAreEndedByLinker : Type 0 where
   pub tables : MissesAreEndedByLinker (codes "tables") AMD64 (map gnu_input (both_inputs AMD64))
       (null_descriptor
@@ -54,12 +59,17 @@ drv = of_dll (codes "foo.drv") (plain_export (codes "open") ∷ [])
 abbrev pub drv_input : FlavorInput
 drv_input = record {
   flavor = Msvc;
-  input = record { definition = drv; members = map member_of (member_specs (renamed drv) AMD64 Msvc); chosen = 0 ∷ [] };
+  input = record {
+    definition = drv;
+    members = map member_of (member_specs (renamed drv) AMD64 Msvc);
+    chosen = 0 ∷ [];
+  };
 }
 
 -- foo.dll's null descriptor for Microsoft's linker, and nothing else
 abbrev pub null_alone : List Object
-null_alone = objects_taken AMD64 (null_member AMD64 (linked_dll (foo_flavor AMD64).input.definition) ∷ [])
+null_alone =
+    objects_taken AMD64 (null_member AMD64 (linked_dll (foo_flavor AMD64).input.definition) ∷ [])
 
 -- what a library's null descriptor and the members of inputs are taken for
 abbrev pub taken_with_null : List FlavorInput → List Object
@@ -77,8 +87,8 @@ pub record NearAreEndedByMember : Type 0 where
   pub members : MissesAreEndedByMember (codes "members") AMD64 (flavor_inputs AMD64) null_alone
   pub tables : MissesAreEndedByMember (codes "tables") AMD64 (flavor_inputs AMD64) []
 
--- zed.dll twice; a library for Microsoft's linker, and the linker's null descriptor; a `queue` of the program's own; and
--- foo.drv
+-- zed.dll twice; a library for Microsoft's linker, and the linker's null descriptor; a `queue` of
+-- the program's own; and foo.drv
 pub record NearAreProgramObjects : Type 0 where
   pub distinct : MissesAreProgramObjects (codes "distinct") AMD64 OfMember
       (flavor_inputs AMD64 ++ zed_flavor AMD64 ∷ [])
@@ -96,8 +106,8 @@ pub record NearAreProgramObjects : Type 0 where
   pub found : MissesAreProgramObjects (codes "found") AMD64 OfMember (drv_input ∷ [])
       (taken_with_null (drv_input ∷ []))
 
--- a `queue` of the program's own; hints at no multiple of 4; lookup tables or address tables at no multiple of 8; and the
--- null descriptor after a gap
+-- a `queue` of the program's own; hints at no multiple of 4; lookup tables or address tables at no
+-- multiple of 8; and the null descriptor after a gap
 pub record NearIsProgramOf : Type 0 where
   pub held : MissesIsProgramOf (codes "held") AMD64 OfMember flavor_bases_8 (flavor_inputs AMD64)
       (own_queue ∷ flavor_objects AMD64 0)
@@ -128,9 +138,11 @@ table_object name bytes names = record {
   entries = map (λ n. ASymbol (symbol_of_class n 1 class_external)) names;
 }
 
--- the run of the worked program, which has no other libraries, with objects and imports of some in front
+-- the run of the worked program, which has no other libraries, with objects and imports of some in
+-- front
 abbrev pub run_with : List Object → List Imported → List Run
-run_with objects imports = record { objects = objects; imports = imports; inputs = both_inputs AMD64 } ∷ []
+run_with objects imports =
+    record { objects = objects; imports = imports; inputs = both_inputs AMD64 } ∷ []
 
 abbrev pub members_of_both : List Object
 members_of_both = input_objects AMD64 (foo_input AMD64) ++ input_objects AMD64 (zed_input AMD64)
@@ -155,8 +167,9 @@ row_more = record {
   dll_names = 228;
 }
 
--- zed.dll twice; the null descriptor in front; a `queue` in an object of another library, and in one of the program; no
--- null descriptor, and no zeros; descriptors at 2; a lookup table of two bytes; and a descriptor of zeros for bar.dll
+-- zed.dll twice; the null descriptor in front; a `queue` in an object of another library, and in
+-- one of the program; no null descriptor, and no zeros; descriptors at 2; a lookup table of two
+-- bytes; and a descriptor of zeros for bar.dll
 pub record NearIsProgramBeside : Type 0 where
   pub distinct : MissesIsProgramBeside (codes "distinct") AMD64 touching_8
       (record { objects = []; imports = []; inputs = zed_input AMD64 ∷ zed_input AMD64 ∷ [] } ∷ [])
@@ -223,7 +236,8 @@ mid_alone = short_of (codes "beta.dll") (codes "mid") 7 ∷ []
 abbrev pub defines_mid : Placed
 defines_mid = record {
   object = code_object
-      (symbol_of_class (codes "__imp_mid") 1 class_external ∷ symbol_of_class (codes "main") 1 class_external ∷ []);
+      (symbol_of_class (codes "__imp_mid") 1 class_external
+      ∷ symbol_of_class (codes "main") 1 class_external ∷ []);
   section_addresses = [];
 }
 
@@ -235,8 +249,9 @@ two_ways = short_of (codes "Beta.dll") (codes "gee") 8 ∷ mid_alone
 abbrev pub wide_ordinal : List ShortImport
 wide_ordinal = short_of (codes "beta.dll") (codes "mid") 65536 ∷ []
 
--- an ordinal of 17 bits; one symbol twice; one DLL in two ways of writing; another object for what lld defines; an object
--- before or after it that defines the symbol, too; no tables; a range at 0, and one that ends at 2^31
+-- an ordinal of 17 bits; one symbol twice; one DLL in two ways of writing; another object for what
+-- lld defines; an object before or after it that defines the symbol, too; no tables; a range at 0,
+-- and one that ends at 2^31
 pub record NearIsLldProgram : Type 0 where
   pub writable : MissesIsLldProgram (codes "writable") AMD64 0x2000 (lld_addresses wide_ordinal)
       wide_ordinal (lld_range wide_ordinal ∷ []) (lld_defines wide_ordinal ∷ [])

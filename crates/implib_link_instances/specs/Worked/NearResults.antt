@@ -1,9 +1,10 @@
--- Near misses of what links and loaders give, and of what is linked for given objects. A record `NearX` has those of `X`,
--- each by the name of the field that refuses it.
+-- Near misses of what links and loaders give, and of what is linked for given objects. A record
+-- `NearX` has those of `X`, each by the name of the field that refuses it.
 use Rattle.implib_link.specs.Gnu.Packed.{packed}
 use Rattle.implib_link_instances.specs.Worked.Searched.{as_taken, by_name, searched_objects}
 use Rattle.std.specs.List.{filter, list_any}
-use Rattle.std.specs.Prelude.{ℕ, ◌+◌, List, [], ◌∷◌, ◌++◌, bytes_eq, codes, drop, if◌then◌else◌, map, not}
+use Rattle.std.specs.Prelude.{ℕ, ◌+◌, List, [], ◌∷◌, ◌++◌, bytes_eq, codes, drop, if◌then◌else◌}
+use Rattle.std.specs.Prelude.{map, not}
 use Rattle.implib.specs.declared.machine.MachineType.{MachineType}
 use Rattle.implib.specs.declared.machine.MachineType.TheVariants.{AMD64, ARM64, I386}
 use Rattle.implib.specs.Formats.Constants.{amd64_rel32, class_external}
@@ -20,21 +21,39 @@ use Rattle.implib_link.specs.Flavors.Program.{FlavorInput, OfLinker, OfMember, o
 use Rattle.implib_link.specs.Gnu.Fields.{LinkedCode}
 use Rattle.implib_link.specs.Gnu.OtherLibraries.{Run}
 use Rattle.implib_link.specs.Gnu.Program.{claimed_names, null_descriptor}
-use Rattle.implib_link_instances.specs.But.Links.{MissesAreChosenFor, MissesAreLinkedFor, MissesBranchStays, MissesDefineOnce, MissesFillsBy, MissesHasOffsetField, MissesHasPageField, MissesHasPointer, MissesInputImports, MissesInstructionArrives, MissesIsClosed, MissesIsLinkedWith, MissesLinksBeside, MissesLinksClosed, MissesPageArrives, MissesPairArrives, MissesProgramLinks}
+use Rattle.implib_link_instances.specs.But.Links.{MissesAreChosenFor, MissesAreLinkedFor}
+use Rattle.implib_link_instances.specs.But.Links.{MissesBranchStays, MissesDefineOnce}
+use Rattle.implib_link_instances.specs.But.Links.{MissesFillsBy, MissesHasOffsetField}
+use Rattle.implib_link_instances.specs.But.Links.{MissesHasPageField, MissesHasPointer}
+use Rattle.implib_link_instances.specs.But.Links.{MissesInputImports, MissesInstructionArrives}
+use Rattle.implib_link_instances.specs.But.Links.{MissesIsClosed, MissesIsLinkedWith}
+use Rattle.implib_link_instances.specs.But.Links.{MissesLinksBeside, MissesLinksClosed}
+use Rattle.implib_link_instances.specs.But.Links.{MissesPageArrives, MissesPairArrives}
+use Rattle.implib_link_instances.specs.But.Links.{MissesProgramLinks}
 use Rattle.implib_link.specs.Search.Archives.{Library}
 use Rattle.implib_link_instances.specs.Worked.Archives.{two_libraries}
 use Rattle.implib_link_instances.specs.Worked.Calls.{calling_at, calling_placed}
-use Rattle.implib_link_instances.specs.Worked.Closed.{choosing, clashing, closed_bases, closed_objects, closed_taken, foo_alias, foo_linked, zed_first, zed_linked}
-use Rattle.implib_link_instances.specs.Worked.Flavors.{both_inputs as flavor_inputs, flavor_bases_8, flavor_image, flavor_objects, flavor_placed, foo_input as foo_flavor, zed_input as zed_flavor}
+use Rattle.implib_link_instances.specs.Worked.Closed.{choosing, clashing, closed_bases}
+use Rattle.implib_link_instances.specs.Worked.Closed.{closed_objects, closed_taken, foo_alias}
+use Rattle.implib_link_instances.specs.Worked.Closed.{foo_linked, zed_first, zed_linked}
+use Rattle.implib_link_instances.specs.Worked.Flavors.{both_inputs as flavor_inputs, flavor_bases_8}
+use Rattle.implib_link_instances.specs.Worked.Flavors.{flavor_image, flavor_objects, flavor_placed}
+use Rattle.implib_link_instances.specs.Worked.Flavors.{foo_input as foo_flavor}
+use Rattle.implib_link_instances.specs.Worked.Flavors.{zed_input as zed_flavor}
 use Rattle.implib_link_instances.specs.Worked.NearCode.{code_of}
 use Rattle.implib_link_instances.specs.Worked.MsvcArchives.{null_named}
 use Rattle.implib_link_instances.specs.Worked.NearLinks.{found_elsewhere, found_there}
 use Rattle.implib_link_instances.specs.Worked.NearPrograms.{run_with, table_object}
 use Rattle.implib_link_instances.specs.Worked.NearSearches.{again, asking, listing, zed_library}
-use Rattle.implib_link_instances.specs.Worked.Operands.{field, imp_open, passing_at, passing_code, open_on, passing_placed}
-use Rattle.implib_link_instances.specs.Worked.Programs.{code_object, foo_input, program_objects, symbol_of_class, touching_8, zed_input}
-use Rattle.implib_link_instances.specs.Worked.RefusedFields.{adrp_bytes, linked_on_amd64, load_bytes, open_address, pair_memory, two_ranges, with_byte}
-use Rattle.implib_link_instances.specs.Worked.RefusedLinks.{descriptor_bytes, foo, image_by_hand, named_otherwise, right_image, table_8}
+use Rattle.implib_link_instances.specs.Worked.Operands.{field, imp_open, passing_at, passing_code}
+use Rattle.implib_link_instances.specs.Worked.Operands.{open_on, passing_placed}
+use Rattle.implib_link_instances.specs.Worked.Programs.{code_object, foo_input, program_objects}
+use Rattle.implib_link_instances.specs.Worked.Programs.{symbol_of_class, touching_8, zed_input}
+use Rattle.implib_link_instances.specs.Worked.RefusedFields.{adrp_bytes, linked_on_amd64}
+use Rattle.implib_link_instances.specs.Worked.RefusedFields.{load_bytes, open_address, pair_memory}
+use Rattle.implib_link_instances.specs.Worked.RefusedFields.{two_ranges, with_byte}
+use Rattle.implib_link_instances.specs.Worked.RefusedLinks.{descriptor_bytes, foo, image_by_hand}
+use Rattle.implib_link_instances.specs.Worked.RefusedLinks.{named_otherwise, right_image, table_8}
 use Rattle.implib_link_instances.specs.Worked.Writing.{gives_zeros}
 use Rattle.implib_link_instances.specs.Worked.Instances.{defines_twice}
 use Rattle.implib_link_instances.specs.Worked.Walks.{without_addresses, without_name}
@@ -62,7 +81,8 @@ naming_null = table_object (codes ".idata$7") [] (codes "__NULL_IMPORT_DESCRIPTO
 -- an object without symbols, if it claims the null descriptor's
 abbrev pub without_null_name : Object → Object
 without_null_name o =
-    if list_any (bytes_eq (codes "__NULL_IMPORT_DESCRIPTOR")) (claimed_names o) then record o { entries = [] } else o
+    if list_any (bytes_eq (codes "__NULL_IMPORT_DESCRIPTOR")) (claimed_names o)
+    then record o { entries = [] } else o
 
 -- foo.dll's input that has no members
 abbrev pub memberless : FlavorInput
@@ -81,7 +101,8 @@ later_open (ASymbol s) =
 
 abbrev pub with_later_open : Object → Object
 with_later_open o =
-    if list_any (bytes_eq (codes "__imp_open")) (claimed_names o) then record o { entries = map later_open o.entries }
+    if list_any (bytes_eq (codes "__imp_open")) (claimed_names o)
+    then record o { entries = map later_open o.entries }
     else o
 
 -- The program of both flavours, and what its link gives, but for one thing: the input has no
@@ -112,7 +133,8 @@ pub record NearProgramLinks : Type 0 where
 
 -- another library without imports, which has four bytes among the descriptors
 abbrev pub four_before : Run
-four_before = record { objects = table_of (codes ".idata$2") (zeros 4) ∷ []; imports = []; inputs = [] }
+four_before =
+    record { objects = table_of (codes ".idata$2") (zeros 4) ∷ []; imports = []; inputs = [] }
 
 -- the members of both DLLs, where one's input has none
 abbrev pub memberless_run : Run
@@ -145,10 +167,12 @@ open_again = record {
 -- objects without those that define the descriptor of foo.dll
 abbrev pub without_descriptor : List Placed → List Placed
 without_descriptor linked =
-    filter (λ p. not (list_any (bytes_eq (codes "__IMPORT_DESCRIPTOR_foo")) (claimed_names p.object)))
+    filter (λ p. not
+    (list_any (bytes_eq (codes "__IMPORT_DESCRIPTOR_foo")) (claimed_names p.object)))
     linked
 
--- the objects without that of the descriptor; with address tables 8 bytes on; and with an entry that is defined twice
+-- the objects without that of the descriptor; with address tables 8 bytes on; and with an entry
+-- that is defined twice
 pub record NearInputImports : Type 0 where
   pub top : MissesInputImports (codes "top") AMD64 (flavor_image AMD64 0 flavor_bases_8)
       (without_descriptor (flavor_placed AMD64 0 flavor_bases_8)) 8 128 (foo_flavor AMD64)
@@ -161,10 +185,12 @@ pub record NearInputImports : Type 0 where
 -- what a loader leaves that wrote zeros for both thunks at a table
 abbrev pub written_at : ℕ → List Range → List Range
 written_at table memory =
-    record { start = table + 8; bytes = zeros 8 } ∷ record { start = table; bytes = zeros 8 } ∷ memory
+    record { start = table + 8; bytes = zeros 8 } ∷ record { start = table; bytes = zeros 8 }
+    ∷ memory
 
--- the right image, but that a field of the descriptor leads elsewhere: the name's to 0, where the name is, too; the name's to
--- the first thunk; that of the address table behind all; and that of the lookup table to its end
+-- the right image, but that a field of the descriptor leads elsewhere: the name's to 0, where the
+-- name is, too; the name's to the first thunk; that of the address table behind all; and that of
+-- the lookup table to its end
 abbrev pub named_at_zero : List Range
 named_at_zero = record { start = 0; bytes = foo ++ 0 ∷ [] } ∷ without_name
 
@@ -177,16 +203,19 @@ entries_elsewhere = image_by_hand (descriptor_bytes 0x1028 0 0x1058 0x1070) tabl
 abbrev pub lookups_elsewhere : List Range
 lookups_elsewhere = image_by_hand (descriptor_bytes 0x1038 0 0x1058 0x1040) table_8 table_8 foo
 
--- such fields, and what a loader would leave that had the right address; another name; a field of 0 for the address table;
+-- such fields, and what a loader would leave that had the right address; another name; a field of 0
+-- for the address table;
 -- and another thunk than the one that is asked for
 pub record NearFillsBy : Type 0 where
-  pub name_field : MissesFillsBy (codes "name_field") 8 gives_zeros 0x1000 named_elsewhere found_there
+  pub name_field : MissesFillsBy (codes "name_field") 8 gives_zeros 0x1000 named_elsewhere
+      found_there
       (written_at 0x1040 named_elsewhere)
   pub has_name : MissesFillsBy (codes "has_name") 8 gives_zeros 0x1000 named_at_zero found_there
       (written_at 0x1040 named_at_zero)
   pub name_text : MissesFillsBy (codes "name_text") 8 gives_zeros 0x1000 named_otherwise found_there
       (written_at 0x1040 named_otherwise)
-  pub addresses_field : MissesFillsBy (codes "addresses_field") 8 gives_zeros 0x1000 entries_elsewhere
+  pub addresses_field : MissesFillsBy (codes "addresses_field") 8 gives_zeros 0x1000
+      entries_elsewhere
       found_there (written_at 0x1040 entries_elsewhere)
   pub has_addresses : MissesFillsBy (codes "has_addresses") 8 gives_zeros 0x1000 without_addresses
       found_there (written_at 0 without_addresses)
@@ -195,9 +224,11 @@ pub record NearFillsBy : Type 0 where
   pub fills : MissesFillsBy (codes "fills") 8 gives_zeros 0x1000 right_image found_elsewhere
       (written_at 0x1040 right_image)
 
--- the closed program beside an object that leaves the address of `stack` to others, which zed.dll's library lists
+-- the closed program beside an object that leaves the address of `stack` to others, which zed.dll's
+-- library lists
 abbrev pub asking_objects : List Object
-asking_objects = closed_objects ++ code_object (symbol_of_class (codes "__imp_stack") 0 class_external ∷ []) ∷ []
+asking_objects =
+    closed_objects ++ code_object (symbol_of_class (codes "__imp_stack") 0 class_external ∷ []) ∷ []
 
 -- what zed.dll's library links for `queue`, beside the library without its members
 abbrev pub zed_memberless : List Library
@@ -235,7 +266,8 @@ head_and_tail =
 -- the objects of the closed program with another given one
 abbrev pub clashing_objects : List Object
 clashing_objects =
-    objects_in (foo_alias ∷ zed_linked) ++ clashing ∷ (objects_in foo_linked ++ null_descriptor ∷ [])
+    objects_in (foo_alias ∷ zed_linked) ++ clashing
+    ∷ (objects_in foo_linked ++ null_descriptor ∷ [])
 
 -- A member is taken, though there is no archive; nothing is linked, not even the null descriptor;
 -- the object that names a head, for which a linker takes this and for it the tail; and an object
@@ -244,12 +276,14 @@ pub record NearIsClosed : Type 0 where
   pub takes : MissesIsClosed (codes "takes") AMD64 [] [] (listing ∷ []) [] touching_8
       (null_descriptor ∷ [])
   pub linked : MissesIsClosed (codes "linked") AMD64 [] [] [] [] touching_8 []
-  pub names : MissesIsClosed (codes "names") AMD64 (zed_library ∷ []) (naming_head ∷ []) head_and_tail
+  pub names : MissesIsClosed (codes "names") AMD64 (zed_library ∷ []) (naming_head ∷ [])
+      head_and_tail
       (zed_library ∷ []) touching_8 (naming_head ∷ null_descriptor ∷ [])
   pub claims : MissesIsClosed (codes "claims") AMD64 two_libraries (clashing ∷ []) closed_taken
       zed_first (packed 0x2000 clashing_objects) clashing_objects
 
--- in an order of no libraries; without the given object; without the null descriptor; and descriptors at 2
+-- in an order of no libraries; without the given object; without the null descriptor; and
+-- descriptors at 2
 pub record NearAreLinkedFor : Type 0 where
   pub order : MissesAreLinkedFor (codes "order") AMD64 two_libraries [] [] [] touching_8
       (null_descriptor ∷ [])
@@ -281,7 +315,8 @@ pub record NearIsLinkedWith : Type 0 where
   pub admissible : MissesIsLinkedWith (codes "admissible") AMD64 (own_names (codes "foo.dll"))
       (record (packed 1 searched_objects) { descriptors = 2 }) as_taken searched_objects
 
--- code that defines a name twice; and code that calls `open` by the pointer, and code that defines this pointer itself
+-- code that defines a name twice; and code that calls `open` by the pointer, and code that defines
+-- this pointer itself
 pub record NearDefineOnce : Type 0 where
   pub once : MissesDefineOnce (codes "once") [] (defines_twice ∷ [])
   pub tables : MissesDefineOnce (codes "tables") (calling_placed AMD64 touching_8)
@@ -321,7 +356,8 @@ pub record NearHasPointer : Type 0 where
   pub empty : MissesHasPointer (codes "empty") AMD64 stored_one 52 (imp_open AMD64)
   pub stores : MissesHasPointer (codes "stores") I386 (passing_at I386) 37 (open_on I386)
 
--- the call at 0x100B to the next byte; and by I386's rule one without its last byte, in an image at 0x10000
+-- the call at 0x100B to the next byte; and by I386's rule one without its last byte, in an image at
+-- 0x10000
 pub record NearInstructionArrives : Type 0 where
   pub leads : MissesInstructionArrives (codes "leads") AMD64 0x1_4000_0000 linked_on_amd64
       (two_ranges 0x100B (0xFF ∷ 0x15 ∷ 0x70 ∷ 0xF0 ∷ 0xFF ∷ 0xFF ∷ []) open_address) 0x100B
@@ -330,7 +366,8 @@ pub record NearInstructionArrives : Type 0 where
       (two_ranges 0x100B (0xFF ∷ 0x15 ∷ 0x80 ∷ 0 ∷ 1 ∷ []) open_address) 0x100B (0xFF ∷ 0x15 ∷ []) []
       (imp_open AMD64) open_address
 
--- ARM64's `adrp x8` at 0x100C and `ldr x8, [x8]` at 0x1010: no `adrp`, and no `ldr`; another register of each; the next entry;
+-- ARM64's `adrp x8` at 0x100C and `ldr x8, [x8]` at 0x1010: no `adrp`, and no `ldr`; another
+-- register of each; the next entry;
 -- and other bytes at the entry
 pub record NearPageArrives : Type 0 where
   pub adrp_there : MissesPageArrives (codes "adrp_there") 0x1_4000_0000
@@ -347,7 +384,8 @@ pub record NearPageArrives : Type 0 where
       (pair_memory adrp_bytes (8 ∷ 0x45 ∷ 0x40 ∷ 0xF9 ∷ []) open_address) 0x100C 0x1010 8 8
       open_address
   pub located : MissesPageArrives (codes "located") 0x1_4000_0000
-      (pair_memory adrp_bytes load_bytes (0x41 ∷ drop 1 open_address)) 0x100C 0x1010 8 8 open_address
+      (pair_memory adrp_bytes load_bytes (0x41 ∷ drop 1 open_address)) 0x100C 0x1010 8 8
+      open_address
 
 -- the same two, by a field each, without the one and without the other
 pub record NearPairArrives : Type 0 where

@@ -1,5 +1,5 @@
--- Near misses of archive searches and of closed programs. A record `NearX` has those of `X`, each by the name of the
--- field that refuses it.
+-- Near misses of archive searches and of closed programs. A record `NearX` has those of `X`, each
+-- by the name of the field that refuses it.
 use Rattle.std.specs.Prelude.{ℕ, true, List, [], ◌∷◌, codes}
 use Rattle.implib.specs.declared.machine.MachineType.TheVariants.{AMD64}
 use Rattle.implib.specs.Definition.{empty_export}
@@ -15,10 +15,16 @@ use Rattle.implib_link.specs.Search.Archives.{IsArchive, Library}
 use Rattle.implib_link.specs.Search.Closed.{IsAliasTaken, IsUsed, PullsInto, inputs_in}
 use Rattle.implib_link.specs.Search.MsvcArchives.{IsWeakTaken}
 use Rattle.implib_link.specs.Search.Search.{PullsIn}
-use Rattle.implib_link_instances.specs.But.Links.{MissesAreNamedApart, MissesIsArchive, MissesIsImported, MissesIsMsvcArchive, MissesIsWeakData, MissesIsWeakShort, MissesNamesNoHeadOrTail, MissesPullsInAs, MissesPullsIntoAs}
+use Rattle.implib_link_instances.specs.But.Links.{MissesAreNamedApart, MissesIsArchive}
+use Rattle.implib_link_instances.specs.But.Links.{MissesIsImported, MissesIsMsvcArchive}
+use Rattle.implib_link_instances.specs.But.Links.{MissesIsWeakData, MissesIsWeakShort}
+use Rattle.implib_link_instances.specs.But.Links.{MissesNamesNoHeadOrTail, MissesPullsInAs}
+use Rattle.implib_link_instances.specs.But.Links.{MissesPullsIntoAs}
 use Rattle.implib_link_instances.specs.Worked.Archives.{library_of, two_libraries}
-use Rattle.implib_link_instances.specs.Worked.Closed.{choosing, closed_bases, closed_objects, closed_taken, foo_alias, zed_first}
-use Rattle.implib_link_instances.specs.Worked.MsvcArchives.{msvc_library, null_named, shorts_of_both, two_msvc, weak_named}
+use Rattle.implib_link_instances.specs.Worked.Closed.{choosing, closed_bases, closed_objects}
+use Rattle.implib_link_instances.specs.Worked.Closed.{closed_taken, foo_alias, zed_first}
+use Rattle.implib_link_instances.specs.Worked.MsvcArchives.{msvc_library, null_named}
+use Rattle.implib_link_instances.specs.Worked.MsvcArchives.{shorts_of_both, two_msvc, weak_named}
 use Rattle.implib_link_instances.specs.Worked.Programs.{code_object, symbol_of_class}
 
 -- a member without an object, that is listed for `queue`, and another one
@@ -32,8 +38,8 @@ later = record { name = codes "later"; bytes = []; symbols = codes "queue" ∷ [
 abbrev pub queue_member : MemberView
 queue_member = member_of (export_spec AMD64 (codes "zed.dll") 0 (plain_export (codes "queue")))
 
--- a name that nothing wants; one that a taken member defines, though it is listed for another; the second member that it
--- is listed for; and the member that is taken
+-- a name that nothing wants; one that a taken member defines, though it is listed for another; the
+-- second member that it is listed for; and the member that is taken
 pub record NearPullsInAs : Type 0 where
   pub pulls : PullsIn (listing ∷ later ∷ []) (codes "queue" ∷ []) [] (codes "queue") listing
   pub named : MissesPullsInAs (codes "named") object_in (listing ∷ later ∷ []) [] []
@@ -66,8 +72,8 @@ zed_library = library_of (of_dll (codes "zed.dll") (plain_export (codes "queue")
 abbrev pub zed_short : List ℕ → Library
 zed_short name = msvc_library (of_dll (codes "zed.dll") (plain_export name ∷ []))
 
--- the alias `bar` where nothing names it; a function; no libraries; libraries without such data; a member that is listed
--- for another name
+-- the alias `bar` where nothing names it; a function; no libraries; libraries without such data; a
+-- member that is listed for another name
 pub record NearIsWeakData : Type 0 where
   pub named : MissesIsWeakData (codes "named") two_libraries [] foo_alias
   pub data_alone : MissesIsWeakData (codes "data_alone") two_libraries (codes "queue" ∷ []) listing
@@ -92,9 +98,11 @@ pub record NearIsWeakShort : Type 0 where
 -- an import that nothing names, and data by its bare name
 pub record NearIsUsed : Type 0 where
   pub wanted : IsUsed (codes "bar" ∷ codes "printf" ∷ []) (plain_export (codes "queue")) → ⊥
-  pub among : IsUsed (codes "qux" ∷ []) (record empty_export { name = codes "qux"; is_data = true }) → ⊥
+  pub among : IsUsed (codes "qux" ∷ [])
+      (record empty_export { name = codes "qux"; is_data = true }) → ⊥
 
--- the name of a tail that is taken and is no weak external, and of a weak external that is not taken
+-- the name of a tail that is taken and is no weak external, and of a weak external that is not
+-- taken
 pub record NearIsAliasTaken : Type 0 where
   pub weak : IsAliasTaken closed_taken (codes "zed_dll_iname") → ⊥
   pub taken : IsAliasTaken (queue_member ∷ []) (codes "bar") → ⊥
@@ -107,12 +115,13 @@ pub record NearIsWeakTaken : Type 0 where
 -- an object of its own that defines `queue` and `printf`, too
 abbrev pub again : Placed
 again = record {
-  object = code_object (symbol_of_class (codes "queue") 1 class_external ∷ symbol_of_class (codes "printf") 1 class_external ∷ []);
+  object = code_object (symbol_of_class (codes "queue") 1 class_external
+      ∷ symbol_of_class (codes "printf") 1 class_external ∷ []);
   section_addresses = Unplaced ∷ [];
 }
 
--- a function that is defined twice; one that is no import; and one that is the second of its DLL, of which the first alone
--- is linked
+-- a function that is defined twice; one that is no import; and one that is the second of its DLL,
+-- of which the first alone is linked
 abbrev pub closed_inputs : List LinkInput
 closed_inputs = inputs_in zed_first (choosing ∷ []) closed_taken
 
@@ -146,8 +155,8 @@ pub record NearNamesNoHeadOrTail : Type 0 where
   pub name : MissesNamesNoHeadOrTail (codes "name") AMD64 (codes "foo.dll")
       (codes "foo_dll_iname" ∷ [])
 
--- two DLLs of one name in symbols; a name that begins with an underscore; an export of both; and one that is named as a
--- DLL's head
+-- two DLLs of one name in symbols; a name that begins with an underscore; an export of both; and
+-- one that is named as a DLL's head
 pub record NearAreNamedApart : Type 0 where
   pub stems : MissesAreNamedApart (codes "stems") AMD64
       (library_of (of_dll (codes "a.b.dll") (plain_export (codes "queue") ∷ []))

@@ -5,10 +5,18 @@ use Rattle.std.specs.Prelude.{◌≡◌, ℕ, List, [], ◌∷◌, codes}
 use Rattle.implib.specs.declared.machine.MachineType.TheVariants.{I386, ARMNT, AMD64, ARM64}
 use Rattle.implib.specs.Link.Image.{Range}
 use Rattle.implib_link.specs.Gnu.Fields.{LinkedCode}
-use Rattle.implib_link.specs.Gnu.Stored.{AreFurtherHeld, HoldsFurther, IsImageRelative, PointsTo, StoresAreMoved, SumArrives, amd64_addr32nb, arm64_pageoffset_12a, i386_dir32nb}
-use Rattle.implib_link_instances.specs.But.Links.{MissesHasAddField, MissesHasRelative, MissesHoldAddress, MissesHoldsFurther, MissesPointsTo, MissesSumArrives}
+use Rattle.implib_link.specs.Gnu.Stored.{AreFurtherHeld, HoldsFurther, IsImageRelative, PointsTo}
+use Rattle.implib_link.specs.Gnu.Stored.{StoresAreMoved, SumArrives, amd64_addr32nb}
+use Rattle.implib_link.specs.Gnu.Stored.{arm64_pageoffset_12a, i386_dir32nb}
+use Rattle.implib_link_instances.specs.But.Links.{MissesHasAddField, MissesHasRelative}
+use Rattle.implib_link_instances.specs.But.Links.{MissesHoldAddress, MissesHoldsFurther}
+use Rattle.implib_link_instances.specs.But.Links.{MissesPointsTo, MissesSumArrives}
 use Rattle.implib_link_instances.specs.Worked.RefusedFields.{with_byte}
-use Rattle.implib_link_instances.specs.Worked.Stored.{held_at, holding_codes, holding_memory, holding_targets, mid_name, mid_thunk_at, picking_at, picking_code, picking_linked, picking_section, unwind_at, unwind_linked, unwind_section}
+use Rattle.implib_link_instances.specs.Worked.Stored.{held_at, holding_codes, holding_memory}
+use Rattle.implib_link_instances.specs.Worked.Stored.{holding_targets, mid_name, mid_thunk_at}
+use Rattle.implib_link_instances.specs.Worked.Stored.{picking_at, picking_code, picking_linked}
+use Rattle.implib_link_instances.specs.Worked.Stored.{picking_section, unwind_at, unwind_linked}
+use Rattle.implib_link_instances.specs.Worked.Stored.{unwind_section}
 
 -- the handler of AMD64, and ARM64's `add`, by the numbers of their fields in the object and after
 -- the link

@@ -15,7 +15,8 @@ use Rattle.implib_link_instances.specs.But.Links.{MissesIsInTable}
 use Rattle.implib_link_instances.specs.Worked.LldPrograms.{eight_bytes, lld_image_on, lld_linked_on}
 use Rattle.implib_link_instances.specs.Worked.LldPrograms.{own_tables, tables_with}
 use Rattle.implib_link_instances.specs.Worked.Loads.{written_8}
-use Rattle.implib_link_instances.specs.Worked.Programs.{both_inputs, program_image, program_placed, touching_8}
+use Rattle.implib_link_instances.specs.Worked.Programs.{both_inputs, program_image, program_placed}
+use Rattle.implib_link_instances.specs.Worked.Programs.{touching_8}
 
 -- An address before the first entry of the worked program; and the one behind the null thunk of the
 -- last DLL, at 176: it is that of the first entry of a third DLL, which there is not, of a third

@@ -25,11 +25,13 @@ use Rattle.implib_link_instances.specs.But.Links.{MissesTakesOfLibraries}
 use Rattle.implib_link_instances.specs.Worked.Archives.{both_wanted, two_libraries}
 use Rattle.implib_link_instances.specs.Worked.Closed.{foo_alias}
 use Rattle.implib_link_instances.specs.Worked.Flavors.{foo_input as foo_flavor}
-use Rattle.implib_link_instances.specs.Worked.NearPrograms.{lld_defines, lld_range, mid_alone, short_of, table_object}
+use Rattle.implib_link_instances.specs.Worked.NearPrograms.{lld_defines, lld_range, mid_alone}
+use Rattle.implib_link_instances.specs.Worked.NearPrograms.{short_of, table_object}
 use Rattle.implib_link_instances.specs.Worked.Programs.{code_object, foo_input, input_objects}
 use Rattle.implib_link_instances.specs.Worked.Programs.{symbol_of_class, touching_8, zed_input}
 use Rattle.implib_link_instances.specs.Worked.Search.{members_of, three, wanted}
-use Rattle.implib_link_instances.specs.Worked.Searched.{as_taken, bar_member, by_name, head_member, searched_objects, tail_member}
+use Rattle.implib_link_instances.specs.Worked.Searched.{as_taken, bar_member, by_name, head_member}
+use Rattle.implib_link_instances.specs.Worked.Searched.{searched_objects, tail_member}
 
 -- the head and the tail of foo.dll and one member of it, in no order, and with the member twice
 abbrev pub turned_members : List MemberView
@@ -47,7 +49,8 @@ pub record NearIsArranged : Type 0 where
   pub once : MissesIsArranged (codes "once") AMD64 (own_names (codes "foo.dll"))
       twice_members twice_members
 
--- nothing is linked, though `bar` and `qux` are wanted; and they are linked, though nothing is wanted
+-- nothing is linked, though `bar` and `qux` are wanted; and they are linked, though nothing is
+-- wanted
 pub record NearIsLinkedOfWanted : Type 0 where
   pub linked : MissesIsLinkedOfWanted (codes "linked") AMD64 three wanted []
   pub same : MissesIsLinkedOfWanted (codes "same") AMD64 three [] by_name
@@ -66,7 +69,8 @@ pub record NearTakesOfLibraries : Type 0 where
 
 -- an input for Microsoft's linker with other members
 abbrev pub foo_with : List MemberView → FlavorInput
-foo_with members = record { flavor = Msvc; input = record (foo_flavor AMD64).input { members = members } }
+foo_with members =
+    record { flavor = Msvc; input = record (foo_flavor AMD64).input { members = members } }
 
 -- an input for Microsoft's linker whose one export has a NUL in its name
 abbrev pub nul_within : List MemberView → FlavorInput
@@ -121,9 +125,9 @@ named_twice = bare_linked ++ record {
 } ∷ []
 
 -- An image without the tables; and what is defined twice, which is not defined at an address.
--- Nothing is found where nothing is linked, but then nothing is defined, either: of members that are
--- read as they were made, `targets` follows from `defined`, since their relocations lead to their
--- own sections of import tables and to what they leave undefined.
+-- Nothing is found where nothing is linked, but then nothing is defined, either: of members that
+-- are read as they were made, `targets` follows from `defined`, since their relocations lead to
+-- their own sections of import tables and to what they leave undefined.
 pub record NearRunLinks : Type 0 where
   pub imports : MissesRunLinks (codes "imports") AMD64 [] bare_linked touching_8 bare_run
   pub targets : RunLinks AMD64 bare_image [] touching_8 bare_run → ⊥
@@ -168,7 +172,8 @@ empty_tables =
 
 -- Half a thunk, in the place of a whole one, and for itself; of no DLLs, a lookup table that is
 -- named as the address table; no symbol at the table's beginning; tables that end after 2^31; no
--- symbols of the entries; a directory of one descriptor, in the place of one of two, and for itself;
+-- symbols of the entries; a directory of one descriptor, in the place of one of two, and for
+-- itself;
 -- and one of two, which is not where it should be. Each address in a table that begins so and is so
 -- long is in an entry: `tiled` follows from `begins` and `size`.
 pub record NearAreBounded : Type 0 where

@@ -1,10 +1,14 @@
--- Code as compilers write it, by hand, on three machines: fields that follow one another without a gap, among them some
--- that no law reads; what it is linked to, and where it is in memory, at two bases.
-use Rattle.std.specs.Prelude.{◌≡◌, ℕ, ◌+◌, List, [], ◌∷◌, ◌++◌, bytes_eq, codes, length, map, slice_get, Option, None, Some, if◌then◌else◌}
+-- Code as compilers write it, by hand, on three machines: fields that follow one another without a
+-- gap, among them some that no law reads; what it is linked to, and where it is in memory, at two
+-- bases.
+use Rattle.std.specs.Prelude.{◌≡◌, ℕ, ◌+◌, List, [], ◌∷◌, ◌++◌, bytes_eq, codes, length, map}
+use Rattle.std.specs.Prelude.{slice_get, Option, None, Some, if◌then◌else◌}
 use Rattle.implib.specs.declared.coff.object.Relocation.{Relocation}
 use Rattle.implib.specs.declared.machine.MachineType.{MachineType}
 use Rattle.implib.specs.declared.machine.MachineType.TheVariants.{I386, ARMNT, AMD64, ARM64}
-use Rattle.implib.specs.Formats.Constants.{align_16bytes, align_4bytes, amd64_rel32, arm64_pagebase_rel21, arm64_pageoffset_12l, class_external, cnt_code, i386_dir32, mem_execute_read}
+use Rattle.implib.specs.Formats.Constants.{align_16bytes, align_4bytes, amd64_rel32}
+use Rattle.implib.specs.Formats.Constants.{arm64_pagebase_rel21, arm64_pageoffset_12l}
+use Rattle.implib.specs.Formats.Constants.{class_external, cnt_code, i386_dir32, mem_execute_read}
 use Rattle.implib.specs.Formats.Object.{ASymbol, Auxiliary, Entry, Object, ObjectSection}
 use Rattle.implib.specs.Import.{imp_symbol}
 use Rattle.implib.specs.Link.Image.{Range, image_of}
@@ -12,19 +16,25 @@ use Rattle.implib.specs.Link.Placement.{Bases, Placed, SectionAddress, Unplaced,
 use Rattle.implib.specs.Link.Resolution.{target_address}
 use Rattle.implib.specs.Members.Gnu.{section, stub_bytes, stub_relocations, text_name}
 use Rattle.implib_link.specs.Flavors.Program.{OfMember, IsProgramOf, IsProgram}
-use Rattle.implib_link.specs.Gnu.Calls.{HasCall, HasDirectCall, IsAside, amd64_addr64, arm64_addr64, arm64_branch26, i386_rel32, StubAt}
+use Rattle.implib_link.specs.Gnu.Calls.{HasCall, HasDirectCall, IsAside, amd64_addr64, arm64_addr64}
+use Rattle.implib_link.specs.Gnu.Calls.{arm64_branch26, i386_rel32, StubAt}
 use Rattle.implib_link.specs.Gnu.Fields.{LinkedCode, placed_code, ranges_of_codes}
 use Rattle.implib_link.specs.Gnu.Moves.{AreInMemory, CanBeMoved}
-use Rattle.implib_link.specs.Gnu.Operands.{HasBranch, HasInstruction, HasOffsetField, HasOperand, HasPageField, HasPointer, IsOperand, branch_leads, operand_leads}
+use Rattle.implib_link.specs.Gnu.Operands.{HasBranch, HasInstruction, HasOffsetField, HasOperand}
+use Rattle.implib_link.specs.Gnu.Operands.{HasPageField, HasPointer, IsOperand, branch_leads}
+use Rattle.implib_link.specs.Gnu.Operands.{operand_leads}
 use Rattle.implib_link.specs.Gnu.Pages.{HasPage, HasPageOffset}
 use Rattle.implib_link.specs.Gnu.Program.{null_descriptor}
 use Rattle.implib_link.specs.Gnu.Rebased.{Place}
-use Rattle.implib_link_instances.specs.Worked.Calls.{calling, calling_code, calling_flavors, first_bytes, flavors_placed, last_bytes}
+use Rattle.implib_link_instances.specs.Worked.Calls.{calling, calling_code, calling_flavors}
+use Rattle.implib_link_instances.specs.Worked.Calls.{first_bytes, flavors_placed, last_bytes}
 use Rattle.implib_link_instances.specs.Worked.Flavors.{both_inputs as flavor_inputs, flavor_bases_8}
-use Rattle.implib_link_instances.specs.Worked.Programs.{another, both_inputs, foo_input, input_objects, symbol_of_class, symbol_on, touching_4, touching_8, zed_input}
+use Rattle.implib_link_instances.specs.Worked.Programs.{another, both_inputs, foo_input}
+use Rattle.implib_link_instances.specs.Worked.Programs.{input_objects, symbol_of_class, symbol_on}
+use Rattle.implib_link_instances.specs.Worked.Programs.{touching_4, touching_8, zed_input}
 
--- The relocations relative to a section ("Type Indicators": SECREL), of which no law says what their fields hold, and
--- ARM64's by an offset in a page in an `add`.
+-- The relocations relative to a section ("Type Indicators": SECREL), of which no law says what
+-- their fields hold, and ARM64's by an offset in a page in an `add`.
 abbrev pub amd64_rel32_1 : ℕ
 amd64_rel32_1 = 5
 
@@ -38,14 +48,16 @@ abbrev pub arm64_pageoffset_12a : ℕ
 arm64_pageoffset_12a = 6
 
 -- Code that passes a text to `open`, in the object. I386:
--- four `nop`; `push offset hello`; `call [__imp__open]`; `cmp dword [__imp__open], 1`; `mov ecx, [__imp__open]`; the
--- address of `__imp__open`; a field relative to a section; `jmp _open`, which ends the section.
--- AMD64: `sub rsp, 40`; `lea rcx, [rip + hello]`; `call [rip + __imp_open]`; `cmp dword [rip + __imp_open], 1` by
--- REL32_1, and again by REL32 with -1 in the field; `mov r11, [rip + __imp_open]`; `call open`; a field relative to a
--- section; `add rsp, 40`; `ret`; the address of `__imp_open`, which ends the section.
--- ARM64: `stp x29, x30, [sp, -16]!`; `adrp x0`, `add x0, x0` for `hello`; `adrp x8`, `ldr x8, [x8]`, `blr x8` for
--- `__imp_open`; `ldr q0, [x0]` for `hello`, of 16 bytes; `bl open`; the address of `__imp_open`; a field relative to a
--- section; `ldp x29, x30, [sp], 16`; `ret`.
+-- four `nop`; `push offset hello`; `call [__imp__open]`; `cmp dword [__imp__open], 1`; `mov ecx,
+-- [__imp__open]`; the address of `__imp__open`; a field relative to a section; `jmp _open`, which
+-- ends the section.
+-- AMD64: `sub rsp, 40`; `lea rcx, [rip + hello]`; `call [rip + __imp_open]`; `cmp dword [rip +
+-- __imp_open], 1` by REL32_1, and again by REL32 with -1 in the field; `mov r11, [rip +
+-- __imp_open]`; `call open`; a field relative to a section; `add rsp, 40`; `ret`; the address of
+-- `__imp_open`, which ends the section.
+-- ARM64: `stp x29, x30, [sp, -16]!`; `adrp x0`, `add x0, x0` for `hello`; `adrp x8`, `ldr x8,
+-- [x8]`, `blr x8` for `__imp_open`; `ldr q0, [x0]` for `hello`, of 16 bytes; `bl open`; the address
+-- of `__imp_open`; a field relative to a section; `ldp x29, x30, [sp], 16`; `ret`.
 abbrev pub passing_bytes : MachineType → List ℕ
 passing_bytes I386 =
     0x90 ∷ 0x90 ∷ 0x90 ∷ 0x90 ∷ 0x68 ∷ 0 ∷ 0 ∷ 0 ∷ 0 ∷ 0xFF ∷ 0x15 ∷ 0 ∷ 0 ∷ 0 ∷ 0 ∷ 0x83 ∷ 0x3D ∷ 0 ∷ 0 ∷ 0 ∷ 0 ∷ 1
@@ -70,15 +82,19 @@ passing_relocations I386 =
     ∷ field 28 1 i386_dir32 ∷ field 32 2 x86_secrel ∷ field 37 3 i386_rel32 ∷ []
 passing_relocations ARMNT = []
 passing_relocations AMD64 =
-    field 7 2 amd64_rel32 ∷ field 13 1 amd64_rel32 ∷ field 19 1 amd64_rel32_1 ∷ field 26 1 amd64_rel32
-    ∷ field 34 1 amd64_rel32 ∷ field 39 3 amd64_rel32 ∷ field 43 2 x86_secrel ∷ field 52 1 amd64_addr64 ∷ []
+    field 7 2 amd64_rel32 ∷ field 13 1 amd64_rel32 ∷ field 19 1 amd64_rel32_1
+    ∷ field 26 1 amd64_rel32
+    ∷ field 34 1 amd64_rel32 ∷ field 39 3 amd64_rel32 ∷ field 43 2 x86_secrel
+    ∷ field 52 1 amd64_addr64 ∷ []
 passing_relocations ARM64 =
-    field 4 2 arm64_pagebase_rel21 ∷ field 8 2 arm64_pageoffset_12a ∷ field 12 1 arm64_pagebase_rel21
+    field 4 2 arm64_pagebase_rel21 ∷ field 8 2 arm64_pageoffset_12a
+    ∷ field 12 1 arm64_pagebase_rel21
     ∷ field 16 1 arm64_pageoffset_12l ∷ field 24 2 arm64_pageoffset_12l ∷ field 28 3 arm64_branch26
     ∷ field 32 1 arm64_addr64 ∷ field 40 2 arm64_secrel ∷ []
 
--- What it is linked to at 0x1000, `__imp_open` being at 0x60 on I386 and at 0x80, `open` at 0x1040 and `hello` at 0x2010,
--- of images at 0x400000 and 0x140000000. The bytes 11 22 33 44 relative to a section are none that any sum has.
+-- What it is linked to at 0x1000, `__imp_open` being at 0x60 on I386 and at 0x80, `open` at 0x1040
+-- and `hello` at 0x2010, of images at 0x400000 and 0x140000000. The bytes 11 22 33 44 relative to a
+-- section are none that any sum has.
 abbrev pub passing_linked : MachineType → List ℕ
 passing_linked I386 =
     0x90 ∷ 0x90 ∷ 0x90 ∷ 0x90 ∷ 0x68 ∷ 0x10 ∷ 0x20 ∷ 0x40 ∷ 0 ∷ 0xFF ∷ 0x15 ∷ 0x60 ∷ 0 ∷ 0x40 ∷ 0
@@ -104,7 +120,8 @@ stub_linked ARM64 = 0xF0 ∷ 0xFF ∷ 0xFF ∷ 0xF0 ∷ 0x10 ∷ 0x42 ∷ 0x40 �
 
 abbrev pub passing_code : MachineType → ObjectSection
 passing_code machine =
-    section text_name (cnt_code + align_16bytes + mem_execute_read) (passing_bytes machine) (passing_relocations machine)
+    section text_name (cnt_code + align_16bytes + mem_execute_read) (passing_bytes machine)
+    (passing_relocations machine)
 
 -- the sections of the object: on ARM64 a section without bytes comes first
 abbrev pub passing_sections : MachineType → List ObjectSection
@@ -137,7 +154,8 @@ passing machine = record {
       ∷ [];
 }
 
--- what is linked: this object, foo.dll's members, another object, zed.dll's members, the null descriptor
+-- what is linked: this object, foo.dll's members, another object, zed.dll's members, the null
+-- descriptor
 abbrev pub passing_objects : MachineType → List Object
 passing_objects machine =
     passing machine
@@ -164,7 +182,8 @@ placed_or_passing machine None = record { object = passing machine; section_addr
 placed_or_passing machine (Some p) = p
 
 abbrev pub stub_section : MachineType → ObjectSection
-stub_section machine = section text_name (cnt_code + align_4bytes + mem_execute_read) (stub_bytes machine)
+stub_section machine =
+    section text_name (cnt_code + align_4bytes + mem_execute_read) (stub_bytes machine)
     (stub_relocations machine 2)
 
 abbrev pub stub_of_open : MachineType → Bases → LinkedCode
@@ -179,7 +198,8 @@ stub_of_open machine bases = record {
 abbrev pub passing_codes : MachineType → Bases → List LinkedCode
 passing_codes machine bases = passing_at machine ∷ stub_of_open machine bases ∷ []
 
--- what the symbols of code are taken to be: `open` its stub, `hello` 0x2010, others their addresses in the tables
+-- what the symbols of code are taken to be: `open` its stub, `hello` 0x2010, others their addresses
+-- in the tables
 abbrev pub in_code : MachineType → List ℕ → Option ℕ
 in_code machine name =
     if bytes_eq name (open_on machine) then Some 0x1040
@@ -197,16 +217,19 @@ named_or machine (Some (ASymbol s)) address = or_else (in_code machine s.name) a
 
 abbrev pub passing_targets : MachineType → Bases → LinkedCode → ℕ → ℕ
 passing_targets machine bases c index =
-    named_or machine (slice_get c.from.object.entries index) (target_address (passing_placed machine bases) c.from index)
+    named_or machine (slice_get c.from.object.entries index)
+    (target_address (passing_placed machine bases) c.from index)
 
 -- the image and the code beside it
 abbrev pub passing_image : MachineType → Bases → List Range
 passing_image machine bases = image_of machine bases (passing_placed machine bases)
 
 abbrev pub passing_memory : MachineType → Bases → List Range
-passing_memory machine bases = passing_image machine bases ++ ranges_of_codes (passing_codes machine bases)
+passing_memory machine bases =
+    passing_image machine bases ++ ranges_of_codes (passing_codes machine bases)
 
--- with its base relocations applied, for 0x10000000 on I386, 0x7FF612340000 on AMD64 and 0x40000000 on ARM64
+-- with its base relocations applied, for 0x10000000 on I386, 0x7FF612340000 on AMD64 and 0x40000000
+-- on ARM64
 abbrev pub moved_memory : MachineType → Bases → List Range
 moved_memory I386 bases =
     record { start = 0x1005; bytes = 0x10 ∷ 0x20 ∷ 0 ∷ 0x10 ∷ [] }
@@ -239,18 +262,22 @@ passing_places ARM64 = record { address = 0x1020; width = 8 } ∷ []
 abbrev pub imp_open : MachineType → List ℕ
 imp_open machine = imp_symbol (open_on machine)
 
--- its fields, and what is none: REL32 with 0 in the field where a byte follows, REL32_1 where none does, the field
--- relative to a section, and the offset of a load of 16 bytes
+-- its fields, and what is none: REL32 with 0 in the field where a byte follows, REL32_1 where none
+-- does, the field relative to a section, and the offset of a load of 16 bytes
 pub record PassingFields : Type 0 where
   pub amd64_call : HasInstruction AMD64 (passing_at AMD64) 11 (0xFF ∷ 0x15 ∷ []) [] (imp_open AMD64)
-  pub amd64_compare : HasInstruction AMD64 (passing_at AMD64) 17 (0x83 ∷ 0x3D ∷ []) (1 ∷ []) (imp_open AMD64)
-  pub amd64_again : HasInstruction AMD64 (passing_at AMD64) 24 (0x83 ∷ 0x3D ∷ []) (1 ∷ []) (imp_open AMD64)
-  pub amd64_move : HasInstruction AMD64 (passing_at AMD64) 31 (0x4C ∷ 0x8B ∷ 0x1D ∷ []) [] (imp_open AMD64)
+  pub amd64_compare : HasInstruction AMD64 (passing_at AMD64) 17 (0x83 ∷ 0x3D ∷ []) (1 ∷ [])
+      (imp_open AMD64)
+  pub amd64_again : HasInstruction AMD64 (passing_at AMD64) 24 (0x83 ∷ 0x3D ∷ []) (1 ∷ [])
+      (imp_open AMD64)
+  pub amd64_move : HasInstruction AMD64 (passing_at AMD64) 31 (0x4C ∷ 0x8B ∷ 0x1D ∷ []) []
+      (imp_open AMD64)
   pub amd64_operand : HasOperand AMD64 (passing_at AMD64) 19 1 (imp_open AMD64)
   pub amd64_branch : HasBranch AMD64 (passing_at AMD64) 39 0 (open_on AMD64)
   pub amd64_pointer : HasPointer AMD64 (passing_at AMD64) 52 (imp_open AMD64)
   pub i386_call : HasInstruction I386 (passing_at I386) 9 (0xFF ∷ 0x15 ∷ []) [] (imp_open I386)
-  pub i386_compare : HasInstruction I386 (passing_at I386) 15 (0x83 ∷ 0x3D ∷ []) (1 ∷ []) (imp_open I386)
+  pub i386_compare : HasInstruction I386 (passing_at I386) 15 (0x83 ∷ 0x3D ∷ []) (1 ∷ [])
+      (imp_open I386)
   pub i386_move : HasInstruction I386 (passing_at I386) 22 (0x8B ∷ 0x0D ∷ []) [] (imp_open I386)
   pub i386_operand : HasOperand I386 (passing_at I386) 17 1 (imp_open I386)
   pub i386_pointer : HasPointer I386 (passing_at I386) 28 (imp_open I386)
@@ -264,9 +291,9 @@ pub record PassingFields : Type 0 where
   pub of_a_section : HasOperand AMD64 (passing_at AMD64) 43 0 (codes "hello") → ⊥
   pub of_16_bytes : HasOffsetField (passing_at ARM64) 24 (codes "hello") → ⊥
 
--- The calls of the laws over placed code, right after a field of 4 bytes: through the pointer, after `lea` or `push`; by
--- the name, after `mov` and after an address or the field relative to a section; and ARM64's page and offset after `add`
--- and after one another.
+-- The calls of the laws over placed code, right after a field of 4 bytes: through the pointer,
+-- after `lea` or `push`; by the name, after `mov` and after an address or the field relative to a
+-- section; and ARM64's page and offset after `add` and after one another.
 pub record AdjacentCalls : Type 0 where
   pub amd64_call : HasCall AMD64 (placed_code (passing_at AMD64)) 11 (imp_open AMD64)
   pub amd64_direct : HasDirectCall AMD64 (placed_code (passing_at AMD64)) 38 (open_on AMD64)
@@ -277,19 +304,23 @@ pub record AdjacentCalls : Type 0 where
   -- 8 bytes of an address before them would be changed
   pub addr64 : IsAside AMD64 11 6 (field 7 2 amd64_addr64) → ⊥
 
--- The program is in memory at a base, by these numbers of relocated fields; its second code is the stub of this entry.
-pub record WorkedFields (machine : MachineType) (image_base : ℕ) (bases : Bases) (memory : List Range) (entry : ℕ)
-    : Type 0 where
+-- The program is in memory at a base, by these numbers of relocated fields; its second code is the
+-- stub of this entry.
+pub record WorkedFields (machine : MachineType) (image_base : ℕ) (bases : Bases)
+    (memory : List Range) (entry : ℕ) : Type 0 where
   pub program : IsProgram machine bases (both_inputs machine) (passing_objects machine)
-  pub at : AreInMemory machine image_base (passing_image machine bases) (passing_placed machine bases)
+  pub at : AreInMemory machine image_base (passing_image machine bases)
+      (passing_placed machine bases)
       (passing_codes machine bases) (passing_targets machine bases) memory
-  pub stub : StubAt machine (passing_placed machine bases) (placed_code (stub_of_open machine bases))
+  pub stub : StubAt machine (passing_placed machine bases)
+      (placed_code (stub_of_open machine bases))
       (symbol_of_class (open_on machine) 1 class_external) entry
 
 -- the three programs, as they were linked and moved
 pub record WorkedOperands : Type 0 where
   pub amd64 : WorkedFields AMD64 0x1_4000_0000 touching_8 (passing_memory AMD64 touching_8) 0x80
-  pub amd64_moved : WorkedFields AMD64 0x7FF6_1234_0000 touching_8 (moved_memory AMD64 touching_8) 0x80
+  pub amd64_moved : WorkedFields AMD64 0x7FF6_1234_0000 touching_8 (moved_memory AMD64 touching_8)
+      0x80
   pub i386 : WorkedFields I386 0x40_0000 touching_4 (passing_memory I386 touching_4) 0x60
   pub i386_moved : WorkedFields I386 0x1000_0000 touching_4 (moved_memory I386 touching_4) 0x60
   pub arm64 : WorkedFields ARM64 0x1_4000_0000 touching_8 (passing_memory ARM64 touching_8) 0x80
@@ -308,7 +339,8 @@ pub record WorkedOperands : Type 0 where
 -- I386's code with two fields for addresses that lie on one another
 abbrev pub overlapping_at : LinkedCode
 overlapping_at = record (passing_at I386) {
-  code = record (passing_code I386) { relocations = field 5 2 i386_dir32 ∷ field 7 2 i386_dir32 ∷ [] };
+  code = record (passing_code I386)
+      { relocations = field 5 2 i386_dir32 ∷ field 7 2 i386_dir32 ∷ [] };
 }
 
 -- the codes can be moved
@@ -316,8 +348,10 @@ pub record MovableCode : Type 0 where
   pub amd64 : CanBeMoved AMD64 (passing_codes AMD64 touching_8)
   pub i386 : CanBeMoved I386 (passing_codes I386 touching_4)
   -- so there is memory of AMD64's program at any other base, say at 0x200000000
-  pub somewhere : (memory : List Range) × AreInMemory AMD64 0x2_0000_0000 (passing_image AMD64 touching_8)
-      (passing_placed AMD64 touching_8) (passing_codes AMD64 touching_8) (passing_targets AMD64 touching_8) memory
+  pub somewhere : (memory : List Range)
+      × AreInMemory AMD64 0x2_0000_0000 (passing_image AMD64 touching_8)
+      (passing_placed AMD64 touching_8) (passing_codes AMD64 touching_8)
+      (passing_targets AMD64 touching_8) memory
 
 -- In a program of both flavours: the code of Worked/Calls, whose call at 0x1004 leads to 0x88.
 abbrev pub calling_linked : LinkedCode
@@ -331,16 +365,20 @@ calling_linked = record {
 
 abbrev pub linked_targets : LinkedCode → ℕ → ℕ
 linked_targets c index =
-    named_or AMD64 (slice_get c.from.object.entries index) (target_address flavors_placed c.from index)
+    named_or AMD64 (slice_get c.from.object.entries index)
+    (target_address flavors_placed c.from index)
 
 abbrev pub flavors_linked : List Range
-flavors_linked = image_of AMD64 flavor_bases_8 flavors_placed ++ ranges_of_codes (calling_linked ∷ [])
+flavors_linked =
+    image_of AMD64 flavor_bases_8 flavors_placed ++ ranges_of_codes (calling_linked ∷ [])
 
 -- It is in memory as it was linked for 0x140000000, and at 0x200000000, where nothing changes.
 pub record WorkedFlavorFields : Type 0 where
   pub program : IsProgramOf AMD64 OfMember flavor_bases_8 (flavor_inputs AMD64) calling_flavors
-  pub linked : AreInMemory AMD64 0x1_4000_0000 (image_of AMD64 flavor_bases_8 flavors_placed) flavors_placed
+  pub linked : AreInMemory AMD64 0x1_4000_0000 (image_of AMD64 flavor_bases_8 flavors_placed)
+      flavors_placed
       (calling_linked ∷ []) linked_targets flavors_linked
-  pub moved : AreInMemory AMD64 0x2_0000_0000 (image_of AMD64 flavor_bases_8 flavors_placed) flavors_placed
+  pub moved : AreInMemory AMD64 0x2_0000_0000 (image_of AMD64 flavor_bases_8 flavors_placed)
+      flavors_placed
       (calling_linked ∷ []) linked_targets flavors_linked
   pub call : HasInstruction AMD64 calling_linked 4 (0xFF ∷ 0x15 ∷ []) [] (imp_open AMD64)

@@ -1,5 +1,6 @@
--- A program that GNU ld 2.40 linked: members for mid.dll between the libraries that GNU dlltool 2.40 made for aaa.dll
--- and zzz.dll, whose files are here byte by byte, as is the section `.idata` of what the linker wrote.
+-- A program that GNU ld 2.40 linked: members for mid.dll between the libraries that GNU dlltool
+-- 2.40 made for aaa.dll and zzz.dll, whose files are here byte by byte, as is the section `.idata`
+-- of what the linker wrote.
 use Rattle.std.specs.Prelude.{◌≡◌, ℕ, ◌+◌, List, [], ◌∷◌, ◌++◌, codes, drop, take, Some}
 use Rattle.std.specs.List.{AllByRecursion, filter_map}
 use Rattle.implib.specs.declared.machine.MachineType.TheVariants.{AMD64}
@@ -15,10 +16,11 @@ use Rattle.implib.specs.Worked.Statements.{plain_export}
 use Rattle.implib_link.specs.Directory.{DirectoryAt, Imported}
 use Rattle.implib_link.specs.Gnu.OtherLibraries.{IsProgramBeside, Run}
 use Rattle.implib_link.specs.Gnu.Program.{null_descriptor}
-use Rattle.implib_link_instances.specs.Worked.Programs.{both_inputs, chosen_input, input_objects, program_objects, touching_8}
+use Rattle.implib_link_instances.specs.Worked.Programs.{both_inputs, chosen_input, input_objects}
+use Rattle.implib_link_instances.specs.Worked.Programs.{program_objects, touching_8}
 
--- dlltool's files: head, exports and tail of each DLL; and an object of LLVM's assembler that calls all five
--- exports through their entries
+-- dlltool's files: head, exports and tail of each DLL; and an object of LLVM's assembler that calls
+-- all five exports through their entries
 abbrev pub aaa_head_bytes : List ℕ
 aaa_head_bytes =
     0x64 ∷ 0x86 ∷ 6 ∷ 0 ∷ 0 ∷ 0 ∷ 0 ∷ 0 ∷ 0x36 ∷ 1 ∷ 0 ∷ 0 ∷ 0x10 ∷ 0 ∷ 0 ∷ 0 ∷ 0 ∷ 0 ∷ 4 ∷ 0 ∷ 0x2E ∷
@@ -329,10 +331,12 @@ linker_bases = record {
 
 -- so many of the linker's bytes from an offset on
 abbrev pub range_written : ℕ → ℕ → Range
-range_written offset count = record { start = 0x2000 + offset; bytes = take count (drop offset written) }
+range_written offset count =
+    record { start = 0x2000 + offset; bytes = take count (drop offset written) }
 
 abbrev pub image_written : List Range
-image_written = range_written 0 80 ∷ range_written 0x50 64 ∷ range_written 0x90 64 ∷ range_written 0xD0 40
+image_written =
+    range_written 0 80 ∷ range_written 0x50 64 ∷ range_written 0x90 64 ∷ range_written 0xD0 40
     ∷ range_written 0xF8 44 ∷ []
 
 abbrev pub beside_image : List Range
@@ -341,12 +345,14 @@ beside_image = image_of AMD64 linker_bases (placed_from linker_bases beside_obje
 -- the same, but that the last member for aaa.dll, with the null thunks, is after ours
 abbrev pub torn_objects : List Object
 torn_objects = objects_of (caller_bytes ∷ aaa_head_bytes ∷ aone_bytes ∷ atwo_bytes ∷ [])
-    ++ (input_objects AMD64 mid_input ++ (objects_of (aaa_tail_bytes ∷ []) ++ (zzz_objects ++ null_descriptor ∷ [])))
+    ++ (input_objects AMD64 mid_input
+    ++ (objects_of (aaa_tail_bytes ∷ []) ++ (zzz_objects ++ null_descriptor ∷ [])))
 
--- The premises of the law hold of these files, and the image that the definitions make of them is what the linker
--- wrote, byte for byte. By the law, the directory is this, and our entries are those that the linker's map has.
--- With a library torn apart, the lookup table of aaa.dll goes on with the hint and name of `mone`. The program of
--- Worked/Programs is such a program without other libraries.
+-- The premises of the law hold of these files, and the image that the definitions make of them is
+-- what the linker wrote, byte for byte. By the law, the directory is this, and our entries are
+-- those that the linker's map has.
+-- With a library torn apart, the lookup table of aaa.dll goes on with the hint and name of `mone`.
+-- The program of Worked/Programs is such a program without other libraries.
 pub record WorkedBeside : Type 0 where
   pub made : AllByRecursion (λ r. AllByRecursion (IsMade AMD64) r.inputs) both_runs
   pub program : IsProgramBeside AMD64 linker_bases both_runs beside_objects
@@ -356,9 +362,13 @@ pub record WorkedBeside : Type 0 where
       ∷ record { dll = codes "mid.dll"; asks = Name (codes "mone") 0 ∷ Name (codes "mtwo") 0 ∷ [] }
       ∷ zzz
       ∷ [])
-  pub mone : addresses_of (codes "__imp_mone") (placed_from linker_bases beside_objects) ≡ Some 0x20A8 ∷ []
-  pub mtwo : addresses_of (codes "__imp_mtwo") (placed_from linker_bases beside_objects) ≡ Some 0x20B0 ∷ []
-  pub torn : numbers_from (image_of AMD64 linker_bases (placed_from linker_bases torn_objects)) 8 3 0x2050
+  pub mone : addresses_of (codes "__imp_mone") (placed_from linker_bases beside_objects)
+      ≡ Some 0x20A8 ∷ []
+  pub mtwo : addresses_of (codes "__imp_mtwo") (placed_from linker_bases beside_objects)
+      ≡ Some 0x20B0 ∷ []
+  pub torn : numbers_from (image_of AMD64 linker_bases (placed_from linker_bases torn_objects)) 8 3
+      0x2050
       ≡ Some (0x20D0 ∷ 0x20D8 ∷ 0x20E0 ∷ [])
   pub none : IsProgramBeside AMD64 touching_8
-      (record { objects = []; imports = []; inputs = both_inputs AMD64 } ∷ []) (program_objects AMD64)
+      (record { objects = []; imports = []; inputs = both_inputs AMD64 } ∷ [])
+      (program_objects AMD64)

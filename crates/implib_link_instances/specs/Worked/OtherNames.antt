@@ -1,9 +1,10 @@
--- Names that stand for others in links, by real linkers, which wrote the same bytes as for the names themselves. By GNU
--- ld 2.40 the program of Parts on AMD64, whose object has `zoo_oped` and `__imp_zoo_oped`, with
--- `--defsym=zoo_oped=zoo_open` and `--defsym=__imp_zoo_oped=__imp_zoo_open`. By lld-link 14.0.6 and 19.1.7 that of
--- LldPrograms on AMD64, whose object has `mad` and `__imp_gea`, with `/alternatename:mad=mid` and
--- `/alternatename:__imp_gea=__imp_gee`.
-use Rattle.std.specs.Prelude.{◌≡◌, ℕ, List, [], ◌∷◌, ◌++◌, bytes_eq, codes, length, slice_get, if◌then◌else◌}
+-- Names that stand for others in links, by real linkers, which wrote the same bytes as for the
+-- names themselves. By GNU ld 2.40 the program of Parts on AMD64, whose object has `zoo_oped` and
+-- `__imp_zoo_oped`, with `--defsym=zoo_oped=zoo_open` and `--defsym=__imp_zoo_oped=__imp_zoo_open`.
+-- By lld-link 14.0.6 and 19.1.7 that of LldPrograms on AMD64, whose object has `mad` and
+-- `__imp_gea`, with `/alternatename:mad=mid` and `/alternatename:__imp_gea=__imp_gee`.
+use Rattle.std.specs.Prelude.{◌≡◌, ℕ, List, [], ◌∷◌, ◌++◌, bytes_eq, codes, length, slice_get}
+use Rattle.std.specs.Prelude.{if◌then◌else◌}
 use Rattle.implib.specs.declared.machine.MachineType.TheVariants.{AMD64}
 use Rattle.implib.specs.Formats.Constants.{class_external}
 use Rattle.implib.specs.Formats.Object.{ASymbol, Object}
@@ -14,20 +15,27 @@ use Rattle.implib_link.specs.Flavors.LldImports.{IsLldProgram, placed_by_lld}
 use Rattle.implib_link.specs.Flavors.LldThunks.{BranchArrivesByThunk, IsThunk, placed_thunk}
 use Rattle.implib_link.specs.Gnu.Aliases.{StandsFor}
 use Rattle.implib_link.specs.Gnu.Calls.{DirectCallArrives, HasDirectCall, StubAt}
-use Rattle.implib_link.specs.Gnu.Fields.{AreLinkedBeside, DefinesIn, LinkedCode, placed_code, ranges_of_codes}
+use Rattle.implib_link.specs.Gnu.Fields.{AreLinkedBeside, DefinesIn, LinkedCode, placed_code}
+use Rattle.implib_link.specs.Gnu.Fields.{ranges_of_codes}
 use Rattle.implib_link.specs.Gnu.Operands.{AllLeadTo, HasBranch, HasInstruction}
 use Rattle.implib_link.specs.Gnu.Program.{null_descriptor}
 use Rattle.implib_link.specs.Gnu.Reading.{ReadsAndWrites}
 use Rattle.implib_link.specs.Parts.{IsProgramOfParts}
 use Rattle.implib_link.specs.Tables.{AreSteady}
 use Rattle.implib_link_instances.specs.But.Links.{MissesStandsFor}
-use Rattle.implib_link_instances.specs.Worked.LldPrograms.{addresses_on, calling_object, code_of_object, code_of_thunk, lld_image_on, mid_on, shorts_on, taken_address}
+use Rattle.implib_link_instances.specs.Worked.LldPrograms.{addresses_on, calling_object}
+use Rattle.implib_link_instances.specs.Worked.LldPrograms.{code_of_object, code_of_thunk}
+use Rattle.implib_link_instances.specs.Worked.LldPrograms.{lld_image_on, mid_on, shorts_on}
+use Rattle.implib_link_instances.specs.Worked.LldPrograms.{taken_address}
 use Rattle.implib_link_instances.specs.Worked.Older.{named_start}
 use Rattle.implib_link_instances.specs.Worked.OtherLibraries.{objects_of}
-use Rattle.implib_link_instances.specs.Worked.Parts.{first_section, gnu_bases, gnu_image, kernel, placed_or_null, start_code, stub_code, zoo, zoo_parts}
+use Rattle.implib_link_instances.specs.Worked.Parts.{first_section, gnu_bases, gnu_image, kernel}
+use Rattle.implib_link_instances.specs.Worked.Parts.{placed_or_null, start_code, stub_code, zoo}
+use Rattle.implib_link_instances.specs.Worked.Parts.{zoo_parts}
 use Rattle.implib_link_instances.specs.Worked.Programs.{input_objects, symbol_of_class}
 
--- GNU ld's program: what is linked, and the code of the object and the stub, with the addresses of their symbols
+-- GNU ld's program: what is linked, and the code of the object and the stub, with the addresses of
+-- their symbols
 abbrev pub other_objects : List Object
 other_objects = objects_of (named_start (codes "zoo_oped") (codes "__imp_zoo_oped") ∷ [])
     ++ (kernel.objects ++ (input_objects AMD64 zoo ++ null_descriptor ∷ []))
@@ -46,10 +54,12 @@ other_codes = other_start ∷ stub_code ∷ []
 
 abbrev pub other_address : List ℕ → ℕ
 other_address name =
-    if bytes_eq name (codes ".data") then 0x2000 else if bytes_eq name (codes "__imp_zoo_oped") then 0x3070 else 0x1030
+    if bytes_eq name (codes ".data") then 0x2000 else if bytes_eq name (codes "__imp_zoo_oped")
+    then 0x3070 else 0x1030
 
 abbrev pub other_targets : LinkedCode → ℕ → ℕ
-other_targets c index = taken_address other_address other_linked c.from (slice_get c.from.object.entries index)
+other_targets c index =
+    taken_address other_address other_linked c.from (slice_get c.from.object.entries index)
 
 abbrev pub other_memory : List Range
 other_memory = gnu_image ++ ranges_of_codes other_codes
@@ -69,7 +79,8 @@ other_placed = record { object = other_object; section_addresses = Unplaced ∷ 
 
 abbrev pub lld_other_linked : List Placed
 lld_other_linked =
-    other_placed ∷ placed_by_lld AMD64 (addresses_on AMD64) (shorts_on AMD64) ∷ placed_thunk AMD64 (mid_on AMD64) ∷ []
+    other_placed ∷ placed_by_lld AMD64 (addresses_on AMD64) (shorts_on AMD64)
+    ∷ placed_thunk AMD64 (mid_on AMD64) ∷ []
 
 abbrev pub lld_other_code : LinkedCode
 lld_other_code = record (code_of_object AMD64) { from = other_placed }
@@ -94,8 +105,9 @@ StandsInGnu name other = StandsFor other_linked other_codes other_targets name o
 abbrev pub StandsInLld : List ℕ → List ℕ → Type 0
 StandsInLld name other = StandsFor lld_other_linked lld_other_codes lld_other_targets name other
 
--- Each program meets all that the law of such names asks for. So where a loader that knows nothing else has read it, the
--- call of the bare name goes to what the DLL gives, and so does what goes through the entry.
+-- Each program meets all that the law of such names asks for. So where a loader that knows nothing
+-- else has read it, the call of the bare name goes to what the DLL gives, and so does what goes
+-- through the entry.
 pub record WorkedOtherNames : Type 0 where
   pub program : IsProgramOfParts AMD64 gnu_bases zoo_parts other_objects
   pub image : image_of AMD64 gnu_bases other_linked ≡ gnu_image
@@ -103,31 +115,38 @@ pub record WorkedOtherNames : Type 0 where
   pub beside : AreLinkedBeside AMD64 0x1_4000_0000 gnu_image other_linked other_codes other_targets
   pub entry : StandsInGnu (codes "__imp_zoo_oped") (codes "__imp_zoo_open")
   pub bare : StandsInGnu (codes "zoo_oped") (codes "zoo_open")
-  pub through_entry : HasInstruction AMD64 other_start 5 (0xFF ∷ 0x15 ∷ []) [] (codes "__imp_zoo_oped")
+  pub through_entry : HasInstruction AMD64 other_start 5 (0xFF ∷ 0x15 ∷ []) []
+      (codes "__imp_zoo_oped")
   pub call : HasDirectCall AMD64 (placed_code other_start) 13 (codes "zoo_oped")
   pub defines : DefinesIn stub_code (symbol_of_class (codes "zoo_open") 1 class_external)
-  pub stub : StubAt AMD64 other_linked (placed_code stub_code) (symbol_of_class (codes "zoo_open") 1 class_external) 0x3070
+  pub stub : StubAt AMD64 other_linked (placed_code stub_code)
+      (symbol_of_class (codes "zoo_open") 1 class_external) 0x3070
   pub arrive : (gives : List ℕ → Ask → List ℕ) (n : ℕ) (written : List Range) →
       ((dll : List ℕ) (ask : Ask) → length (gives dll ask) ≡ 8) →
       ReadsAndWrites other_memory 8 gives n 0x3000 written →
-      AllLeadTo AMD64 0x1_4000_0000 other_linked other_codes (written ++ other_memory) (codes "__imp_zoo_oped")
+      AllLeadTo AMD64 0x1_4000_0000 other_linked other_codes (written ++ other_memory)
+      (codes "__imp_zoo_oped")
       (codes "__imp_zoo_open") (gives (codes "zoo.dll") (Name (codes "zoo_open") 0))
       × DirectCallArrives AMD64 0x1_4000_0000 (written ++ other_memory) 0x100D
       (gives (codes "zoo.dll") (Name (codes "zoo_open") 0))
 
 pub record WorkedAlternateNames : Type 0 where
-  pub program : IsLldProgram AMD64 0x2000 0x2068 (shorts_on AMD64) (lld_image_on AMD64) lld_other_linked
+  pub program : IsLldProgram AMD64 0x2000 0x2068 (shorts_on AMD64) (lld_image_on AMD64)
+      lld_other_linked
   pub steady : AreSteady AMD64 lld_other_linked
-  pub beside : AreLinkedBeside AMD64 0x1_4000_0000 (lld_image_on AMD64) lld_other_linked lld_other_codes lld_other_targets
+  pub beside : AreLinkedBeside AMD64 0x1_4000_0000 (lld_image_on AMD64) lld_other_linked
+      lld_other_codes lld_other_targets
   pub entry : StandsInLld (codes "__imp_gea") (codes "__imp_gee")
   pub bare : StandsInLld (codes "mad") (codes "mid")
-  pub through_entry : HasInstruction AMD64 lld_other_code 6 (0x48 ∷ 0x8B ∷ 5 ∷ []) [] (codes "__imp_gea")
+  pub through_entry : HasInstruction AMD64 lld_other_code 6 (0x48 ∷ 0x8B ∷ 5 ∷ []) []
+      (codes "__imp_gea")
   pub branch : HasBranch AMD64 lld_other_code 14 0 (codes "mad")
   pub thunk : IsThunk AMD64 (code_of_thunk AMD64) (mid_on AMD64)
   pub arrive : (gives : List ℕ → Ask → List ℕ) (n : ℕ) (written : List Range) →
       ((dll : List ℕ) (ask : Ask) → length (gives dll ask) ≡ 8) →
       ReadsAndWrites lld_other_memory 8 gives n 0x2000 written →
-      AllLeadTo AMD64 0x1_4000_0000 lld_other_linked lld_other_codes (written ++ lld_other_memory) (codes "__imp_gea")
+      AllLeadTo AMD64 0x1_4000_0000 lld_other_linked lld_other_codes (written ++ lld_other_memory)
+      (codes "__imp_gea")
       (codes "__imp_gee") (gives (codes "alpha.dll") (Name (codes "gee") 258))
       × BranchArrivesByThunk AMD64 0x1_4000_0000 (written ++ lld_other_memory) 0x100E 0
       (gives (codes "beta.dll") (Ordinal 7))

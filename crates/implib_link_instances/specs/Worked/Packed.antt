@@ -12,8 +12,8 @@ use Rattle.implib_link.specs.Gnu.Program.{null_descriptor}
 use Rattle.implib_link.specs.Flavors.Program.{IsProgram}
 use Rattle.implib_link_instances.specs.Worked.Programs.{both_inputs, program_objects, touching_8}
 
--- the bases of the programs packed from 0x1001 on, for thunks of 8 and of 4 bytes: the descriptors from the
--- first multiple of 8 on, the others after one another
+-- the bases of the programs packed from 0x1001 on, for thunks of 8 and of 4 bytes: the descriptors
+-- from the first multiple of 8 on, the others after one another
 abbrev pub packed_8 : Bases
 packed_8 = record {
   descriptors = 0x1008;
@@ -38,22 +38,27 @@ packed_4 = record {
 abbrev pub alone : MachineType → List Object
 alone machine = objects_in (all_linked machine (both_inputs machine)) ++ null_descriptor ∷ []
 
--- The packed program of a machine has these bases and this end, and they are admissible; so are those of the
--- members alone, which are a program.
+-- The packed program of a machine has these bases and this end, and they are admissible; so are
+-- those of the members alone, which are a program.
 pub record WorkedPacking (machine : MachineType) (bases : Bases) (end : ℕ) : Type 0 where
   pub bases_are : packed 0x1001 (program_objects machine) ≡ bases
   pub end_is : packed_end 0x1001 (program_objects machine) ≡ end
-  pub admissible : IsAdmissible machine (packed 0x1001 (program_objects machine)) (program_objects machine)
-  pub program : IsProgram machine (packed 0x1001 (alone machine)) (both_inputs machine) (alone machine)
+  pub admissible : IsAdmissible machine (packed 0x1001 (program_objects machine))
+      (program_objects machine)
+  pub program : IsProgram machine (packed 0x1001 (alone machine)) (both_inputs machine)
+      (alone machine)
 
--- On all four machines. Right below 2^31 there is no room: the end is above it, and the bases are not
--- admissible. Where ranges touch, the members link in any order, and with the null descriptor are a program.
+-- On all four machines. Right below 2^31 there is no room: the end is above it, and the bases are
+-- not admissible. Where ranges touch, the members link in any order, and with the null descriptor
+-- are a program.
 pub record WorkedPackings : Type 0 where
   pub amd64 : WorkedPacking AMD64 packed_8 0x10FC
   pub arm64 : WorkedPacking ARM64 packed_8 0x10FC
   pub i386 : WorkedPacking I386 packed_4 0x10CC
   pub armnt : WorkedPacking ARMNT packed_4 0x10CC
   pub too_far : packed_end 0x7FFF_FFF8 (program_objects AMD64) < 2 ^ 31 → ⊥
-  pub no_room : IsAdmissible AMD64 (packed 0x7FFF_FFF8 (program_objects AMD64)) (program_objects AMD64) → ⊥
-  pub any_order : AllLink AMD64 touching_8 (both_inputs AMD64) (objects_in (all_linked AMD64 (both_inputs AMD64)))
+  pub no_room : IsAdmissible AMD64 (packed 0x7FFF_FFF8 (program_objects AMD64))
+      (program_objects AMD64) → ⊥
+  pub any_order : AllLink AMD64 touching_8 (both_inputs AMD64)
+      (objects_in (all_linked AMD64 (both_inputs AMD64)))
   pub touching : IsProgram AMD64 touching_8 (both_inputs AMD64) (alone AMD64)

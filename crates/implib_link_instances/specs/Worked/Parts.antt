@@ -1,7 +1,8 @@
--- Programs of libraries of GNU dlltool 2.40 and of ones made here, by the parts that they are of: the program of
--- OtherLibraries, and one of kernel32.dll and zoo.dll that GNU ld 2.40 and ld.lld 19.1.7 linked on AMD64 and on I386,
--- whose files are here byte by byte.
-use Rattle.std.specs.Prelude.{◌≡◌, ℕ, ◌-◌, List, [], ◌∷◌, ◌++◌, bytes_eq, codes, drop, length, slice_get, take, Option, Some, None, if◌then◌else◌}
+-- Programs of libraries of GNU dlltool 2.40 and of ones made here, by the parts that they are of:
+-- the program of OtherLibraries, and one of kernel32.dll and zoo.dll that GNU ld 2.40 and ld.lld
+-- 19.1.7 linked on AMD64 and on I386, whose files are here byte by byte.
+use Rattle.std.specs.Prelude.{◌≡◌, ℕ, ◌-◌, List, [], ◌∷◌, ◌++◌, bytes_eq, codes, drop, length}
+use Rattle.std.specs.Prelude.{slice_get, take, Option, Some, None, if◌then◌else◌}
 use Rattle.std.specs.List.{AllByRecursion}
 use Rattle.implib.specs.declared.machine.MachineType.{MachineType}
 use Rattle.implib.specs.declared.machine.MachineType.TheVariants.{I386, AMD64}
@@ -21,11 +22,13 @@ use Rattle.implib_link.specs.Gnu.Reading.{ReadsAndWrites}
 use Rattle.implib_link.specs.Parts.{IsPart, IsProgramOfParts, Part, part_of}
 use Rattle.implib_link.specs.Tables.{AreSteady, AreTables, Table, TableEntry}
 use Rattle.implib_link_instances.specs.Worked.LldPrograms.{taken_address}
-use Rattle.implib_link_instances.specs.Worked.OtherLibraries.{aaa_objects, beside_objects, image_written, linker_bases, mid_input, objects_of, zzz_objects}
+use Rattle.implib_link_instances.specs.Worked.OtherLibraries.{aaa_objects, beside_objects}
+use Rattle.implib_link_instances.specs.Worked.OtherLibraries.{image_written, linker_bases}
+use Rattle.implib_link_instances.specs.Worked.OtherLibraries.{mid_input, objects_of, zzz_objects}
 use Rattle.implib_link_instances.specs.Worked.Programs.{chosen_input, input_objects}
 
--- dlltool's files for kernel32.dll on AMD64, head, export and tail; and an object of GNU C, which calls through entries
--- and by a bare name
+-- dlltool's files for kernel32.dll on AMD64, head, export and tail; and an object of GNU C, which
+-- calls through entries and by a bare name
 abbrev pub kernel_head_bytes : List ℕ
 kernel_head_bytes =
     0x64 ∷ 0x86 ∷ 6 ∷ 0 ∷ 0 ∷ 0 ∷ 0 ∷ 0 ∷ 0x36 ∷ 1 ∷ 0 ∷ 0 ∷ 0x10 ∷ 0 ∷ 0 ∷ 0 ∷ 0 ∷ 0 ∷ 4 ∷ 0 ∷ 0x2E ∷ 0x74 ∷ 0x65 ∷
@@ -261,7 +264,8 @@ i386_start_bytes =
     0x6D ∷ 0x70 ∷ 0x5F ∷ 0x5F ∷ 0x45 ∷ 0x78 ∷ 0x69 ∷ 0x74 ∷ 0x50 ∷ 0x72 ∷ 0x6F ∷ 0x63 ∷ 0x65 ∷ 0x73 ∷ 0x73 ∷ 0x40 ∷
     0x34 ∷ 0 ∷ 0x5F ∷ 0x7A ∷ 0x6F ∷ 0x6F ∷ 0x5F ∷ 0x6F ∷ 0x70 ∷ 0x65 ∷ 0x6E ∷ 0 ∷ []
 
--- what the linkers wrote, from their descriptors on: GNU ld at 0x3000, ld.lld at 0x2020 on AMD64 and at 0x2010 on I386
+-- what the linkers wrote, from their descriptors on: GNU ld at 0x3000, ld.lld at 0x2020 on AMD64
+-- and at 0x2010 on I386
 abbrev pub gnu_written : List ℕ
 gnu_written =
     0x40 ∷ 0x30 ∷ 0 ∷ 0 ∷ 0 ∷ 0 ∷ 0 ∷ 0 ∷ 0 ∷ 0 ∷ 0 ∷ 0 ∷ 0xA0 ∷ 0x30 ∷ 0 ∷ 0 ∷ 0x60 ∷ 0x30 ∷ 0 ∷ 0 ∷ 0x50 ∷ 0x30 ∷
@@ -317,19 +321,27 @@ table_at dll address entries = record { dll = dll; address = address; entries = 
 
 -- aaa.dll and zzz.dll of dlltool, and mid.dll of ours between them
 abbrev pub aaa_entries : List TableEntry
-aaa_entries = asking (codes "aone") 1 (codes "__imp_aone") ∷ asking (codes "atwo") 2 (codes "__imp_atwo") ∷ []
+aaa_entries =
+    asking (codes "aone") 1 (codes "__imp_aone") ∷ asking (codes "atwo") 2 (codes "__imp_atwo") ∷ []
 
 abbrev pub mid_entries : List TableEntry
-mid_entries = asking (codes "mone") 0 (codes "__imp_mone") ∷ asking (codes "mtwo") 0 (codes "__imp_mtwo") ∷ []
+mid_entries =
+    asking (codes "mone") 0 (codes "__imp_mone") ∷ asking (codes "mtwo") 0 (codes "__imp_mtwo") ∷ []
 
 abbrev pub zzz_entries : List TableEntry
 zzz_entries = asking (codes "zone") 1 (codes "__imp_zone") ∷ []
 
 abbrev pub aaa_part : Part
-aaa_part = record { objects = aaa_objects; table = record { dll = codes "aaa.dll"; entries = aaa_entries } }
+aaa_part = record {
+  objects = aaa_objects;
+  table = record { dll = codes "aaa.dll"; entries = aaa_entries };
+}
 
 abbrev pub zzz_part : Part
-zzz_part = record { objects = zzz_objects; table = record { dll = codes "zzz.dll"; entries = zzz_entries } }
+zzz_part = record {
+  objects = zzz_objects;
+  table = record { dll = codes "zzz.dll"; entries = zzz_entries };
+}
 
 abbrev pub beside_parts : List Part
 beside_parts = aaa_part ∷ part_of AMD64 mid_input ∷ zzz_part ∷ []
@@ -338,15 +350,20 @@ beside_parts = aaa_part ∷ part_of AMD64 mid_input ∷ zzz_part ∷ []
 abbrev pub kernel_part : List (List ℕ) → List ℕ → ℕ → Part
 kernel_part files symbol hint = record {
   objects = objects_of files;
-  table = record { dll = codes "kernel32.dll"; entries = asking (codes "ExitProcess") hint symbol ∷ [] };
+  table = record {
+    dll = codes "kernel32.dll";
+    entries = asking (codes "ExitProcess") hint symbol ∷ [];
+  };
 }
 
 abbrev pub kernel : Part
-kernel = kernel_part (kernel_head_bytes ∷ exit_bytes ∷ kernel_tail_bytes ∷ []) (codes "__imp_ExitProcess") 1
+kernel = kernel_part (kernel_head_bytes ∷ exit_bytes ∷ kernel_tail_bytes ∷ [])
+    (codes "__imp_ExitProcess") 1
 
 abbrev pub i386_kernel : Part
 i386_kernel =
-    kernel_part (i386_kernel_head_bytes ∷ i386_exit_bytes ∷ i386_kernel_tail_bytes ∷ []) (codes "__imp__ExitProcess@4") 1
+    kernel_part (i386_kernel_head_bytes ∷ i386_exit_bytes ∷ i386_kernel_tail_bytes ∷ [])
+    (codes "__imp__ExitProcess@4") 1
 
 abbrev pub zoo_input : MachineType → List ℕ → LinkInput
 zoo_input machine symbol =
@@ -365,7 +382,8 @@ abbrev pub i386_zoo_parts : List Part
 i386_zoo_parts = i386_kernel ∷ part_of I386 i386_zoo ∷ []
 
 abbrev pub zoo_objects : List Object
-zoo_objects = objects_of (start_bytes ∷ []) ++ (kernel.objects ++ (input_objects AMD64 zoo ++ null_descriptor ∷ []))
+zoo_objects = objects_of (start_bytes ∷ [])
+    ++ (kernel.objects ++ (input_objects AMD64 zoo ++ null_descriptor ∷ []))
 
 abbrev pub i386_zoo_objects : List Object
 i386_zoo_objects = objects_of (i386_start_bytes ∷ [])
@@ -414,38 +432,47 @@ i386_lld_bases = record {
 
 -- so many of the bytes that are written from an address on, at a later one
 abbrev pub range_of : List ℕ → ℕ → ℕ → ℕ → Range
-range_of written from start count = record { start = start; bytes = take count (drop (start - from) written) }
+range_of written from start count =
+    record { start = start; bytes = take count (drop (start - from) written) }
 
 abbrev pub gnu_image : List Range
-gnu_image = range_of gnu_written 0x3000 0x3000 60 ∷ range_of gnu_written 0x3000 0x3040 32 ∷ range_of gnu_written 0x3000 0x3060 32
+gnu_image = range_of gnu_written 0x3000 0x3000 60 ∷ range_of gnu_written 0x3000 0x3040 32
+    ∷ range_of gnu_written 0x3000 0x3060 32
     ∷ range_of gnu_written 0x3000 0x3080 25 ∷ range_of gnu_written 0x3000 0x309C 32 ∷ []
 
 abbrev pub lld_image : List Range
-lld_image = range_of lld_written 0x2020 0x2020 60 ∷ range_of lld_written 0x2020 0x205C 32 ∷ range_of lld_written 0x2020 0x207C 32
+lld_image = range_of lld_written 0x2020 0x2020 60 ∷ range_of lld_written 0x2020 0x205C 32
+    ∷ range_of lld_written 0x2020 0x207C 32
     ∷ range_of lld_written 0x2020 0x209C 25 ∷ range_of lld_written 0x2020 0x20B8 32 ∷ []
 
 abbrev pub i386_gnu_image : List Range
-i386_gnu_image = range_of i386_gnu_written 0x3000 0x3000 60 ∷ range_of i386_gnu_written 0x3000 0x303C 16 ∷ range_of i386_gnu_written 0x3000 0x304C 16
+i386_gnu_image = range_of i386_gnu_written 0x3000 0x3000 60
+    ∷ range_of i386_gnu_written 0x3000 0x303C 16 ∷ range_of i386_gnu_written 0x3000 0x304C 16
     ∷ range_of i386_gnu_written 0x3000 0x305C 25 ∷ range_of i386_gnu_written 0x3000 0x3078 32 ∷ []
 
 abbrev pub i386_lld_image : List Range
-i386_lld_image = range_of i386_lld_written 0x2010 0x2010 60 ∷ range_of i386_lld_written 0x2010 0x204C 16 ∷ range_of i386_lld_written 0x2010 0x205C 16
+i386_lld_image = range_of i386_lld_written 0x2010 0x2010 60
+    ∷ range_of i386_lld_written 0x2010 0x204C 16 ∷ range_of i386_lld_written 0x2010 0x205C 16
     ∷ range_of i386_lld_written 0x2010 0x206C 25 ∷ range_of i386_lld_written 0x2010 0x2088 32 ∷ []
 
 abbrev pub zoo_tables : ℕ → ℕ → List Table
-zoo_tables first second = table_at (codes "kernel32.dll") first (asking (codes "ExitProcess") 1 (codes "__imp_ExitProcess") ∷ [])
+zoo_tables first second =
+    table_at (codes "kernel32.dll") first
+    (asking (codes "ExitProcess") 1 (codes "__imp_ExitProcess") ∷ [])
     ∷ table_at (codes "zoo.dll") second (asking (codes "zoo_open") 0 (codes "__imp_zoo_open") ∷ [])
     ∷ []
 
 abbrev pub i386_zoo_tables : ℕ → ℕ → List Table
 i386_zoo_tables first second =
-    table_at (codes "kernel32.dll") first (asking (codes "ExitProcess") 1 (codes "__imp__ExitProcess@4") ∷ [])
+    table_at (codes "kernel32.dll") first
+    (asking (codes "ExitProcess") 1 (codes "__imp__ExitProcess@4") ∷ [])
     ∷ table_at (codes "zoo.dll") second (asking (codes "zoo_open") 0 (codes "__imp__zoo_open") ∷ [])
     ∷ []
 
--- A program of parts whose image is what a linker wrote, byte for byte: so these are its import tables, and they store
--- no address whole.
-pub record IsWritten (machine : MachineType) (bases : Bases) (parts : List Part) (objects : List Object)
+-- A program of parts whose image is what a linker wrote, byte for byte: so these are its import
+-- tables, and they store no address whole.
+pub record IsWritten (machine : MachineType) (bases : Bases) (parts : List Part)
+    (objects : List Object)
     (written : List Range) (tables : List Table) : Type 0 where
   pub parts_are : AllByRecursion (IsPart machine) parts
   pub program : IsProgramOfParts machine bases parts objects
@@ -464,11 +491,14 @@ pub record WorkedParts : Type 0 where
       ∷ table_at (codes "zzz.dll") 0x20C0 zzz_entries ∷ [])
   pub gnu : IsWritten AMD64 gnu_bases zoo_parts zoo_objects gnu_image (zoo_tables 0x3060 0x3070)
   pub lld : IsWritten AMD64 lld_bases zoo_parts zoo_objects lld_image (zoo_tables 0x207C 0x208C)
-  pub i386_gnu : IsWritten I386 i386_gnu_bases i386_zoo_parts i386_zoo_objects i386_gnu_image (i386_zoo_tables 0x304C 0x3054)
-  pub i386_lld : IsWritten I386 i386_lld_bases i386_zoo_parts i386_zoo_objects i386_lld_image (i386_zoo_tables 0x205C 0x2064)
+  pub i386_gnu : IsWritten I386 i386_gnu_bases i386_zoo_parts i386_zoo_objects i386_gnu_image
+      (i386_zoo_tables 0x304C 0x3054)
+  pub i386_lld : IsWritten I386 i386_lld_bases i386_zoo_parts i386_zoo_objects i386_lld_image
+      (i386_zoo_tables 0x205C 0x2064)
 
--- On AMD64, as GNU ld linked it for 0x140000000: the object's code, which calls through the entry of `zoo_open`, by that
--- name and by a pointer of its own at 0x2000, and jumps through the entry of `ExitProcess`; and the stub of `zoo_open`.
+-- On AMD64, as GNU ld linked it for 0x140000000: the object's code, which calls through the entry
+-- of `zoo_open`, by that name and by a pointer of its own at 0x2000, and jumps through the entry of
+-- `ExitProcess`; and the stub of `zoo_open`.
 abbrev pub zoo_linked : List Placed
 zoo_linked = placed_from gnu_bases zoo_objects
 
@@ -502,7 +532,8 @@ abbrev pub zoo_codes : List LinkedCode
 zoo_codes = start_code ∷ stub_code ∷ []
 
 abbrev pub zoo_targets : LinkedCode → ℕ → ℕ
-zoo_targets c index = taken_address (λ name. if bytes_eq name (codes ".data") then 0x2000 else 0x1030) zoo_linked c.from
+zoo_targets c index = taken_address
+    (λ name. if bytes_eq name (codes ".data") then 0x2000 else 0x1030) zoo_linked c.from
     (slice_get c.from.object.entries index)
 
 abbrev pub zoo_memory : List Range
@@ -513,8 +544,9 @@ abbrev pub ArrivesAt : List Range → ℕ → List ℕ → List ℕ → List ℕ
 ArrivesAt memory position head name bytes =
     InstructionArrives AMD64 0x1_4000_0000 zoo_linked memory position head [] name bytes
 
--- The code is in memory beside the tables, and has a call and a jump through entries; so where a loader that knows
--- nothing else has read them, it stopped after two descriptors, and both go to what their DLLs give.
+-- The code is in memory beside the tables, and has a call and a jump through entries; so where a
+-- loader that knows nothing else has read them, it stopped after two descriptors, and both go to
+-- what their DLLs give.
 pub record WorkedReach : Type 0 where
   pub at : AreInMemory AMD64 0x1_4000_0000 gnu_image zoo_linked zoo_codes zoo_targets zoo_memory
   pub call : HasInstruction AMD64 start_code 5 (0xFF ∷ 0x15 ∷ []) [] (codes "__imp_zoo_open")

@@ -1,9 +1,10 @@
--- Pointers that code reads, by hand: a program as in Worked/Programs, whose own code reads the address of `stat`,
--- which is data of foo.dll, through its entry, on three machines.
+-- Pointers that code reads, by hand: a program as in Worked/Programs, whose own code reads the
+-- address of `stat`, which is data of foo.dll, through its entry, on three machines.
 use Rattle.std.specs.Prelude.{◌≡◌, ℕ, ◌+◌, List, [], ◌∷◌, ◌++◌, codes, map, Some}
 use Rattle.implib.specs.declared.machine.MachineType.{MachineType}
 use Rattle.implib.specs.declared.machine.MachineType.TheVariants.{I386, AMD64, ARM64}
-use Rattle.implib.specs.Formats.Constants.{align_16bytes, class_external, cnt_code, mem_execute_read}
+use Rattle.implib.specs.Formats.Constants.{align_16bytes, class_external, cnt_code}
+use Rattle.implib.specs.Formats.Constants.{mem_execute_read}
 use Rattle.implib.specs.Formats.Object.{ASymbol, Object, ObjectSection}
 use Rattle.implib.specs.Import.{imp_symbol}
 use Rattle.implib.specs.Link.Placement.{Bases, Placed, Unplaced, placed_from}
@@ -13,7 +14,9 @@ use Rattle.implib_link.specs.Gnu.Calls.{PlacedCode, moved_by}
 use Rattle.implib_link.specs.Gnu.Pointers.{HasLoad, load_bytes, load_reads, load_relocations}
 use Rattle.implib_link.specs.Gnu.Program.{null_descriptor}
 use Rattle.implib_link_instances.specs.Worked.Calls.{calling, first_bytes, last_bytes}
-use Rattle.implib_link_instances.specs.Worked.Programs.{foo_input, input_objects, symbol_of_class, symbol_on, touching_4, touching_8, zed_input}
+use Rattle.implib_link_instances.specs.Worked.Programs.{foo_input, input_objects, symbol_of_class}
+use Rattle.implib_link_instances.specs.Worked.Programs.{symbol_on, touching_4, touching_8}
+use Rattle.implib_link_instances.specs.Worked.Programs.{zed_input}
 use Rattle.implib_link_instances.specs.Worked.Relocated.{code_range}
 
 -- code that reads a pointer under the symbol of index 1, at offset 4
@@ -35,7 +38,8 @@ loading machine = record (calling machine) {
 abbrev pub loading_objects : MachineType → List Object
 loading_objects machine =
     loading machine
-    ∷ (input_objects machine (foo_input machine) ++ (input_objects machine (zed_input machine) ++ null_descriptor ∷ []))
+    ∷ (input_objects machine (foo_input machine)
+    ++ (input_objects machine (zed_input machine) ++ null_descriptor ∷ []))
 
 abbrev pub loading_placed : MachineType → Bases → List Placed
 loading_placed machine bases = placed_from bases (loading_objects machine)
@@ -53,11 +57,13 @@ loading_at machine = record {
 abbrev pub tables_of : List Placed → PlacedCode → ℕ → ℕ
 tables_of linked c index = target_address linked c.from index
 
--- The code reads a pointer as the law of instructions asks; it is relocated to these bytes, which read this entry.
-pub record WorkedPointer (machine : MachineType) (image_base : ℕ) (bases : Bases) (relocated : List ℕ) (entry : ℕ)
-    : Type 0 where
+-- The code reads a pointer as the law of instructions asks; it is relocated to these bytes, which
+-- read this entry.
+pub record WorkedPointer (machine : MachineType) (image_base : ℕ) (bases : Bases)
+    (relocated : List ℕ) (entry : ℕ) : Type 0 where
   pub loads : HasLoad machine (loading_at machine) 4 (imp_symbol (symbol_on machine (codes "stat")))
-  pub bytes : (code_range machine image_base (tables_of (loading_placed machine bases)) (loading_at machine)).bytes
+  pub bytes : (code_range machine image_base (tables_of (loading_placed machine bases))
+      (loading_at machine)).bytes
       ≡ first_bytes machine ++ (relocated ++ last_bytes machine)
   pub reads : load_reads machine (image_base + 0x1004) relocated ≡ Some (image_base + entry)
 

@@ -1,12 +1,15 @@
--- Programs that were linked by hand, on each machine: foo.dll with four exports, chosen in an order of its
--- own, and zed.dll with one, among a caller and another object, at bases from 4 on whose ranges touch.
-use Rattle.std.specs.Prelude.{◌≡◌, ℕ, ◌+◌, List, [], ◌∷◌, ◌++◌, codes, map, slice_get, true, Option, Some, if◌then◌else◌}
+-- Programs that were linked by hand, on each machine: foo.dll with four exports, chosen in an order
+-- of its own, and zed.dll with one, among a caller and another object, at bases from 4 on whose
+-- ranges touch.
+use Rattle.std.specs.Prelude.{◌≡◌, ℕ, ◌+◌, List, [], ◌∷◌, ◌++◌, codes, map, slice_get, true, Option}
+use Rattle.std.specs.Prelude.{Some, if◌then◌else◌}
 use Rattle.std.specs.List.{AllByRecursion}
 use Rattle.std.specs.Option.{option_and_then, option_map}
 use Rattle.implib.specs.declared.flavor.Flavor.TheVariants.{Gnu}
 use Rattle.implib.specs.declared.machine.MachineType.{MachineType}
 use Rattle.implib.specs.declared.machine.MachineType.TheVariants.{I386, ARMNT, AMD64, ARM64}
-use Rattle.implib.specs.Formats.Constants.{align_16bytes, cnt_code, mem_execute_read, class_external, class_static}
+use Rattle.implib.specs.Formats.Constants.{align_16bytes, cnt_code, mem_execute_read}
+use Rattle.implib.specs.Formats.Constants.{class_external, class_static}
 use Rattle.implib.specs.Definition.{DefinitionView, ExportView}
 use Rattle.implib.specs.Members.Gnu.{section, text_name}
 use Rattle.implib.specs.Link.Image.{Range, image_of}
@@ -31,7 +34,8 @@ use Rattle.implib_link.specs.Stub.{code_relocated, jump_reads}
 abbrev pub symbol_on : MachineType → List ℕ → List ℕ
 symbol_on machine name = if has_leading_underscore machine then underscore ∷ name else name
 
--- four exports: a function with the hint 258, data, one by its ordinal, and another name for the first
+-- four exports: a function with the hint 258, data, one by its ordinal, and another name for the
+-- first
 abbrev pub foo_exports : MachineType → List ExportView
 foo_exports machine =
     record (plain_export (symbol_on machine (codes "open"))) { ordinal = 258 }
@@ -81,8 +85,8 @@ code_object symbols = record {
   entries = map ASymbol symbols;
 }
 
--- a program's own code, which names the entry of `open`, and code with a symbol of its own that is called
--- as an export is
+-- a program's own code, which names the entry of `open`, and code with a symbol of its own that is
+-- called as an export is
 abbrev pub caller : MachineType → Object
 caller machine = code_object (
     symbol_of_class (codes "main") 1 class_external
@@ -90,9 +94,11 @@ caller machine = code_object (
     ∷ [])
 
 abbrev pub another : MachineType → Object
-another machine = code_object (symbol_of_class (symbol_on machine (codes "stat")) 1 class_static ∷ [])
+another machine =
+    code_object (symbol_of_class (symbol_on machine (codes "stat")) 1 class_static ∷ [])
 
--- what is linked: the caller, foo.dll's members, the other object, zed.dll's members, the null descriptor
+-- what is linked: the caller, foo.dll's members, the other object, zed.dll's members, the null
+-- descriptor
 abbrev pub input_objects : MachineType → LinkInput → List Object
 input_objects machine p = objects_in (linked_members p.definition machine p.chosen)
 
@@ -125,8 +131,9 @@ touching_4 = record {
   dll_names = 152;
 }
 
--- what a program's image holds: the fields of the three descriptors, the thunks of a table, the addresses of
--- the entries of `nine`, `open`, `stat`, `move`, `queue`, and of the symbol that the caller names
+-- what a program's image holds: the fields of the three descriptors, the thunks of a table, the
+-- addresses of the entries of `nine`, `open`, `stat`, `move`, `queue`, and of the symbol that the
+-- caller names
 pub record Expected : Type 0 where
   pub descriptors : List ℕ
   pub thunks : List ℕ
@@ -145,7 +152,8 @@ abbrev pub expected_8 : Expected
 expected_8 = record {
   descriptors = 64 ∷ 0 ∷ 0 ∷ 224 ∷ 120 ∷ 104 ∷ 0 ∷ 0 ∷ 236 ∷ 160 ∷ 0 ∷ 0 ∷ 0 ∷ 0 ∷ 0 ∷ [];
   thunks = 0x8000_0000_0000_0009 ∷ 176 ∷ 184 ∷ 192 ∷ 0 ∷ 200 ∷ 0 ∷ [];
-  entries = (Some 120 ∷ []) ∷ (Some 128 ∷ []) ∷ (Some 136 ∷ []) ∷ (Some 144 ∷ []) ∷ (Some 160 ∷ []) ∷ [];
+  entries = (Some 120 ∷ []) ∷ (Some 128 ∷ []) ∷ (Some 136 ∷ []) ∷ (Some 144 ∷ []) ∷ (Some 160 ∷ [])
+      ∷ [];
   named = Some 128;
 }
 
@@ -153,7 +161,8 @@ abbrev pub expected_4 : Expected
 expected_4 = record {
   descriptors = 64 ∷ 0 ∷ 0 ∷ 168 ∷ 92 ∷ 84 ∷ 0 ∷ 0 ∷ 180 ∷ 112 ∷ 0 ∷ 0 ∷ 0 ∷ 0 ∷ 0 ∷ [];
   thunks = 0x8000_0009 ∷ 120 ∷ 128 ∷ 136 ∷ 0 ∷ 144 ∷ 0 ∷ [];
-  entries = (Some 92 ∷ []) ∷ (Some 96 ∷ []) ∷ (Some 100 ∷ []) ∷ (Some 104 ∷ []) ∷ (Some 112 ∷ []) ∷ [];
+  entries = (Some 92 ∷ []) ∷ (Some 96 ∷ []) ∷ (Some 100 ∷ []) ∷ (Some 104 ∷ []) ∷ (Some 112 ∷ [])
+      ∷ [];
   named = Some 96;
 }
 
@@ -164,7 +173,8 @@ abbrev pub program_image : MachineType → Bases → List Range
 program_image machine bases = image_of machine bases (program_placed machine bases)
 
 -- The program of a machine meets all that the laws ask for, and its image holds what is expected.
-pub record WorkedProgram (machine : MachineType) (bases : Bases) (expected : Expected) : Type 0 where
+pub record WorkedProgram (machine : MachineType) (bases : Bases)
+    (expected : Expected) : Type 0 where
   pub made : AllByRecursion (IsMade machine) (both_inputs machine)
   pub program : IsProgram machine bases (both_inputs machine) (program_objects machine)
   pub descriptors : numbers_from (program_image machine bases) 4 15 4 ≡ Some expected.descriptors
@@ -179,7 +189,8 @@ pub record WorkedProgram (machine : MachineType) (bases : Bases) (expected : Exp
       ≡ Some (codes "zed.dll" ++ 0 ∷ [])
   pub entries : map
       (λ name. addresses_of (imp_symbol (symbol_on machine name)) (program_placed machine bases))
-      (codes "nine" ∷ codes "open" ∷ codes "stat" ∷ codes "move" ∷ codes "queue" ∷ []) ≡ expected.entries
+      (codes "nine" ∷ codes "open" ∷ codes "stat" ∷ codes "move" ∷ codes "queue" ∷ [])
+      ≡ expected.entries
   pub named : symbol_address (program_placed machine bases)
       (record { object = caller machine; section_addresses = [] })
       (ASymbol (symbol_of_class (imp_symbol (symbol_on machine (codes "open"))) 0 class_external))
@@ -197,14 +208,16 @@ abbrev pub open_code : MachineType → Bases → ℕ → ℕ → Option (List �
 open_code machine bases image_base position =
     option_and_then
     (λ p. option_map
-    (λ s. code_relocated machine image_base (program_placed machine bases) p position s.relocations s.bytes)
+    (λ s. code_relocated machine image_base (program_placed machine bases) p position s.relocations
+    s.bytes)
     (slice_get p.object.sections 0))
     (slice_get (program_placed machine bases) 3)
 
 -- what its jump reads
 abbrev pub open_reads : MachineType → Bases → ℕ → ℕ → Option ℕ
 open_reads machine bases image_base position =
-    option_and_then (jump_reads machine (image_base + position)) (open_code machine bases image_base position)
+    option_and_then (jump_reads machine (image_base + position))
+    (open_code machine bases image_base position)
 
 -- the stubs of `open` in code at 0x1000, its entry being at 0x80 or 0x60
 pub record WorkedStubs : Type 0 where

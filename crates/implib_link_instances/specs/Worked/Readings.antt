@@ -1,5 +1,5 @@
--- An export's object by hand, with the head and the tail of its DLL, and the same with texts that have no
--- NUL: of those a reader takes nothing.
+-- An export's object by hand, with the head and the tail of its DLL, and the same with texts that
+-- have no NUL: of those a reader takes nothing.
 use Rattle.std.specs.Prelude.{◌≡◌, List, [], ◌∷◌, ◌++◌, codes, map, ℕ, None, Option, Some}
 use Rattle.implib.specs.Formats.Constants.{class_external, class_static}
 use Rattle.implib.specs.Formats.Object.{ASymbol, Object, ObjectSection, ObjectSymbol}
@@ -20,11 +20,14 @@ object_of sections symbols = record {
   entries = map ASymbol symbols;
 }
 
--- an export's object: `.idata$7` leads to `head`, and the entry in `.idata$5` to `.idata$6`, with these bytes
+-- an export's object: `.idata$7` leads to `head`, and the entry in `.idata$5` to `.idata$6`, with
+-- these bytes
 abbrev pub export_asking : List ℕ → Object
 export_asking hint_name = object_of
-    (section (codes ".idata$7") table_flags (zeros 4) (record { offset = 0; symbol = 0; kind = 3 } ∷ [])
-    ∷ section (codes ".idata$5") table_flags (zeros 8) (record { offset = 0; symbol = 1; kind = 3 } ∷ [])
+    (section (codes ".idata$7") table_flags (zeros 4)
+    (record { offset = 0; symbol = 0; kind = 3 } ∷ [])
+    ∷ section (codes ".idata$5") table_flags (zeros 8)
+    (record { offset = 0; symbol = 1; kind = 3 } ∷ [])
     ∷ section (codes ".idata$6") table_flags hint_name []
     ∷ [])
     (symbol_of_class (codes "head") 0 class_external
@@ -35,9 +38,11 @@ export_asking hint_name = object_of
 -- the head: its descriptor leads at 12 to `iname`
 abbrev pub head_by_hand : Object
 head_by_hand = object_of
-    (section (codes ".idata$2") table_flags (zeros 20) (record { offset = 12; symbol = 1; kind = 3 } ∷ [])
+    (section (codes ".idata$2") table_flags (zeros 20)
+    (record { offset = 12; symbol = 1; kind = 3 } ∷ [])
     ∷ [])
-    (symbol_of_class (codes "head") 1 class_external ∷ symbol_of_class (codes "iname") 0 class_external ∷ [])
+    (symbol_of_class (codes "head") 1 class_external
+    ∷ symbol_of_class (codes "iname") 0 class_external ∷ [])
 
 -- the tail: `iname` is where these bytes are
 abbrev pub tail_naming : List ℕ → Object
@@ -52,15 +57,17 @@ hint_and_bar = 2 ∷ 1 ∷ (codes "bar" ++ 0 ∷ [])
 abbrev pub foo_ended : List ℕ
 foo_ended = codes "foo.dll" ++ 0 ∷ []
 
--- the DLL and the import that are read, with these bytes for the DLL's name, and these for what is asked for
+-- the DLL and the import that are read, with these bytes for the DLL's name, and these for what is
+-- asked for
 abbrev pub dll_of : List ℕ → Option (List ℕ)
 dll_of dll = dll_by_names (export_asking hint_and_bar) head_by_hand (tail_naming dll)
 
 abbrev pub import_read : List ℕ → List ℕ → Option Import
 import_read hint_name dll = import_of (export_asking hint_name) head_by_hand (tail_naming dll)
 
--- The import is read where both names have their NUL, whatever is after it. Without the NUL of the one,
--- nothing is asked for; without that of the other there is no DLL; and without either no import is read.
+-- The import is read where both names have their NUL, whatever is after it. Without the NUL of the
+-- one, nothing is asked for; without that of the other there is no DLL; and without either no
+-- import is read.
 pub record WorkedReadings : Type 0 where
   pub read : import_read hint_and_bar foo_ended
       ≡ Some (record {
@@ -68,7 +75,8 @@ pub record WorkedReadings : Type 0 where
         declared = codes "__imp_bar" ∷ [];
         ask = Name (codes "bar") 258;
       })
-  pub padded : ask_of_export (export_asking (hint_and_bar ++ 0x78 ∷ [])) ≡ Some (Name (codes "bar") 258)
+  pub padded : ask_of_export (export_asking (hint_and_bar ++ 0x78 ∷ []))
+      ≡ Some (Name (codes "bar") 258)
   pub name_no_nul : ask_of_export (export_asking (2 ∷ 1 ∷ codes "bar")) ≡ None
   pub hint_alone : ask_of_export (export_asking (2 ∷ 1 ∷ [])) ≡ None
   pub dll_padded : dll_of (foo_ended ++ 0x78 ∷ []) ≡ Some (codes "foo.dll")

@@ -1,5 +1,5 @@
--- Code that base relocations move, by hand: the program of Worked/Calls with the stub of `open`, and which relocations
--- need a base relocation.
+-- Code that base relocations move, by hand: the program of Worked/Calls with the stub of `open`,
+-- and which relocations need a base relocation.
 use Rattle.std.specs.Prelude.{◌≡◌, ◌+◌, List, [], ◌∷◌, slice_get, Option, None, Some}
 use Rattle.implib.specs.declared.machine.MachineType.{MachineType}
 use Rattle.implib.specs.declared.machine.MachineType.TheVariants.{I386, AMD64, ARM64}
@@ -28,8 +28,8 @@ open_stub machine bases = record {
 abbrev pub moving_codes : MachineType → Bases → List PlacedCode
 moving_codes machine bases = calling_at machine 0x1000 ∷ open_stub machine bases ∷ []
 
--- The relocations that need a base relocation, of a section at 0x2000, by their types; and what the difference
--- makes of numbers.
+-- The relocations that need a base relocation, of a section at 0x2000, by their types; and what the
+-- difference makes of numbers.
 pub record WorkedPlaces : Type 0 where
   -- DIR32; not DIR32NB and REL32
   pub i386 : places_at I386 0x2000

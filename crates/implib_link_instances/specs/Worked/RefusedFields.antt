@@ -1,4 +1,5 @@
--- What is no linked code, and where no field leads: each statement is one of Worked/Operands with one thing changed.
+-- What is no linked code, and where no field leads: each statement is one of Worked/Operands with
+-- one thing changed.
 use Rattle.std.specs.Prelude.{ℕ, ◌+◌, List, [], ◌∷◌, ◌++◌, codes, drop, take}
 use Rattle.implib.specs.declared.machine.MachineType.TheVariants.{I386, AMD64, ARM64}
 use Rattle.implib.specs.Link.Image.{Range}
@@ -7,21 +8,26 @@ use Rattle.implib_link.specs.Gnu.Fields.{IsRelocated}
 use Rattle.implib_link.specs.Gnu.Moves.{ArePaged}
 use Rattle.implib_link.specs.Gnu.Operands.{InstructionArrives, PairArrives}
 use Rattle.implib_link_instances.specs.But.Links.{MissesInstructionArrives, MissesPairArrives}
-use Rattle.implib_link_instances.specs.Worked.Operands.{imp_open, passing_at, passing_code, passing_linked, passing_placed, passing_targets}
+use Rattle.implib_link_instances.specs.Worked.Operands.{imp_open, passing_at, passing_code}
+use Rattle.implib_link_instances.specs.Worked.Operands.{passing_linked, passing_placed}
+use Rattle.implib_link_instances.specs.Worked.Operands.{passing_targets}
 use Rattle.implib_link_instances.specs.Worked.Programs.{touching_4, touching_8}
 
 -- bytes with another one at an offset
 abbrev pub with_byte : List ℕ → ℕ → ℕ → List ℕ
 with_byte bytes offset byte = take offset bytes ++ byte ∷ drop (offset + 1) bytes
 
--- the linked bytes of AMD64's code, and these with another byte: they are what a linker makes of it, or not
+-- the linked bytes of AMD64's code, and these with another byte: they are what a linker makes of
+-- it, or not
 abbrev pub Relinked : List ℕ → Type 0
 Relinked bytes =
-    IsRelocated AMD64 0x1_4000_0000 (passing_targets AMD64 touching_8 (passing_at AMD64)) 0x1000 (passing_code AMD64) bytes
+    IsRelocated AMD64 0x1_4000_0000 (passing_targets AMD64 touching_8 (passing_at AMD64)) 0x1000
+    (passing_code AMD64) bytes
 
--- A byte more (`size`); another opcode (`kept`); in the field of the call the distance from the field (`from_field`),
--- in that of the comparison the distance from the byte after the field, as if it was REL32 (`rel32_1`), and half an
--- address in the stored one (`half`). In the field relative to a section any byte may be.
+-- A byte more (`size`); another opcode (`kept`); in the field of the call the distance from the
+-- field (`from_field`), in that of the comparison the distance from the byte after the field, as if
+-- it was REL32 (`rel32_1`), and half an address in the stored one (`half`). In the field relative
+-- to a section any byte may be.
 pub record RefusedCode : Type 0 where
   pub size : Relinked (passing_linked AMD64 ++ 0 ∷ []) → ⊥
   pub kept : Relinked (with_byte (passing_linked AMD64) 0 0x49) → ⊥
@@ -33,14 +39,17 @@ pub record RefusedCode : Type 0 where
 -- the same of I386's and of ARM64's code
 abbrev pub RelinkedI386 : List ℕ → Type 0
 RelinkedI386 bytes =
-    IsRelocated I386 0x40_0000 (passing_targets I386 touching_4 (passing_at I386)) 0x1000 (passing_code I386) bytes
+    IsRelocated I386 0x40_0000 (passing_targets I386 touching_4 (passing_at I386)) 0x1000
+    (passing_code I386) bytes
 
 abbrev pub RelinkedArm64 : List ℕ → Type 0
 RelinkedArm64 bytes =
-    IsRelocated ARM64 0x1_4000_0000 (passing_targets ARM64 touching_8 (passing_at ARM64)) 0x1000 (passing_code ARM64) bytes
+    IsRelocated ARM64 0x1_4000_0000 (passing_targets ARM64 touching_8 (passing_at ARM64)) 0x1000
+    (passing_code ARM64) bytes
 
 -- I386: another address in the call, another distance in the jump.
--- ARM64: another stored address; another distance, and `b` in the place of `bl`; another page, and another register;
+-- ARM64: another stored address; another distance, and `b` in the place of `bl`; another page, and
+-- another register;
 -- another offset, and another register. The `add` and the load of 16 bytes may have any offset.
 pub record RefusedFieldsOfTypes : Type 0 where
   pub i386_dir32 : RelinkedI386 (with_byte (passing_linked I386) 11 0x61) → ⊥
@@ -70,7 +79,8 @@ open_address = 0x40 ∷ 0 ∷ 0 ∷ 0x10 ∷ 0 ∷ 0 ∷ 0 ∷ 0 ∷ []
 -- the call itself at 0x100B, by its bytes
 abbrev pub CallInstruction : List ℕ → List ℕ → List ℕ → Type 0
 CallInstruction code bytes name =
-    InstructionArrives AMD64 0x1_4000_0000 linked_on_amd64 (two_ranges 0x100B code bytes) 0x100B (0xFF ∷ 0x15 ∷ []) []
+    InstructionArrives AMD64 0x1_4000_0000 linked_on_amd64 (two_ranges 0x100B code bytes) 0x100B
+    (0xFF ∷ 0x15 ∷ []) []
     name open_address
 
 -- the number in its field
@@ -93,7 +103,8 @@ pub record RefusedInstructions : Type 0 where
 abbrev pub PageAndOffset : List ℕ → List ℕ → List ℕ → List ℕ → Type 0
 PageAndOffset adrp load bytes name =
     PairArrives 0x1_4000_0000 (passing_placed ARM64 touching_8)
-    (record { start = 0x100C; bytes = adrp } ∷ two_ranges 0x1010 load bytes) 0x100C 0x1010 0x9000_0008 0xF940_0108
+    (record { start = 0x100C; bytes = adrp } ∷ two_ranges 0x1010 load bytes) 0x100C 0x1010
+    0x9000_0008 0xF940_0108
     name open_address
 
 -- of these bytes of both and of the entry, in memory
@@ -106,7 +117,8 @@ adrp_bytes = 0xE8 ∷ 0xFF ∷ 0xFF ∷ 0xF0 ∷ []
 abbrev pub load_bytes : List ℕ
 load_bytes = 8 ∷ 0x41 ∷ 0x40 ∷ 0xF9 ∷ []
 
--- another register, of the `adrp` and of the load; the next entry; another name; and other bytes at the entry
+-- another register, of the `adrp` and of the load; the next entry; another name; and other bytes at
+-- the entry
 pub record RefusedPairs : Type 0 where
   pub arrives : PageAndOffset adrp_bytes load_bytes open_address (imp_open ARM64)
   pub is_adrp : MissesPairArrives (codes "is_adrp") 0x1_4000_0000 (passing_placed ARM64 touching_8)

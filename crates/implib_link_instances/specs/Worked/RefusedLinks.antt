@@ -1,4 +1,5 @@
--- Images by hand, a right one and others that are wrong in one way: what the definitions take and refuse.
+-- Images by hand, a right one and others that are wrong in one way: what the definitions take and
+-- refuse.
 use Rattle.std.specs.Prelude.{◌≡◌, ℕ, List, [], ◌∷◌, ◌++◌, codes, Some}
 use Rattle.implib.specs.declared.machine.MachineType.TheVariants.{AMD64}
 use Rattle.implib.specs.Formats.Bytes.{u32_bytes}
@@ -55,16 +56,19 @@ five_and_six = Ordinal 5 ∷ Ordinal 6 ∷ []
 abbrev pub right_image : List Range
 right_image = image_by_hand (descriptor_bytes 0x1028 0 0x1058 0x1040) table_8 table_8 foo
 
--- with another name, with a time, with a lookup table that lacks its end, with thunks that are too wide
+-- with another name, with a time, with a lookup table that lacks its end, with thunks that are too
+-- wide
 abbrev pub named_otherwise : List Range
-named_otherwise = image_by_hand (descriptor_bytes 0x1028 0 0x1058 0x1040) table_8 table_8 (codes "bar.dll")
+named_otherwise =
+    image_by_hand (descriptor_bytes 0x1028 0 0x1058 0x1040) table_8 table_8 (codes "bar.dll")
 
 abbrev pub timed : List Range
 timed = image_by_hand (descriptor_bytes 0x1028 1 0x1058 0x1040) table_8 table_8 foo
 
 abbrev pub endless : List Range
 endless =
-    image_by_hand (descriptor_bytes 0x1030 0 0x1058 0x1040) (zeros 8 ++ (ordinal_8 5 ++ ordinal_8 6))
+    image_by_hand (descriptor_bytes 0x1030 0 0x1058 0x1040)
+    (zeros 8 ++ (ordinal_8 5 ++ ordinal_8 6))
     table_8 foo
 
 abbrev pub wide_image : List Range
@@ -77,7 +81,13 @@ exchanged = image_by_hand (descriptor_bytes 0x1040 0 0x1058 0x1028) table_8 tabl
 -- objects that define the descriptor's symbol and those of the entries, from an address on
 abbrev pub defined_at : List ℕ → ℕ → ℕ → ObjectSymbol
 defined_at name section_number value =
-    record { name = name; value = value; section = section_number; kind = 0; class = class_external }
+    record {
+      name = name;
+      value = value;
+      section = section_number;
+      kind = 0;
+      class = class_external;
+    }
 
 abbrev pub placed_by_hand : ℕ → Placed
 placed_by_hand entries =
@@ -114,8 +124,10 @@ stub_by_hand index =
 pub record RefusedLinks : Type 0 where
   -- the right image
   pub right : LoadsStrictly right_image 8 0x1000 foo five_and_six
-  pub right_links : LinksStrictlyAt AMD64 right_image (linked_by_hand 0x1040) 0x1000 (own_names foo) exports_by_hand
-  pub right_directory : DirectoryAt right_image 8 0x1000 (record { dll = foo; asks = five_and_six } ∷ [])
+  pub right_links : LinksStrictlyAt AMD64 right_image (linked_by_hand 0x1040) 0x1000 (own_names foo)
+      exports_by_hand
+  pub right_directory : DirectoryAt right_image 8 0x1000
+      (record { dll = foo; asks = five_and_six } ∷ [])
   pub right_stub : jump_reads AMD64 0x40_2000 (stub_by_hand 1) ≡ Some 0x40_1040
   -- another DLL's name
   pub other_name : LoadsStrictly named_otherwise 8 0x1000 foo five_and_six → ⊥
@@ -127,16 +139,21 @@ pub record RefusedLinks : Type 0 where
   -- thunks of 8 bytes where a loader reads 4: it stops at the second
   pub wide : LoadsStrictly wide_image 4 0x1000 foo five_and_six → ⊥
   pub wide_stops : Loads wide_image 4 0x1000 foo (Ordinal 5 ∷ [])
-  -- the tables exchanged: a loader takes them, but the symbols are not at the address table's entries
+  -- the tables exchanged: a loader takes them, but the symbols are not at the address table's
+  -- entries
   pub exchanged_taken : LoadsStrictly exchanged 8 0x1000 foo five_and_six
-  pub exchanged_links : LinksStrictlyAt AMD64 exchanged (linked_by_hand 0x1040) 0x1000 (own_names foo) exports_by_hand → ⊥
+  pub exchanged_links : LinksStrictlyAt AMD64 exchanged (linked_by_hand 0x1040) 0x1000
+      (own_names foo) exports_by_hand → ⊥
   -- the `__imp_` symbols in the lookup table
-  pub in_lookups : LinksStrictlyAt AMD64 right_image (linked_by_hand 0x1028) 0x1000 (own_names foo) exports_by_hand → ⊥
+  pub in_lookups : LinksStrictlyAt AMD64 right_image (linked_by_hand 0x1028) 0x1000 (own_names foo)
+      exports_by_hand → ⊥
   -- the descriptor at another address than its symbol
-  pub out_of_place : LinksStrictlyAt AMD64 right_image (linked_by_hand 0x1040) 0x1014 (own_names foo) exports_by_hand → ⊥
+  pub out_of_place : LinksStrictlyAt AMD64 right_image (linked_by_hand 0x1040) 0x1014
+      (own_names foo) exports_by_hand → ⊥
   -- a directory with a DLL that is not imported, and one that ends too early
   pub one_more : DirectoryAt right_image 8 0x1000
-      (record { dll = foo; asks = five_and_six } ∷ record { dll = foo; asks = five_and_six } ∷ []) → ⊥
+      (record { dll = foo; asks = five_and_six } ∷ record { dll = foo; asks = five_and_six } ∷ []) →
+      ⊥
   pub none : DirectoryAt right_image 8 0x1000 [] → ⊥
   -- a stub that reads another entry
   pub other_stub : jump_reads AMD64 0x40_2000 (stub_by_hand 2) ≡ Some 0x40_1048

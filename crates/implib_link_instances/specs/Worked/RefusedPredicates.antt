@@ -1,4 +1,5 @@
--- What predicates that are no records refuse, and beside it what they hold of, so that the two differ by one thing.
+-- What predicates that are no records refuse, and beside it what they hold of, so that the two
+-- differ by one thing.
 use Rattle.std.specs.Prelude.{◌≡◌, ℕ, true, List, [], ◌∷◌, ◌++◌, None, codes, map}
 use Rattle.implib.specs.declared.flavor.Flavor.TheVariants.{Gnu}
 use Rattle.implib.specs.declared.machine.MachineType.TheVariants.{I386, AMD64}
@@ -20,7 +21,9 @@ use Rattle.implib_archive_link.specs.InBytes.{AreTakenAt, First, Second, asks_fo
 use Rattle.implib_archive_link.specs.Results.{AreHeadersOf, TakesJust}
 use Rattle.implib_image.specs.Files.{MappedFile, WritesFrom}
 use Rattle.implib_link.specs.Directory.{WalkFinds}
-use Rattle.implib_link.specs.Flavors.Program.{AreClaimed, AreEnded, FlavorInput, IsCode, IsMadeFor, OfLinker, OfMember, SymbolsAt, SymbolsGet, WhereMember, gnu_input, imp_symbols}
+use Rattle.implib_link.specs.Flavors.Program.{AreClaimed, AreEnded, FlavorInput, IsCode, IsMadeFor}
+use Rattle.implib_link.specs.Flavors.Program.{OfLinker, OfMember, SymbolsAt, SymbolsGet}
+use Rattle.implib_link.specs.Flavors.Program.{WhereMember, gnu_input, imp_symbols}
 use Rattle.implib_link.specs.Flavors.Texts.{LinkInFlavor}
 use Rattle.implib_link.specs.Gnu.Calls.{amd64_addr64, i386_rel32}
 use Rattle.implib_link.specs.Gnu.Choices.{ArePlacesApart}
@@ -38,7 +41,9 @@ use Rattle.implib_link.specs.Parts.{AreEntries, BeginWithHead}
 use Rattle.implib_link.specs.Search.Archives.{IsLibrary, NamesNoHeadOrTailOf}
 use Rattle.implib_link.specs.Search.BothFlavors.{IsWeakOfBoth}
 use Rattle.implib_link.specs.Search.Closed.{AreTakenIntoAs}
-use Rattle.implib_link.specs.Search.CommandLines.{Archives, AreRounds, AreSwept, AreTakenBehind, LeavesNone, LldSearchesFrom, NoneIsLost, SearchesCommandLine, SearchesFrom, TakesFirst}
+use Rattle.implib_link.specs.Search.CommandLines.{Archives, AreRounds, AreSwept, AreTakenBehind}
+use Rattle.implib_link.specs.Search.CommandLines.{LeavesNone, LldSearchesFrom, NoneIsLost}
+use Rattle.implib_link.specs.Search.CommandLines.{SearchesCommandLine, SearchesFrom, TakesFirst}
 use Rattle.implib_link.specs.Search.MsvcArchives.{IsMsvcLibrary, NamesNoHeaderOf}
 use Rattle.implib_link.specs.Search.NamedApart.{AreNone}
 use Rattle.implib_link.specs.Search.Search.{AreTakenInTurnAs, Takes}
@@ -47,14 +52,18 @@ use Rattle.implib_link.specs.Tables.{AreSteady, DefineEntries}
 use Rattle.implib_link_instances.specs.Archives.Worked.{names_wanted}
 use Rattle.implib_link_instances.specs.Worked.Archives.{library_of}
 use Rattle.implib_link_instances.specs.Worked.Closed.{foo_alias}
-use Rattle.implib_link_instances.specs.Worked.CommandLines.{amd64_members, inputs_of, of_quit, quitting, wanting_own, with_spares}
+use Rattle.implib_link_instances.specs.Worked.CommandLines.{amd64_members, inputs_of, of_quit}
+use Rattle.implib_link_instances.specs.Worked.CommandLines.{quitting, wanting_own, with_spares}
 use Rattle.implib_link_instances.specs.Worked.LldPrograms.{own_tables}
 use Rattle.implib_link_instances.specs.Worked.NearParts.{aaa_head, aaa_tail, aone, aone_object}
-use Rattle.implib_link_instances.specs.Worked.NearSearches.{asking, later, listing, zed_library, zed_short}
+use Rattle.implib_link_instances.specs.Worked.NearSearches.{asking, later, listing, zed_library}
+use Rattle.implib_link_instances.specs.Worked.NearSearches.{zed_short}
 use Rattle.implib_link_instances.specs.Worked.Operands.{field}
 use Rattle.implib_link_instances.specs.Worked.Pages.{paging_at, paging_code}
-use Rattle.implib_link_instances.specs.Worked.Programs.{code_object, foo_input, program_placed, symbol_of_class, touching_8}
-use Rattle.implib_link_instances.specs.Worked.RefusedLinks.{foo, linked_by_hand, named_otherwise, right_image}
+use Rattle.implib_link_instances.specs.Worked.Programs.{code_object, foo_input, program_placed}
+use Rattle.implib_link_instances.specs.Worked.Programs.{symbol_of_class, touching_8}
+use Rattle.implib_link_instances.specs.Worked.RefusedLinks.{foo, linked_by_hand, named_otherwise}
+use Rattle.implib_link_instances.specs.Worked.RefusedLinks.{right_image}
 use Rattle.implib_link_instances.specs.Worked.Search.{aliased, members_of, three, wanted}
 use Rattle.implib_link_instances.specs.Worked.Sources.{zed_meant, zed_text}
 use Rattle.implib_link_instances.specs.Worked.Walks.{foo_imported, without_name}
@@ -85,7 +94,8 @@ pub record RefusedSearchPredicates : Type 0 where
   -- names of which the others have another one, and the same
   pub none : AreNone (codes "quit" ∷ []) (codes "more" ∷ [])
   pub are_none : AreNone (codes "quit" ∷ []) quit_and_more → ⊥
-  -- another object claims the name that the first leaves; no object does, and a member is listed for it
+  -- another object claims the name that the first leaves; no object does, and a member is listed
+  -- for it
   pub lost : NoneIsLost object_in with_spares (leaving ∷ quitting ∷ []) []
   pub none_is_lost : NoneIsLost object_in with_spares (leaving ∷ []) [] → ⊥
   -- the first of the two that are listed for the name, and the second
@@ -96,30 +106,38 @@ pub record RefusedSearchPredicates : Type 0 where
   pub are_swept : AreSwept object_in amd64_members wanting_own (of_quit ∷ []) [] [] → ⊥
   pub rounds : AreRounds object_in amd64_members wanting_own (of_quit ∷ []) 1 [] of_quit
   pub are_rounds : AreRounds object_in amd64_members wanting_own (of_quit ∷ []) 1 [] [] → ⊥
-  pub searches : SearchesFrom object_in amd64_members wanting_own (Archives (of_quit ∷ []) ∷ []) [] of_quit
-  pub searches_from : SearchesFrom object_in amd64_members wanting_own (Archives (of_quit ∷ []) ∷ []) [] [] → ⊥
-  pub command_line : SearchesCommandLine object_in amd64_members (inputs_of wanting_own ++ Archives (of_quit ∷ []) ∷ []) of_quit
+  pub searches : SearchesFrom object_in amd64_members wanting_own (Archives (of_quit ∷ []) ∷ []) []
+      of_quit
+  pub searches_from : SearchesFrom object_in amd64_members wanting_own
+      (Archives (of_quit ∷ []) ∷ []) [] [] → ⊥
+  pub command_line : SearchesCommandLine object_in amd64_members
+      (inputs_of wanting_own ++ Archives (of_quit ∷ []) ∷ []) of_quit
   pub searches_command_line : SearchesCommandLine object_in amd64_members
       (inputs_of wanting_own ++ Archives (of_quit ∷ []) ∷ []) [] → ⊥
-  pub lld_from : LldSearchesFrom object_in amd64_members wanting_own [] (Archives (of_quit ∷ []) ∷ []) []
+  pub lld_from : LldSearchesFrom object_in amd64_members wanting_own []
+      (Archives (of_quit ∷ []) ∷ []) []
       (members_at amd64_members of_quit)
-  pub lld_searches_from : LldSearchesFrom object_in amd64_members wanting_own [] (Archives (of_quit ∷ []) ∷ []) [] [] → ⊥
+  pub lld_searches_from : LldSearchesFrom object_in amd64_members wanting_own []
+      (Archives (of_quit ∷ []) ∷ []) [] [] → ⊥
   -- an object asks for the member that is taken; none does
   pub behind : AreTakenBehind object_in (listing ∷ later ∷ []) (asking ∷ []) [] (listing ∷ [])
   pub are_taken_behind : AreTakenBehind object_in (listing ∷ later ∷ []) [] [] (listing ∷ []) → ⊥
   pub into : AreTakenIntoAs object_in (listing ∷ later ∷ []) (asking ∷ []) (listing ∷ [])
   pub are_taken_into_as : AreTakenIntoAs object_in (listing ∷ later ∷ []) [] (listing ∷ []) → ⊥
-  pub in_turn : AreTakenInTurnAs object_in (listing ∷ later ∷ []) (codes "queue" ∷ []) (listing ∷ [])
+  pub in_turn : AreTakenInTurnAs object_in (listing ∷ later ∷ []) (codes "queue" ∷ [])
+      (listing ∷ [])
   pub are_taken_in_turn_as : AreTakenInTurnAs object_in (listing ∷ later ∷ []) [] (listing ∷ []) → ⊥
   -- a library with its members, and without them
   pub library : IsLibrary AMD64 zed_library
   pub is_library : IsLibrary AMD64 (record zed_library { members = [] }) → ⊥
   pub msvc_library : IsMsvcLibrary AMD64 (zed_short (codes "queue"))
-  pub is_msvc_library : IsMsvcLibrary AMD64 (record (zed_short (codes "queue")) { members = [] }) → ⊥
+  pub is_msvc_library : IsMsvcLibrary AMD64 (record (zed_short (codes "queue")) { members = [] }) →
+      ⊥
   -- a function, and data
   pub code : IsCode Gnu (plain_export (codes "queue"))
   pub is_code : IsCode Gnu (data_named (codes "queue")) → ⊥
-  -- what is not so, where the linker ends the directory and nothing is said, and where a member does
+  -- what is not so, where the linker ends the directory and nothing is said, and where a member
+  -- does
   pub where_linker : WhereMember OfLinker (codes "quit" ≡ codes "more")
   pub where_member : WhereMember OfMember (codes "quit" ≡ codes "more") → ⊥
   -- the linker's null descriptor, and no objects
@@ -141,7 +159,8 @@ entry_with type = record {
 -- an object with four bytes and a field at an offset
 abbrev pub field_from : ℕ → Object
 field_from offset = record null_descriptor {
-  sections = section (codes ".idata$5") table_flags (zeros 4) (field offset 0 amd64_rel32 ∷ []) ∷ [];
+  sections = section (codes ".idata$5") table_flags (zeros 4) (field offset 0 amd64_rel32 ∷ [])
+      ∷ [];
 }
 
 -- code of one byte at 0x1000
@@ -174,17 +193,21 @@ pub record RefusedCodePredicates : Type 0 where
   pub is_branch : IsBranch I386 i386_rel32 1 0 → ⊥
   -- the load of the worked code, and the same without its relocations
   pub page_offset : HasPageOffset paging_at 12 9 8 (imp_symbol (codes "stat"))
-  pub has_page_offset : HasPageOffset (record paging_at { code = record paging_code { relocations = [] } }) 12 9 8
+  pub has_page_offset : HasPageOffset
+      (record paging_at { code = record paging_code { relocations = [] } }) 12 9 8
       (imp_symbol (codes "stat")) → ⊥
   -- one relocation, and another one that meets its bytes
   pub alone : MeetsAlone AMD64 (field 0 0 amd64_rel32 ∷ []) 0 4 (field 0 0 amd64_rel32)
-  pub meets_alone : MeetsAlone AMD64 (field 0 0 amd64_rel32 ∷ field 3 0 amd64_rel32 ∷ []) 0 4 (field 0 0 amd64_rel32) → ⊥
+  pub meets_alone : MeetsAlone AMD64 (field 0 0 amd64_rel32 ∷ field 3 0 amd64_rel32 ∷ []) 0 4
+      (field 0 0 amd64_rel32) → ⊥
   -- an address from the image's base on, and from 0 on
   pub holds : FieldHolds AMD64 amd64_addr64 0x1000 0 0x10 (λ width. 0) (λ width. 0x1010)
   pub field_holds : FieldHolds AMD64 amd64_addr64 0x1000 0 0x10 (λ width. 0) (λ width. 0x10) → ⊥
   -- places one after another, and one whose last byte the next has
-  pub apart : ArePlacesApart (record { address = 0x1000; width = 4 } ∷ record { address = 0x1004; width = 4 } ∷ [])
-  pub are_places_apart : ArePlacesApart (record { address = 0x1000; width = 4 } ∷ record { address = 0x1003; width = 4 } ∷ []) → ⊥
+  pub apart : ArePlacesApart
+      (record { address = 0x1000; width = 4 } ∷ record { address = 0x1004; width = 4 } ∷ [])
+  pub are_places_apart : ArePlacesApart
+      (record { address = 0x1000; width = 4 } ∷ record { address = 0x1003; width = 4 } ∷ []) → ⊥
   -- a byte that no relocation meets, as it was in memory, and another one there
   pub kept : AreKept AMD64 (one_code ∷ []) (one_range 0x90)
   pub are_kept : AreKept AMD64 (one_code ∷ []) (one_range 0xCC) → ⊥
@@ -194,12 +217,17 @@ pub record RefusedCodePredicates : Type 0 where
   -- the image in memory, and nothing in memory
   pub in_memory : AreInMemory AMD64 0x1_4000_0000 (one_range 0x90) [] [] no_targets (one_range 0x90)
   pub are_in_memory : AreInMemory AMD64 0x1_4000_0000 (one_range 0x90) [] [] no_targets [] → ⊥
-  pub stored : AreStoredInMemory AMD64 0x1_4000_0000 (one_range 0x90) [] [] no_targets (one_range 0x90)
-  pub are_stored_in_memory : AreStoredInMemory AMD64 0x1_4000_0000 (one_range 0x90) [] [] no_targets [] → ⊥
+  pub stored : AreStoredInMemory AMD64 0x1_4000_0000 (one_range 0x90) [] [] no_targets
+      (one_range 0x90)
+  pub are_stored_in_memory : AreStoredInMemory AMD64 0x1_4000_0000 (one_range 0x90) [] [] no_targets
+      [] → ⊥
 
 -- the definition of zed.dll, with members
 abbrev pub zed_made : List MemberView → FlavorInput
-zed_made members = record { flavor = Gnu; input = record { definition = zed_library.definition; members = members; chosen = [] } }
+zed_made members = record {
+  flavor = Gnu;
+  input = record { definition = zed_library.definition; members = members; chosen = [] };
+}
 
 -- the two names that an address table of two thunks has
 abbrev pub five_and_six_named : List (List ℕ)
@@ -210,7 +238,14 @@ abbrev pub foo_run : Run
 foo_run = record { objects = []; imports = foo_imported ∷ []; inputs = [] }
 
 abbrev pub mapped : MappedFile
-mapped = record { machine = 0x8664; width = 8; base = 0x1_4000_0000; image = []; imports = None; addresses = None }
+mapped = record {
+  machine = 0x8664;
+  width = 8;
+  base = 0x1_4000_0000;
+  image = [];
+  imports = None;
+  addresses = None;
+}
 
 -- Parts of import tables, and what loaders find and write.
 pub record RefusedTablePredicates : Type 0 where
@@ -235,8 +270,10 @@ pub record RefusedTablePredicates : Type 0 where
   pub symbols : SymbolsAt (linked_by_hand 0x1040) 8 0x1040 five_and_six_named
   pub symbols_at : SymbolsAt (linked_by_hand 0x1040) 4 0x1040 five_and_six_named → ⊥
   -- the entries that the program's own object gets, and the next ones
-  pub gets : SymbolsGet (program_placed AMD64 touching_8) 8 120 (imp_symbols (gnu_input (foo_input AMD64)))
-  pub symbols_get : SymbolsGet (program_placed AMD64 touching_8) 8 128 (imp_symbols (gnu_input (foo_input AMD64))) → ⊥
+  pub gets : SymbolsGet (program_placed AMD64 touching_8) 8 120
+      (imp_symbols (gnu_input (foo_input AMD64)))
+  pub symbols_get : SymbolsGet (program_placed AMD64 touching_8) 8 128
+      (imp_symbols (gnu_input (foo_input AMD64))) → ⊥
   -- the DLL, and another one in the image
   pub descriptors : DescriptorsAt right_image 8 0x1000 (foo_imported ∷ [])
   pub descriptors_at : DescriptorsAt named_otherwise 8 0x1000 (foo_imported ∷ []) → ⊥
@@ -263,7 +300,11 @@ pub record RefusedTablePredicates : Type 0 where
 
 -- the first of the worked members
 abbrev pub first_worked : MemberView
-first_worked = record { name = codes "a.o"; bytes = 1 ∷ 2 ∷ 3 ∷ []; symbols = codes "f" ∷ codes "__imp_f" ∷ [] }
+first_worked = record {
+  name = codes "a.o";
+  bytes = 1 ∷ 2 ∷ 3 ∷ [];
+  symbols = codes "f" ∷ codes "__imp_f" ∷ [];
+}
 
 -- the members of the text of zed.dll
 abbrev pub zed_members : List MemberView
@@ -273,20 +314,25 @@ zed_members = map member_of (member_specs (renamed (renamed (zed_meant AMD64))) 
 pub record RefusedArchivePredicates : Type 0 where
   -- a function's name, and the head's symbol
   pub no_head : NamesNoHeadOrTailOf AMD64 (zed_library ∷ []) (codes "queue" ∷ [])
-  pub names_no_head_or_tail_of : NamesNoHeadOrTailOf AMD64 (zed_library ∷ []) (codes "_head_zed_dll" ∷ []) → ⊥
+  pub names_no_head_or_tail_of : NamesNoHeadOrTailOf AMD64 (zed_library ∷ [])
+      (codes "_head_zed_dll" ∷ []) → ⊥
   pub no_header : NamesNoHeaderOf (zed_short (codes "queue") ∷ []) (codes "queue" ∷ [])
-  pub names_no_header_of : NamesNoHeaderOf (zed_short (codes "queue") ∷ []) (codes "__IMPORT_DESCRIPTOR_zed" ∷ []) → ⊥
+  pub names_no_header_of : NamesNoHeaderOf (zed_short (codes "queue") ∷ [])
+      (codes "__IMPORT_DESCRIPTOR_zed" ∷ []) → ⊥
   -- the alias of a library, and of none
-  pub weak : IsWeakOfBoth (record { flavor = Gnu; library = library_of aliased } ∷ []) (codes "bar" ∷ []) foo_alias
+  pub weak : IsWeakOfBoth (record { flavor = Gnu; library = library_of aliased } ∷ [])
+      (codes "bar" ∷ []) foo_alias
   pub is_weak_of_both : IsWeakOfBoth [] (codes "bar" ∷ []) foo_alias → ⊥
   -- the first member's header, and the second one's
   pub headers : AreHeadersOf (270 ∷ 334 ∷ []) worked_members (270 ∷ []) (first_worked ∷ [])
-  pub are_headers_of : AreHeadersOf (270 ∷ 334 ∷ []) worked_members (334 ∷ []) (first_worked ∷ []) → ⊥
+  pub are_headers_of : AreHeadersOf (270 ∷ 334 ∷ []) worked_members (334 ∷ []) (first_worked ∷ []) →
+      ⊥
   -- the names that lead to the members are wanted; nothing is
   pub at : AreTakenAt Coff First worked_coff (asks_for names_wanted) (334 ∷ 270 ∷ [])
   pub are_taken_at : AreTakenAt Coff First worked_coff (asks_for []) (334 ∷ 270 ∷ []) → ⊥
   -- what a search in bytes takes is what is taken of the list; nothing holds of it
-  pub takes : TakesJust Coff Second (members_of three) (asks_for wanted) (Takes (members_of three) wanted)
+  pub takes : TakesJust Coff Second (members_of three) (asks_for wanted)
+      (Takes (members_of three) wanted)
   pub takes_just : TakesJust Coff Second (members_of three) (asks_for wanted) (λ found. ⊥) → ⊥
   -- a text's members; a text that is no definition, since a size is missing; and no members
   pub links : LinkInFlavor zed_text AMD64 Gnu zed_members

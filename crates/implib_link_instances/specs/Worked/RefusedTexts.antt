@@ -4,7 +4,8 @@ use Rattle.implib.specs.Import.{Name}
 use Rattle.implib.specs.Link.Image.{Range}
 use Rattle.implib.specs.Link.Load.{LoadsStrictly, TextAt, ThunkAsksFor}
 use Rattle.implib.specs.Members.ImportTables.{zeros}
-use Rattle.implib_link_instances.specs.Worked.RefusedLinks.{descriptor_bytes, five_and_six, foo, table_8}
+use Rattle.implib_link_instances.specs.Worked.RefusedLinks.{descriptor_bytes, five_and_six, foo}
+use Rattle.implib_link_instances.specs.Worked.RefusedLinks.{table_8}
 
 -- the right image, with these bytes for the DLL's name
 abbrev pub image_named : List ℕ → List Range
@@ -18,10 +19,12 @@ image_named name =
 
 -- a hint and a name with its NUL, and two names one of which runs into the other
 abbrev pub hints_and_names : List Range
-hints_and_names = record { start = 0x2000; bytes = 2 ∷ 1 ∷ (codes "open" ++ 0 ∷ (3 ∷ 0 ∷ codes "stat")) } ∷ []
+hints_and_names =
+    record { start = 0x2000; bytes = 2 ∷ 1 ∷ (codes "open" ++ 0 ∷ (3 ∷ 0 ∷ codes "stat")) } ∷ []
 
--- The DLL's name with its NUL is a text; it is none at the end of its bytes, nor where another letter is
--- after it, and it is not a part of itself. A thunk asks for a name that has its NUL alone.
+-- The DLL's name with its NUL is a text; it is none at the end of its bytes, nor where another
+-- letter is after it, and it is not a part of itself. A thunk asks for a name that has its NUL
+-- alone.
 pub record RefusedTexts : Type 0 where
   pub right : TextAt (image_named (foo ++ 0 ∷ [])) 0x1058 foo
   pub no_nul : TextAt (image_named foo) 0x1058 foo → ⊥

@@ -5,7 +5,8 @@ use Rattle.std.specs.Prelude.{◌≡◌, ℕ, ◌+◌, ◌*◌, List, [], ◌∷
 use Rattle.implib.specs.declared.coff.object.Relocation.{Relocation}
 use Rattle.implib.specs.declared.machine.MachineType.{MachineType}
 use Rattle.implib.specs.declared.machine.MachineType.TheVariants.{I386, ARMNT, AMD64, ARM64}
-use Rattle.implib.specs.Formats.Constants.{arm64_pagebase_rel21, class_external, i386_dir32, mem_execute_read}
+use Rattle.implib.specs.Formats.Constants.{arm64_pagebase_rel21, class_external, i386_dir32}
+use Rattle.implib.specs.Formats.Constants.{mem_execute_read}
 use Rattle.implib.specs.Formats.Object.{ASymbol, Object, ObjectSection}
 use Rattle.implib.specs.Link.Image.{Range, image_of}
 use Rattle.implib.specs.Link.Placement.{Bases, Placed, Unplaced, placed_from}
@@ -17,10 +18,15 @@ use Rattle.implib_link.specs.Gnu.Fields.{DefinesIn, LinkedCode, placed_code, ran
 use Rattle.implib_link.specs.Gnu.Operands.{HasPageField, HasPointer}
 use Rattle.implib_link.specs.Gnu.Program.{null_descriptor}
 use Rattle.implib_link.specs.Gnu.Rebased.{Place}
-use Rattle.implib_link.specs.Gnu.Stored.{AreStoredInMemory, HasAddField, HasRelative, amd64_addr32nb, arm64_addr32nb, arm64_pageoffset_12a, i386_dir32nb}
+use Rattle.implib_link.specs.Gnu.Stored.{AreStoredInMemory, HasAddField, HasRelative}
+use Rattle.implib_link.specs.Gnu.Stored.{amd64_addr32nb, arm64_addr32nb, arm64_pageoffset_12a}
+use Rattle.implib_link.specs.Gnu.Stored.{i386_dir32nb}
 use Rattle.implib_link.specs.Stub.{adrp_immediate, bits_of, page, plus_signed}
-use Rattle.implib_link_instances.specs.Worked.Operands.{field, named_or, open_on, placed_or_passing, stub_linked, stub_section}
-use Rattle.implib_link_instances.specs.Worked.Programs.{another, both_inputs, foo_input, input_objects, symbol_of_class, touching_4, touching_8, zed_input}
+use Rattle.implib_link_instances.specs.Worked.Operands.{field, named_or, open_on, placed_or_passing}
+use Rattle.implib_link_instances.specs.Worked.Operands.{stub_linked, stub_section}
+use Rattle.implib_link_instances.specs.Worked.Programs.{another, both_inputs, foo_input}
+use Rattle.implib_link_instances.specs.Worked.Programs.{input_objects, symbol_of_class, touching_4}
+use Rattle.implib_link_instances.specs.Worked.Programs.{touching_8, zed_input}
 
 -- The section. I386: a pointer; `push offset _open`; three `nop`; an address from the image's base.
 -- AMD64: a pointer, as `.rdata$.refptr.open` has it, with eight bytes behind; an address from the

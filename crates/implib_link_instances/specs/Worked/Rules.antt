@@ -1,5 +1,5 @@
--- Single rules of linking, by examples that no larger one distinguishes: each is true as it stands, and not so of the rule
--- with one thing changed.
+-- Single rules of linking, by examples that no larger one distinguishes: each is true as it stands,
+-- and not so of the rule with one thing changed.
 use Rattle.std.specs.Prelude.{◌≡◌, ℕ, true, false, List, [], ◌∷◌, ◌++◌, codes, drop, flat_map, None}
 use Rattle.implib.specs.declared.machine.MachineType.TheVariants.{I386, ARMNT, AMD64, ARM64}
 use Rattle.implib.specs.Formats.Bytes.{u16_bytes}
@@ -24,10 +24,11 @@ use Rattle.implib_link_instances.specs.Worked.Operands.{field, passing, passing_
 use Rattle.implib_link_instances.specs.Worked.Programs.{symbol_of_class}
 use Rattle.implib_link_instances.specs.Worked.RefusedFields.{open_address, two_ranges}
 
--- lld: names of DLLs are alike whatever the case of their letters, and of those alone; a prefix comes first; lookup
--- tables begin at a multiple of the machine's thunks; a short import is for its own machine; ARMNT's thunk is `movw ip`,
--- `movt ip` and `ldr pc, [ip]`, of two halves each, and has one relocation, by MOV32T; I386 reads entries up to the base
--- 2^31, and ARM64 from any multiples of 8
+-- lld: names of DLLs are alike whatever the case of their letters, and of those alone; a prefix
+-- comes first; lookup tables begin at a multiple of the machine's thunks; a short import is for its
+-- own machine; ARMNT's thunk is `movw ip`, `movt ip` and `ldr pc, [ip]`, of two halves each, and
+-- has one relocation, by MOV32T; I386 reads entries up to the base 2^31, and ARM64 from any
+-- multiples of 8
 pub record LldRules : Type 0 where
   pub letters : in_small (codes "@AZ[`az{") ≡ codes "@az[`az{"
   pub prefix : comes_first (codes "bar") (codes "bar2") ≡ true
@@ -41,20 +42,23 @@ pub record LldRules : Type 0 where
   pub i386_base : CanReadFrom I386 0x8000_0000 0x2050
   pub arm64_base : CanReadFrom ARM64 8 0x2068
 
--- Base relocations: none for a section's number, an offset in a section and what is relative to the image; one of 4
--- bytes for an address of 32 bits; one in an address table whose entries store addresses whole. A program moves down as
--- well as up.
+-- Base relocations: none for a section's number, an offset in a section and what is relative to the
+-- image; one of 4 bytes for an address of 32 bits; one in an address table whose entries store
+-- addresses whole. A program moves down as well as up.
 pub record MovingRules : Type 0 where
   pub sections : places_at AMD64 0x1000 (field 0 1 0xA ∷ field 4 1 x86_secrel ∷ []) ≡ []
-  pub amd64_words : places_at AMD64 0x1000 (field 0 1 2 ∷ field 4 1 3 ∷ []) ≡ record { address = 0x1000; width = 4 } ∷ []
-  pub arm64_words : places_at ARM64 0x1000 (field 0 1 1 ∷ field 4 1 2 ∷ field 8 1 8 ∷ []) ≡ record { address = 0x1000; width = 4 } ∷ []
+  pub amd64_words : places_at AMD64 0x1000 (field 0 1 2 ∷ field 4 1 3 ∷ [])
+      ≡ record { address = 0x1000; width = 4 } ∷ []
+  pub arm64_words : places_at ARM64 0x1000 (field 0 1 1 ∷ field 4 1 2 ∷ field 8 1 8 ∷ [])
+      ≡ record { address = 0x1000; width = 4 } ∷ []
   pub tables : table_places_in AMD64 (Unplaced ∷ At Addresses 0x2000 ∷ [])
-      (section (codes ".text") 0 [] [] ∷ section (codes ".idata$5") 0 (zeros 8) (field 0 1 amd64_addr64 ∷ []) ∷ [])
+      (section (codes ".text") 0 [] []
+      ∷ section (codes ".idata$5") 0 (zeros 8) (field 0 1 amd64_addr64 ∷ []) ∷ [])
       ≡ record { address = 0x2000; width = 8 } ∷ []
 
--- The least and the greatest number of 32 bits that are negative, from an address on; a field meets its last byte, and not
--- the one behind it; a symbol of class section stands for the section of its name where it is undefined, and not where it
--- is defined.
+-- The least and the greatest number of 32 bits that are negative, from an address on; a field meets
+-- its last byte, and not the one behind it; a symbol of class section stands for the section of its
+-- name where it is undefined, and not where it is defined.
 pub record FieldRules : Type 0 where
   pub farthest_back : plus_signed 32 1 0x8000_0000 0x1_4000_0006 ≡ 0xC000_0006
   pub nearest_back : plus_signed 32 1 0xFFFF_FFFF 0x1_4000_0006 ≡ 0x1_4000_0005
@@ -63,12 +67,14 @@ pub record FieldRules : Type 0 where
   pub undefined : is_section_symbol (symbol_of_class (codes ".idata$4") 0 class_section) ≡ true
   pub defined : is_section_symbol (symbol_of_class (codes ".idata$4") 1 class_section) ≡ false
 
--- code at 0x1010 that defines `open` 8 bytes from its beginning, and code that calls it, by its symbol 0
+-- code at 0x1010 that defines `open` 8 bytes from its beginning, and code that calls it, by its
+-- symbol 0
 abbrev pub late_open : LinkedCode
 late_open = record {
   from = record {
     object = record (passing AMD64) {
-      entries = ASymbol (record (symbol_of_class (codes "open") 1 class_external) { value = 8 }) ∷ [];
+      entries = ASymbol (record (symbol_of_class (codes "open") 1 class_external) { value = 8 })
+          ∷ [];
     };
     section_addresses = Unplaced ∷ [];
   };
@@ -81,7 +87,8 @@ late_open = record {
 abbrev pub early_caller : LinkedCode
 early_caller = record {
   from = record {
-    object = record (passing AMD64) { entries = ASymbol (symbol_of_class (codes "open") 0 class_external) ∷ [] };
+    object = record (passing AMD64)
+        { entries = ASymbol (symbol_of_class (codes "open") 0 class_external) ∷ [] };
     section_addresses = Unplaced ∷ [];
   };
   number = 1;
@@ -92,7 +99,8 @@ early_caller = record {
 
 -- a symbol's own offset counts: `open` is at 0x1018
 pub record SymbolRules : Type 0 where
-  pub linked : (targets : LinkedCode → ℕ → ℕ) → TakesSymbols [] (early_caller ∷ late_open ∷ []) targets →
+  pub linked : (targets : LinkedCode → ℕ → ℕ) →
+      TakesSymbols [] (early_caller ∷ late_open ∷ []) targets →
       targets early_caller 0 ≡ 0x1018
   pub placed : (targets : PlacedCode → ℕ → ℕ) →
       Resolves [] (placed_code early_caller ∷ placed_code late_open ∷ []) targets →

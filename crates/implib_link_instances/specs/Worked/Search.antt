@@ -1,4 +1,5 @@
--- A search of the members for GNU's linker that was done by hand, and what it is without the law's premises.
+-- A search of the members for GNU's linker that was done by hand, and what it is without the law's
+-- premises.
 use Rattle.std.specs.Prelude.{◌≡◌, ℕ, true, List, [], ◌∷◌, bytes_eq, codes, map, Option, Some, None}
 use Rattle.std.specs.List.{IsDistinct, flat_map}
 use Rattle.std.specs.Option.{option_map}
@@ -31,7 +32,8 @@ aliased = of_dll (codes "foo.dll")
     ∷ plain_export (codes "baz")
     ∷ [])
 
--- what a program wants: a function by both of its symbols, the variable, and a function of another library
+-- what a program wants: a function by both of its symbols, the variable, and a function of another
+-- library
 abbrev pub wanted : List (List ℕ)
 wanted = codes "bar" ∷ codes "__imp_bar" ∷ codes "printf" ∷ codes "__imp_qux" ∷ []
 
@@ -42,13 +44,15 @@ found d name = option_map (λ m. m.name) (first_listed (members_of d) name)
 -- a linker may take the members of these names, the last one first
 abbrev pub MayTake : DefinitionView → List (List ℕ) → List (List ℕ) → Type 0
 MayTake d names taken_names =
-    (taken : List MemberView) × Takes (members_of d) names taken × (map (λ m. m.name) taken ≡ taken_names)
+    (taken : List MemberView) × Takes (members_of d) names taken
+    × (map (λ m. m.name) taken ≡ taken_names)
 
--- The members of three exports are an archive that the law speaks of. For these names a linker may take the
--- first function's member, then the head, for it the tail, and at last the variable's; not the other
--- function's. A name of another library takes nothing. The descriptor's symbol takes the head and the tail
--- and no export, which the laws leave out; a variable's bare name takes its alias, where it has one, which
--- the law of one definition leaves out and that of libraries does not.
+-- The members of three exports are an archive that the law speaks of. For these names a linker may
+-- take the first function's member, then the head, for it the tail, and at last the variable's; not
+-- the other function's. A name of another library takes nothing. The descriptor's symbol takes the
+-- head and the tail and no export, which the laws leave out; a variable's bare name takes its
+-- alias, where it has one, which the law of one definition leaves out and that of libraries does
+-- not.
 pub record WorkedSearch : Type 0 where
   pub made : AreMembersOf three AMD64 Gnu (members_of three)
   pub distinct : IsDistinct bytes_eq (flat_map (λ m. m.symbols) (members_of three))

@@ -12,8 +12,10 @@ use Rattle.implib.specs.Worked.Statements.{plain_export}
 use Rattle.implib_link.specs.Gnu.Packed.{packed}
 use Rattle.implib_link.specs.Gnu.Program.{null_descriptor, HaveSame}
 use Rattle.implib_link.specs.Flavors.Program.{LinksAmong, IsProgram}
-use Rattle.implib_link.specs.Search.Archives.{TakesOfLibraries, archive_of, inputs_wanted, wanted_with}
-use Rattle.implib_link.specs.Search.Search.{ImportsWanted, IsArranged, IsLinkedOfWanted, IsLinkedWith, Takes, exports_wanted, linked_if_any}
+use Rattle.implib_link.specs.Search.Archives.{TakesOfLibraries, archive_of, inputs_wanted}
+use Rattle.implib_link.specs.Search.Archives.{wanted_with}
+use Rattle.implib_link.specs.Search.Search.{ImportsWanted, IsArranged, IsLinkedOfWanted}
+use Rattle.implib_link.specs.Search.Search.{IsLinkedWith, Takes, exports_wanted, linked_if_any}
 use Rattle.implib_link_instances.specs.Worked.Archives.{both_wanted, two_libraries}
 use Rattle.implib_link_instances.specs.Worked.Programs.{code_object, symbol_of_class}
 use Rattle.implib_link_instances.specs.Worked.Search.{members_of, three, wanted}
@@ -45,12 +47,14 @@ by_name = head_member ∷ bar_member ∷ qux_member ∷ tail_member ∷ []
 -- what is linked: a program's own code, these, and the null descriptor
 abbrev pub searched_objects : List Object
 searched_objects =
-    code_object (symbol_of_class (codes "main") 1 class_external ∷ symbol_of_class (codes "bar") 0 class_external ∷ [])
+    code_object (symbol_of_class (codes "main") 1 class_external
+    ∷ symbol_of_class (codes "bar") 0 class_external ∷ [])
     ∷ (objects_in by_name ++ null_descriptor ∷ [])
 
--- What was taken for the wanted names is exactly what the law says; by names it is in order, and in no order
--- where the tail is in front, or where the tail or an export's member lacks; a program of it imports `bar` and
--- `qux` alone. A search ends, and this one took no more members than there are.
+-- What was taken for the wanted names is exactly what the law says; by names it is in order, and in
+-- no order where the tail is in front, or where the tail or an export's member lacks; a program of
+-- it imports `bar` and `qux` alone. A search ends, and this one took no more members than there
+-- are.
 pub record WorkedSearched : Type 0 where
   pub takes : Takes (members_of three) wanted as_taken
   pub just : HaveSame as_taken (linked_if_any three AMD64 (0 ∷ 2 ∷ []))
@@ -63,19 +67,22 @@ pub record WorkedSearched : Type 0 where
       (tail_member ∷ bar_member ∷ qux_member ∷ head_member ∷ []) → ⊥
   pub twice : IsArranged AMD64 (own_names (codes "foo.dll")) as_taken
       (head_member ∷ bar_member ∷ bar_member ∷ qux_member ∷ tail_member ∷ []) → ⊥
-  pub program : IsLinkedWith AMD64 (own_names (codes "foo.dll")) (packed 1 searched_objects) as_taken searched_objects
-  pub imports : ImportsWanted AMD64 three (members_of three) wanted (packed 1 searched_objects) searched_objects
+  pub program : IsLinkedWith AMD64 (own_names (codes "foo.dll")) (packed 1 searched_objects)
+      as_taken searched_objects
+  pub imports : ImportsWanted AMD64 three (members_of three) wanted (packed 1 searched_objects)
+      searched_objects
   pub ends : (taken : List MemberView) × Takes (members_of three) wanted taken
   pub bounded : length as_taken ≤ length (members_of three)
 
--- what is linked of the two libraries: of foo.dll `baz`, of zed.dll `queue`, with the null descriptor
+-- what is linked of the two libraries: of foo.dll `baz`, of zed.dll `queue`, with the null
+-- descriptor
 abbrev pub libraries_objects : List MemberView → List Object
 libraries_objects taken =
     objects_in (all_linked AMD64 (inputs_wanted two_libraries (wanted_with both_wanted taken)))
     ++ null_descriptor ∷ []
 
--- What was taken of the two libraries is exactly what the law says, and a program of it imports exactly the wanted
--- exports.
+-- What was taken of the two libraries is exactly what the law says, and a program of it imports
+-- exactly the wanted exports.
 pub record WorkedLibraries : Type 0 where
   pub taken : List MemberView
   pub takes : Takes (archive_of two_libraries) both_wanted taken

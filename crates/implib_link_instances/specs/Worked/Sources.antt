@@ -1,4 +1,5 @@
--- Programs of texts by hand: that their libraries are what the laws ask for, and what the laws say of them.
+-- Programs of texts by hand: that their libraries are what the laws ask for, and what the laws say
+-- of them.
 use Rattle.std.specs.Prelude.{ℕ, List, [], ◌∷◌, ◌++◌, codes, map, true}
 use Rattle.std.specs.List.{AllByRecursion}
 use Rattle.implib.specs.declared.flavor.Flavor.{Flavor}
@@ -13,12 +14,15 @@ use Rattle.implib.specs.Members.Members.{member_specs}
 use Rattle.implib.specs.Renaming.{renamed}
 use Rattle.implib.specs.Worked.Members.{of_dll}
 use Rattle.implib.specs.Worked.Statements.{plain_export}
-use Rattle.implib_link.specs.Flavors.Program.{OfMember, all_members, null_member, objects_taken, IsProgramOf, IsProgram}
-use Rattle.implib_link.specs.Flavors.Texts.{FlavorSource, FlavorTextsLink, IsFlavorSource, flavor_source, input_of}
+use Rattle.implib_link.specs.Flavors.Program.{OfMember, all_members, null_member, objects_taken}
+use Rattle.implib_link.specs.Flavors.Program.{IsProgramOf, IsProgram}
+use Rattle.implib_link.specs.Flavors.Texts.{FlavorSource, FlavorTextsLink, IsFlavorSource}
+use Rattle.implib_link.specs.Flavors.Texts.{flavor_source, input_of}
 use Rattle.implib_link.specs.Gnu.Packed.{packed}
 use Rattle.implib_link.specs.Gnu.Program.{null_descriptor}
 use Rattle.implib_link.specs.Gnu.Texts.{link_input_of}
-use Rattle.implib_link_instances.specs.But.Links.{MissesFlavorTextLinks, MissesFlavorTextsLink, MissesIsFlavorSource}
+use Rattle.implib_link_instances.specs.But.Links.{MissesFlavorTextLinks, MissesFlavorTextsLink}
+use Rattle.implib_link_instances.specs.But.Links.{MissesIsFlavorSource}
 use Rattle.implib_link_instances.specs.Worked.Programs.{symbol_on, touching_8}
 use Rattle.implib_link.specs.Flavors.Program.{OfLinker}
 
@@ -38,12 +42,14 @@ foo_meant machine = of_dll (codes "foo.dll")
 
 abbrev pub zed_meant : MachineType → DefinitionView
 zed_meant machine = of_dll (codes "zed.dll")
-    (record empty_export { name = symbol_on machine (codes "queue"); ordinal = 7; no_name = true } ∷ [])
+    (record empty_export { name = symbol_on machine (codes "queue"); ordinal = 7; no_name = true }
+    ∷ [])
 
 -- a text with a library of its definition, whose members are these, and with a choice of exports
 abbrev pub source_in : Flavor → MachineType → List ℕ → DefinitionView → List ℕ → FlavorSource
 source_in flavor machine text d chosen =
-    flavor_source flavor text (record { definition = renamed d; machine = machine; flavor = flavor })
+    flavor_source flavor text
+    (record { definition = renamed d; machine = machine; flavor = flavor })
     (map member_of (member_specs (renamed (renamed d)) machine flavor)) chosen
 
 -- both for GNU's linker
@@ -63,24 +69,28 @@ both_sources machine =
 -- the objects that are linked of them
 abbrev pub gnu_text_objects : MachineType → List Object
 gnu_text_objects machine =
-    objects_in (all_linked machine (map (λ s. link_input_of s.source) (gnu_sources machine))) ++ null_descriptor ∷ []
+    objects_in (all_linked machine (map (λ s. link_input_of s.source) (gnu_sources machine)))
+    ++ null_descriptor ∷ []
 
 abbrev pub both_text_objects : MachineType → List Object
 both_text_objects machine = objects_taken machine
-    (null_member machine (codes "foo.dll") ∷ all_members machine (map input_of (both_sources machine)))
+    (null_member machine (codes "foo.dll")
+    ∷ all_members machine (map input_of (both_sources machine)))
 
--- The texts' libraries and members are what the laws ask for, packed they are programs, and these link as the
--- laws say.
+-- The texts' libraries and members are what the laws ask for, packed they are programs, and these
+-- link as the laws say.
 pub record WorkedSource (machine : MachineType) : Type 0 where
   pub gnu : AllByRecursion (IsFlavorSource machine) (gnu_sources machine)
   pub gnu_program : IsProgram machine (packed 1 (gnu_text_objects machine))
       (map (λ s. link_input_of s.source) (gnu_sources machine)) (gnu_text_objects machine)
-  pub gnu_links : FlavorTextsLink machine OfLinker (packed 1 (gnu_text_objects machine)) (gnu_sources machine)
+  pub gnu_links : FlavorTextsLink machine OfLinker (packed 1 (gnu_text_objects machine))
+      (gnu_sources machine)
       (gnu_text_objects machine)
   pub both : AllByRecursion (IsFlavorSource machine) (both_sources machine)
   pub both_program : IsProgramOf machine OfMember (packed 1 (both_text_objects machine))
       (map input_of (both_sources machine)) (both_text_objects machine)
-  pub both_link : FlavorTextsLink machine OfMember (packed 1 (both_text_objects machine)) (both_sources machine)
+  pub both_link : FlavorTextsLink machine OfMember (packed 1 (both_text_objects machine))
+      (both_sources machine)
       (both_text_objects machine)
 
 -- with and without the underscore in front of names
@@ -94,7 +104,8 @@ pub record NearIsFlavorSource : Type 0 where
       (source_in Gnu I386 zed_text (zed_meant I386) (0 ∷ []))
   pub made : MissesIsFlavorSource (codes "made") AMD64
       (flavor_source Gnu zed_text
-      (record { definition = renamed (zed_meant AMD64); machine = AMD64; flavor = Gnu }) [] (0 ∷ []))
+      (record { definition = renamed (zed_meant AMD64); machine = AMD64; flavor = Gnu }) []
+      (0 ∷ []))
 
 -- zed.dll's text, of which nothing is linked
 pub record NearFlavorTextLinks : Type 0 where

@@ -9,7 +9,10 @@ use Rattle.std.specs.Prelude.{ℕ, ◌+◌, List, [], ◌∷◌, ◌++◌, codes
 use Rattle.implib.specs.declared.coff.object.Relocation.{Relocation}
 use Rattle.implib.specs.declared.machine.MachineType.{MachineType}
 use Rattle.implib.specs.declared.machine.MachineType.TheVariants.{I386, ARMNT, AMD64, ARM64}
-use Rattle.implib.specs.Formats.Constants.{align_16bytes, amd64_rel32, arm64_pagebase_rel21, arm64_pageoffset_12l, class_external, cnt_code, cnt_initialized_data, i386_dir32, mem_execute_read, mem_read_write}
+use Rattle.implib.specs.Formats.Constants.{align_16bytes, amd64_rel32, arm64_pagebase_rel21}
+use Rattle.implib.specs.Formats.Constants.{arm64_pageoffset_12l, class_external, cnt_code}
+use Rattle.implib.specs.Formats.Constants.{cnt_initialized_data, i386_dir32, mem_execute_read}
+use Rattle.implib.specs.Formats.Constants.{mem_read_write}
 use Rattle.implib.specs.Formats.Object.{ASymbol, Object, ObjectSection}
 use Rattle.implib.specs.Import.{imp_symbol}
 use Rattle.implib.specs.Link.Image.{Range}
@@ -22,9 +25,11 @@ use Rattle.implib_link.specs.Gnu.Calls.{amd64_addr64, arm64_addr64}
 use Rattle.implib_link.specs.Gnu.Fields.{LinkedCode, ranges_of_codes}
 use Rattle.implib_link.specs.Gnu.Operands.{HasBranch, HasInstruction, HasPageField, HasPointer}
 use Rattle.implib_link.specs.Gnu.Rebased.{Place}
-use Rattle.implib_link.specs.Gnu.Stored.{AreStoredInMemory, HasAddField, HasRelative, amd64_addr32nb, arm64_addr32nb, arm64_pageoffset_12a}
+use Rattle.implib_link.specs.Gnu.Stored.{AreStoredInMemory, HasAddField, HasRelative}
+use Rattle.implib_link.specs.Gnu.Stored.{amd64_addr32nb, arm64_addr32nb, arm64_pageoffset_12a}
 use Rattle.implib_link.specs.Tables.{AreSteady}
-use Rattle.implib_link_instances.specs.Worked.LldPrograms.{addresses_on, linked_thunk, lld_image_on, mid_on, shorts_on, taken_address}
+use Rattle.implib_link_instances.specs.Worked.LldPrograms.{addresses_on, linked_thunk, lld_image_on}
+use Rattle.implib_link_instances.specs.Worked.LldPrograms.{mid_on, shorts_on, taken_address}
 use Rattle.implib_link_instances.specs.Worked.Operands.{field}
 use Rattle.implib_link_instances.specs.Worked.Programs.{symbol_of_class, symbol_on}
 

@@ -1,9 +1,11 @@
--- Import tables that lld-link 19.1.7 wrote on AMD64 of llvm-dlltool 19.1.7's short imports of zoo.dll: `feed`, for which
--- its third text has the DLL asked for `hay`, and `pat`. The code calls through the entry of `feed`, calls it by its bare
--- name, through lld's thunk at 0x1020, and loads the entry of `pat`.
+-- Import tables that lld-link 19.1.7 wrote on AMD64 of llvm-dlltool 19.1.7's short imports of
+-- zoo.dll: `feed`, for which its third text has the DLL asked for `hay`, and `pat`. The code calls
+-- through the entry of `feed`, calls it by its bare name, through lld's thunk at 0x1020, and loads
+-- the entry of `pat`.
 use Rattle.std.specs.Prelude.{◌≡◌, ℕ, ◌+◌, List, [], ◌∷◌, ◌++◌, codes, length, map, slice_get}
 use Rattle.implib.specs.declared.machine.MachineType.TheVariants.{AMD64}
-use Rattle.implib.specs.Formats.Constants.{align_16bytes, amd64_rel32, class_external, cnt_code, mem_execute_read}
+use Rattle.implib.specs.Formats.Constants.{align_16bytes, amd64_rel32, class_external, cnt_code}
+use Rattle.implib.specs.Formats.Constants.{mem_execute_read}
 use Rattle.implib.specs.Formats.Object.{ASymbol, ObjectSection}
 use Rattle.implib.specs.Formats.ShortImport.{ShortImport}
 use Rattle.implib.specs.Import.{Ask, Name}
@@ -17,7 +19,8 @@ use Rattle.implib_link.specs.Flavors.LldThunks.{BranchArrivesByThunk, placed_thu
 use Rattle.implib_link.specs.Gnu.Fields.{AreLinkedBeside, LinkedCode, ranges_of_codes}
 use Rattle.implib_link.specs.Gnu.Operands.{AllLead, HasBranch, HasInstruction}
 use Rattle.implib_link.specs.Gnu.Reading.{ReadsAndWrites}
-use Rattle.implib_link.specs.Tables.{AreSteady, AreTables, Block, Table, imported_by_table, packed_tables}
+use Rattle.implib_link.specs.Tables.{AreSteady, AreTables, Block, Table, imported_by_table}
+use Rattle.implib_link.specs.Tables.{packed_tables}
 use Rattle.implib_link_instances.specs.Worked.LldPrograms.{short_on, taken_address}
 use Rattle.implib_link_instances.specs.Worked.Parts.{asking}
 use Rattle.implib_link_instances.specs.Worked.Programs.{symbol_of_class}
@@ -77,7 +80,8 @@ third_object = record {
 }
 
 abbrev pub third_linked : List Placed
-third_linked = third_object ∷ placed_by_lld AMD64 0x2040 third_shorts ∷ placed_thunk AMD64 third_feed ∷ []
+third_linked =
+    third_object ∷ placed_by_lld AMD64 0x2040 third_shorts ∷ placed_thunk AMD64 third_feed ∷ []
 
 abbrev pub third_code : LinkedCode
 third_code = record {
@@ -101,7 +105,8 @@ abbrev pub third_codes : List LinkedCode
 third_codes = third_code ∷ third_thunk ∷ []
 
 abbrev pub third_targets : LinkedCode → ℕ → ℕ
-third_targets c index = taken_address (λ name. 0x1020) third_linked c.from (slice_get c.from.object.entries index)
+third_targets c index =
+    taken_address (λ name. 0x1020) third_linked c.from (slice_get c.from.object.entries index)
 
 abbrev pub third_memory : List Range
 third_memory = third_image ++ ranges_of_codes third_codes
@@ -110,21 +115,28 @@ abbrev pub PiecesAsk : List ℕ → Type 0
 PiecesAsk name = ArePiecesAt AMD64 third_image 0x2000 0x2028 0x2040 0x2058 0x2064
     (map imported_by_table (packed_tables 8 0x2040 (block_asking name ∷ [])))
 
--- The tables are these, and the code is beside them; so where a loader that knows nothing else has read them, what goes
--- by `feed` goes to what the DLL gives for `hay`.
+-- The tables are these, and the code is beside them; so where a loader that knows nothing else has
+-- read them, what goes by `feed` goes to what the DLL gives for `hay`.
 pub record WorkedThirdTexts : Type 0 where
   pub written : built_bytes AMD64 0x2000 (map imported_by_table third_tables) ≡ third_written
   pub pieces : PiecesAsk (codes "hay")
   pub tables : AreTables AMD64
-      (record { image = third_image; linked = third_linked; directory = 0x2000; tables = third_tables })
+      (record {
+        image = third_image;
+        linked = third_linked;
+        directory = 0x2000;
+        tables = third_tables;
+      })
   pub steady : AreSteady AMD64 third_linked
-  pub beside : AreLinkedBeside AMD64 0x1_4000_0000 third_image third_linked third_codes third_targets
+  pub beside : AreLinkedBeside AMD64 0x1_4000_0000 third_image third_linked third_codes
+      third_targets
   pub through_entry : HasInstruction AMD64 third_code 0 (0xFF ∷ 0x15 ∷ []) [] (codes "__imp_feed")
   pub call : HasBranch AMD64 third_code 7 0 (codes "feed")
   pub arrive : (gives : List ℕ → Ask → List ℕ) (n : ℕ) (written : List Range) →
       ((dll : List ℕ) (ask : Ask) → length (gives dll ask) ≡ 8) →
       ReadsAndWrites third_memory 8 gives n 0x2000 written →
-      AllLead AMD64 0x1_4000_0000 third_linked third_codes (written ++ third_memory) (codes "__imp_feed")
+      AllLead AMD64 0x1_4000_0000 third_linked third_codes (written ++ third_memory)
+      (codes "__imp_feed")
       (gives (codes "zoo.dll") (Name (codes "hay") 0))
       × BranchArrivesByThunk AMD64 0x1_4000_0000 (written ++ third_memory) 0x1007 0
       (gives (codes "zoo.dll") (Name (codes "hay") 0))

@@ -1,10 +1,11 @@
--- Walks by hand of a loader that is strict about nothing: where it stops, and what it finds whose texts and
--- tables are after the directory or in front of it.
+-- Walks by hand of a loader that is strict about nothing: where it stops, and what it finds whose
+-- texts and tables are after the directory or in front of it.
 use Rattle.std.specs.Prelude.{List, [], ◌∷◌, ◌++◌}
 use Rattle.implib.specs.Link.Image.{Range}
 use Rattle.implib.specs.Members.ImportTables.{zeros}
 use Rattle.implib_link.specs.Directory.{Imported, StopsAt, WalkFinds}
-use Rattle.implib_link_instances.specs.Worked.RefusedLinks.{descriptor_bytes, five_and_six, foo, image_by_hand, right_image, table_8}
+use Rattle.implib_link_instances.specs.Worked.RefusedLinks.{descriptor_bytes, five_and_six, foo}
+use Rattle.implib_link_instances.specs.Worked.RefusedLinks.{image_by_hand, right_image, table_8}
 
 -- what the images import
 abbrev pub foo_imported : Imported
@@ -27,8 +28,8 @@ directory_last =
     ∷ record { start = 0x104C; bytes = zeros 20 }
     ∷ []
 
--- A loader stops where one of the two fields is 0, whichever it is, and not where neither is. It finds the
--- import wherever the name and the tables are.
+-- A loader stops where one of the two fields is 0, whichever it is, and not where neither is. It
+-- finds the import wherever the name and the tables are.
 pub record WorkedWalks : Type 0 where
   pub stops_without_name : StopsAt without_name 0x1000
   pub stops_without_addresses : StopsAt without_addresses 0x1000

@@ -12,7 +12,8 @@ use Rattle.implib_link.specs.Search.Closed.{TakesInto, unresolved}
 use Rattle.implib_link.specs.Search.Wanting.{wanting}
 use Rattle.implib_link_instances.specs.Worked.Archives.{two_libraries}
 use Rattle.implib_link_instances.specs.Worked.Closed.{closed_taken}
-use Rattle.implib_link_instances.specs.Worked.Programs.{both_inputs, code_object, program_objects, symbol_of_class, touching_4, touching_8}
+use Rattle.implib_link_instances.specs.Worked.Programs.{both_inputs, code_object, program_objects}
+use Rattle.implib_link_instances.specs.Worked.Programs.{symbol_of_class, touching_4, touching_8}
 
 -- an object that names nothing of the libraries
 abbrev pub quiet : Object

@@ -1,5 +1,5 @@
--- A loader that writes as it goes, by hand: what it leaves of the programs that are linked by hand, and
--- images that it reads in another way than a loader that first reads all.
+-- A loader that writes as it goes, by hand: what it leaves of the programs that are linked by hand,
+-- and images that it reads in another way than a loader that first reads all.
 use Rattle.std.specs.Prelude.{◌≡◌, ℕ, List, [], ◌∷◌, ◌++◌, map}
 use Rattle.implib.specs.declared.machine.MachineType.{MachineType}
 use Rattle.implib.specs.declared.machine.MachineType.TheVariants.{I386, ARMNT, AMD64, ARM64}
@@ -15,11 +15,13 @@ use Rattle.implib_link_instances.specs.Worked.Operands.{flavors_linked, moved_me
 use Rattle.implib_link_instances.specs.Worked.Calls.{given_on}
 use Rattle.implib_link_instances.specs.Worked.Flavors.{both_inputs as flavor_inputs}
 use Rattle.implib_link_instances.specs.Worked.Loads.{entry_of, gives_by_hand}
-use Rattle.implib_link_instances.specs.Worked.Programs.{both_inputs, program_image, touching_4, touching_8}
-use Rattle.implib_link_instances.specs.Worked.RefusedLinks.{descriptor_bytes, five_and_six, foo, image_by_hand, ordinal_8, table_8}
+use Rattle.implib_link_instances.specs.Worked.Programs.{both_inputs, program_image, touching_4}
+use Rattle.implib_link_instances.specs.Worked.Programs.{touching_8}
+use Rattle.implib_link_instances.specs.Worked.RefusedLinks.{descriptor_bytes, five_and_six, foo}
+use Rattle.implib_link_instances.specs.Worked.RefusedLinks.{image_by_hand, ordinal_8, table_8}
 
--- what is left in front of the image, the last entry first: `queue` of zed.dll, and `move`, `stat`, `open`
--- and `nine` of foo.dll
+-- what is left in front of the image, the last entry first: `queue` of zed.dll, and `move`, `stat`,
+-- `open` and `nine` of foo.dll
 abbrev pub left_8 : MachineType → List Range
 left_8 machine =
     entry_of machine 160 0x71 0x7A
@@ -38,8 +40,8 @@ left_4 machine =
     ∷ entry_of machine 92 9 0x66
     ∷ []
 
--- A loader of a program asks for what it imports and leaves this; and each loader that writes as it goes
--- does.
+-- A loader of a program asks for what it imports and leaves this; and each loader that writes as it
+-- goes does.
 pub record WorkedWriting (machine : MachineType) (bases : Bases) (left : List Range) : Type 0 where
   pub runs : WritesAsItGoes (thunk_width machine) (gives_by_hand machine) bases.descriptors
       (program_image machine bases) (map (imported machine) (both_inputs machine))
@@ -47,7 +49,8 @@ pub record WorkedWriting (machine : MachineType) (bases : Bases) (left : List Ra
   pub once : (found : List Imported) (after : List Range) →
       WritesAsItGoes (thunk_width machine) (gives_by_hand machine) bases.descriptors
       (program_image machine bases) found after →
-      (found ≡ map (imported machine) (both_inputs machine)) × (after ≡ left ++ program_image machine bases)
+      (found ≡ map (imported machine) (both_inputs machine))
+      × (after ≡ left ++ program_image machine bases)
 
 -- bytes that a DLL gives for an ordinal: themselves a thunk that asks for the ordinal 9, or zeros
 abbrev pub gives_nine : List ℕ → Ask → List ℕ
@@ -83,19 +86,24 @@ pub record WorkedWritings : Type 0 where
       (record { start = 0x1030; bytes = zeros 8 } ∷ overlapping)
   -- and never asks for the second
   pub not_both : (after : List Range) →
-      WritesAsItGoes 8 gives_zeros 0x1000 overlapping (record { dll = foo; asks = five_and_six } ∷ []) after → ⊥
+      WritesAsItGoes 8 gives_zeros 0x1000 overlapping
+      (record { dll = foo; asks = five_and_six } ∷ []) after → ⊥
   -- or it asks for what the DLL gave
   pub not_given : (after : List Range) →
-      WritesAsItGoes 8 gives_nine 0x1000 overlapping (record { dll = foo; asks = five_and_six } ∷ []) after → ⊥
+      WritesAsItGoes 8 gives_nine 0x1000 overlapping
+      (record { dll = foo; asks = five_and_six } ∷ []) after → ⊥
   -- without the null descriptor no loader stops after the DLL
   pub never_stops : (after : List Range) →
-      WritesAsItGoes 8 gives_zeros 0x1000 without_null (record { dll = foo; asks = five_and_six } ∷ []) after → ⊥
-  -- I386's program of Worked/Operands at another base, and that of both flavours there: it leaves what one that reads
-  -- first leaves
+      WritesAsItGoes 8 gives_zeros 0x1000 without_null
+      (record { dll = foo; asks = five_and_six } ∷ []) after → ⊥
+  -- I386's program of Worked/Operands at another base, and that of both flavours there: it leaves
+  -- what one that reads first leaves
   pub moved : (found : List Imported) (after : List Range) →
-      WritesAsItGoes 4 (given_on I386) touching_4.descriptors (moved_memory I386 touching_4) found after →
+      WritesAsItGoes 4 (given_on I386) touching_4.descriptors (moved_memory I386 touching_4) found
+      after →
       (found ≡ map (imported I386) (both_inputs I386)) × ((written : List Range)
-      × (ReadsAndWrites (moved_memory I386 touching_4) 4 (given_on I386) 2 touching_4.descriptors written
+      × (ReadsAndWrites (moved_memory I386 touching_4) 4 (given_on I386) 2 touching_4.descriptors
+      written
       × AreAlike after (written ++ moved_memory I386 touching_4)))
   pub moved_end : (after : List Range)
       × WritesAsItGoes 4 (given_on I386) touching_4.descriptors (moved_memory I386 touching_4)
@@ -104,4 +112,5 @@ pub record WorkedWritings : Type 0 where
       WritesAsItGoes 8 (given_on AMD64) 8 flavors_linked found after →
       found ≡ map (imported_in AMD64) (flavor_inputs AMD64)
   pub flavors_end : (after : List Range)
-      × WritesAsItGoes 8 (given_on AMD64) 8 flavors_linked (map (imported_in AMD64) (flavor_inputs AMD64)) after
+      × WritesAsItGoes 8 (given_on AMD64) 8 flavors_linked
+      (map (imported_in AMD64) (flavor_inputs AMD64)) after

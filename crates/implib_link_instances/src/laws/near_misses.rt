@@ -214,8 +214,8 @@ pub fn second_instances()
 ///
 /// Fields that no instance fails alone: where all other fields hold, so do these.
 ///
-/// What no program fails alone: that the imports of a DLL's group are its own, and that each address
-/// of bounded tables is in an entry.
+/// What no program fails alone: that the imports of a DLL's group are its own, and that each
+/// address of bounded tables is in an entry.
 pub fn refused_predicates()
     ensures refused_predicates { RefusedPredicates }
     ensures following_fields { FollowingFields }
