@@ -32,8 +32,7 @@ use Rattle.implib_link.specs.Stub.{CanJump}
 -- `admissible`, `lookups`, `addresses`, `follows`: the bases are those of a program of both
 -- flavours.
 pub record AreLinkedForBoth (machine : MachineType) (libraries : List FlavorLibrary)
-    (own : List Object)
-    (taken : List MemberView) (arranged : List FlavorLibrary) (bases : Bases)
+    (own : List Object) (taken : List MemberView) (arranged : List FlavorLibrary) (bases : Bases)
     (objects : List Object) : Type 0 where
   pub order : IsPermutation libraries arranged
   pub others : HaveSame (filter (λ o. not (has_tables o)) objects)

@@ -42,8 +42,7 @@ Asks = List (List ℕ) → List ℕ → Type 0
 -- A name asks for a member after a header: it does so after the members that are taken, it leads to
 -- this header, and the member after it is not taken.
 pub record PullsInAt (kind : Kind) (linker : LinkerMember) (bytes : List ℕ) (asks : Asks)
-    (taken : List ℕ)
-    (name : List ℕ) (header : ℕ) : Type 0 where
+    (taken : List ℕ) (name : List ℕ) (header : ℕ) : Type 0 where
   pub asked : asks (contents_at kind bytes taken) name
   pub found : header_by linker bytes name ≡ Some header
   pub new : Contains taken header → ⊥

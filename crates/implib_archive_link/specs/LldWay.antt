@@ -77,8 +77,7 @@ AreCalledAlike libraries =
 -- `placed`, `none_before`, `none_behind`: no other object defines one of their `__imp_` symbols;
 -- `pieces`: the image has the tables, and is above 0 and ends below 2^31 (`starts`, `ends`).
 pub record IsBuiltByLld (machine : MachineType) (descriptors addresses : ℕ)
-    (live : List ShortImport)
-    (image : List Range) (linked : List Placed) : Type 0 where
+    (live : List ShortImport) (image : List Range) (linked : List Placed) : Type 0 where
   pub before : List Placed
   pub behind : List Placed
   pub placed : linked ≡ before ++ placed_by_lld machine addresses live ∷ behind

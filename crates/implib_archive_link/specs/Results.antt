@@ -93,8 +93,7 @@ pub record AreSearched (kind : Kind) (linker : LinkerMember)
 -- A search of members is one in the bytes of their archive: the headers of the members that are
 -- found are taken.
 pub record IsSearchOf (kind : Kind) (linker : LinkerMember) (members : List MemberView)
-    (asks : Asks)
-    (found : List MemberView) : Type 0 where
+    (asks : Asks) (found : List MemberView) : Type 0 where
   pub headers : List ℕ
   pub located : headers_in (archive_of kind members) ≡ Some headers
   pub taken : List ℕ

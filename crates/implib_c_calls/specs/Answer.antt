@@ -111,8 +111,7 @@ BufferReads old new _ = Unit {0}
 
 -- the call's outcome, with all that it leaves
 pub record Answers (text : List ℕ) (machine flavor : ℕ) (old new : List ℕ)
-    (length_left place_left : ℕ)
-    (status_left : ℕ) : Type 0 where
+    (length_left place_left : ℕ) (status_left : ℕ) : Type 0 where
   pub outcome : Outcome
   pub ends : EndsSo text machine flavor (length old) outcome
   pub status_is : status_left ≡ status_number (status_of outcome)

@@ -103,8 +103,7 @@ BufferReads old new (NoOptions fault) = Unit {0}
 
 -- the call's ending, with all that it leaves
 pub record CheckAnswers (bytes text : List ℕ) (given : GivenOptions) (old new : List ℕ)
-    (length_left place_left : ℕ)
-    (status_left : ℕ) : Type 0 where
+    (length_left place_left : ℕ) (status_left : ℕ) : Type 0 where
   pub ending : CheckEnding
   pub ends : CheckEndsSo bytes text given (length old) ending
   pub status_is : status_left ≡ status_number (status_of ending)

@@ -14,8 +14,7 @@ pub record EncodesTold (told : Told) (bytes : List ℕ) : Type 0 where
 
 -- these are the bytes of an encoding of what is told of a library beside that of a definition
 pub record EncodesCheck (archive : Archive) (members : List MemberRead) (text : List ℕ)
-    (options : LibraryOptionsView)
-    (bytes : List ℕ) : Type 0 where
+    (options : LibraryOptionsView) (bytes : List ℕ) : Type 0 where
   pub verdict : Verdict
   pub on : IsVerdictOn false text options members verdict
   pub encodes : EncodesTold (told_of archive members on.meant) bytes

@@ -84,8 +84,7 @@ DefinitionBufferReads old new _ = Unit {0}
 
 -- the call's ending, with all that it leaves
 pub record DefinitionAnswers (text : List ℕ) (machine : ℕ) (old new : List ℕ)
-    (length_left place_left : ℕ)
-    (status_left : ℕ) : Type 0 where
+    (length_left place_left : ℕ) (status_left : ℕ) : Type 0 where
   pub ending : DefinitionEnding
   pub ends : DefinitionEndsSo text machine (length old) ending
   pub status_is : status_left ≡ status_number (status_of ending)

@@ -29,8 +29,7 @@ failure_given OutOfMemory = failure.OutOfMemory
 -- the library is put at the beginning of the buffer, where there is one and room for it; else
 -- nothing is
 pub record PutsLibraryOf (exports : List GivenExport) (options : LibraryOptionsView)
-    (old new : List ℕ)
-    (length_left place_left : ℕ) (status_left : Status) : Type 0 where
+    (old new : List ℕ) (length_left place_left : ℕ) (status_left : Status) : Type 0 where
   pub ending : EndingOf
   pub ends : EndsUnder exports options (length old) ending
   pub status_is : status_left ≡ status_of ending

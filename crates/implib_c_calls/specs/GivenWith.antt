@@ -31,8 +31,7 @@ EndsUnder IsMade IsRefused room (NoOptions fault) = ⊥
 -- the library is put at the beginning of the buffer, where there is one and room for it; else
 -- nothing is
 pub record PutsAs (IsMade : List ℕ → Type 0) (IsRefused : Refusal → Type 0) (text : List ℕ)
-    (old new : List ℕ)
-    (length_left place_left : ℕ) (status_left : Status) : Type 0 where
+    (old new : List ℕ) (length_left place_left : ℕ) (status_left : Status) : Type 0 where
   pub ending : EndingWith
   pub ends : EndsUnder IsMade IsRefused (length old) ending
   pub status_is : status_left ≡ status_with ending

@@ -183,9 +183,8 @@ buffer_with old (NoOptions fault) = old
 
 -- a call's ending, with all that it leaves
 pub record AnswersAs (IsMade : LibraryOptionsView → List ℕ → Type 0)
-    (IsRefused : LibraryOptionsView → Refusal → Type 0)
-    (text : List ℕ) (given : GivenOptions) (old new : List ℕ) (length_left place_left : ℕ)
-    (status_left : ℕ) : Type 0 where
+    (IsRefused : LibraryOptionsView → Refusal → Type 0) (text : List ℕ) (given : GivenOptions)
+    (old new : List ℕ) (length_left place_left : ℕ) (status_left : ℕ) : Type 0 where
   pub ending : EndingWith
   pub ends : EndsAs IsMade IsRefused given (length old) ending
   pub status_is : status_left ≡ status_number (status_with ending)

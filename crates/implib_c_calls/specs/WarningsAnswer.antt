@@ -114,8 +114,7 @@ BufferReads old new (NoOptions fault) = Unit {0}
 
 -- the call's ending, with all that it leaves
 pub record WarningsAnswers (text : List ℕ) (given : GivenOptions) (old new : List ℕ)
-    (length_left place_left : ℕ)
-    (status_left : ℕ) : Type 0 where
+    (length_left place_left : ℕ) (status_left : ℕ) : Type 0 where
   pub ending : WarningsEnding
   pub ends : WarningsEndSo text given (length old) ending
   pub status_is : status_left ≡ status_number (status_of ending)

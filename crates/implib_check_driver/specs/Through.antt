@@ -22,7 +22,6 @@ ends_through (Some content) e names members =
 
 -- the bytes of files, and the names in folders, are known where forwarders are followed
 pub record AreKnownFor (seen : List ℕ → Option (List ℕ)) (listed : List ℕ → Option (List (List ℕ)))
-    (check : CheckView)
-    (file : List ℕ → List ℕ) (names : List ℕ → List (List ℕ)) : Type 0 where
+    (check : CheckView) (file : List ℕ → List ℕ) (names : List ℕ → List (List ℕ)) : Type 0 where
   pub files : is_searching check ≡ true → AreKnown seen file
   pub folders : is_searching check ≡ true → AreKnown listed names

@@ -38,8 +38,7 @@ pub record PutsMembers (known : Bool) (members : List MemberView) (request : Req
 
 -- exports of a DLL have members whose stubs can run, and their library was put
 pub record IsMade (known : Bool) (e : Exports) (exports : List ExportView) (request : RequestView)
-    (disk put : DiskView) (before after : Option (List Line))
-    (status : ℕ) : Type 0 where
+    (disk put : DiskView) (before after : Option (List Line)) (status : ℕ) : Type 0 where
   pub members : List MemberView
   pub made : MembersOfDll e exports request members
   pub runs : has_failing_stub request.library members ≡ false
@@ -47,8 +46,7 @@ pub record IsMade (known : Bool) (e : Exports) (exports : List ExportView) (requ
 
 -- exports of a DLL have members whose stubs cannot run; that was said, and nothing was put
 pub record HasDllFailingStub (e : Exports) (exports : List ExportView) (request : RequestView)
-    (disk put : DiskView) (before after : Option (List Line))
-    (status : ℕ) : Type 0 where
+    (disk put : DiskView) (before after : Option (List Line)) (status : ℕ) : Type 0 where
   pub members : List MemberView
   pub made : MembersOfDll e exports request members
   pub fails : has_failing_stub request.library members ≡ true

@@ -152,8 +152,7 @@ delay_status (CannotDelay why) = 1
 -- The first is there, whole, when the second is begun; what becomes of it when the second takes its
 -- place is not stated, as of all other paths (Disk).
 pub record IsDelayed (known : Bool) (bytes path file : List ℕ) (request : RequestView)
-    (disk put : DiskView)
-    (before after : Option (List Line)) (status : ℕ) : Type 0 where
+    (disk put : DiskView) (before after : Option (List Line)) (status : ℕ) : Type 0 where
   pub middle : DiskView
   pub finishes : Finishes known bytes request disk middle before after 0
   pub placed : IsPlaced known middle put path file
@@ -162,8 +161,7 @@ pub record IsDelayed (known : Bool) (bytes path file : List ℕ) (request : Requ
 -- the other library was put, if one is asked for, and then that of delayed imports was not, which
 -- was said
 pub record FailsToDelay (known : Bool) (bytes path : List ℕ) (request : RequestView)
-    (disk put : DiskView)
-    (before after : Option (List Line)) (status : ℕ) : Type 0 where
+    (disk put : DiskView) (before after : Option (List Line)) (status : ℕ) : Type 0 where
   pub middle : DiskView
   pub said : Option (List Line)
   pub finishes : Finishes known bytes request disk middle before said 0
@@ -188,16 +186,14 @@ FinishesDelayed known bytes path file request disk put before after status =
 
 -- the definition has a library of delayed imports, and this was done with it
 pub record HasDelayed (known : Bool) (bytes path : List ℕ) (request : RequestView)
-    (disk put : DiskView)
-    (before after : Option (List Line)) (status : ℕ) : Type 0 where
+    (disk put : DiskView) (before after : Option (List Line)) (status : ℕ) : Type 0 where
   pub file : List ℕ
   pub is_library : IsDelayedLibrary bytes request.library file
   pub finishes : FinishesDelayed known bytes path file request disk put before after status
 
 -- the definition has none, which was said, and nothing was put
 pub record HasNoDelayed (bytes : List ℕ) (request : RequestView) (disk put : DiskView)
-    (before after : Option (List Line))
-    (status : ℕ) : Type 0 where
+    (before after : Option (List Line)) (status : ℕ) : Type 0 where
   pub refusal : DelayRefusal
   pub refused : IsRefusalOfDelayed bytes request.library refusal
   pub same_disk : put ≡ disk
@@ -301,8 +297,7 @@ subject_of program = if is_empty_text (last_part program) then own_name else las
 
 -- one complaint was said, and nothing else was done
 pub record Complained (name : List ℕ) (complaint : ComplaintView) (number : ℕ)
-    (before after : Devices) (printed prints : Option (List ℕ))
-    (status : ℕ) : Type 0 where
+    (before after : Devices) (printed prints : Option (List ℕ)) (status : ℕ) : Type 0 where
   pub same_disk : after.disk ≡ before.disk
   pub same_input : after.input ≡ before.input
   pub same_output : prints ≡ printed
@@ -337,8 +332,7 @@ pub record OnlyPrints (name text : List ℕ) (before after : Devices)
 
 -- what was asked for was made, and nothing printed
 pub record OnlyMakes (known : Bool) (machines : ForMachine) (request : RequestView)
-    (before after : Devices) (printed prints : Option (List ℕ))
-    (status : ℕ) : Type 0 where
+    (before after : Devices) (printed prints : Option (List ℕ)) (status : ℕ) : Type 0 where
   pub same_output : prints ≡ printed
   pub outcome : Makes known machines request before after status
 
@@ -360,8 +354,7 @@ NamesDlls name path (Err fault) before after printed prints status =
 
 -- a library was read, and its DLLs named, unless memory was refused
 pub record IsIdentified (name path : List ℕ) (wanted : Wanted) (before after : Devices)
-    (printed prints : Option (List ℕ))
-    (status : ℕ) : Type 0 where
+    (printed prints : Option (List ℕ)) (status : ℕ) : Type 0 where
   pub bytes : List ℕ
   pub read : IfSome (before.disk.seen path) (λ file. bytes ≡ file)
   pub same_disk : after.disk ≡ before.disk
@@ -377,8 +370,7 @@ pub record IsUnidentified (path : List ℕ) (before after : Devices)
 
 -- what is done for a library whose DLLs are asked for
 pub record Identifies (name path : List ℕ) (wanted : Wanted) (before after : Devices)
-    (printed prints : Option (List ℕ))
-    (status : ℕ) : Type 0 where
+    (printed prints : Option (List ℕ)) (status : ℕ) : Type 0 where
   pub same_input : after.input ≡ before.input
   pub outcome :
       IsIdentified name path wanted before after printed prints status

@@ -30,8 +30,7 @@ warnings_for request exports places count =
 
 -- the warnings of a definition with these places and this number of members were said
 pub record SaysWarnings (count : ℕ) (bytes : List ℕ) (definition : DefinitionView)
-    (places : List Place) (request : RequestView)
-    (before after : Option (List Line)) : Type 0 where
+    (places : List Place) (request : RequestView) (before after : Option (List Line)) : Type 0 where
   pub says : Says before after
       (warning_lines request.definition (export_lines places)
       (text_warnings bytes ++ warnings_for request definition.exports places count))

@@ -121,8 +121,7 @@ CanJump ARM64 image_base bases = (image_base % 8 ≡ 0) × (bases.addresses % 8 
 -- beginning of its first section, and wherever this section is placed below 2^31, the jump that it
 -- begins with reads the entry.
 pub record JumpsThrough (machine : MachineType) (image_base : ℕ) (linked : List Placed)
-    (name : List ℕ)
-    (entry : ℕ) : Type 0 where
+    (name : List ℕ) (entry : ℕ) : Type 0 where
   pub once : IsDefinedOnce linked name
   pub from : Placed
   pub held : Contains linked from

@@ -125,8 +125,7 @@ size_left (Some rest) = length rest.now + 1
 -- what is made, and then the members of what is left, are those of the text; what is left is
 -- refused only as the text is
 pub record DocumentsLeft (text : List ℕ) (machine : MachineType) (flavor : Flavor)
-    (made : List (List MemberView)) (rest : Option (Bor (List ℕ)))
-    : Type 0 where
+    (made : List (List MemberView)) (rest : Option (Bor (List ℕ))) : Type 0 where
   pub lists : (more : List (List MemberView)) → MadeLeft rest machine flavor more →
       MembersOfDocuments text machine flavor (made ++ more)
   pub refused : (cause : Cause) → RefusedLeft rest machine flavor cause →

@@ -74,8 +74,7 @@ pub record LinksOneFlavor (machine : MachineType) (bases : Bases) (inputs : List
 -- At each chosen export's `__imp_` symbol is what its DLL gives for what it asks, and what was
 -- written is in the address tables.
 pub record LoadsOneFlavor (machine : MachineType) (bases : Bases) (inputs : List LinkInput)
-    (objects : List Object)
-    (gives : List ℕ → Ask → List ℕ) (written : List Range) : Type 0 where
+    (objects : List Object) (gives : List ℕ → Ask → List ℕ) (written : List Range) : Type 0 where
   pub entries : (i j : ℕ) (p : LinkInput) (e : ExportView) → slice_get inputs i ≡ Some p →
       slice_get (chosen_exports p.definition p.chosen) j ≡ Some e →
       HoldsAt (written ++ image_of machine bases (placed_from bases objects))

@@ -32,8 +32,7 @@ pub record LinkAsPart (bytes : List ℕ) (options : LibraryOptionsView) (members
 
 -- the same of members with older symbols, each entry by either symbol
 pub record LinkAsOlderPart (bytes : List ℕ) (options : LibraryOptionsView)
-    (members : List MemberView) (chosen : List ℕ)
-    (older : ExportView → Bool) : Type 0 where
+    (members : List MemberView) (chosen : List ℕ) (older : ExportView → Bool) : Type 0 where
   pub definition : DefinitionView
   pub of_text : DefinitionFor (definition_text bytes) options definition
   pub held : AllByRecursion (Contains members)

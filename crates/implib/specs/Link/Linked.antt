@@ -65,9 +65,7 @@ AllFind linked p =
 -- address table. For example, with the address table of foo.dll at 0x1040 on AMD64, `__imp_bar` is
 -- 0x1040 and `__imp_baz` 0x1048 (Worked/Links).
 pub record LinksAt (machine : MachineType) (image : List Range) (linked : List Placed)
-    (dll : NamesOfDll)
-    (exports : List ExportView)
-    : Type 0 where
+    (dll : NamesOfDll) (exports : List ExportView) : Type 0 where
   pub descriptor : ℕ
   pub head : definitions_of (head_symbol machine dll.linked) linked
       ≡ record { name = head_symbol machine dll.linked; address = Some descriptor } ∷ []
@@ -77,8 +75,7 @@ pub record LinksAt (machine : MachineType) (image : List Range) (linked : List P
 
 -- The same at this address, for a strict loader.
 pub record LinksStrictlyAt (machine : MachineType) (image : List Range) (linked : List Placed)
-    (descriptor : ℕ) (dll : NamesOfDll)
-    (exports : List ExportView) : Type 0 where
+    (descriptor : ℕ) (dll : NamesOfDll) (exports : List ExportView) : Type 0 where
   pub head : definitions_of (head_symbol machine dll.linked) linked
       ≡ record { name = head_symbol machine dll.linked; address = Some descriptor } ∷ []
   pub loads : LoadsStrictly image (thunk_width machine) descriptor dll.text
@@ -88,9 +85,7 @@ pub record LinksStrictlyAt (machine : MachineType) (image : List Range) (linked 
 -- Objects that are placed at bases link to an import of these exports from the DLL, and no symbol
 -- stays undefined or is ambiguous.
 pub record Links (machine : MachineType) (bases : Bases) (dll : NamesOfDll)
-    (exports : List ExportView)
-    (objects : List Object)
-    : Type 0 where
+    (exports : List ExportView) (objects : List Object) : Type 0 where
   pub imports : LinksAt machine (image_of machine bases (placed_from bases objects))
       (placed_from bases objects) dll exports
   pub defined : AllByRecursion (IsDefinedOnce (placed_from bases objects))

@@ -54,8 +54,7 @@ pub record PushesMembers (specs : List MemberSpec) (old new : List Member)
 -- the short import of an export is kept, or its weak externals are put after the old ones where it
 -- is an alias; they are refused only where one of the export's members is too long
 pub record PushesListed (e : ExportView) (old_imports imports : ShortImportsView)
-    (old_aliases aliases : List Member)
-    (result : Result (Unit {0}) Error) : Type 0 where
+    (old_aliases aliases : List Member) (result : Result (Unit {0}) Error) : Type 0 where
   pub imports_ok : OnOk result (imports ≡ record old_imports {
     members = old_imports.members
         ++ map member_of (import_specs old_imports.machine old_imports.dll e);
@@ -71,8 +70,7 @@ pub record PushesListed (e : ExportView) (old_imports imports : ShortImportsView
 -- the weak externals of an alias are put after the old members; they are refused only where one is
 -- too long, also the one that data lacks
 pub record PushesKept (machine : MachineType) (linked : List ℕ) (e : ExportView)
-    (old new : List Member)
-    (result : Result (Unit {0}) Error) : Type 0 where
+    (old new : List Member) (result : Result (Unit {0}) Error) : Type 0 where
   pub ok : OnOk result
       (map member_view new ≡ map member_view old ++ map member_of (alias_specs machine linked e))
   pub fit : OnOk result (list_any is_too_long (weak_specs machine linked e) ≡ false)
@@ -82,8 +80,7 @@ pub record PushesKept (machine : MachineType) (linked : List ℕ) (e : ExportVie
 
 -- and they are refused, too, where its short import is too long
 pub record PushesAlias (machine : MachineType) (dll : NamesOfDll) (e : ExportView)
-    (old new : List Member)
-    (result : Result (Unit {0}) Error) : Type 0 where
+    (old new : List Member) (result : Result (Unit {0}) Error) : Type 0 where
   pub ok : OnOk result (map member_view new
       ≡ map member_view old ++ map member_of (alias_specs machine dll.linked e))
   pub fit : OnOk result (list_any is_too_long (export_specs machine dll e) ≡ false)

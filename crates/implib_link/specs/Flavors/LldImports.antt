@@ -120,8 +120,7 @@ imp_symbols_of taken = map (λ r. imp_symbol r.symbol) taken
 -- `placed`, `none_before`, `none_behind`: no other object defines one of their `__imp_` symbols;
 -- `pieces`: the image has the tables.
 pub record IsLldProgram (machine : MachineType) (descriptors addresses : ℕ)
-    (taken : List ShortImport)
-    (image : List Range) (linked : List Placed) : Type 0 where
+    (taken : List ShortImport) (image : List Range) (linked : List Placed) : Type 0 where
   pub writable : AllByRecursion
       (λ r. IsImportable (record { dll = r.dll; asks = ask_of_short_import r ∷ [] })) taken
   pub distinct : IsDistinct bytes_eq (imp_symbols_of taken)

@@ -181,8 +181,7 @@ pub record AreProgramObjects (machine : MachineType) (ending : Ending) (inputs :
 -- directory, the tables begin at multiples of a thunk's width, and `.idata$3` begins where
 -- `.idata$2` ends.
 pub record IsProgramOf (machine : MachineType) (ending : Ending) (bases : Bases)
-    (inputs : List FlavorInput)
-    (objects : List Object) : Type 0 where
+    (inputs : List FlavorInput) (objects : List Object) : Type 0 where
   pub held : AreProgramObjects machine ending inputs objects
   pub admissible : IsAdmissible machine bases objects
   pub lookups : WhereMember ending (bases.lookups % thunk_width machine ≡ 0)
@@ -259,8 +258,7 @@ AreClaimed OfMember claimed own = HaveSame claimed own
 -- `claimed`: the names that the members claim are those that they are listed for, a library's null
 -- descriptor's with them, and no others.
 pub record ProgramLinks (machine : MachineType) (ending : Ending) (bases : Bases)
-    (inputs : List FlavorInput)
-    (objects : List Object) : Type 0 where
+    (inputs : List FlavorInput) (objects : List Object) : Type 0 where
   pub linked : AllByRecursion (IsTaken machine) inputs
   pub imports : (i : ℕ) (p : FlavorInput) → slice_get inputs i ≡ Some p →
       InputImports machine (image_of machine bases (placed_from bases objects))

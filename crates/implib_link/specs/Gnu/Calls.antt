@@ -86,8 +86,7 @@ IsAside machine offset count r =
 -- Code has instructions at an offset, with these relocations against the symbol of an index: the
 -- symbol is an undefined one of this name, and no other relocation changes the instructions.
 pub record HasInstructions (machine : MachineType) (c : PlacedCode) (offset : ℕ)
-    (name bytes : List ℕ)
-    (relocations : ℕ → List Relocation) : Type 0 where
+    (name bytes : List ℕ) (relocations : ℕ → List Relocation) : Type 0 where
   pub front : List ℕ
   pub back : List ℕ
   pub instructions : c.code.bytes ≡ front ++ (bytes ++ back)
@@ -214,8 +213,7 @@ direct_leads ARM64 address bytes =
 -- At an address of memory is a direct call, by the bytes that are there; where it leads is a stub,
 -- by the bytes that are there; and where this reads its target are these bytes.
 pub record DirectCallArrives (machine : MachineType) (image_base : ℕ) (memory : List Range)
-    (address : ℕ)
-    (bytes : List ℕ) : Type 0 where
+    (address : ℕ) (bytes : List ℕ) : Type 0 where
   pub instruction : List ℕ
   pub here : BytesAt memory address instruction
   pub whole : length instruction ≡ length (direct_bytes machine)

@@ -138,8 +138,7 @@ pub record TakesSymbols (linked : List Placed) (codes : List LinkedCode)
 -- bytes below 2^31 at least, relocated by what a linker takes for their symbols; no address is in
 -- two ranges.
 pub record AreLinkedBeside (machine : MachineType) (image_base : ℕ) (image : List Range)
-    (linked : List Placed)
-    (codes : List LinkedCode) (targets : LinkedCode → ℕ → ℕ) : Type 0 where
+    (linked : List Placed) (codes : List LinkedCode) (targets : LinkedCode → ℕ → ℕ) : Type 0 where
   pub held : AllByRecursion (λ c. Contains linked c.from) codes
   pub sections : AllByRecursion
       (λ c. section_numbered c.from.object.sections c.number ≡ Some c.code) codes

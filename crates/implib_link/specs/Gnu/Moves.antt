@@ -31,9 +31,8 @@ absolute_places machine linked codes =
 -- `only`: base relocations change linked bytes only in fields that store addresses whole;
 -- `rebased`: the base relocations were applied, and nothing else.
 pub record AreMoved (machine : MachineType) (from to : ℕ) (image : List Range)
-    (linked : List Placed)
-    (codes : List LinkedCode) (targets : LinkedCode → ℕ → ℕ) (places : List Place)
-    (memory : List Range) : Type 0 where
+    (linked : List Placed) (codes : List LinkedCode) (targets : LinkedCode → ℕ → ℕ)
+    (places : List Place) (memory : List Range) : Type 0 where
   pub beside : AreLinkedBeside machine from image linked codes targets
   pub within : AllByRecursion
       (λ c. AllByRecursion (λ p. p.address + p.width ≤ c.position + length c.code.bytes)

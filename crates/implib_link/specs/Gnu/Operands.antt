@@ -68,8 +68,7 @@ operand_leads ARM64 address after number = None
 -- At an address of memory is an operand that leads to the only definition of a name, and there are
 -- these bytes: say, the address of a DLL's function.
 pub record OperandArrives (machine : MachineType) (image_base : ℕ) (linked : List Placed)
-    (memory : List Range)
-    (address after : ℕ) (name bytes : List ℕ) : Type 0 where
+    (memory : List Range) (address after : ℕ) (name bytes : List ℕ) : Type 0 where
   pub number : ℕ
   pub there : NumberAt memory 4 address number
   pub entry : ℕ
@@ -95,8 +94,7 @@ pub record HasInstruction (machine : MachineType) (c : LinkedCode) (offset : ℕ
 -- At an address of memory is the instruction, its bytes before and after the operand as they were;
 -- the operand leads to the only definition of a name, and there are these bytes.
 pub record InstructionArrives (machine : MachineType) (image_base : ℕ) (linked : List Placed)
-    (memory : List Range)
-    (address : ℕ) (head tail name bytes : List ℕ) : Type 0 where
+    (memory : List Range) (address : ℕ) (head tail name bytes : List ℕ) : Type 0 where
   pub field : List ℕ
   pub four : length field ≡ 4
   pub there : BytesAt memory address (head ++ (field ++ tail))
@@ -154,8 +152,7 @@ pub record HasPointer (machine : MachineType) (c : LinkedCode) (offset : ℕ)
 -- at an address of memory is the address of the only definition of a name, and there are these
 -- bytes
 pub record PointerArrives (machine : MachineType) (image_base : ℕ) (linked : List Placed)
-    (memory : List Range)
-    (address : ℕ) (name bytes : List ℕ) : Type 0 where
+    (memory : List Range) (address : ℕ) (name bytes : List ℕ) : Type 0 where
   pub entry : ℕ
   pub own : definitions_of name linked ≡ record { name = name; address = Some entry } ∷ []
   pub there : NumberAt memory (thunk_width machine) address (image_base + entry)
@@ -167,8 +164,7 @@ pub record PointerArrives (machine : MachineType) (image_base : ℕ) (linked : L
 -- `pairs`: by the page and the offset of ARM64's two instructions;
 -- `pointers`: by addresses stored whole, where the image is below 2^64.
 pub record AllLeadTo (machine : MachineType) (image_base : ℕ) (linked : List Placed)
-    (codes : List LinkedCode)
-    (memory : List Range) (called name bytes : List ℕ) : Type 0 where
+    (codes : List LinkedCode) (memory : List Range) (called name bytes : List ℕ) : Type 0 where
   pub operands : (c : LinkedCode) (offset after : ℕ) → Contains codes c →
       HasOperand machine c offset after called →
       OperandArrives machine image_base linked memory (c.position + offset) after name bytes

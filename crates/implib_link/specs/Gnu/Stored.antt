@@ -116,8 +116,7 @@ pub record HasAddField (c : LinkedCode) (offset : ℕ) (name : List ℕ) : Type 
 -- At two addresses of memory are an `adrp` and an `add` that are as they were but for their fields,
 -- and the page of the one and the number of the other are together an address of the image.
 pub record SumArrives (image_base : ℕ) (memory : List Range)
-    (first second old_adrp old_add target : ℕ)
-    : Type 0 where
+    (first second old_adrp old_add target : ℕ) : Type 0 where
   pub adrp : ℕ
   pub adrp_there : NumberAt memory 4 first adrp
   pub is_adrp : with_adrp 0 adrp ≡ with_adrp 0 old_adrp

@@ -21,8 +21,7 @@ FillsTable width gives thunk entry memory (ask ∷ asks) after =
 -- address table and that of the lookup table, neither name nor address table at 0, and fills the
 -- address table.
 pub record FillsBy (width : ℕ) (gives : List ℕ → Ask → List ℕ) (descriptor : ℕ)
-    (memory : List Range)
-    (found : Imported) (after : List Range) : Type 0 where
+    (memory : List Range) (found : Imported) (after : List Range) : Type 0 where
   pub name : ℕ
   pub name_field : NumberAt memory 4 (descriptor + 12) name
   pub has_name : 0 < name

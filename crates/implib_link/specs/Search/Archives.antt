@@ -114,8 +114,7 @@ pub record IsWeakData (libraries : List Library) (names : List (List ℕ))
 -- libraries, of each the exports that are wanted, by the program or by a weak external that is
 -- taken; and weak externals of data alone.
 pub record TakesOfLibraries (machine : MachineType) (libraries : List Library)
-    (wanted : List (List ℕ))
-    (taken : List MemberView) : Type 0 where
+    (wanted : List (List ℕ)) (taken : List MemberView) : Type 0 where
   pub inputs : HaveSame (others_among taken)
       (all_linked machine (inputs_wanted libraries (wanted_with wanted taken)))
   pub weak : AllByRecursion (IsWeakData libraries (wanted_with wanted taken)) (weak_among taken)

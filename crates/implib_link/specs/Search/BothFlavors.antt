@@ -96,8 +96,7 @@ IsWeakOfBoth libraries names m =
 -- libraries, of each the exports that are wanted, by the program or by a weak external that is
 -- taken, and one null descriptor where a short import is; and weak externals of aliases alone.
 pub record TakesOfBoth (machine : MachineType) (libraries : List FlavorLibrary)
-    (wanted : List (List ℕ))
-    (taken : List MemberView) : Type 0 where
+    (wanted : List (List ℕ)) (taken : List MemberView) : Type 0 where
   pub inputs : HaveSame (others_in machine taken)
       (shorts_linked machine (msvc_among libraries) (wanted_with_weak machine wanted taken)
       ++ all_linked machine
@@ -139,8 +138,7 @@ pub record AreClosedForBoth (machine : MachineType) (libraries : List FlavorLibr
 
 -- A closed program of such objects: its bases are those of a program of both flavours.
 pub record IsClosedForBoth (machine : MachineType) (libraries : List FlavorLibrary)
-    (own : List Object)
-    (taken : List MemberView) (arranged : List FlavorLibrary) (bases : Bases)
+    (own : List Object) (taken : List MemberView) (arranged : List FlavorLibrary) (bases : Bases)
     (objects : List Object) : Type 0 where
   pub closed : AreClosedForBoth machine libraries own taken arranged objects
   pub admissible : IsAdmissible machine bases objects
@@ -156,8 +154,7 @@ symbols_in Gnu e = archive_symbols e
 -- A name is that of an import of a linked program: `__imp_T`, which is defined once, at T's own
 -- entry of its DLL's address table; or T itself, which is no data, and is defined once.
 pub record IsImportedOfBoth (machine : MachineType) (linked : List Placed) (bases : Bases)
-    (inputs : List FlavorInput)
-    (name : List ℕ) : Type 0 where
+    (inputs : List FlavorInput) (name : List ℕ) : Type 0 where
   pub number : ℕ
   pub input : FlavorInput
   pub input_is : slice_get inputs number ≡ Some input
@@ -187,8 +184,7 @@ IsUsedIn flavor wanted e =
 -- alias;
 -- `closed`: no name is left unresolved that the libraries list.
 pub record LinksClosedForBoth (machine : MachineType) (libraries : List FlavorLibrary)
-    (own : List Object)
-    (taken : List MemberView) (arranged : List FlavorLibrary) (bases : Bases)
+    (own : List Object) (taken : List MemberView) (arranged : List FlavorLibrary) (bases : Bases)
     (objects : List Object) : Type 0 where
   pub taken_is : TakesOfBoth machine libraries (unresolved own) taken
   pub program : IsProgramOf machine OfMember bases (inputs_of_both machine arranged own taken)

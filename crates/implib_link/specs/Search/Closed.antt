@@ -37,8 +37,7 @@ unresolved objects =
 -- An unresolved name pulls in a member: the given objects and the members that are taken leave it
 -- unresolved, and the first member that it is listed for is this one, which is not taken.
 pub record PullsIntoAs (reads : List ℕ → Option Object) (archive : List MemberView)
-    (own : List Object)
-    (taken : List MemberView) (name : List ℕ) (m : MemberView) : Type 0 where
+    (own : List Object) (taken : List MemberView) (name : List ℕ) (m : MemberView) : Type 0 where
   pub named : Contains (unresolved (own ++ objects_as reads taken)) name
   pub listed : first_listed archive name ≡ Some m
   pub new : Contains taken m → ⊥
@@ -55,8 +54,7 @@ AreTakenIntoAs reads archive own (m ∷ earlier) =
 -- What a linker takes of an archive for given objects: it takes members in turn until no unresolved
 -- name pulls in another.
 pub record TakesIntoAs (reads : List ℕ → Option Object) (archive : List MemberView)
-    (own : List Object)
-    (taken : List MemberView) : Type 0 where
+    (own : List Object) (taken : List MemberView) : Type 0 where
   pub in_turn : AreTakenIntoAs reads archive own taken
   pub ended : (name : List ℕ) (m : MemberView) → PullsIntoAs reads archive own taken name m → ⊥
 

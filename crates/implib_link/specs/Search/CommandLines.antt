@@ -49,8 +49,7 @@ objects_given inputs = flat_map object_of inputs
 -- What is taken after an archive was swept, from what was taken before: some sweeps over its index,
 -- until one takes nothing.
 pub record IsSwept (reads : List ℕ → Option Object) (members : List MemberView) (own : List Object)
-    (archive : List ℕ)
-    (before after : List ℕ) : Type 0 where
+    (archive : List ℕ) (before after : List ℕ) : Type 0 where
   pub count : ℕ
   pub taken : sweeps reads members own (index_at members archive) count before ≡ after
   pub ended : swept reads members own (index_at members archive) after ≡ after
@@ -74,8 +73,7 @@ AreRounds reads members own archives (suc count) before after =
 -- What is taken after a group was searched: rounds through it (`taken`), until a sweep over none of
 -- its archives takes anything (`ended`).
 pub record IsGroupSearched (reads : List ℕ → Option Object) (members : List MemberView)
-    (own : List Object)
-    (archives : List (List ℕ)) (before after : List ℕ) : Type 0 where
+    (own : List Object) (archives : List (List ℕ)) (before after : List ℕ) : Type 0 where
   pub rounds : ℕ
   pub taken : AreRounds reads members own archives rounds before after
   pub ended : AllByRecursion
@@ -108,8 +106,7 @@ AreTakenBehind reads archive own before (m ∷ more) =
 
 -- Members are taken until no unresolved name pulls in another of the archives that were read.
 pub record IsClosedOver (reads : List ℕ → Option Object) (archive : List MemberView)
-    (own : List Object)
-    (before after : List MemberView) : Type 0 where
+    (own : List Object) (before after : List MemberView) : Type 0 where
   pub more : List MemberView
   pub taken : more ++ before ≡ after
   pub in_turn : AreTakenBehind reads archive own before more
@@ -216,8 +213,7 @@ others_of is_given members = filter (λ m. not (is_given m)) members
 -- `first`, `unclaimed`, `ordered`, `whole`: what is asked of the command line;
 -- `searches`: the search.
 pub record SearchesFor (reads : List ℕ → Option Object) (of_libraries members : List MemberView)
-    (inputs : List Input)
-    (is_given : MemberView → Bool) (taken : List ℕ) : Type 0 where
+    (inputs : List Input) (is_given : MemberView → Bool) (taken : List ℕ) : Type 0 where
   pub libraries_are : others_of is_given members ≡ of_libraries
   pub first : TakesFirst members
       (names_left reads (objects_given inputs) (members_at members taken)) taken

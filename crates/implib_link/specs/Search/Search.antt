@@ -70,8 +70,7 @@ AreTakenInTurnAs reads archive wanted (m ∷ earlier) =
 -- What a linker takes of an archive for wanted names: it takes members in turn until no undefined
 -- name pulls in another.
 pub record TakesAs (reads : List ℕ → Option Object) (archive : List MemberView)
-    (wanted : List (List ℕ))
-    (taken : List MemberView) : Type 0 where
+    (wanted : List (List ℕ)) (taken : List MemberView) : Type 0 where
   pub in_turn : AreTakenInTurnAs reads archive wanted taken
   pub ended : (name : List ℕ) (m : MemberView) → PullsInAs reads archive wanted taken name m → ⊥
 
@@ -148,8 +147,7 @@ pub record IsLinkedOfWanted (machine : MachineType) (d : DefinitionView) (wanted
 -- objects with import tables are those members and, after them, the null descriptor; the others
 -- claim no symbol of theirs.
 pub record IsLinkedWith (machine : MachineType) (dll : NamesOfDll) (bases : Bases)
-    (taken : List MemberView)
-    (objects : List Object) : Type 0 where
+    (taken : List MemberView) (objects : List Object) : Type 0 where
   pub arranged : List MemberView
   pub is_arranged : IsArranged machine dll taken arranged
   pub tables : filter has_tables objects ≡ objects_in arranged ++ null_descriptor ∷ []

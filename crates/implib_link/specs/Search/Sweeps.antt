@@ -70,7 +70,6 @@ sweeps reads archive own index (suc count) numbers =
 -- What GNU `ld` takes of an archive for given objects: it sweeps the index so often (`taken`),
 -- until a sweep takes nothing (`ended`).
 pub record SweepsTake (reads : List ℕ → Option Object) (archive : List MemberView)
-    (own : List Object) (count : ℕ)
-    (numbers : List ℕ) : Type 0 where
+    (own : List Object) (count : ℕ) (numbers : List ℕ) : Type 0 where
   pub taken : sweeps reads archive own (index_of archive) count [] ≡ numbers
   pub ended : swept reads archive own (index_of archive) numbers ≡ numbers

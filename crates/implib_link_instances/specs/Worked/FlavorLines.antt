@@ -71,8 +71,7 @@ with_quit machine members own =
 -- On one machine: the premises of the whole way, of this command line; and by the law what is taken
 -- of the library, for the given objects and the archive's.
 pub record WorkedFlavorLine (machine : MachineType) (libraries : List FlavorLibrary)
-    (members : List MemberView)
-    (own : List Object) (inputs : List Input) : Type 0 where
+    (members : List MemberView) (own : List Object) (inputs : List Input) : Type 0 where
   pub archive : IsFlavorArchive machine libraries
   pub searches : SearchesFlavors machine libraries members inputs is_quit shorts_taken
   pub given : AreGivenForBoth machine libraries (with_quit machine members own)

@@ -472,8 +472,7 @@ i386_zoo_tables first second =
 -- A program of parts whose image is what a linker wrote, byte for byte: so these are its import
 -- tables, and they store no address whole.
 pub record IsWritten (machine : MachineType) (bases : Bases) (parts : List Part)
-    (objects : List Object)
-    (written : List Range) (tables : List Table) : Type 0 where
+    (objects : List Object) (written : List Range) (tables : List Table) : Type 0 where
   pub parts_are : AllByRecursion (IsPart machine) parts
   pub program : IsProgramOfParts machine bases parts objects
   pub image : image_of machine bases (placed_from bases objects) ≡ written

@@ -164,8 +164,7 @@ registering_moved_memory ARM64 bases =
 -- the stub of the entry at an address defines `open`; and the pointer and the address from the
 -- image's base, so far on, are for `open`.
 pub record WorkedRegistered (machine : MachineType) (image_base : ℕ) (bases : Bases)
-    (memory : List Range)
-    (entry further : ℕ) : Type 0 where
+    (memory : List Range) (entry further : ℕ) : Type 0 where
   pub program : IsProgram machine bases (both_inputs machine) (registering_objects machine)
   pub at : AreStoredInMemory machine image_base (registering_image machine bases)
       (registering_placed machine bases)
