@@ -10,17 +10,16 @@ use Rattle.implib.specs.Members.Members.{AreMembersOf}
 use Rattle.implib.specs.Members.MemberSpec.{MemberView}
 use Rattle.implib.specs.Members.MsvcObjects.{descriptor_symbol}
 use Rattle.implib_archive.specs.declared.kind.Kind.{Kind}
-use Rattle.implib_archive_link.specs.InBytes.{Asks, LinkerMember, asks_for, asks_on, asks_with, asks_with_on, is_undefined, asks_as, asks_with_as}
-use Rattle.implib_archive_link.specs.Results.{AreFoundInBytes, AreSearched, HaveArchive, IsEnding, IsSearchOf, TakesJust}
-use Rattle.implib_archive_link.proofs.InBytes.{AreTakenBy, PullsBy, TakesBy, kept_of_map, leads_to_first, search_of, takes_just}
+use Rattle.implib_archive_link.specs.InBytes.{Asks, LinkerMember, asks_for, asks_on, asks_with, is_undefined, asks_as, asks_with_as}
+use Rattle.implib_archive_link.specs.Results.{HaveArchive, IsEnding, IsSearchOf, TakesJust}
+use Rattle.implib_archive_link.proofs.InBytes.{AreTakenBy, PullsBy, TakesBy, kept_of_map, search_of, takes_just}
 use Rattle.implib_link.specs.Flavors.Expansion.{descriptor_symbol_by_name, expanded_in}
 use Rattle.implib_link.specs.Gnu.Program.{ClaimsNone, HaveSame}
 use Rattle.implib_link.specs.Search.Archives.{IsArchive, Library, NamesNoHeadOrTailOf, TakesOfLibraries, archive_of, wanted_with}
-use Rattle.implib_link.specs.Search.Closed.{AreLinkedFor, LinksClosed, TakesInto, listed_in, unresolved, wanted_in, AreTakenIntoAs, PullsIntoAs, TakesIntoAs}
+use Rattle.implib_link.specs.Search.Closed.{AreLinkedFor, LinksClosed, listed_in, unresolved, wanted_in, AreTakenIntoAs, PullsIntoAs, TakesIntoAs}
 use Rattle.implib_link.specs.Search.Given.{AreGiven}
-use Rattle.implib_link.specs.Search.MsvcArchives.{TakesIntoFor}
-use Rattle.implib_link.specs.Search.Msvc.{NamesNoHeader, TakesFor, msvc_if_any, shorts_wanted}
-use Rattle.implib_link.specs.Search.Search.{NamesNoHeadOrTail, Takes, exports_wanted, linked_if_any, names_undefined, left_as, claimed_as, AreTakenInTurnAs, PullsInAs, TakesAs, objects_as}
+use Rattle.implib_link.specs.Search.Msvc.{NamesNoHeader, msvc_if_any, shorts_wanted}
+use Rattle.implib_link.specs.Search.Search.{NamesNoHeadOrTail, exports_wanted, linked_if_any, names_undefined, left_as, claimed_as, AreTakenInTurnAs, PullsInAs, TakesAs, objects_as}
 use Rattle.implib_link.proofs.Search.Ends.{search_ends}
 use Rattle.implib_link.proofs.Search.Archives.{libraries_taken}
 use Rattle.implib_link.proofs.Search.Closed.{closed_links}
@@ -110,14 +109,15 @@ module _ (reads : List ℕ → Option Object) (archive : List MemberView) (own :
 
 -- The laws.
 
-pub are_searched : (kind : Kind) (linker : LinkerMember) (members : List MemberView) → HaveArchive kind linker members → AreSearched kind linker members
-are_searched kind linker members ready = record {
-  leads = leads_to_first kind linker members ready;
-  wanted = λ wanted. takes_just kind linker members (asks_for wanted) (Takes members wanted) ready (wanted_taken object_in members wanted);
-  given = λ own. takes_just kind linker members (asks_with own) (TakesInto members own) ready (given_taken object_in members own);
-  short = λ machine wanted. takes_just kind linker members (asks_on machine wanted) (TakesFor machine members wanted) ready (wanted_taken (expanded_in machine) members wanted);
-  given_short = λ machine own. takes_just kind linker members (asks_with_on machine own) (TakesIntoFor machine members own) ready (given_taken (expanded_in machine) members own);
-}
+pub searched_wanted : (reads : List ℕ → Option Object) (kind : Kind) (linker : LinkerMember) (members : List MemberView) (wanted : List (List ℕ)) → HaveArchive kind linker members →
+    TakesJust kind linker members (asks_as reads wanted) (TakesAs reads members wanted)
+searched_wanted reads kind linker members wanted ready =
+    takes_just kind linker members (asks_as reads wanted) (TakesAs reads members wanted) ready (wanted_taken reads members wanted)
+
+pub searched_given : (reads : List ℕ → Option Object) (kind : Kind) (linker : LinkerMember) (members : List MemberView) (own : List Object) → HaveArchive kind linker members →
+    TakesJust kind linker members (asks_with_as reads own) (TakesIntoAs reads members own)
+searched_given reads kind linker members own ready =
+    takes_just kind linker members (asks_with_as reads own) (TakesIntoAs reads members own) ready (given_taken reads members own)
 
 pub bytes_take_wanted : (kind : Kind) (linker : LinkerMember) (machine : MachineType) (d : DefinitionView) (members : List MemberView) (wanted : List (List ℕ)) → HaveArchive kind linker members
     → AreMembersOf d machine GnuFlavor members → IsDistinct bytes_eq (flat_map (λ m. m.symbols) members) → NamesNoHeadOrTail machine (linked_name d) wanted
@@ -159,13 +159,15 @@ bytes_take_short kind linker machine d members wanted ready made distinct found 
 
 -- Searches in the bytes exist, and come to an end.
 
-pub are_found_in_bytes : (kind : Kind) (linker : LinkerMember) (members : List MemberView) → HaveArchive kind linker members → AreFoundInBytes kind linker members
-are_found_in_bytes kind linker members ready = record {
-  wanted = λ wanted found takes. search_of kind linker members (asks_for wanted) found ready (taken_wanted object_in members wanted found takes);
-  given = λ own found takes. search_of kind linker members (asks_with own) found ready (taken_given object_in members own found takes);
-  short = λ machine wanted found takes. search_of kind linker members (asks_on machine wanted) found ready (taken_wanted (expanded_in machine) members wanted found takes);
-  given_short = λ machine own found takes. search_of kind linker members (asks_with_on machine own) found ready (taken_given (expanded_in machine) members own found takes);
-}
+pub found_wanted : (reads : List ℕ → Option Object) (kind : Kind) (linker : LinkerMember) (members : List MemberView) (wanted : List (List ℕ)) (found : List MemberView) → HaveArchive kind linker members →
+    TakesAs reads members wanted found → IsSearchOf kind linker members (asks_as reads wanted) found
+found_wanted reads kind linker members wanted found ready takes =
+    search_of kind linker members (asks_as reads wanted) found ready (taken_wanted reads members wanted found takes)
+
+pub found_given : (reads : List ℕ → Option Object) (kind : Kind) (linker : LinkerMember) (members : List MemberView) (own : List Object) (found : List MemberView) → HaveArchive kind linker members →
+    TakesIntoAs reads members own found → IsSearchOf kind linker members (asks_with_as reads own) found
+found_given reads kind linker members own found ready takes =
+    search_of kind linker members (asks_with_as reads own) found ready (taken_given reads members own found takes)
 
 pub ending : (kind : Kind) (linker : LinkerMember) (members : List MemberView) (asks : Asks) (found : List MemberView) → IsSearchOf kind linker members asks found → IsEnding kind linker members asks
 ending kind linker members asks found search = (search.taken, search.takes)
@@ -173,15 +175,15 @@ ending kind linker members asks found search = (search.taken, search.takes)
 pub ends_wanted : (kind : Kind) (linker : LinkerMember) (members : List MemberView) (wanted : List (List ℕ)) → HaveArchive kind linker members → IsEnding kind linker members (asks_for wanted)
 ends_wanted kind linker members wanted ready =
     let found = search_ends object_in members wanted in
-    ending kind linker members (asks_for wanted) found.0 ((are_found_in_bytes kind linker members ready).wanted wanted found.0 found.1)
+    ending kind linker members (asks_for wanted) found.0 (found_wanted object_in kind linker members wanted found.0 ready found.1)
 
 pub ends_given : (kind : Kind) (linker : LinkerMember) (machine : MachineType) (libraries : List Library) (own : List Object) → HaveArchive kind linker (archive_of libraries) → IsArchive machine libraries → AreGiven machine libraries own
     → IsEnding kind linker (archive_of libraries) (asks_with own)
 ends_given kind linker machine libraries own ready archive given =
     let found = given_ends machine libraries own archive given in
-    ending kind linker (archive_of libraries) (asks_with own) found.0 ((are_found_in_bytes kind linker (archive_of libraries) ready).given own found.0 found.1)
+    ending kind linker (archive_of libraries) (asks_with own) found.0 (found_given object_in kind linker (archive_of libraries) own found.0 ready found.1)
 
 pub ends_short : (kind : Kind) (linker : LinkerMember) (machine : MachineType) (members : List MemberView) (wanted : List (List ℕ)) → HaveArchive kind linker members → IsEnding kind linker members (asks_on machine wanted)
 ends_short kind linker machine members wanted ready =
     let found = search_ends (expanded_in machine) members wanted in
-    ending kind linker members (asks_on machine wanted) found.0 ((are_found_in_bytes kind linker members ready).short machine wanted found.0 found.1)
+    ending kind linker members (asks_on machine wanted) found.0 (found_wanted (expanded_in machine) kind linker members wanted found.0 ready found.1)

@@ -2,8 +2,6 @@
 use Rattle.std.specs.Prelude.{◌≡◌, ℕ, List, [], ◌∷◌, None, Some, is_some, map, option_and_then}
 use Rattle.std.specs.Prelude.{slice_get}
 use Rattle.std.specs.Option.{option_map}
-use Rattle.implib.specs.declared.machine.MachineType.{MachineType}
-use Rattle.implib.specs.Formats.Object.{Object}
 use Rattle.implib.specs.Members.MemberSpec.{MemberView}
 use Rattle.implib_archive.specs.Archive.{archive_of}
 use Rattle.implib_archive.specs.Leads.{headers_in}
@@ -11,12 +9,8 @@ use Rattle.implib_archive.specs.ReadBack.{read_view}
 use Rattle.implib_archive.specs.Reader.{member_at}
 use Rattle.implib_archive.specs.Refusal.{refusal_of}
 use Rattle.implib_archive.specs.declared.kind.Kind.{Kind}
-use Rattle.implib_archive_link.specs.InBytes.{Asks, Has, LinkerMember, TakesAt, asks_for, asks_on}
-use Rattle.implib_archive_link.specs.InBytes.{asks_with, asks_with_on, header_by}
-use Rattle.implib_link.specs.Search.Closed.{TakesInto}
-use Rattle.implib_link.specs.Search.Msvc.{TakesFor}
-use Rattle.implib_link.specs.Search.MsvcArchives.{TakesIntoFor}
-use Rattle.implib_link.specs.Search.Search.{Takes, first_listed}
+use Rattle.implib_archive_link.specs.InBytes.{Asks, Has, LinkerMember, TakesAt, header_by}
+use Rattle.implib_link.specs.Search.Search.{first_listed}
 
 -- Members of a list, by the headers that a linker takes.
 
@@ -73,23 +67,6 @@ pub record LeadsToFirst (kind : Kind) (linker : LinkerMember) (members : List Me
       (header_by linker (archive_of kind members) name)
       ≡ option_map read_view (first_listed members name)
 
--- The bytes are an archive in the sense of searches:
--- `leads`: a name leads to the header of exactly the first member that it is listed for;
--- `wanted`, `given`, `short`, `given_short`: what a linker takes in the bytes, for wanted names or
--- for given objects, and the same with short imports, are members that it takes of the list of
--- members.
-pub record AreSearched (kind : Kind) (linker : LinkerMember)
-    (members : List MemberView) : Type 0 where
-  pub leads : (name : List ℕ) → LeadsToFirst kind linker members name
-  pub wanted : (wanted : List (List ℕ)) →
-      TakesJust kind linker members (asks_for wanted) (Takes members wanted)
-  pub given : (own : List Object) →
-      TakesJust kind linker members (asks_with own) (TakesInto members own)
-  pub short : (machine : MachineType) (wanted : List (List ℕ)) →
-      TakesJust kind linker members (asks_on machine wanted) (TakesFor machine members wanted)
-  pub given_short : (machine : MachineType) (own : List Object) →
-      TakesJust kind linker members (asks_with_on machine own) (TakesIntoFor machine members own)
-
 -- A search of members is one in the bytes of their archive: the headers of the members that are
 -- found are taken.
 pub record IsSearchOf (kind : Kind) (linker : LinkerMember) (members : List MemberView)
@@ -99,21 +76,6 @@ pub record IsSearchOf (kind : Kind) (linker : LinkerMember) (members : List Memb
   pub taken : List ℕ
   pub at : AreHeadersOf headers members taken found
   pub takes : TakesAt kind linker (archive_of kind members) asks taken
-
--- Each search of the members is one in the bytes, for wanted names or for given objects, and with
--- short imports.
-pub record AreFoundInBytes (kind : Kind) (linker : LinkerMember)
-    (members : List MemberView) : Type 0 where
-  pub wanted : (wanted : List (List ℕ)) (found : List MemberView) → Takes members wanted found →
-      IsSearchOf kind linker members (asks_for wanted) found
-  pub given : (own : List Object) (found : List MemberView) → TakesInto members own found →
-      IsSearchOf kind linker members (asks_with own) found
-  pub short : (machine : MachineType) (wanted : List (List ℕ)) (found : List MemberView) →
-      TakesFor machine members wanted found →
-      IsSearchOf kind linker members (asks_on machine wanted) found
-  pub given_short : (machine : MachineType) (own : List Object) (found : List MemberView) →
-      TakesIntoFor machine members own found →
-      IsSearchOf kind linker members (asks_with_on machine own) found
 
 -- a search in the bytes comes to an end
 abbrev pub IsEnding : Kind → LinkerMember → List MemberView → Asks → Type 0

@@ -17,11 +17,11 @@ ghost use Rattle.implib_archive_link.specs.BothWay.{AreLinkedForBoth, BothArrive
 ghost use Rattle.implib_archive_link.specs.Files.{ArchiveFile, HasMembers, HasMembersAs};
 ghost use Rattle.implib_archive_link.specs.Files.{members_in_files, members_read};
 ghost use Rattle.implib_archive_link.specs.InBytes.{LinkerMember, asks_for, asks_on, asks_with};
-ghost use Rattle.implib_archive_link.specs.InBytes.{asks_with_on};
+ghost use Rattle.implib_archive_link.specs.InBytes.{asks_as, asks_with_as, asks_with_on};
 ghost use Rattle.implib_archive_link.specs.LldFiles.{SearchesByLld, read_by_lld};
 ghost use Rattle.implib_archive_link.specs.LldWay.{AreCalledAlike, LldArrives, asks_of_lld};
-ghost use Rattle.implib_archive_link.specs.Results.{AreFoundInBytes, AreSearched, HaveArchive};
-ghost use Rattle.implib_archive_link.specs.Results.{IsEnding, TakesJust};
+ghost use Rattle.implib_archive_link.specs.Results.{HaveArchive, IsEnding, IsSearchOf};
+ghost use Rattle.implib_archive_link.specs.Results.{LeadsToFirst, TakesJust};
 ghost use Rattle.implib_archive_link.specs.Way.{CallsArrive};
 ghost use Rattle.implib_link.specs.Flavors.Expansion.{descriptor_symbol_by_name, expanded_in};
 ghost use Rattle.implib_link.specs.Gnu.Program.{ClaimsNone};
@@ -31,7 +31,7 @@ ghost use Rattle.implib_link.specs.Search.BothFlavors.{AreGivenForBoth, FlavorLi
 ghost use Rattle.implib_link.specs.Search.BothFlavors.{IsFlavorArchive, archive_of_both};
 ghost use Rattle.implib_link.specs.Search.BothFlavors.{msvc_among};
 ghost use Rattle.implib_link.specs.Search.Closed.{AreLinkedFor, LinksClosed, listed_in, unresolved};
-ghost use Rattle.implib_link.specs.Search.Closed.{wanted_in};
+ghost use Rattle.implib_link.specs.Search.Closed.{TakesIntoAs, wanted_in};
 ghost use Rattle.implib_link.specs.Search.CommandLines.{Input, SearchesFlavors, SearchesLibraries};
 ghost use Rattle.implib_link.specs.Search.CommandLines.{given_with};
 ghost use Rattle.implib_link.specs.Search.CommandLines.{objects_given, others_of};
@@ -41,18 +41,39 @@ ghost use Rattle.implib_link.specs.Search.Msvc.{NamesNoHeader, msvc_if_any, shor
 ghost use Rattle.implib_link.specs.Search.MsvcArchives.{IsMsvcArchive, short_inputs};
 ghost use Rattle.implib_link.specs.Search.Search.{NamesNoHeadOrTail, exports_wanted};
 ghost use Rattle.implib_link.specs.Gnu.Program.{HaveSame};
-ghost use Rattle.implib_link.specs.Search.Search.{linked_if_any, names_undefined};
+ghost use Rattle.implib_link.specs.Search.Search.{TakesAs, linked_if_any, names_undefined};
 ghost use Rattle.std.specs.List.{AllByRecursion, IsDistinct, flat_map};
-ghost use Rattle.std.specs.Prelude.{◌≡◌, ◌<◌, ◌++◌, ℕ, Bool, List, None, bytes_eq, length};
+ghost use Rattle.std.specs.Prelude.{◌≡◌, ◌<◌, ◌++◌, ℕ, Bool, List, Option, None, bytes_eq};
+ghost use Rattle.std.specs.Prelude.{length};
 
 /// The bytes of the archive of members are an archive in the sense of searches: a name leads to the
-/// first member that it is listed for, by either linker member; what a linker takes in the bytes
-/// are members that it takes of the list; and each search of the list is one in the bytes.
+/// first member that it is listed for, by either linker member; what a linker takes in the bytes,
+/// for wanted names or for given objects, however it reads members, are members that it takes of
+/// the list; and each search of the list is one in the bytes.
 pub fn archives_are_searched()
-    ensures bytes { (kind : Kind) (linker : LinkerMember) (members : List MemberView) →
-        HaveArchive kind linker members → AreSearched kind linker members }
-    ensures list { (kind : Kind) (linker : LinkerMember) (members : List MemberView) →
-        HaveArchive kind linker members → AreFoundInBytes kind linker members }
+    ensures leads { (kind : Kind) (linker : LinkerMember) (members : List MemberView)
+        (name : List ℕ) →
+        HaveArchive kind linker members → LeadsToFirst kind linker members name }
+    ensures wanted { (reads : List ℕ → Option Object) (kind : Kind) (linker : LinkerMember)
+        (members : List MemberView) (wanted : List (List ℕ)) →
+        HaveArchive kind linker members →
+        TakesJust kind linker members (asks_as reads wanted) (TakesAs reads members wanted) }
+    ensures given { (reads : List ℕ → Option Object) (kind : Kind) (linker : LinkerMember)
+        (members : List MemberView) (own : List Object) →
+        HaveArchive kind linker members →
+        TakesJust kind linker members (asks_with_as reads own) (TakesIntoAs reads members own) }
+    ensures found_for_names { (reads : List ℕ → Option Object) (kind : Kind)
+        (linker : LinkerMember) (members : List MemberView) (wanted : List (List ℕ))
+        (found : List MemberView) →
+        HaveArchive kind linker members →
+        TakesAs reads members wanted found →
+        IsSearchOf kind linker members (asks_as reads wanted) found }
+    ensures found_for_objects { (reads : List ℕ → Option Object) (kind : Kind)
+        (linker : LinkerMember) (members : List MemberView) (own : List Object)
+        (found : List MemberView) →
+        HaveArchive kind linker members →
+        TakesIntoAs reads members own found →
+        IsSearchOf kind linker members (asks_with_as reads own) found }
 {}
 
 /// The bytes of an archive of either kind have its members, with the symbols of each in the order

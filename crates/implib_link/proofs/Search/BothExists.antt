@@ -29,7 +29,7 @@ use Rattle.implib_link.proofs.Flavors.Packed.{kept_sized}
 use Rattle.implib_link.proofs.Gnu.Alone.{all_kept, none_left}
 use Rattle.implib_link.proofs.Gnu.Packed.{lies_within}
 use Rattle.implib_link.proofs.Search.BothArranged.{both_made}
-use Rattle.implib_link.proofs.Search.BothClosed.{both_held, closed_links_of_both, packed_both}
+use Rattle.implib_link.proofs.Search.BothClosed.{both_held, packed_both}
 use Rattle.implib_link.proofs.Search.BothGiven.{both_given_closes, both_given_ends}
 use Rattle.implib_link.proofs.Search.BothRooms.{tables_near}
 use Rattle.implib_link.proofs.Search.Chosen.{AnOwn, IsLinked, TheLast, TheTop, linked_from, own_chosen}
@@ -173,10 +173,4 @@ both_exists machine libraries own first archive given plain some above room =
     let taken : List MemberView = found.0 in
     let objects : List Object = objects_closed_of_both machine libraries own taken in
     let closed : AreClosedForBoth machine libraries own taken libraries objects = closed_of_both machine libraries archive own plain taken found.1 given some in
-    let placed : IsClosedForBoth machine libraries own taken libraries (packed first objects) objects = placed_closed machine libraries own taken libraries first objects archive closed above room in
-    record {
-      taken = taken;
-      closed = placed;
-      links = closed_links_of_both machine libraries own taken libraries (packed first objects) objects archive placed;
-      within = placed_within machine libraries own taken libraries first objects archive closed above room;
-    }
+    (taken, placed_closed machine libraries own taken libraries first objects archive closed above room)

@@ -29,7 +29,6 @@ use Rattle.implib_link.proofs.Search.Arranged.{inputs_made}
 use Rattle.implib_link.proofs.Search.BothArranged.{both_made}
 use Rattle.implib_link.proofs.Search.BothExists.{NoneHave, others_first, tables_below, tables_last, tables_within, weak_have_none}
 use Rattle.implib_link.proofs.Search.Chosen.{exports_are}
-use Rattle.implib_link.proofs.Search.Closed.{closed_links}
 use Rattle.implib_link.proofs.Search.Given.{given_closes, given_ends}
 use Rattle.implib_link.proofs.Search.GnuAlone.{archive_alone, gnu_libraries, members_alone, reads_plainly}
 use Rattle.implib_link.proofs.Search.Roles.{in_flavor}
@@ -108,11 +107,4 @@ closed_exists machine libraries own first archive given plain above room =
     let taken : List MemberView = found.0 in
     let objects : List Object = objects_closed machine libraries own taken in
     let chosen : AreChosenFor machine libraries own taken libraries objects = chosen_for machine libraries archive own plain taken found.1 in
-    let closed : IsClosed machine libraries own taken libraries (packed first objects) objects =
-    packed_closes machine libraries own taken libraries first objects archive given found.1 chosen above room in
-    record {
-      taken = taken;
-      closed = closed;
-      links = closed_links machine libraries own taken libraries (packed first objects) objects archive closed;
-      within = packed_within machine libraries own taken libraries first objects archive chosen above room;
-    }
+    (taken, packed_closes machine libraries own taken libraries first objects archive given found.1 chosen above room)

@@ -6,15 +6,13 @@ use Rattle.implib.specs.declared.flavor.Flavor.{Flavor}
 use Rattle.implib.specs.declared.flavor.Flavor.TheVariants.{Gnu, Msvc}
 use Rattle.implib.specs.declared.machine.MachineType.{MachineType}
 use Rattle.implib.specs.Formats.Object.{Object}
-use Rattle.implib.specs.Link.Image.{image_of}
-use Rattle.implib.specs.Link.Placement.{placed_from}
 use Rattle.implib.specs.Members.MemberSpec.{MemberView}
 use Rattle.implib_link.specs.Flavors.Program.{all_members, objects_taken}
 use Rattle.implib_link.specs.Gnu.Packed.{packed}
 use Rattle.implib_link.specs.Search.Archives.{Library, exports_of}
-use Rattle.implib_link.specs.Search.BothFlavors.{FlavorLibrary, IsClosedForBoth, LinksClosedForBoth}
+use Rattle.implib_link.specs.Search.BothFlavors.{FlavorLibrary, IsClosedForBoth}
 use Rattle.implib_link.specs.Search.BothFlavors.{inputs_of_both, msvc_among}
-use Rattle.implib_link.specs.Search.Exists.{LieWithin, library_room}
+use Rattle.implib_link.specs.Search.Exists.{library_room}
 use Rattle.implib_link.specs.Search.MsvcArchives.{first_null, weak_in}
 use Rattle.implib.specs.Definition.{ExportView}
 use Rattle.implib.specs.Members.Msvc.{short_import_symbol}
@@ -53,21 +51,11 @@ objects_closed_of_both machine libraries own taken =
     ++ all_members machine (inputs_of_both machine libraries own taken)))
 
 -- There is a closed program of given objects and an archive of both flavours, with its import
--- tables packed from an address on:
--- `taken`, `closed`: a linker takes these members for the given objects, and they close the
--- program;
--- `links`: it links as such;
--- `within`: its import tables lie from this address to the one that the libraries alone say.
-pub record HasClosedForBoth (machine : MachineType) (libraries : List FlavorLibrary)
-    (own : List Object) (first : ℕ) : Type 0 where
-  pub taken : List MemberView
-  pub closed : IsClosedForBoth machine libraries own taken libraries
-      (packed first (objects_closed_of_both machine libraries own taken))
-      (objects_closed_of_both machine libraries own taken)
-  pub links : LinksClosedForBoth machine libraries own taken libraries
-      (packed first (objects_closed_of_both machine libraries own taken))
-      (objects_closed_of_both machine libraries own taken)
-  pub within : LieWithin first (tables_end_of_both first libraries)
-      (image_of machine (packed first (objects_closed_of_both machine libraries own taken))
-      (placed_from (packed first (objects_closed_of_both machine libraries own taken))
-      (objects_closed_of_both machine libraries own taken)))
+-- tables packed from an address on: a linker takes some members for the given objects, and they
+-- close the program.
+abbrev pub HasClosedForBoth : MachineType → List FlavorLibrary → List Object → ℕ → Type 0
+HasClosedForBoth machine libraries own first =
+    (taken : List MemberView)
+    × IsClosedForBoth machine libraries own taken libraries
+    (packed first (objects_closed_of_both machine libraries own taken))
+    (objects_closed_of_both machine libraries own taken)

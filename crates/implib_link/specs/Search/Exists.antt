@@ -6,14 +6,13 @@ use Rattle.std.specs.List.{AllByRecursion, filter, sum_by}
 use Rattle.implib.specs.declared.machine.MachineType.{MachineType}
 use Rattle.implib.specs.Definition.{ExportView}
 use Rattle.implib.specs.Formats.Object.{Object}
-use Rattle.implib.specs.Link.Image.{Range, image_of, range_end}
+use Rattle.implib.specs.Link.Image.{Range, range_end}
 use Rattle.implib.specs.Link.LinkedMembers.{all_linked, objects_in}
-use Rattle.implib.specs.Link.Placement.{placed_from}
 use Rattle.implib.specs.Members.MemberSpec.{MemberView}
 use Rattle.implib_link.specs.Gnu.Packed.{packed}
 use Rattle.implib_link.specs.Gnu.Program.{has_tables, null_descriptor, HaveSame}
 use Rattle.implib_link.specs.Search.Archives.{Library, exports_of, weak_among}
-use Rattle.implib_link.specs.Search.Closed.{IsClosed, LinksClosed, inputs_in}
+use Rattle.implib_link.specs.Search.Closed.{IsClosed, inputs_in}
 
 -- No more bytes of the import tables than these come from an export, with those that align its
 -- parts: the name that its DLL is asked for, if one is given, or else its own, and 40 beside it.
@@ -51,21 +50,10 @@ objects_closed machine libraries own taken =
     ++ (objects_in (all_linked machine (inputs_in libraries own taken)) ++ null_descriptor ∷ []))
 
 -- There is a closed program of given objects and libraries, with its import tables packed from an
--- address on:
--- `taken`, `closed`: a linker takes these members for the given objects, and they close the
--- program;
--- `links`: it links as such;
--- `within`: its import tables lie from this address to the one that the libraries alone say.
-pub record HasClosed (machine : MachineType) (libraries : List Library) (own : List Object)
-    (first : ℕ) : Type 0 where
-  pub taken : List MemberView
-  pub closed : IsClosed machine libraries own taken libraries
-      (packed first (objects_closed machine libraries own taken))
-      (objects_closed machine libraries own taken)
-  pub links : LinksClosed machine libraries own taken libraries
-      (packed first (objects_closed machine libraries own taken))
-      (objects_closed machine libraries own taken)
-  pub within : LieWithin first (tables_end first libraries)
-      (image_of machine (packed first (objects_closed machine libraries own taken))
-      (placed_from (packed first (objects_closed machine libraries own taken))
-      (objects_closed machine libraries own taken)))
+-- address on: a linker takes some members for the given objects, and they close the program.
+abbrev pub HasClosed : MachineType → List Library → List Object → ℕ → Type 0
+HasClosed machine libraries own first =
+    (taken : List MemberView)
+    × IsClosed machine libraries own taken libraries
+    (packed first (objects_closed machine libraries own taken))
+    (objects_closed machine libraries own taken)

@@ -21,7 +21,8 @@ ghost use Rattle.std.specs.Prelude.{◌≡◌, ◌<◌, ◌^◌, ℕ, List, fals
 /// part of the import tables, and which leave a symbol of some short import unresolved, there is a
 /// closed program. Objects that close a program do so in their packed placement from an address on,
 /// of which nothing is asked but room: that the address is above 0, and that the tables of the
-/// libraries, whose sizes the definitions alone bound, end below 2^31.
+/// libraries, whose sizes the definitions alone bound, end below 2^31; there they lie. As each
+/// closed program, it links ([`super::both_flavors::closed_program_of_both_flavors_links`]).
 pub fn closed_program_of_both_flavors_exists()
     ensures closes { (machine : MachineType) (libraries : List FlavorLibrary) (own : List Object)
         (taken : List MemberView) (arranged : List FlavorLibrary) (first : ℕ)

@@ -18,7 +18,8 @@ ghost use Rattle.std.specs.Prelude.{◌≡◌, ◌<◌, ◌^◌, ℕ, List, fals
 /// import tables, there is a closed program: whatever the search takes, its packed placement from
 /// an address on closes the program, in any order of the objects. Of the placement nothing is asked
 /// but room: that the address is above 0, and that the tables of the libraries, whose sizes the
-/// definitions alone bound, end below 2^31.
+/// definitions alone bound, end below 2^31; there they lie. As each closed program, it links
+/// ([`super::closed::closed_program_links`]).
 pub fn closed_program_exists()
     ensures closes { (machine : MachineType) (libraries : List Library) (own : List Object)
         (taken : List MemberView) (arranged : List Library) (first : ℕ) (objects : List Object) →

@@ -32,7 +32,7 @@ use Rattle.implib_archive.specs.declared.kind.Kind.TheVariants.{Gnu}
 use Rattle.implib_archive_link.specs.InBytes.{Asks, AreTakenAt, First, Second, TakesAt, asks_for, asks_on, asks_with, asks_with_on, header_by}
 use Rattle.implib_archive_link.specs.LldWay.{IsBuiltByLld, IsWantedBy, short_of_export, shorts_in}
 use Rattle.implib_archive_link.specs.Results.{AreHeadersOf}
-use Rattle.implib_link_instances.specs.Archives.NearMisses.{NearAreMembersAt, NearAreSearched, NearCallsArrive, NearHaveArchive, NearIsBuiltByLld, NearIsHeaderOf, NearIsSearchOf, NearIsWantedBy, NearLeadsToFirst, NearLldArrives, NearPullsInAt, NearTakesAt, WorkedIndexes, WorkedReads, asking_stack, f_member, in_two_lines, stack, ways_taken, with_header_in}
+use Rattle.implib_link_instances.specs.Archives.NearMisses.{NearAreMembersAt, NearCallsArrive, NearHaveArchive, NearIsBuiltByLld, NearIsHeaderOf, NearIsSearchOf, NearIsWantedBy, NearLeadsToFirst, NearLldArrives, NearPullsInAt, NearTakesAt, RefusedSearches, WorkedIndexes, WorkedReads, asking_f, asking_stack, f_member, in_two_lines, stack, ways_taken, with_header_in}
 use Rattle.implib_link.specs.Flavors.LldImports.{IsLldProgram, grouped, imp_symbols_of, imports_of_lld}
 use Rattle.implib_link.specs.Flavors.LldTables.{IsAskable, IsImportable, directory_built, hints_at, lookups_at, names_at}
 use Rattle.implib_link.specs.Gnu.Fields.{LinkedCode}
@@ -253,9 +253,6 @@ unfolding AreHeadersOf
 no_headers headers [] at = refl
 no_headers headers (m ∷ found) at = absurd at
 
-abbrev asking_f : Object
-asking_f = code_object (symbol_of_class (codes "f") 0 class_external ∷ [])
-
 nothing_taken : (asks : Asks) → TakesAt Gnu Second (archive_of Gnu worked_members) asks []
 unfolding AreTakenAt
 nothing_taken asks = record {
@@ -263,23 +260,23 @@ nothing_taken asks = record {
   ended = λ name header x. nothing_at (header_by Second (archive_of Gnu worked_members) name) header (none_in_archive name) x.found;
 }
 
-pub near_are_searched : NearAreSearched
+pub refused_searches : RefusedSearches
 unfolding searched
-near_are_searched = record {
+refused_searches = record {
   wanted = λ x.
-      let at = x.wanted (codes "f" ∷ []) [] (nothing_taken (asks_for (codes "f" ∷ []))) in
+      let at = x [] (nothing_taken (asks_for (codes "f" ∷ []))) in
       let takes : Takes worked_members (codes "f" ∷ []) [] = subst (Takes worked_members (codes "f" ∷ [])) (no_headers at.headers at.found at.at) at.holds in
       takes.ended (codes "f") f_member (record { named = (0, omega arith, refl); undefined = refl; listed = refl; new = λ held. none_in f_member held });
   given = λ x.
-      let at = x.given (asking_f ∷ []) [] (nothing_taken (asks_with (asking_f ∷ []))) in
+      let at = x [] (nothing_taken (asks_with (asking_f ∷ []))) in
       let takes : TakesInto worked_members (asking_f ∷ []) [] = subst (TakesInto worked_members (asking_f ∷ [])) (no_headers at.headers at.found at.at) at.holds in
       takes.ended (codes "f") f_member (record { named = (0, omega arith, refl); listed = refl; new = λ held. none_in f_member held });
   short = λ x.
-      let at = x.short AMD64 (codes "f" ∷ []) [] (nothing_taken (asks_on AMD64 (codes "f" ∷ []))) in
+      let at = x [] (nothing_taken (asks_on AMD64 (codes "f" ∷ []))) in
       let takes : TakesFor AMD64 worked_members (codes "f" ∷ []) [] = subst (TakesFor AMD64 worked_members (codes "f" ∷ [])) (no_headers at.headers at.found at.at) at.holds in
       takes.ended (codes "f") f_member (record { named = (0, omega arith, refl); undefined = refl; listed = refl; new = λ held. none_in f_member held });
   given_short = λ x.
-      let at = x.given_short AMD64 (asking_f ∷ []) [] (nothing_taken (asks_with_on AMD64 (asking_f ∷ []))) in
+      let at = x [] (nothing_taken (asks_with_on AMD64 (asking_f ∷ []))) in
       let takes : TakesIntoFor AMD64 worked_members (asking_f ∷ []) [] = subst (TakesIntoFor AMD64 worked_members (asking_f ∷ [])) (no_headers at.headers at.found at.at) at.holds in
       takes.ended (codes "f") f_member (record { named = (0, omega arith, refl); listed = refl; new = λ held. none_in f_member held });
 }

@@ -59,15 +59,15 @@ too_far is = above 0x8000_0020 0x8000_0020 refl (omega arith) is.admissible.ends
 
 at_zero : HasClosedForBoth AMD64 foo_and_zed (choosing ∷ []) 0 → ⊥
 unfolding next_multiple
-at_zero has = none_below (packed 0 (objects_closed_of_both AMD64 foo_and_zed (choosing ∷ []) has.taken)).descriptors refl has.closed.admissible.descriptors.0
+at_zero has = none_below (packed 0 (objects_closed_of_both AMD64 foo_and_zed (choosing ∷ []) has.0)).descriptors refl has.1.admissible.descriptors.0
 
 -- an object with tables is not among those without
 tables_given : HasClosedForBoth AMD64 foo_and_zed (null_descriptor ∷ []) 0x2000 → ⊥
 unfolding has_tables
 tables_given has =
-    let objects : List Object = objects_closed_of_both AMD64 foo_and_zed (null_descriptor ∷ []) has.taken in
-    let held = (has.closed.closed.others null_descriptor).1
-    (among_contains null_descriptor (null_descriptor ∷ objects_taken AMD64 (weak_in AMD64 has.taken)) (among_first null_descriptor (objects_taken AMD64 (weak_in AMD64 has.taken)))) in
+    let objects : List Object = objects_closed_of_both AMD64 foo_and_zed (null_descriptor ∷ []) has.0 in
+    let held = (has.1.closed.others null_descriptor).1
+    (among_contains null_descriptor (null_descriptor ∷ objects_taken AMD64 (weak_in AMD64 has.0)) (among_first null_descriptor (objects_taken AMD64 (weak_in AMD64 has.0)))) in
     let none = passing (λ o. not (has_tables o)) null_descriptor objects (contains_among null_descriptor (filter (λ o. not (has_tables o)) objects) held) in
     true≢false (sym none.1)
 

@@ -63,15 +63,15 @@ none_below n is over = omega arith
 
 at_zero : HasClosed AMD64 two_libraries (choosing ∷ []) 0 → ⊥
 unfolding next_multiple
-at_zero has = none_below (packed 0 (objects_closed AMD64 two_libraries (choosing ∷ []) has.taken)).descriptors refl has.closed.linked.admissible.descriptors.0
+at_zero has = none_below (packed 0 (objects_closed AMD64 two_libraries (choosing ∷ []) has.0)).descriptors refl has.1.linked.admissible.descriptors.0
 
 -- an object with tables is not among those without
 tables_given : HasClosed AMD64 two_libraries (null_descriptor ∷ []) 0x2000 → ⊥
 unfolding has_tables
 tables_given has =
-    let objects : List Object = objects_closed AMD64 two_libraries (null_descriptor ∷ []) has.taken in
-    let held = (has.closed.linked.others null_descriptor).1
-    (among_contains null_descriptor (null_descriptor ∷ objects_in (weak_among has.taken)) (among_first null_descriptor (objects_in (weak_among has.taken)))) in
+    let objects : List Object = objects_closed AMD64 two_libraries (null_descriptor ∷ []) has.0 in
+    let held = (has.1.linked.others null_descriptor).1
+    (among_contains null_descriptor (null_descriptor ∷ objects_in (weak_among has.0)) (among_first null_descriptor (objects_in (weak_among has.0)))) in
     let none = passing (λ o. not (has_tables o)) null_descriptor objects (contains_among null_descriptor (filter (λ o. not (has_tables o)) objects) held) in
     true≢false (sym none.1)
 

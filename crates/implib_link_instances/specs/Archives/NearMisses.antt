@@ -13,10 +13,14 @@ use Rattle.implib_archive.specs.ReadBack.{read_view}
 use Rattle.implib_archive.specs.Reader.{member_at}
 use Rattle.implib_archive.specs.Worked.{read, worked_coff, worked_gnu, worked_members}
 use Rattle.implib_archive.specs.declared.kind.Kind.TheVariants.{Gnu}
-use Rattle.implib_archive_link.specs.InBytes.{First, Second, TakesAt, asks_for, header_by}
+use Rattle.implib_archive_link.specs.InBytes.{First, Second, TakesAt, asks_for, asks_on, asks_with}
+use Rattle.implib_archive_link.specs.InBytes.{asks_with_on, header_by}
 use Rattle.implib_archive_link.specs.LldWay.{IsWantedBy}
 use Rattle.implib_archive_link.specs.Way.{CallsArrive}
-use Rattle.implib_archive_link.specs.Results.{AreSearched}
+use Rattle.implib_archive_link.specs.Results.{TakesJust}
+use Rattle.implib_link.specs.Search.Closed.{TakesInto}
+use Rattle.implib_link.specs.Search.Msvc.{TakesFor}
+use Rattle.implib_link.specs.Search.MsvcArchives.{TakesIntoFor}
 use Rattle.implib_link.specs.Search.Search.{Takes}
 use Rattle.implib_link_instances.specs.But.ArchiveLinks.{MissesAreMembersAt, MissesCallsArrive}
 use Rattle.implib_link_instances.specs.But.ArchiveLinks.{MissesHaveArchive}
@@ -125,13 +129,22 @@ pub record NearLeadsToFirst : Type 0 where
       (nameless_for (codes "f" ++ 0 ∷ codes "g")) (codes "f")
   pub read : MissesLeadsToFirst (codes "read") Gnu First (nameless_for (codes "f")) (codes "f")
 
--- The second linker member of GNU's kind, which has none. Each of these fields follows from
--- `wanted`, which says it of all names that are wanted.
-pub record NearAreSearched : Type 0 where
-  pub wanted : AreSearched Gnu Second worked_members → ⊥
-  pub given : AreSearched Gnu Second worked_members → ⊥
-  pub short : AreSearched Gnu Second worked_members → ⊥
-  pub given_short : AreSearched Gnu Second worked_members → ⊥
+-- an object that leaves `f` to others
+abbrev pub asking_f : Object
+asking_f = code_object (symbol_of_class (codes "f") 0 class_external ∷ [])
+
+-- In the second linker member of GNU's kind, which has none, a search finds nothing: not what a
+-- linker takes of the members for `f`, or for an object that leaves it to others, and the same with
+-- short imports.
+pub record RefusedSearches : Type 0 where
+  pub wanted : TakesJust Gnu Second worked_members (asks_for (codes "f" ∷ []))
+      (Takes worked_members (codes "f" ∷ [])) → ⊥
+  pub given : TakesJust Gnu Second worked_members (asks_with (asking_f ∷ []))
+      (TakesInto worked_members (asking_f ∷ [])) → ⊥
+  pub short : TakesJust Gnu Second worked_members (asks_on AMD64 (codes "f" ∷ []))
+      (TakesFor AMD64 worked_members (codes "f" ∷ [])) → ⊥
+  pub given_short : TakesJust Gnu Second worked_members (asks_with_on AMD64 (asking_f ∷ []))
+      (TakesIntoFor AMD64 worked_members (asking_f ∷ [])) → ⊥
 
 -- an object that leaves `stack` to others
 abbrev pub asking_stack : Object

@@ -21,10 +21,10 @@ use Rattle.implib_archive.specs.Refusal.{refusal_of}
 use Rattle.implib_archive.specs.declared.kind.Kind.{Kind}
 use Rattle.implib_archive_link.specs.BothWay.{AreLinkedForBoth, BothArrive}
 use Rattle.implib_archive_link.specs.Files.{HasMembersAs, entries_by, entries_in, members_read_as}
-use Rattle.implib_archive_link.specs.InBytes.{AreTakenAt, Asks, Has, LinkerMember, PullsInAt, TakesAt, asks_for, asks_on, asks_with, asks_with_on, contents_at, header_by}
+use Rattle.implib_archive_link.specs.InBytes.{AreTakenAt, Asks, Has, LinkerMember, PullsInAt, TakesAt, contents_at, header_by}
 use Rattle.implib_archive_link.specs.LldFiles.{SearchesByLld, read_by_lld}
 use Rattle.implib_archive_link.specs.LldWay.{IsBuiltByLld, IsWantedBy, LldArrives, short_of_export, shorts_in}
-use Rattle.implib_archive_link.specs.Results.{AreFoundInBytes, AreHeadersOf, AreMembersAt, AreSearched, HaveArchive, IsHeaderOf, IsSearchOf, LeadsToFirst, TakesJust}
+use Rattle.implib_archive_link.specs.Results.{AreHeadersOf, AreMembersAt, HaveArchive, IsHeaderOf, IsSearchOf, LeadsToFirst}
 use Rattle.implib_archive_link.specs.Way.{CallsArrive}
 use Rattle.implib_link.specs.Flavors.LldImports.{IsLldProgram, grouped, imp_symbols_of, imports_of_lld, placed_by_lld}
 use Rattle.implib_link.specs.Flavors.LldTables.{ArePiecesAt}
@@ -39,11 +39,10 @@ use Rattle.implib_link.specs.Gnu.Program.{HaveSame, has_tables}
 use Rattle.implib_link.specs.Gnu.Reading.{ReadsAndWrites}
 use Rattle.implib_link.specs.Search.Archives.{Library, archive_of, exports_of}
 use Rattle.implib_link.specs.Search.BothFlavors.{FlavorLibrary, LinksClosedForBoth, inputs_of_both, msvc_among}
-use Rattle.implib_link.specs.Search.Closed.{LinksClosed, TakesInto, inputs_in, unresolved}
+use Rattle.implib_link.specs.Search.Closed.{LinksClosed, inputs_in, unresolved}
 use Rattle.implib_link.specs.Search.CommandLines.{AreFirst, AreListedWhole, AreUnclaimedBehind, HaveAll, Input, LldSearches, names_left, objects_given, others_of}
-use Rattle.implib_link.specs.Search.Msvc.{TakesFor}
-use Rattle.implib_link.specs.Search.MsvcArchives.{TakesIntoFor, first_null, is_short_alias, weak_in}
-use Rattle.implib_link.specs.Search.Search.{Takes, first_listed}
+use Rattle.implib_link.specs.Search.MsvcArchives.{first_null, is_short_alias, weak_in}
+use Rattle.implib_link.specs.Search.Search.{first_listed}
 use Rattle.implib_link.specs.Stub.{CanJump}
 use Rattle.implib_link.specs.Tables.{AreSteady, AreTablesLoaded, CanReadFrom, tables_of_lld}
 use Rattle.implib_link_instances.specs.But.But.{But}
@@ -286,23 +285,6 @@ abbrev pub MissesLeadsToFirst : List ℕ → Kind → LinkerMember → List Memb
 MissesLeadsToFirst without kind linker members name = LeadsToFirstBut without kind linker members
     name × (LeadsToFirst kind linker members name → ⊥)
 
-pub record AreSearchedBut (without : List ℕ) (kind : Kind) (linker : LinkerMember) (members : List
-    MemberView) : Type 0 where
-  pub leads : But without (letters "leads") ((name : List ℕ) → LeadsToFirst kind linker members
-      name)
-  pub wanted : (wanted : List (List ℕ)) → TakesJust kind linker members (asks_for wanted) (Takes
-      members wanted)
-  pub given : But without (letters "given") ((own : List Object) → TakesJust kind linker members
-      (asks_with own) (TakesInto members own))
-  pub short : But without (letters "short") ((machine : MachineType) (wanted : List (List ℕ)) →
-      TakesJust kind linker members (asks_on machine wanted) (TakesFor machine members wanted))
-  pub given_short : But without (letters "given_short") ((machine : MachineType) (own : List Object)
-      → TakesJust kind linker members (asks_with_on machine own) (TakesIntoFor machine members own))
-
-abbrev pub MissesAreSearched : List ℕ → Kind → LinkerMember → List MemberView → Type 0
-MissesAreSearched without kind linker members = AreSearchedBut without kind linker members ×
-    (AreSearched kind linker members → ⊥)
-
 pub record IsSearchOfBut (without : List ℕ) (kind : Kind) (linker : LinkerMember) (members : List
     MemberView) (asks : Asks) (found : List MemberView) : Type 0 where
   pub headers : List ℕ
@@ -317,23 +299,6 @@ abbrev pub MissesIsSearchOf : List ℕ → Kind → LinkerMember → List Member
     MemberView → Type 0
 MissesIsSearchOf without kind linker members asks found = IsSearchOfBut without kind linker members
     asks found × (IsSearchOf kind linker members asks found → ⊥)
-
-pub record AreFoundInBytesBut (without : List ℕ) (kind : Kind) (linker : LinkerMember) (members :
-    List MemberView) : Type 0 where
-  pub wanted : (wanted : List (List ℕ)) (found : List MemberView) → Takes members wanted found →
-      IsSearchOf kind linker members (asks_for wanted) found
-  pub given : But without (letters "given") ((own : List Object) (found : List MemberView) →
-      TakesInto members own found → IsSearchOf kind linker members (asks_with own) found)
-  pub short : But without (letters "short") ((machine : MachineType) (wanted : List (List ℕ)) (found
-      : List MemberView) → TakesFor machine members wanted found → IsSearchOf kind linker members
-      (asks_on machine wanted) found)
-  pub given_short : But without (letters "given_short") ((machine : MachineType) (own : List Object)
-      (found : List MemberView) → TakesIntoFor machine members own found → IsSearchOf kind linker
-      members (asks_with_on machine own) found)
-
-abbrev pub MissesAreFoundInBytes : List ℕ → Kind → LinkerMember → List MemberView → Type 0
-MissesAreFoundInBytes without kind linker members = AreFoundInBytesBut without kind linker members ×
-    (AreFoundInBytes kind linker members → ⊥)
 
 pub record CallsArriveBut (without : List ℕ) (machine : MachineType) (libraries : List Library) (own
     : List Object) (taken : List MemberView) (arranged : List Library) (bases : Bases) (objects :

@@ -45,7 +45,7 @@ use Rattle.implib_link.specs.Gnu.Loaded.{HoldsAt}
 use Rattle.implib_link.specs.Gnu.Moves.{AreMoved, CanBeMoved, absolute_places, places_of_code}
 use Rattle.implib_link.specs.Gnu.Operands.{AllLeadTo, BranchArrives, BranchStays, HasBranch, HasField, HasInstruction, HasOffsetField, HasOperand, HasPageField, HasPointer, InstructionArrives, IsBranch, IsOperand, IsPointer, Names, OperandArrives, PairArrives, PointerArrives, branch_leads, branch_rest, operand_leads}
 use Rattle.implib_link.specs.Gnu.OtherLibraries.{AllTaken, AreWhole, HoldsFields, IsProgramBeside, LinksBeside, Run, RunLinks, imports_of_runs, inputs_of_runs, keeps_fours, members_from, members_of_run, objects_of_runs, others_of_runs, rows_before, rows_of_objects}
-use Rattle.implib_link.specs.Gnu.Packed.{group_end, packed}
+use Rattle.implib_link.specs.Gnu.Packed.{group_end}
 use Rattle.implib_link.specs.Gnu.Pages.{PageArrives, offset_word, page_word}
 use Rattle.implib_link.specs.Gnu.Pointers.{LoadArrives, load_bytes, load_reads}
 use Rattle.implib_link.specs.Gnu.Program.{ClaimsNone, GetsAddress, HaveSame, has_tables, linked_symbols, names_claimed_in, null_descriptor, thunks_before, with_tables}
@@ -55,11 +55,10 @@ use Rattle.implib_link.specs.Gnu.Texts.{ask_stated, chosen_stated}
 use Rattle.implib_link.specs.Gnu.Writing.{FillsBy, FillsTable}
 use Rattle.implib_link.specs.Parts.{BeginWithHead, IsEntry, IsHead, IsPart, IsProgramOfParts, IsTail, Part, Row, begins, dll_text, is_null_thunk, names_entry, names_of_parts, objects_of_parts, row_in, sections_of, thunk_ask}
 use Rattle.implib_link.specs.Search.Archives.{IsArchive, IsLibrary, IsWeakData, Library, NamesNoHeadOrTailOf, TakesOfLibraries, archive_of, exports_of, inputs_wanted, others_among, symbols_of_library, wanted_with, weak_among}
-use Rattle.implib_link.specs.Search.BothExists.{HasClosedForBoth, objects_closed_of_both, tables_end_of_both}
 use Rattle.implib_link.specs.Search.BothFlavors.{AreClosedForBoth, AreGivenForBoth, FlavorLibrary, IsClosedForBoth, IsFlavorArchive, IsImportedOfBoth, IsUsedIn, IsWeakOfBoth, LinksClosedForBoth, NamesNoMembers, TakesOfBoth, archive_of_both, gnu_among, inputs_of_both, kept_of_both, msvc_among, wanted_of_both}
 use Rattle.implib_link.specs.Search.Closed.{AreLinkedFor, AreTakenIntoAs, IsAliasTaken, IsClosed, IsImported, IsUsed, LinksClosed, PullsIntoAs, TakesInto, TakesIntoAs, inputs_in, listed_in, unresolved, wanted_in}
 use Rattle.implib_link.specs.Search.CommandLines.{AreListedWhole, AreRounds, AreTakenBehind, AreUnclaimedBehind, Input, IsClosedOver, IsGroupSearched, IsOrdered, IsSwept, NoneIsLost, SearchesCommandLine, SearchesFor, TakesFirst, names_left, objects_given, others_of}
-use Rattle.implib_link.specs.Search.Exists.{AreChosenFor, HasClosed, LieWithin, objects_closed, tables_end}
+use Rattle.implib_link.specs.Search.Exists.{AreChosenFor}
 use Rattle.implib_link.specs.Search.Given.{AreGiven, heads_of, symbols_kept, tails_of, wanted_at_most}
 use Rattle.implib_link.specs.Search.Msvc.{NamesNoHeader, left_in}
 use Rattle.implib_link.specs.Search.MsvcArchives.{IsMsvcArchive, IsMsvcLibrary, IsWeakShort, IsWeakTaken, NamesNoHeaderOf, TakesIntoFor, first_null, is_short_alias, others_in, short_inputs, shorts_linked, symbols_of_all_shorts, symbols_of_shorts, wanted_for, wanted_with_weak, weak_in}
@@ -1302,25 +1301,6 @@ abbrev pub MissesTakesOfLibraries : List ℕ → MachineType → List Library �
 MissesTakesOfLibraries without machine libraries wanted taken = TakesOfLibrariesBut without machine
     libraries wanted taken × (TakesOfLibraries machine libraries wanted taken → ⊥)
 
-pub record HasClosedForBothBut (without : List ℕ) (machine : MachineType) (libraries : List
-    FlavorLibrary) (own : List Object) (first : ℕ) : Type 0 where
-  pub taken : List MemberView
-  pub closed : But without (letters "closed") (IsClosedForBoth machine libraries own taken libraries
-      (packed first (objects_closed_of_both machine libraries own taken)) (objects_closed_of_both
-      machine libraries own taken))
-  pub links : But without (letters "links") (LinksClosedForBoth machine libraries own taken
-      libraries (packed first (objects_closed_of_both machine libraries own taken))
-      (objects_closed_of_both machine libraries own taken))
-  pub within : But without (letters "within") (LieWithin first (tables_end_of_both first libraries)
-      (image_of machine (packed first (objects_closed_of_both machine libraries own taken))
-      (placed_from (packed first (objects_closed_of_both machine libraries own taken))
-      (objects_closed_of_both machine libraries own taken))))
-
-abbrev pub MissesHasClosedForBoth : List ℕ → MachineType → List FlavorLibrary → List Object → ℕ →
-    Type 0
-MissesHasClosedForBoth without machine libraries own first = HasClosedForBothBut without machine
-    libraries own first × (HasClosedForBoth machine libraries own first → ⊥)
-
 pub record IsFlavorArchiveBut (without : List ℕ) (machine : MachineType) (libraries : List
     FlavorLibrary) : Type 0 where
   pub gnu : But without (letters "gnu") (IsArchive machine (gnu_among libraries))
@@ -1635,24 +1615,6 @@ abbrev pub MissesAreChosenFor : List ℕ → MachineType → List Library → Li
 MissesAreChosenFor without machine libraries own taken arranged objects = AreChosenForBut without
     machine libraries own taken arranged objects × (AreChosenFor machine libraries own taken
     arranged objects → ⊥)
-
-pub record HasClosedBut (without : List ℕ) (machine : MachineType) (libraries : List Library) (own :
-    List Object) (first : ℕ) : Type 0 where
-  pub taken : List MemberView
-  pub closed : But without (letters "closed") (IsClosed machine libraries own taken libraries
-      (packed first (objects_closed machine libraries own taken)) (objects_closed machine libraries
-      own taken))
-  pub links : But without (letters "links") (LinksClosed machine libraries own taken libraries
-      (packed first (objects_closed machine libraries own taken)) (objects_closed machine libraries
-      own taken))
-  pub within : But without (letters "within") (LieWithin first (tables_end first libraries)
-      (image_of machine (packed first (objects_closed machine libraries own taken)) (placed_from
-      (packed first (objects_closed machine libraries own taken)) (objects_closed machine libraries
-      own taken))))
-
-abbrev pub MissesHasClosed : List ℕ → MachineType → List Library → List Object → ℕ → Type 0
-MissesHasClosed without machine libraries own first = HasClosedBut without machine libraries own
-    first × (HasClosed machine libraries own first → ⊥)
 
 pub record AreGivenBut (without : List ℕ) (machine : MachineType) (libraries : List Library) (own :
     List Object) : Type 0 where

@@ -7,7 +7,7 @@ ghost use Rattle.implib_link_instances.specs.Archives.Following.{FollowingOfWays
 ghost use Rattle.implib_link_instances.specs.Archives.NearBothWay.{NearAreLinkedForBoth};
 ghost use Rattle.implib_link_instances.specs.Archives.NearBothWay.{NearBothArrive};
 ghost use Rattle.implib_link_instances.specs.Archives.NearMisses.{NearAreMembersAt};
-ghost use Rattle.implib_link_instances.specs.Archives.NearMisses.{NearAreSearched, NearCallsArrive};
+ghost use Rattle.implib_link_instances.specs.Archives.NearMisses.{NearCallsArrive, RefusedSearches};
 ghost use Rattle.implib_link_instances.specs.Archives.NearMisses.{NearHaveArchive};
 ghost use Rattle.implib_link_instances.specs.Archives.NearMisses.{NearIsBuiltByLld, NearIsHeaderOf};
 ghost use Rattle.implib_link_instances.specs.Archives.NearMisses.{NearIsSearchOf, NearIsWantedBy};
@@ -61,7 +61,7 @@ pub fn worked_in_bytes()
     ensures worked_reads { WorkedReads }
     ensures near_leads_to_first { NearLeadsToFirst }
     ensures near_are_members_at { NearAreMembersAt }
-    ensures near_are_searched { NearAreSearched }
+    ensures refused_searches { RefusedSearches }
     ensures near_is_wanted_by { NearIsWantedBy }
     ensures near_is_built_by_lld { NearIsBuiltByLld }
     ensures near_lld_arrives { NearLldArrives }

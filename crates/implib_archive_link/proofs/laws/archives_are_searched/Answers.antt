@@ -1,5 +1,12 @@
-use Rattle.implib_archive_link.proofs.Corollaries.{are_found_in_bytes, are_searched}
+use Rattle.implib_archive_link.proofs.Corollaries.{found_given, found_wanted, searched_given, searched_wanted}
+use Rattle.implib_archive_link.proofs.InBytes.{leads_to_first}
 use Rattle.implib_archive_link.proofs.laws.archives_are_searched.Goals as goal
 
 pub returns : goal.returns
-returns c = record { bytes = are_searched; list = are_found_in_bytes }
+returns c = record {
+  leads = λ kind linker members name ready. leads_to_first kind linker members ready name;
+  wanted = searched_wanted;
+  given = searched_given;
+  found_for_names = found_wanted;
+  found_for_objects = found_given;
+}

@@ -2,7 +2,7 @@ use Rattle.implib_link_instances.proofs.Archives.FileLines.{near_searches_by_lld
 use Rattle.implib_link_instances.proofs.Archives.Files.{near_has_members, worked_files}
 use Rattle.implib_link_instances.proofs.Archives.Following.{following_of_ways}
 use Rattle.implib_link_instances.proofs.Archives.NearBothWay.{near_are_linked_for_both, near_both_arrive}
-use Rattle.implib_link_instances.proofs.Archives.NearMisses.{near_are_members_at, near_are_searched, near_calls_arrive, near_have_archive, near_is_built_by_lld, near_is_header_of, near_is_search_of, near_is_wanted_by, near_leads_to_first, near_lld_arrives, near_pulls_in_at, near_takes_at, worked_indexes, worked_reads}
+use Rattle.implib_link_instances.proofs.Archives.NearMisses.{near_are_members_at, refused_searches, near_calls_arrive, near_have_archive, near_is_built_by_lld, near_is_header_of, near_is_search_of, near_is_wanted_by, near_leads_to_first, near_lld_arrives, near_pulls_in_at, near_takes_at, worked_indexes, worked_reads}
 use Rattle.implib_link_instances.proofs.Archives.WorkedBothWay.{worked_both_way as way}
 use Rattle.implib_link_instances.proofs.Archives.WorkedLibraries.{worked_libraries}
 use Rattle.implib_link_instances.proofs.Archives.WorkedLldWay.{worked_lld_way}
@@ -30,7 +30,7 @@ returns c = record {
   worked_reads = worked_reads;
   near_leads_to_first = near_leads_to_first;
   near_are_members_at = near_are_members_at;
-  near_are_searched = near_are_searched;
+  refused_searches = refused_searches;
   near_is_wanted_by = near_is_wanted_by;
   near_is_built_by_lld = near_is_built_by_lld;
   near_lld_arrives = near_lld_arrives;
