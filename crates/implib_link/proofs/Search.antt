@@ -1,6 +1,7 @@
 -- Lemmas about archive search.
 pub mod Lists
 pub mod Search
+pub mod Plainly
 pub mod Numbers
 pub mod Ends
 pub mod ArchiveGroups

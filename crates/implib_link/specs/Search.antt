@@ -13,3 +13,4 @@ pub mod NoShorts
 pub mod Sweeps
 pub mod CommandLines
 pub mod Wanting
+pub mod Plainly

@@ -25,4 +25,5 @@ pub mod stubs;
 pub mod tables;
 pub mod texts;
 pub mod wanting;
+pub mod weak_references;
 pub mod writing;
