@@ -14,7 +14,7 @@ use Rattle.implib_link.specs.Search.Sweeps.{members_at}
 use Rattle.implib_link.proofs.Search.CommandLines.{takes_of_libraries}
 use Rattle.implib_archive_link.specs.InBytes.{LinkerMember, asks_with_on}
 use Rattle.implib_archive_link.specs.Results.{HaveArchive, IsEnding, TakesJust}
-use Rattle.implib_archive_link.proofs.Corollaries.{are_found_in_bytes, ending, given_taken}
+use Rattle.implib_archive_link.proofs.Corollaries.{found_given, ending, given_taken}
 use Rattle.implib_archive_link.proofs.InBytes.{takes_just}
 use Rattle.implib_link.specs.Flavors.Program.{OfMember, FlavorInput, IsMadeFor, ask_in, dll_of, symbol_in, thunks_of}
 use Rattle.implib_link.specs.Search.BothFlavors.{AreGivenForBoth, FlavorLibrary, IsFlavorArchive, LinksClosedForBoth, archive_of_both, inputs_of_both, msvc_among}
@@ -65,7 +65,7 @@ pub ends_for_both : (kind : Kind) (linker : LinkerMember) (machine : MachineType
     IsFlavorArchive machine libraries → AreGivenForBoth machine libraries own → IsEnding kind linker (archive_of_both libraries) (asks_with_on machine own)
 ends_for_both kind linker machine libraries own ready archive given =
     let found = both_given_ends machine libraries own archive given in
-    ending kind linker (archive_of_both libraries) (asks_with_on machine own) found.0 ((are_found_in_bytes kind linker (archive_of_both libraries) ready).given_short machine own found.0 found.1)
+    ending kind linker (archive_of_both libraries) (asks_with_on machine own) found.0 (found_given (expanded_in machine) kind linker (archive_of_both libraries) own found.0 ready found.1)
 
 -- The files of a command line.
 pub files_lead_to_both : (machine : MachineType) (libraries : List FlavorLibrary) (files : List ArchiveFile) (inputs : List Input) (is_given : MemberView → Bool) (taken : List ℕ) (arranged : List FlavorLibrary) (bases : Bases) (objects : List Object) →

@@ -78,3 +78,4 @@ pub mod NearParts
 pub mod RefusedPredicates
 pub mod ThunksOf
 pub mod Following
+pub mod Plainly

@@ -72,3 +72,4 @@ pub mod ThirdTexts
 pub mod NearParts
 pub mod RefusedPredicates
 pub mod Following
+pub mod Plainly

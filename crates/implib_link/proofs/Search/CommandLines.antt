@@ -13,7 +13,7 @@ use Rattle.implib.proofs.Link.LinkedMembers.{among_contains}
 use Rattle.implib.proofs.Link.Ranges.{Among, all_among, among_back, among_first, among_front, among_later}
 use Rattle.implib_link.specs.Gnu.Program.{HaveSame, claimed_names}
 use Rattle.implib_link.specs.Search.Archives.{IsArchive, Library, archive_of}
-use Rattle.implib_link.specs.Search.Closed.{AreLinkedFor, AreTakenIntoAs, LinksClosed, PullsIntoAs, TakesInto, TakesIntoAs, references_of, unresolved}
+use Rattle.implib_link.specs.Search.Closed.{AreLinkedFor, AreTakenIntoAs, LinksClosed, PullsIntoAs, TakesIntoAs, references_of, unresolved}
 use Rattle.implib_link.specs.Search.Given.{AreGiven}
 use Rattle.implib_link.specs.Search.CommandLines.{AnObject, Archives, AreFirst, AreListedWhole, AreRounds, AreSwept, AreTakenBehind, AreUnclaimedBehind, HaveAll, Input, IsOrdered, IsSwept, LeavesNone, LldSearches, LldSearchesFrom, NoneIsLost, SearchesFor, SearchesLibraries, TakesFirst, SearchesCommandLine, SearchesFrom, listed_at, names_left, numbers_but, numbers_in, numbers_of, object_of, objects_given, others_of, given_with}
 use Rattle.implib_link.specs.Search.Search.{claimed_as, first_listed, is_listed_for, objects_as, undefined_in}

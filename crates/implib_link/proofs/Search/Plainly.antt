@@ -1,7 +1,7 @@
 -- GNU `ld`'s search, which resolves nothing by weak externals, and one that does.
-use Rattle.std.proofs.Common.{◌≡◌, ℕ, ◌⊎◌, Bool, true, false, List, [], ◌∷◌, ◌++◌, ◌&&◌, Option, Some, None, map, refl, ap, sym, ◌∙◌, subst, inl, inr, arith}
+use Rattle.std.proofs.Common.{◌≡◌, ℕ, ◌⊎◌, true, false, List, [], ◌∷◌, ◌++◌, Option, Some, None, map, refl, ap, sym, ◌∙◌, subst, inl, inr, arith}
 use Rattle.std.specs.Prelude.{bytes_eq, not, ◌==◌}
-use Rattle.std.specs.List.{AllByRecursion, Contains, filter, filter_map, flat_map, list_any}
+use Rattle.std.specs.List.{Contains, filter, flat_map, list_any}
 use Rattle.std.specs.Option.{option_map}
 use Rattle.std.specs.Prelude.{if◌then◌else◌}
 use Rattle.std.proofs.lemmas.Bool.{and_parts, cases_Bool, not_from_false}
@@ -9,7 +9,7 @@ use Rattle.implib.specs.Formats.Constants.{class_external, class_weak_external, 
 use Rattle.implib.specs.Link.Resolution.{is_undefined_external}
 use Rattle.std.proofs.lemmas.Grind.{flat_map-append}
 use Rattle.implib.specs.declared.machine.MachineType.{MachineType}
-use Rattle.implib.specs.Formats.Object.{ASymbol, Auxiliary, Entry, Object, ObjectSymbol}
+use Rattle.implib.specs.Formats.Object.{ASymbol, Auxiliary, Entry, Object}
 use Rattle.implib.specs.Link.Linked.{undefined_name}
 use Rattle.implib.specs.Members.MemberSpec.{MemberView}
 use Rattle.implib.proofs.Link.LinkedMembers.{among_contains}
@@ -160,9 +160,9 @@ module _ (reads : List ℕ → Option Object) where
         (λ claimed. elim (in_both claimed_names name own (objects_as reads taken) claimed) [
           | inl there ↦ parts.1 (in_own claimed_names name own (objects_as (plainly reads) taken) there)
           | inr there ↦ elim (by_which name taken there) [
-              | inl plain ↦ parts.1 (in_others claimed_names name own (objects_as (plainly reads) taken) plain)
-              | inr weak ↦ none weak
-            ]
+            | inl plain ↦ parts.1 (in_others claimed_names name own (objects_as (plainly reads) taken) plain)
+            | inr weak ↦ none weak
+          ]
         ])
 
     -- what only the plain search leaves is a weak external's name
@@ -177,12 +177,12 @@ module _ (reads : List ℕ → Option Object) where
         elim (cases_Bool (list_any (bytes_eq name) (flat_map claimed_names (own ++ objects_as reads taken)))) [
           | inr none ↦ absurd (not_left (unresolved_from (own ++ objects_as reads taken) name left (there_not name (flat_map claimed_names (own ++ objects_as reads taken)) none)))
           | inl claimed ↦ elim (in_both claimed_names name own (objects_as reads taken) (any_among name (flat_map claimed_names (own ++ objects_as reads taken)) claimed)) [
-              | inl there ↦ absurd (parts.1 (in_own claimed_names name own (objects_as (plainly reads) taken) there))
-              | inr there ↦ elim (by_which name taken there) [
-                  | inl plain ↦ absurd (parts.1 (in_others claimed_names name own (objects_as (plainly reads) taken) plain))
-                  | inr by ↦ (by.member, by.object, among_contains by.member taken by.held, by.taken, among_contains name (weak_names by.object) by.among)
-                ]
+            | inl there ↦ absurd (parts.1 (in_own claimed_names name own (objects_as (plainly reads) taken) there))
+            | inr there ↦ elim (by_which name taken there) [
+              | inl plain ↦ absurd (parts.1 (in_others claimed_names name own (objects_as (plainly reads) taken) plain))
+              | inr by ↦ (by.member, by.object, among_contains by.member taken by.held, by.taken, among_contains name (weak_names by.object) by.among)
             ]
+          ]
         ]
 
     module _ (archive : List MemberView) where

@@ -8,8 +8,7 @@ use Rattle.std.specs.Fmt.{digits}
 use Rattle.std.specs.List.{AllByRecursion, Contains, IsDistinct, filter}
 use Rattle.implib.specs.declared.machine.MachineType.TheVariants.{AMD64, ARMNT}
 use Rattle.implib.specs.Definition.{ExportView}
-use Rattle.implib.specs.Formats.Constants.{class_external}
-use Rattle.implib.specs.Formats.Object.{Object}
+use Rattle.implib.specs.Formats.Object.{object_in}
 use Rattle.implib.specs.Formats.ShortImport.{ShortImport, ask_of_short_import}
 use Rattle.implib.specs.Import.{Ask}
 use Rattle.implib.specs.Link.Image.{Range}
@@ -49,7 +48,7 @@ use Rattle.implib_link_instances.specs.Worked.Closed.{choosing}
 use Rattle.implib_link_instances.specs.Worked.MsvcArchives.{msvc_zed}
 use Rattle.implib_link_instances.specs.Worked.NearPrograms.{defines_mid, lld_addresses, lld_defines, lld_range, mid_alone}
 use Rattle.implib_link_instances.specs.Worked.NearSearches.{asking, zed_short}
-use Rattle.implib_link_instances.specs.Worked.Programs.{code_object, symbol_of_class, touching_8}
+use Rattle.implib_link_instances.specs.Worked.Programs.{touching_8}
 use Rattle.implib_link_instances.specs.Worked.Search.{members_of, three, wanted}
 use Rattle.implib.proofs.Link.LinkedMembers.{among_contains}
 use Rattle.implib.proofs.Link.Ranges.{all_among}
@@ -65,7 +64,7 @@ use Rattle.implib_link_instances.proofs.Worked.Programs.{distinct_by}
 use Rattle.implib_link_instances.proofs.Worked.NearSearches.{none_in, searched}
 use Rattle.implib_link_instances.proofs.Worked.NearMisses.{none_passes}
 use Rattle.implib_link_instances.proofs.Worked.RefusedLinks.{differ}
-use Rattle.implib_archive_link.proofs.Corollaries.{are_searched}
+use Rattle.implib_archive_link.proofs.Corollaries.{searched_wanted}
 use Rattle.implib_link_instances.proofs.Archives.NearBothWay.{nothing_read}
 use Rattle.implib_link_instances.proofs.Archives.WorkedSearches.{opened_bytes, three_gnu, worked_searches}
 
@@ -109,7 +108,7 @@ near_is_header_of = record {
 pub worked_reads : WorkedReads
 unfolding opened_bytes
 worked_reads = record {
-  taken = λ taken takes. let x = (are_searched Gnu First (members_of three) three_gnu).wanted wanted taken takes in (x.found, (x.holds, x.read));
+  taken = λ taken takes. let x = searched_wanted object_in Gnu First (members_of three) wanted three_gnu taken takes in (x.found, (x.holds, x.read));
   led = refl;
 }
 

@@ -17,7 +17,7 @@ use Rattle.implib_archive_link.specs.Results.{HaveArchive}
 use Rattle.implib_link_instances.specs.Archives.WorkedBothWay.{WorkedBothWay, bar_for_gnu, bases, before_null, both, calls_bar, calls_queue, code_at, linked, objects, own, placed, queue_for_msvc, taken}
 use Rattle.implib_link_instances.specs.Archives.WorkedWay.{code}
 use Rattle.implib_archive_link.proofs.BothWay.{both_arrive}
-use Rattle.implib_archive_link.proofs.Corollaries.{are_found_in_bytes}
+use Rattle.implib_archive_link.proofs.Corollaries.{found_given}
 use Rattle.implib_link.specs.Flavors.Program.{FlavorInput}
 use Rattle.implib_link.specs.Gnu.Calls.{CallArrives, HasCall, PlacedCode}
 use Rattle.implib_link.specs.Gnu.Choices.{AreSections, DefineOnce, plain_range}
@@ -156,7 +156,7 @@ worked_both_way =
       given = given;
       leaves = refl;
       wants = omega arith;
-      takes = (are_found_in_bytes Coff Second (archive_of_both both) ready).given_short AMD64 own taken takes;
+      takes = found_given (expanded_in AMD64) Coff Second (archive_of_both both) own taken ready takes;
       linked_for = linked_for;
       sections = sections;
       bar_called = bar_called;

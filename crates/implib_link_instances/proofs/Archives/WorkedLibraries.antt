@@ -11,10 +11,12 @@ use Rattle.implib_link_instances.proofs.Worked.Programs.{opened}
 use Rattle.implib_archive.specs.Archive.{entries_from, entries_of, first_linker_size, first_place, front_size, is_long, long_names as archive_long_names, name_end, names_bytes, names_size, offset_of, places_from, second_linker_size, strings_of, with_first, with_name as archive_with_name}
 use Rattle.implib_archive.specs.Refusal.{has_short_places, has_too_many, member_refusal, members_refusal, name_refusal, places_refusal, refusal_of, symbol_refusal, symbols_refusal}
 use Rattle.implib_archive.specs.declared.kind.Kind.TheVariants.{Coff, Gnu}
+use Rattle.implib_link.specs.Flavors.Expansion.{expanded_in}
+use Rattle.implib.specs.Formats.Object.{object_in}
 use Rattle.implib_archive_link.specs.InBytes.{First, Second}
 use Rattle.implib_archive_link.specs.Results.{HaveArchive}
 use Rattle.implib_link_instances.specs.Archives.Worked.{WorkedLibraries}
-use Rattle.implib_archive_link.proofs.Corollaries.{are_found_in_bytes}
+use Rattle.implib_archive_link.proofs.Corollaries.{found_given, found_wanted}
 use Rattle.implib_link.specs.Flavors.SectionSymbols.{with_section_symbols}
 use Rattle.implib_link.specs.Search.Archives.{archive_of as members_of_libraries}
 use Rattle.implib_link_instances.specs.Worked.Archives.{both_wanted, two_libraries}
@@ -36,8 +38,8 @@ pub worked_libraries : WorkedLibraries
 worked_libraries = record {
   libraries = libraries;
   taken = worked_archives.taken;
-  in_libraries = (are_found_in_bytes Gnu First (members_of_libraries two_libraries) libraries).wanted both_wanted worked_archives.taken worked_archives.takes;
-  closed = (are_found_in_bytes Gnu First (members_of_libraries two_libraries) libraries).given (choosing ∷ []) closed_taken worked_closed.takes;
+  in_libraries = found_wanted object_in Gnu First (members_of_libraries two_libraries) both_wanted worked_archives.taken libraries worked_archives.takes;
+  closed = found_given object_in Gnu First (members_of_libraries two_libraries) (choosing ∷ []) closed_taken libraries worked_closed.takes;
   short = short;
-  in_short = (are_found_in_bytes Coff Second (short_members AMD64) short).short AMD64 (one_wanted AMD64) (four_taken AMD64) worked_msvc_searches.amd64.takes;
+  in_short = found_wanted (expanded_in AMD64) Coff Second (short_members AMD64) (one_wanted AMD64) (four_taken AMD64) short worked_msvc_searches.amd64.takes;
 }

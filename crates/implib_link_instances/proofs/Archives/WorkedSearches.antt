@@ -14,7 +14,7 @@ use Rattle.implib_archive.specs.declared.kind.Kind.TheVariants.{Coff, Gnu}
 use Rattle.implib_archive_link.specs.InBytes.{AreTakenAt, First, LinkerMember, PullsInAt, Second, TakesAt, asks_for, contents_at, header_by, objects_of}
 use Rattle.implib_archive_link.specs.Results.{HaveArchive}
 use Rattle.implib_link_instances.specs.Archives.Worked.{WorkedSearches, names_wanted}
-use Rattle.implib_archive_link.proofs.Corollaries.{are_found_in_bytes}
+use Rattle.implib_archive_link.proofs.Corollaries.{found_wanted}
 use Rattle.implib_link.specs.Gnu.Program.{claimed_names}
 use Rattle.implib_link.specs.Search.Search.{undefined_in}
 use Rattle.implib_link_instances.specs.Worked.Search.{members_of, three, wanted}
@@ -156,6 +156,6 @@ worked_searches = record {
   three_coff = three_coff;
   found = qux ∷ the_tail ∷ the_head ∷ bar ∷ [];
   names = refl;
-  in_gnu = (are_found_in_bytes Gnu First (members_of three) three_gnu).wanted wanted (qux ∷ the_tail ∷ the_head ∷ bar ∷ []) three_takes;
-  in_coff = (are_found_in_bytes Coff Second (members_of three) three_coff).wanted wanted (qux ∷ the_tail ∷ the_head ∷ bar ∷ []) three_takes;
+  in_gnu = found_wanted object_in Gnu First (members_of three) wanted (qux ∷ the_tail ∷ the_head ∷ bar ∷ []) three_gnu three_takes;
+  in_coff = found_wanted object_in Coff Second (members_of three) wanted (qux ∷ the_tail ∷ the_head ∷ bar ∷ []) three_coff three_takes;
 }

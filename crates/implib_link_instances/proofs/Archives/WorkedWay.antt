@@ -21,7 +21,7 @@ use Rattle.implib_archive_link.specs.InBytes.{First}
 use Rattle.implib_archive_link.specs.Results.{HaveArchive}
 use Rattle.implib_link_instances.specs.Archives.WorkedWay.{WorkedWay, bar_definition, bar_library, bar_text, bases, caller, clashing, libraries, linked, memory, objects, own, placed_code, taken, targets}
 use Rattle.implib_archive_link.specs.Way.{CallsArrive}
-use Rattle.implib_archive_link.proofs.Corollaries.{are_found_in_bytes}
+use Rattle.implib_archive_link.proofs.Corollaries.{found_given}
 use Rattle.implib_archive_link.proofs.Way.{calls_arrive}
 use Rattle.implib_link.specs.Gnu.Calls.{HasCall}
 use Rattle.implib_link_instances.specs.Worked.Relocated.{CodesBeside, as_placed, linked_by, linked_codes}
@@ -124,7 +124,7 @@ worked_way = record {
   ready = ready;
   given = given;
   leaves = refl;
-  takes = (are_found_in_bytes Gnu First (archive_of libraries) ready).given own taken takes;
+  takes = found_given object_in Gnu First (archive_of libraries) own taken ready takes;
   linked_for = linked_for;
   beside = beside;
   calls = has_call;

@@ -17,7 +17,7 @@ use Rattle.implib_archive.specs.declared.kind.Kind.TheVariants.{Coff}
 use Rattle.implib_archive_link.specs.InBytes.{Second}
 use Rattle.implib_archive_link.specs.Results.{HaveArchive}
 use Rattle.implib_archive_link.specs.Way.{CallsArrive}
-use Rattle.implib_archive_link.proofs.Corollaries.{are_found_in_bytes}
+use Rattle.implib_archive_link.proofs.Corollaries.{found_given}
 use Rattle.implib_archive_link.proofs.Way.{calls_arrive}
 use Rattle.implib_link.specs.Gnu.Calls.{CallArrives, HasCall, PlacedCode}
 use Rattle.implib_link.specs.Gnu.Choices.{AreSections, DefineOnce, plain_range}
@@ -89,7 +89,7 @@ worked machine image_base first bar_at queue_at bar_given queue_given is =
       archive = is.archive;
       ready = is.ready;
       given = is.given;
-      takes = (are_found_in_bytes Coff Second (archive_of (both machine)) is.ready).given (own machine) (taken machine) into;
+      takes = found_given object_in Coff Second (archive_of (both machine)) (own machine) (taken machine) is.ready into;
       linked_for = is.linked;
       sections = is.sections;
       bar_pointer = is.bar_pointer;

@@ -21,7 +21,7 @@ use Rattle.implib_archive_link.specs.BothWay.{AreLinkedForBoth, BothArrive}
 use Rattle.implib_archive_link.specs.InBytes.{First}
 use Rattle.implib_archive_link.specs.Results.{HaveArchive}
 use Rattle.implib_archive_link.proofs.BothWay.{both_arrive}
-use Rattle.implib_archive_link.proofs.Corollaries.{are_found_in_bytes}
+use Rattle.implib_archive_link.proofs.Corollaries.{found_given}
 use Rattle.implib_link.specs.Flavors.Program.{FlavorInput}
 use Rattle.implib_link.specs.Gnu.Calls.{CallArrives, HasCall, PlacedCode}
 use Rattle.implib_link.specs.Gnu.Choices.{AreSections, DefineOnce, plain_range}
@@ -112,7 +112,7 @@ worked machine image_base first bar_at queue_at bar_given queue_given is =
       ready = is.ready;
       given = is.given;
       wants = is.wants;
-      takes = (are_found_in_bytes kind.Gnu First (archive_of_both (both machine)) is.ready).given_short machine (own machine) (taken machine) into;
+      takes = found_given (expanded_in machine) kind.Gnu First (archive_of_both (both machine)) (own machine) (taken machine) is.ready into;
       linked_for = is.linked into;
       sections = is.sections;
       bar_called = is.bar_called;

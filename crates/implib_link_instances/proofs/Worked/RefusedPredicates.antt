@@ -33,7 +33,7 @@ use Rattle.implib_archive.specs.Worked.{worked_members}
 use Rattle.implib_archive.specs.declared.kind.Kind.TheVariants.{Coff}
 use Rattle.implib_archive_link.specs.InBytes.{AreTakenAt, Second}
 use Rattle.implib_archive_link.specs.Results.{AreHeadersOf}
-use Rattle.implib_archive_link.proofs.Corollaries.{are_searched}
+use Rattle.implib_archive_link.proofs.Corollaries.{searched_wanted}
 use Rattle.implib_link.specs.Directory.{WalkFinds}
 use Rattle.implib_link.specs.Flavors.Program.{Ending, IsProgram, IsProgramOf, OfLinker, ProgramLinks, SymbolsAt, SymbolsGet, gnu_input, imp_symbols, members_linked}
 use Rattle.implib_link.specs.Flavors.Texts.{FlavorTextsLink, LinkInFlavor, flavor_source, input_of}
@@ -530,7 +530,7 @@ refused_archives = record {
   are_headers_of = λ x. second_first x.0.number x.0.header_is x.0.member_is;
   at = worked_searches.coff_first.in_turn;
   are_taken_at = λ x. none_in x.1.0.0 x.1.0.1.asked.0;
-  takes = (are_searched Coff Second (members_of three) worked_searches.three_coff).wanted wanted;
+  takes = searched_wanted object_in Coff Second (members_of three) wanted worked_searches.three_coff;
   takes_just = λ x. (x worked_searches.in_coff.taken worked_searches.in_coff.takes).holds;
   links = links;
   link_in_flavor_text = no_library;

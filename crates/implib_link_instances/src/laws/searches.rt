@@ -4,6 +4,7 @@ ghost use Rattle.implib_link_instances.specs.Worked.Archives.{WorkedArchives};
 ghost use Rattle.implib_link_instances.specs.Worked.Found.{WorkedFound};
 ghost use Rattle.implib_link_instances.specs.Worked.MsvcArchives.{WorkedMsvcArchives};
 ghost use Rattle.implib_link_instances.specs.Worked.NamedApart.{WorkedNamedApart};
+ghost use Rattle.implib_link_instances.specs.Worked.Plainly.{RefusedPlainly, WorkedPlainly};
 ghost use Rattle.implib_link_instances.specs.Worked.Search.{WorkedSearch};
 ghost use Rattle.implib_link_instances.specs.Worked.Sweeps.{NearSweepsTake, WorkedSweeps};
 
@@ -11,6 +12,8 @@ ghost use Rattle.implib_link_instances.specs.Worked.Sweeps.{NearSweepsTake, Work
 ///
 /// Sweeps by hand, as GNU `ld` searches: in one of them it takes another member than the first that
 /// lists a name.
+///
+/// What GNU `ld` takes of libraries with an alias, as one that resolves no plain reference by it.
 ///
 /// Libraries whose descriptors are found by the DLL's name, and others.
 ///
@@ -22,6 +25,8 @@ pub fn worked_searches()
     ensures worked_archives { WorkedArchives }
     ensures worked_sweeps { WorkedSweeps }
     ensures near_sweeps_take { NearSweepsTake }
+    ensures worked_plainly { WorkedPlainly }
+    ensures refused_plainly { RefusedPlainly }
     ensures worked_found { WorkedFound }
     ensures worked_named_apart { WorkedNamedApart }
     ensures worked_msvc_archives { WorkedMsvcArchives }
