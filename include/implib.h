@@ -62,10 +62,10 @@ extern "C" {
 
 /* The version of this header, which grows with every change of what it declares or says. implib_version()
  * gives that of the library. */
-#define IMPLIB_VERSION 10
+#define IMPLIB_VERSION 11
 uint32_t implib_version(void);
 
-/* What a call answers. New statuses get new numbers. Those of faults of the input are 16 to 39. */
+/* What a call answers. New statuses get new numbers. */
 enum implib_status {
     IMPLIB_SUCCESS = 0,
     IMPLIB_BUFFER_TOO_SMALL = 1, /* *length is the length that is needed */
@@ -180,8 +180,8 @@ struct implib_options {
  * place        gets an offset in the text, for implib_position: of the first byte that is not UTF-8, comments
  *              apart, of the token at which it is refused, or of the name of the export that is at fault; else 0
  *
- * The buffer is as of implib_library. Options are refused before the text, the machine first, then the flavour,
- * the flags and the name.
+ * The buffer is as of implib_library. Options are refused before the text: their size first, then the machine,
+ * the flavour, the flags and the name.
  */
 static inline uint32_t implib_library_with(const struct implib_options *options, const uint8_t *text,
                                            size_t text_length, uint8_t *buffer, size_t buffer_length,

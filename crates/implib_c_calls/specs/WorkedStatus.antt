@@ -262,7 +262,7 @@ pub record WorkedArguments : Type 0 where
         keeps_decorated = true;
       })
   pub unknown_flag : naming_numbered 16 ≡ None
-  pub version_is : version ≡ 10
+  pub version_is : version ≡ 11
 
 -- the number with which a call for delayed imports ends so, and the place that it gives in a text
 -- with a byte order mark
