@@ -169,8 +169,8 @@ struct implib_options {
 
 /*
  * Puts the import library that the program implib_dlltool makes of a definition with these options at the
- * beginning of the buffer, and returns a status. The program's rules are in docs/DLLTOOL.md: a name of the DLL
- * without an ending gets one, of the exports of one name the first counts, what follows `==` is what the DLL is
+ * beginning of the buffer, and returns a status. The program's rules are in docs/DLLTOOL.md: the text's name of the
+ * DLL gets an ending if it has none, of the exports of one name the first counts, what follows `==` is what the DLL is
  * asked for, and for Microsoft's linker an archive of more members than its kind can number is of GNU's kind.
  *
  * options      as above
@@ -381,8 +381,8 @@ static inline uint32_t implib_exports(const uint8_t *bytes, size_t bytes_length,
  *     number               how many members of the definition's library have one that the library lacks, and then of
  *                          each such a row; the offset in it is of no file that the caller has
  *
- * The verdict is not decided where a member of the library is not understood or is of delayed imports, whatever else
- * differs, and where no import or alias differs, but another object may define one.
+ * The verdict is not decided where a member of the library is not understood, also as one of delayed imports, whatever
+ * else differs, and where no import or alias differs, but another object may define one.
  */
 static inline uint32_t implib_check_library(const uint8_t *bytes, size_t bytes_length, const uint8_t *text,
                                             size_t text_length, const struct implib_options *options,
