@@ -1,7 +1,8 @@
--- What GNU ld takes of libraries with an alias, and what stays undefined, by hand. Of `bar`, which
--- is weak for `baz` of foo.dll and which an object names plainly, GNU ld 2.40 says "undefined
--- reference"; lld takes it for `baz`. An object of gcc 12 (`void start(void) { quit(); }`) names
--- `quit`, which a library of kernel32.dll for Microsoft's linker has as weak for `ExitProcess`.
+-- What GNU ld takes of libraries with an alias, and what stays undefined, by hand. Objects name
+-- `bar` plainly, which is weak for `baz` of foo.dll. An object of gcc 12 (`void start(void) {
+-- quit(); }`) names `quit`; beside it stand members of a library of kernel32.dll for Microsoft's
+-- linker, which has `quit` as weak for `ExitProcess`. These are listed by hand: that a search takes
+-- them for this object is not worked here.
 use Rattle.std.specs.Prelude.{◌≡◌, ℕ, List, [], ◌∷◌, ◌++◌, codes}
 use Rattle.implib.specs.declared.machine.MachineType.{MachineType}
 use Rattle.implib.specs.declared.machine.MachineType.TheVariants.{AMD64, ARM64, I386}
@@ -33,13 +34,13 @@ pub record PlainlyTaken (machine : MachineType) (libraries : List FlavorLibrary)
     pub weak : unresolved (own ++ objects_as (expanded_in machine) taken) ≡ with_weak
     pub plain : left_plainly (expanded_in machine) own taken ≡ with_none
 
--- what is taken of the library of kernel32.dll: the weak external of `quit`, the short import of
--- `ExitProcess`, and the members that every short import wants
+-- members of the library of kernel32.dll: the weak external of `quit`, the short import of
+-- `ExitProcess`, and those that every short import wants
 abbrev pub kernel : List ℕ
 kernel = codes "kernel32.dll"
 
-abbrev pub kernel_taken : List MemberView
-kernel_taken =
+abbrev pub kernel_members : List MemberView
+kernel_members =
     null_on AMD64 kernel ∷ thunk_on AMD64 kernel ∷ descriptor_on AMD64 kernel
     ∷ short_on AMD64 kernel (codes "ExitProcess")
     ∷ member_of (weak_spec AMD64 kernel (codes "quit") (codes "ExitProcess"))
@@ -53,9 +54,9 @@ pub record WorkedPlainly : Type 0 where
   pub arm64 : PlainlyTaken ARM64 (mixed_libraries ARM64) (own_on ARM64) (taken_on ARM64)
       (codes "printf" ∷ []) (codes "bar" ∷ codes "printf" ∷ [])
   -- of gcc's object
-  pub by_lld : unresolved (read_or_none wants_bytes ++ objects_as (expanded_in AMD64) kernel_taken)
+  pub by_lld : unresolved (read_or_none wants_bytes ++ objects_as (expanded_in AMD64) kernel_members)
       ≡ []
-  pub by_gnu : left_plainly (expanded_in AMD64) (read_or_none wants_bytes) kernel_taken
+  pub by_gnu : left_plainly (expanded_in AMD64) (read_or_none wants_bytes) kernel_members
       ≡ codes "quit" ∷ []
 
 -- a member that is listed for the alias's name, in front of it
