@@ -68,10 +68,10 @@ module _ (machine : MachineType) (image_base : ℕ) (t : Tables) (codes : List L
       }
 
   pub stubs_stored : (i j : ℕ) (x : Table) (e : TableEntry) (name : List ℕ) → slice_get t.tables i ≡ Some x → slice_get x.entries j ≡ Some e → e.symbol ≡ Some name → CanReadFrom machine image_base x.address →
-      (d : LinkedCode) (s : ObjectSymbol) → Contains codes d → DefinesIn d s → StubAt machine t.linked (placed_code d) s (x.address + thunk_width machine * j) → (c : LinkedCode) (offset : ℕ) →
+      (d : LinkedCode) (s : ObjectSymbol) → Contains codes d → StubAt machine t.linked (placed_code d) s (x.address + thunk_width machine * j) → DefinesIn d s → (c : LinkedCode) (offset : ℕ) →
       image_base + 2 ^ 31 ≤ 2 ^ (8 * thunk_width machine) → Contains codes c → HasPointer machine c offset s.name →
       PointsTo machine image_base (written ++ memory) (c.position + offset) (λ a. StubArrives machine image_base (written ++ memory) a (gives x.dll e.ask))
-  stubs_stored i j x e name is asked symbol can d s d_held defines stub c offset fits held has =
+  stubs_stored i j x e name is asked symbol can d s d_held stub defines c offset fits held has =
       points_to (λ a. StubArrives machine image_base (written ++ memory) a (gives x.dll e.ask)) d s d_held defines stub.begins
       (stub_in_memory machine image_base t codes targets memory gives tables steady in_memory n written wide reads i j x e name is asked symbol can d s d_held stub) c offset fits held has
 

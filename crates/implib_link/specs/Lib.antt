@@ -5,4 +5,5 @@ pub mod Gnu
 pub mod Flavors
 pub mod Search
 pub mod Tables
+pub mod InMemory
 pub mod Parts

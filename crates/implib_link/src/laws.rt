@@ -1,17 +1,13 @@
 //! Laws: what a caller may conclude from the definitions, each as the contract of an empty
 //! function.
 
-pub mod aliases;
-pub mod both_exists;
 pub mod both_flavors;
 pub mod bounds;
 pub mod choices;
 pub mod closed;
 pub mod command_lines;
-pub mod exists;
 pub mod lld;
 pub mod msvc_search;
-pub mod named_apart;
 pub mod no_shorts;
 pub mod operands;
 pub mod other_libraries;

@@ -1,30 +1,30 @@
 -- GNU `ld`'s search, which resolves nothing by weak externals, and one that does.
 use Rattle.std.proofs.Common.{◌≡◌, ℕ, ◌⊎◌, true, false, List, [], ◌∷◌, ◌++◌, Option, Some, None, map, refl, ap, sym, ◌∙◌, subst, inl, inr, arith}
 use Rattle.std.specs.Prelude.{bytes_eq, not, ◌==◌}
-use Rattle.std.specs.List.{Contains, filter, flat_map, list_any}
+use Rattle.std.specs.List.{Contains, cons_option, filter, flat_map, list_any}
 use Rattle.std.specs.Option.{option_map}
 use Rattle.std.specs.Prelude.{if◌then◌else◌}
-use Rattle.std.proofs.lemmas.Bool.{and_parts, cases_Bool, not_from_false}
+use Rattle.std.proofs.lemmas.Bool.{and_parts, cases_Bool, not_from_false, true≢false}
 use Rattle.implib.specs.Formats.Constants.{class_external, class_weak_external, section_undefined}
 use Rattle.implib.specs.Link.Resolution.{is_undefined_external}
-use Rattle.std.proofs.lemmas.Grind.{flat_map-append}
+use Rattle.std.proofs.lemmas.List.{map-append}
 use Rattle.implib.specs.declared.machine.MachineType.{MachineType}
 use Rattle.implib.specs.Formats.Object.{ASymbol, Auxiliary, Entry, Object}
 use Rattle.implib.specs.Link.Linked.{undefined_name}
 use Rattle.implib.specs.Members.MemberSpec.{MemberView}
-use Rattle.implib.proofs.Link.LinkedMembers.{among_contains}
-use Rattle.implib.proofs.Link.Ranges.{Among, among_back, among_front, among_later}
+use Rattle.implib.proofs.Link.LinkedMembers.{among_contains, among_map}
+use Rattle.implib.proofs.Link.Ranges.{Among, all_among, among_flat, among_later}
 use Rattle.implib_link.specs.Flavors.Expansion.{expanded_in}
 use Rattle.implib_link.specs.Gnu.Program.{claimed_name, claimed_names}
 use Rattle.implib_link.specs.Search.Archives.{is_weak_entry}
 use Rattle.implib_link.specs.Search.BothFlavors.{FlavorLibrary, IsFlavorArchive, archive_of_both}
 use Rattle.implib_link.specs.Search.Closed.{AreTakenIntoAs, PullsIntoAs, TakesIntoAs, unresolved}
 use Rattle.implib_link.specs.Search.MsvcArchives.{TakesIntoFor, is_weak_in}
-use Rattle.implib_link.specs.Search.Plainly.{HaveNoWeak, IsWeakAmong, TakesPlainly, WeakAreFirst, left_plainly, plainly, weak_names, without_weak}
+use Rattle.implib_link.specs.Search.Plainly.{AreOnlyWeak, HaveNoWeak, IsWeakAmong, TakesPlainly, WeakAreFirst, left_plainly, plainly, weak_names, without_weak}
 use Rattle.implib_link.specs.Search.Search.{first_listed, objects_as, undefined_in}
 use Rattle.implib_link.proofs.Search.Closing.{IsFirstAs, in_turn_for, pulled, there_not, unresolved_from, unresolved_parts}
 use Rattle.implib_link.proofs.Search.Found.{expands, first_by_role, found}
-use Rattle.implib_link.proofs.Search.Lists.{NameAs, among_either, among_filter, any_among, as_name, contains_among, kept_from, kept_into, name_as, none_among, none_passes, passes}
+use Rattle.implib_link.proofs.Search.Lists.{NameAs, among_either, among_filter, among_flat_map, among_mapped, any_among, contains_among, from_not, kept_from, kept_into, none_among, passes, passing}
 use Rattle.std.proofs.lemmas.Option.{same_Some}
 
 -- An object without its weak externals leaves the same names, and claims the others.
@@ -78,160 +78,158 @@ weak_claimed o name held =
     let from = kept_from claimed_name (filter is_weak_entry o.entries) name held in
     kept_into claimed_name o.entries name from.0 (among_filter is_weak_entry from.0 o.entries from.1) from.2
 
-none_without : (o : Object) → list_any is_weak_entry o.entries ≡ false → without_weak o ≡ o
-unfolding without_weak
-none_without o none =
-    ap (λ (es : List Entry). record o { entries = es }) (none_passes is_weak_entry o.entries (λ e held. none_among is_weak_entry e o.entries held none)).1
+-- Of objects, whatever reads them: what they leave and claim with their weak externals, and without.
 
-own_without : (own : List Object) → HaveNoWeak own → map without_weak own ≡ own
-own_without [] none = refl
-own_without (o ∷ own) none = ap (λ first. first ∷ map without_weak own) (none_without o none.0) ∙ ap (λ others. o ∷ others) (own_without own none.1)
+module _ (os : List Object) (name : List ℕ) where
+  left_without : Among name (flat_map undefined_in os) → Among name (flat_map undefined_in (map without_weak os))
+  left_without held =
+      let from = among_flat_map undefined_in name os held in
+      among_flat undefined_in (without_weak from.0) (map without_weak os) name (among_map without_weak from.0 os from.1) (left_plain from.0 name from.2)
 
-mapped : (f : Object → Object) (x : Option Object) (y : Object) → option_map f x ≡ Some y → (z : Object) × (x ≡ Some z) × (y ≡ f z)
-mapped f None y is = absurd (none y is)
-  where
-    none : (y : Object) → None ≡ Some y → ⊥
-    none y is = grind arith
-mapped f (Some z) y is = (z, refl, sym (same_Some (f z) y is))
+  left_with : Among name (flat_map undefined_in (map without_weak os)) → Among name (flat_map undefined_in os)
+  left_with held =
+      let from = among_flat_map undefined_in name (map without_weak os) held in
+      let of = among_mapped without_weak from.0 os from.1 in
+      among_flat undefined_in of.0 os name of.1 (left_weak of.0 name (subst (λ o. Among name (undefined_in o)) of.2 from.2))
 
--- Lists of objects and of members.
+  -- a name that an object claims by what is no weak external
+  claims_plain : Among name (flat_map claimed_names (map without_weak os)) → (o : Object) × Among o os × Among name (claimed_names (without_weak o))
+  claims_plain held =
+      let from = among_flat_map claimed_names name (map without_weak os) held in
+      let of = among_mapped without_weak from.0 os from.1 in
+      (of.0, of.1, subst (λ o. Among name (claimed_names o)) of.2 from.2)
 
-in_both : (f : Object → List (List ℕ)) (name : List ℕ) (own others : List Object) → Among name (flat_map f (own ++ others)) → Among name (flat_map f own) ⊎ Among name (flat_map f others)
-in_both f name own others held = among_either name (flat_map f own) (flat_map f others) (subst (Among name) (flat_map-append f own others) held)
+  -- a name that is unresolved with weak externals is so without
+  still_left : Among name (unresolved os) → Among name (unresolved (map without_weak os))
+  still_left held =
+      let parts = unresolved_parts os name held in
+      unresolved_from (map without_weak os) name (left_without parts.0)
+      (λ claimed. let from = claims_plain claimed in parts.1 (among_flat claimed_names from.0 os name from.1 (claimed_weak from.0 name from.2)))
 
-in_own : (f : Object → List (List ℕ)) (name : List ℕ) (own others : List Object) → Among name (flat_map f own) → Among name (flat_map f (own ++ others))
-in_own f name own others held = subst (Among name) (sym (flat_map-append f own others)) (among_front name (flat_map f own) (flat_map f others) held)
+  -- and one that is so without is so with them, or is that of one
+  left_or_weak : Among name (unresolved (map without_weak os)) → Among name (unresolved os) ⊎ (o : Object) × Among o os × Among name (weak_names o)
+  left_or_weak held =
+      let parts = unresolved_parts (map without_weak os) name held in
+      elim (cases_Bool (list_any (bytes_eq name) (flat_map claimed_names os))) [
+        | inr none ↦ inl (unresolved_from os name (left_with parts.0) (there_not name (flat_map claimed_names os) none))
+        | inl claimed ↦
+            let from = among_flat_map claimed_names name os (any_among name (flat_map claimed_names os) claimed) in
+            elim (claimed_either from.0 name from.2) [
+              | inl plain ↦ absurd (parts.1 (among_flat claimed_names (without_weak from.0) (map without_weak os) name (among_map without_weak from.0 os from.1) plain))
+              | inr weak ↦ inr (from.0, from.1, weak)
+            ]
+      ]
 
-in_others : (f : Object → List (List ℕ)) (name : List ℕ) (own others : List Object) → Among name (flat_map f others) → Among name (flat_map f (own ++ others))
-in_others f name own others held = subst (Among name) (sym (flat_map-append f own others)) (among_back name (flat_map f own) (flat_map f others) held)
+  -- a name that only weak externals give is left
+  left_by_weak : Among name (flat_map undefined_in os) → AreOnlyWeak os name → Among name (unresolved (map without_weak os))
+  unfolding without_weak
+  left_by_weak held only =
+      unresolved_from (map without_weak os) name (left_without held)
+      (λ claimed.
+      let from = claims_plain claimed in
+      let kept = kept_from claimed_name (filter (λ e. not (is_weak_entry e)) from.0.entries) name from.2 in
+      let own = passing (λ e. not (is_weak_entry e)) kept.0 from.0.entries kept.1 in
+      true≢false (sym (only from.0 kept.0 (among_contains from.0 os from.1) (among_contains kept.0 from.0.entries own.0) kept.2)
+      ∙ from_not (is_weak_entry kept.0) own.1))
+
+plain_one : (x : Option Object) (os plain : List Object) → plain ≡ map without_weak os → cons_option (option_map without_weak x) plain ≡ map without_weak (cons_option x os)
+plain_one None os plain same = same
+plain_one (Some o) os plain same = ap (λ others. without_weak o ∷ others) same
 
 -- each weak external of these members is the first that its name leads to
 abbrev AreFirst : (List ℕ → Option Object) → List MemberView → List MemberView → Type 0
 AreFirst reads archive taken = (x : MemberView) (o : Object) (name : List ℕ) → Among x taken → reads x.bytes ≡ Some o → Among name (weak_names o) → first_listed archive name ≡ Some x
 
 module _ (reads : List ℕ → Option Object) where
-  to_plain : (f g : Object → List (List ℕ)) → ((o : Object) (name : List ℕ) → Among name (f o) → Among name (g (without_weak o))) → (name : List ℕ) (members : List MemberView) →
-      Among name (flat_map f (objects_as reads members)) → Among name (flat_map g (objects_as (plainly reads) members))
-  to_plain f g each name members held =
-      let by = name_as reads f name members held in
-      as_name (plainly reads) g name members by.member (without_weak by.object) by.held (ap (option_map without_weak) by.taken) (each by.object name by.among)
-
-  to_weak : (f g : Object → List (List ℕ)) → ((o : Object) (name : List ℕ) → Among name (f (without_weak o)) → Among name (g o)) → (name : List ℕ) (members : List MemberView) →
-      Among name (flat_map f (objects_as (plainly reads) members)) → Among name (flat_map g (objects_as reads members))
-  to_weak f g each name members held =
-      let by = name_as (plainly reads) f name members held in
-      let from = mapped without_weak (reads by.member.bytes) by.object by.taken in
-      as_name reads g name members by.member from.0 by.held from.1 (each from.0 name (subst (λ o. Among name (f o)) from.2 by.among))
-
-  -- what members claim, by weak externals or not
-  by_which : (name : List ℕ) (members : List MemberView) → Among name (flat_map claimed_names (objects_as reads members)) →
-      Among name (flat_map claimed_names (objects_as (plainly reads) members)) ⊎ NameAs reads weak_names name members
-  by_which name members held =
-      let by = name_as reads claimed_names name members held in
-      elim (claimed_either by.object name by.among) [
-        | inl plain ↦ inl (as_name (plainly reads) claimed_names name members by.member (without_weak by.object) by.held (ap (option_map without_weak) by.taken) plain)
-        | inr weak ↦ inr (record { member = by.member; held = by.held; object = by.object; taken = by.taken; among = weak })
-      ]
+  plain_members : (taken : List MemberView) → objects_as (plainly reads) taken ≡ map without_weak (objects_as reads taken)
+  plain_members [] = refl
+  plain_members (m ∷ taken) = plain_one (reads m.bytes) (objects_as reads taken) (objects_as (plainly reads) taken) (plain_members taken)
 
   module _ (own : List Object) where
-    -- a name that is unresolved by one search is so by the other, if no weak external of a member that is taken has it
-    still_left : (taken : List MemberView) (name : List ℕ) → Among name (unresolved (own ++ objects_as reads taken)) → Among name (unresolved (own ++ objects_as (plainly reads) taken))
-    still_left taken name held =
-        let parts = unresolved_parts (own ++ objects_as reads taken) name held in
-        unresolved_from (own ++ objects_as (plainly reads) taken) name
-        (elim (in_both undefined_in name own (objects_as reads taken) parts.0) [
-          | inl there ↦ in_own undefined_in name own (objects_as (plainly reads) taken) there
-          | inr there ↦ in_others undefined_in name own (objects_as (plainly reads) taken) (to_plain undefined_in undefined_in left_plain name taken there)
-        ])
-        (λ claimed. parts.1 (elim (in_both claimed_names name own (objects_as (plainly reads) taken) claimed) [
-          | inl there ↦ in_own claimed_names name own (objects_as reads taken) there
-          | inr there ↦ in_others claimed_names name own (objects_as reads taken) (to_weak claimed_names claimed_names claimed_weak name taken there)
-        ]))
+    plain_objects : (taken : List MemberView) → map without_weak own ++ objects_as (plainly reads) taken ≡ map without_weak (own ++ objects_as reads taken)
+    plain_objects taken = ap (λ os. map without_weak own ++ os) (plain_members taken) ∙ sym (map-append without_weak own (objects_as reads taken))
 
-    left_or_weak : (taken : List MemberView) (name : List ℕ) → Among name (unresolved (own ++ objects_as (plainly reads) taken)) →
-        (NameAs reads weak_names name taken → ⊥) → Among name (unresolved (own ++ objects_as reads taken))
-    left_or_weak taken name held none =
-        let parts = unresolved_parts (own ++ objects_as (plainly reads) taken) name held in
-        unresolved_from (own ++ objects_as reads taken) name
-        (elim (in_both undefined_in name own (objects_as (plainly reads) taken) parts.0) [
-          | inl there ↦ in_own undefined_in name own (objects_as reads taken) there
-          | inr there ↦ in_others undefined_in name own (objects_as reads taken) (to_weak undefined_in undefined_in left_weak name taken there)
-        ])
-        (λ claimed. elim (in_both claimed_names name own (objects_as reads taken) claimed) [
-          | inl there ↦ parts.1 (in_own claimed_names name own (objects_as (plainly reads) taken) there)
-          | inr there ↦ elim (by_which name taken there) [
-            | inl plain ↦ parts.1 (in_others claimed_names name own (objects_as (plainly reads) taken) plain)
-            | inr weak ↦ none weak
-          ]
-        ])
+    pub still : (taken : List MemberView) (name : List ℕ) → Contains (unresolved (own ++ objects_as reads taken)) name → Contains (left_plainly reads own taken) name
+    still taken name held =
+        subst (λ os. Contains (unresolved os) name) (sym (plain_objects taken))
+        (among_contains name (unresolved (map without_weak (own ++ objects_as reads taken)))
+        (still_left (own ++ objects_as reads taken) name (contains_among name (unresolved (own ++ objects_as reads taken)) held)))
 
-    -- what only the plain search leaves is a weak external's name
-    weak_of : (taken : List MemberView) (name : List ℕ) → Among name (unresolved (own ++ objects_as (plainly reads) taken)) → (Among name (unresolved (own ++ objects_as reads taken)) → ⊥) →
-        IsWeakAmong reads taken name
-    weak_of taken name held not_left =
-        let parts = unresolved_parts (own ++ objects_as (plainly reads) taken) name held in
-        let left = elim (in_both undefined_in name own (objects_as (plainly reads) taken) parts.0) as (λ x. Among name (flat_map undefined_in (own ++ objects_as reads taken))) [
-          | inl there ↦ in_own undefined_in name own (objects_as reads taken) there
-          | inr there ↦ in_others undefined_in name own (objects_as reads taken) (to_weak undefined_in undefined_in left_weak name taken there)
-        ] in
-        elim (cases_Bool (list_any (bytes_eq name) (flat_map claimed_names (own ++ objects_as reads taken)))) [
-          | inr none ↦ absurd (not_left (unresolved_from (own ++ objects_as reads taken) name left (there_not name (flat_map claimed_names (own ++ objects_as reads taken)) none)))
-          | inl claimed ↦ elim (in_both claimed_names name own (objects_as reads taken) (any_among name (flat_map claimed_names (own ++ objects_as reads taken)) claimed)) [
-            | inl there ↦ absurd (parts.1 (in_own claimed_names name own (objects_as (plainly reads) taken) there))
-            | inr there ↦ elim (by_which name taken there) [
-              | inl plain ↦ absurd (parts.1 (in_others claimed_names name own (objects_as (plainly reads) taken) plain))
-              | inr by ↦ (by.member, by.object, among_contains by.member taken by.held, by.taken, among_contains name (weak_names by.object) by.among)
+    pub leaves : (taken : List MemberView) (name : List ℕ) → Contains (flat_map undefined_in (own ++ objects_as reads taken)) name → AreOnlyWeak (own ++ objects_as reads taken) name →
+        Contains (left_plainly reads own taken) name
+    leaves taken name held only =
+        subst (λ os. Contains (unresolved os) name) (sym (plain_objects taken))
+        (among_contains name (unresolved (map without_weak (own ++ objects_as reads taken)))
+        (left_by_weak (own ++ objects_as reads taken) name (contains_among name (flat_map undefined_in (own ++ objects_as reads taken)) held) only))
+
+    module _ (none : HaveNoWeak own) where
+      own_none : (o : Object) (name : List ℕ) → Among o own → Among name (weak_names o) → ⊥
+      unfolding weak_names
+      own_none o name held among =
+          let from = kept_from claimed_name (filter is_weak_entry o.entries) name among in
+          let weak = passing is_weak_entry from.0 o.entries from.1 in
+          true≢false (sym weak.1 ∙ none_among is_weak_entry from.0 o.entries weak.0 (all_among (λ (x : Object). list_any is_weak_entry x.entries ≡ false) o own held none))
+
+      -- what is left without weak externals is left with them, or is the name of one of a member
+      either : (taken : List MemberView) (name : List ℕ) → Contains (left_plainly reads own taken) name →
+          Contains (unresolved (own ++ objects_as reads taken)) name ⊎ NameAs reads weak_names name taken
+      either taken name held =
+          elim (left_or_weak (own ++ objects_as reads taken) name
+          (contains_among name (unresolved (map without_weak (own ++ objects_as reads taken))) (subst (λ os. Contains (unresolved os) name) (plain_objects taken) held))) [
+            | inl held ↦ inl (among_contains name (unresolved (own ++ objects_as reads taken)) held)
+            | inr weak ↦ elim (among_either weak.0 own (objects_as reads taken) weak.1) [
+              | inl here ↦ absurd (own_none weak.0 name here weak.2)
+              | inr there ↦
+                  let from = kept_from (λ (m : MemberView). reads m.bytes) taken weak.0 there in
+                  inr (record { member = from.0; held = from.1; object = weak.0; taken = from.2; among = weak.2 })
             ]
           ]
-        ]
 
-    module _ (archive : List MemberView) where
-      -- a weak external of a member that is taken pulls in none
-      none_new : (taken : List MemberView) (m : MemberView) (name : List ℕ) → AreFirst reads archive taken →
-          first_listed archive name ≡ Some m → (Contains taken m → ⊥) → NameAs reads weak_names name taken → ⊥
-      none_new taken m name first listed new by =
-          let same : by.member ≡ m = same_Some by.member m (sym (first by.member by.object name by.held by.taken by.among) ∙ listed) in
-          new (among_contains m taken (subst (λ x. Among x taken) same by.held))
+      pub left : (taken : List MemberView) (name : List ℕ) → Contains (left_plainly reads own taken) name → (Contains (unresolved (own ++ objects_as reads taken)) name → ⊥) → IsWeakAmong reads taken name
+      left taken name held not_left =
+          elim (either taken name held) [
+            | inl other ↦ absurd (not_left other)
+            | inr by ↦ (by.member, by.object, among_contains by.member taken by.held, by.taken, among_contains name (weak_names by.object) by.among)
+          ]
 
-      pulls_plain : (taken : List MemberView) (name : List ℕ) (m : MemberView) → PullsIntoAs reads archive own taken name m → PullsIntoAs (plainly reads) archive own taken name m
-      pulls_plain taken name m pulls = record {
-        named = among_contains name (unresolved (own ++ objects_as (plainly reads) taken)) (still_left taken name (contains_among name (unresolved (own ++ objects_as reads taken)) pulls.named));
-        listed = pulls.listed;
-        new = pulls.new;
-      }
+      module _ (archive : List MemberView) where
+        pulls_plain : (taken : List MemberView) (name : List ℕ) (m : MemberView) → PullsIntoAs reads archive own taken name m → PullsIntoAs (plainly reads) archive (map without_weak own) taken name m
+        pulls_plain taken name m pulls = record { named = still taken name pulls.named; listed = pulls.listed; new = pulls.new }
 
-      pulls_weak : (taken : List MemberView) → AreFirst reads archive taken → (name : List ℕ) (m : MemberView) → PullsIntoAs (plainly reads) archive own taken name m → PullsIntoAs reads archive own taken name m
-      pulls_weak taken first name m pulls = record {
-        named = among_contains name (unresolved (own ++ objects_as reads taken))
-            (left_or_weak taken name (contains_among name (unresolved (own ++ objects_as (plainly reads) taken)) pulls.named)
-            (none_new taken m name first pulls.listed pulls.new));
-        listed = pulls.listed;
-        new = pulls.new;
-      }
+        -- a weak external of a member that is taken pulls in none
+        pulls_weak : (taken : List MemberView) → AreFirst reads archive taken → (name : List ℕ) (m : MemberView) → PullsIntoAs (plainly reads) archive (map without_weak own) taken name m →
+            PullsIntoAs reads archive own taken name m
+        pulls_weak taken first name m pulls =
+            elim (either taken name pulls.named) [
+              | inl named ↦ record { named = named; listed = pulls.listed; new = pulls.new }
+              | inr by ↦
+                  let same : by.member ≡ m = same_Some by.member m (sym (first by.member by.object name by.held by.taken by.among) ∙ pulls.listed) in
+                  absurd (pulls.new (among_contains m taken (subst (λ x. Among x taken) same by.held)))
+            ]
 
-      turn_plain : (taken : List MemberView) → AreTakenIntoAs reads archive own taken → AreTakenIntoAs (plainly reads) archive own taken
-      unfolding AreTakenIntoAs
-      turn_plain [] turn = tt
-      turn_plain (m ∷ taken) turn = ((turn.0.0, pulls_plain taken turn.0.0 m turn.0.1), turn_plain taken turn.1)
+        turn_plain : (taken : List MemberView) → AreTakenIntoAs reads archive own taken → AreTakenIntoAs (plainly reads) archive (map without_weak own) taken
+        unfolding AreTakenIntoAs
+        turn_plain [] turn = tt
+        turn_plain (m ∷ taken) turn = ((turn.0.0, pulls_plain taken turn.0.0 m turn.0.1), turn_plain taken turn.1)
 
-      turn_weak : (taken : List MemberView) → AreFirst reads archive taken → AreTakenIntoAs (plainly reads) archive own taken → AreTakenIntoAs reads archive own taken
-      unfolding AreTakenIntoAs
-      turn_weak [] first turn = tt
-      turn_weak (m ∷ taken) first turn =
-          let later : AreFirst reads archive taken = λ x o name held read among. first x o name (among_later x m taken held) read among in
-          ((turn.0.0, pulls_weak taken later turn.0.0 m turn.0.1), turn_weak taken later turn.1)
+        turn_weak : (taken : List MemberView) → AreFirst reads archive taken → AreTakenIntoAs (plainly reads) archive (map without_weak own) taken → AreTakenIntoAs reads archive own taken
+        unfolding AreTakenIntoAs
+        turn_weak [] first turn = tt
+        turn_weak (m ∷ taken) first turn =
+            let later : AreFirst reads archive taken = λ x o name held read among. first x o name (among_later x m taken held) read among in
+            ((turn.0.0, pulls_weak taken later turn.0.0 m turn.0.1), turn_weak taken later turn.1)
 
-      pub plain_takes : (taken : List MemberView) → AreFirst reads archive taken → TakesIntoAs reads archive own taken → TakesIntoAs (plainly reads) archive own taken
-      plain_takes taken first takes = record {
-        in_turn = turn_plain taken takes.in_turn;
-        ended = λ name m pulls. takes.ended name m (pulls_weak taken first name m pulls);
-      }
+        plain_takes : (taken : List MemberView) → AreFirst reads archive taken → TakesIntoAs reads archive own taken → TakesPlainly reads archive own taken
+        plain_takes taken first takes = record {
+          in_turn = turn_plain taken takes.in_turn;
+          ended = λ name m pulls. takes.ended name m (pulls_weak taken first name m pulls);
+        }
 
-      pub weak_takes : (taken : List MemberView) → AreFirst reads archive taken → TakesIntoAs (plainly reads) archive own taken → TakesIntoAs reads archive own taken
-      weak_takes taken first takes = record {
-        in_turn = turn_weak taken first takes.in_turn;
-        ended = λ name m pulls. takes.ended name m (pulls_plain taken name m pulls);
-      }
+        weak_takes : (taken : List MemberView) → AreFirst reads archive taken → TakesPlainly reads archive own taken → TakesIntoAs reads archive own taken
+        weak_takes taken first takes = record {
+          in_turn = turn_weak taken first takes.in_turn;
+          ended = λ name m pulls. takes.ended name m (pulls_plain taken name m pulls);
+        }
 
 -- The laws.
 
@@ -240,13 +238,11 @@ of_taken reads archive taken first x o name held read among = first x o name (am
 
 pub plain : (reads : List ℕ → Option Object) (archive : List MemberView) (own : List Object) (taken : List MemberView) → WeakAreFirst reads archive taken → HaveNoWeak own →
     TakesIntoAs reads archive own taken → TakesPlainly reads archive own taken
-plain reads archive own taken first none takes =
-    subst (λ os. TakesIntoAs (plainly reads) archive os taken) (sym (own_without own none)) (plain_takes reads own archive taken (of_taken reads archive taken first) takes)
+plain reads archive own taken first none = plain_takes reads own none archive taken (of_taken reads archive taken first)
 
 pub weak : (reads : List ℕ → Option Object) (archive : List MemberView) (own : List Object) (taken : List MemberView) → WeakAreFirst reads archive taken → HaveNoWeak own →
     TakesPlainly reads archive own taken → TakesIntoAs reads archive own taken
-weak reads archive own taken first none takes =
-    weak_takes reads own archive taken (of_taken reads archive taken first) (subst (λ os. TakesIntoAs (plainly reads) archive os taken) (own_without own none) takes)
+weak reads archive own taken first none = weak_takes reads own none archive taken (of_taken reads archive taken first)
 
 module _ (machine : MachineType) (libraries : List FlavorLibrary) (archive : IsFlavorArchive machine libraries) where
   -- what is taken of libraries: each claims what it is listed for, and is the first
@@ -261,26 +257,9 @@ module _ (machine : MachineType) (libraries : List FlavorLibrary) (archive : IsF
   pub libraries_plain : (own : List Object) (taken : List MemberView) → HaveNoWeak own → TakesIntoFor machine (archive_of_both libraries) own taken →
       TakesPlainly (expanded_in machine) (archive_of_both libraries) own taken
   libraries_plain own taken none takes =
-      subst (λ os. TakesIntoAs (plainly (expanded_in machine)) (archive_of_both libraries) os taken) (sym (own_without own none))
-      (plain_takes (expanded_in machine) own (archive_of_both libraries) taken (are_first (expanded_in machine) own taken takes.in_turn) takes)
+      plain_takes (expanded_in machine) own none (archive_of_both libraries) taken (are_first (expanded_in machine) own taken takes.in_turn) takes
 
   pub libraries_weak : (own : List Object) (taken : List MemberView) → HaveNoWeak own → TakesPlainly (expanded_in machine) (archive_of_both libraries) own taken →
       TakesIntoFor machine (archive_of_both libraries) own taken
   libraries_weak own taken none takes =
-      let by : TakesIntoAs (plainly (expanded_in machine)) (archive_of_both libraries) own taken =
-      subst (λ os. TakesIntoAs (plainly (expanded_in machine)) (archive_of_both libraries) os taken) (own_without own none) takes in
-      weak_takes (expanded_in machine) own (archive_of_both libraries) taken (are_first (plainly (expanded_in machine)) own taken by.in_turn) by
-
-pub still : (reads : List ℕ → Option Object) (own : List Object) (taken : List MemberView) (name : List ℕ) → HaveNoWeak own → Contains (unresolved (own ++ objects_as reads taken)) name →
-    Contains (left_plainly reads own taken) name
-still reads own taken name none held =
-    among_contains name (left_plainly reads own taken)
-    (subst (λ os. Among name (unresolved (os ++ objects_as (plainly reads) taken))) (sym (own_without own none))
-    (still_left reads own taken name (contains_among name (unresolved (own ++ objects_as reads taken)) held)))
-
-pub left : (reads : List ℕ → Option Object) (own : List Object) (taken : List MemberView) (name : List ℕ) → HaveNoWeak own → Contains (left_plainly reads own taken) name →
-    (Contains (unresolved (own ++ objects_as reads taken)) name → ⊥) → IsWeakAmong reads taken name
-left reads own taken name none held not_left =
-    let there : Among name (unresolved (own ++ objects_as (plainly reads) taken)) =
-    subst (λ os. Among name (unresolved (os ++ objects_as (plainly reads) taken))) (own_without own none) (contains_among name (left_plainly reads own taken) held) in
-    weak_of reads own taken name there (λ other. not_left (among_contains name (unresolved (own ++ objects_as reads taken)) other))
+      weak_takes (expanded_in machine) own none (archive_of_both libraries) taken (are_first (plainly (expanded_in machine)) (map without_weak own) taken takes.in_turn) takes

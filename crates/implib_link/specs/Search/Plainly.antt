@@ -1,10 +1,10 @@
 -- How GNU `ld` resolves names beside weak externals: a plain reference by none of them. To its
 -- search an object is what it is without its weak externals; one that is taken still leads where
 -- objects refer to it as weak. lld resolves by them (docs/LINKERS.md, `weak-alias`).
-use Rattle.std.specs.Prelude.{◌≡◌, ℕ, false, List, ◌++◌, map, not, Option, Some}
+use Rattle.std.specs.Prelude.{◌≡◌, ℕ, false, true, List, ◌++◌, map, not, Option, Some}
 use Rattle.std.specs.List.{AllByRecursion, Contains, filter, filter_map, list_any}
 use Rattle.std.specs.Option.{option_map}
-use Rattle.implib.specs.Formats.Object.{Object}
+use Rattle.implib.specs.Formats.Object.{Entry, Object}
 use Rattle.implib.specs.Members.MemberSpec.{MemberView}
 use Rattle.implib_link.specs.Gnu.Program.{claimed_name}
 use Rattle.implib_link.specs.Search.Archives.{is_weak_entry}
@@ -38,6 +38,12 @@ left_plainly reads own taken =
 -- objects have no weak externals
 abbrev pub HaveNoWeak : List Object → Type 0
 HaveNoWeak objects = AllByRecursion (λ o. list_any is_weak_entry o.entries ≡ false) objects
+
+-- whatever gives a name among objects is a weak external
+abbrev pub AreOnlyWeak : List Object → List ℕ → Type 0
+AreOnlyWeak objects name =
+    (o : Object) (e : Entry) → Contains objects o → Contains o.entries e →
+    claimed_name e ≡ Some name → is_weak_entry e ≡ true
 
 -- the name of a weak external of a member that is taken
 abbrev pub IsWeakAmong : (List ℕ → Option Object) → List MemberView → List ℕ → Type 0

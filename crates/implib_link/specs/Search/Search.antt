@@ -5,6 +5,7 @@ use Rattle.std.specs.Prelude.{◌≡◌, ℕ, ◌+◌, Bool, false, List, [], �
 use Rattle.std.specs.Prelude.{Option, Some, None, if◌then◌else◌}
 use Rattle.std.specs.List.{AllByRecursion, Contains, IsDistinct, filter, filter_map, flat_map}
 use Rattle.std.specs.List.{list_any}
+use Rattle.implib.specs.declared.flavor.Flavor.TheVariants.{Gnu}
 use Rattle.implib.specs.declared.machine.MachineType.{MachineType}
 use Rattle.implib.specs.Definition.{DefinitionView, ExportView}
 use Rattle.implib.specs.Members.Gnu.{archive_symbols, head_symbol, iname_symbol}
@@ -14,13 +15,14 @@ use Rattle.implib.specs.Link.Linked.{undefined_name}
 use Rattle.implib.specs.Link.LinkedMembers.{linked_members, objects_in}
 use Rattle.implib.specs.Members.MemberSpec.{MemberView, member_of}
 use Rattle.implib.specs.Members.GnuMembers.{head_spec, tail_spec}
+use Rattle.implib.specs.Members.Members.{AreMembersOf}
 use Rattle.implib.specs.Formats.Object.{Object, object_in}
 use Rattle.implib.specs.Link.Placement.{Bases}
 use Rattle.implib.specs.Renaming.{renamed}
 use Rattle.implib_link.specs.Gnu.Program.{ClaimsNone, HaveSame, claimed_names, has_tables}
 use Rattle.implib_link.specs.Gnu.Program.{null_descriptor}
 use Rattle.implib_link.specs.Flavors.Program.{LinksAmong}
-use Rattle.implib.specs.LibraryName.{NamesOfDll}
+use Rattle.implib.specs.LibraryName.{NamesOfDll, linked_name}
 
 -- whether the archive lists a name for a member
 abbrev pub is_listed_for : List ℕ → MemberView → Bool
@@ -124,6 +126,20 @@ pub record NamesNoHeadOrTail (machine : MachineType) (dll : List ℕ)
     (wanted : List (List ℕ)) : Type 0 where
   pub head : list_any (bytes_eq (head_symbol machine dll)) wanted ≡ false
   pub name : list_any (bytes_eq (iname_symbol machine dll)) wanted ≡ false
+
+-- What holds of what a linker takes of an archive of a definition's members for GNU's linker, where
+-- all symbols that it lists differ and no wanted name is one of those two: of the members, what is
+-- taken, and the wanted names.
+abbrev pub OfTaken : (MachineType → DefinitionView → List MemberView → List MemberView →
+    List (List ℕ) → Type 0) → Type 0
+OfTaken Holds =
+    (machine : MachineType) (d : DefinitionView) (members taken : List MemberView)
+    (wanted : List (List ℕ)) →
+    AreMembersOf d machine Gnu members →
+    IsDistinct bytes_eq (flat_map (λ m. m.symbols) members) →
+    NamesNoHeadOrTail machine (linked_name d) wanted →
+    Takes members wanted taken →
+    Holds machine d members taken wanted
 
 -- what is taken, each member once, in an order in which the head is first and the tail last, as
 -- linkers have it that sort by member name

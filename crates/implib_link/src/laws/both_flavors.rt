@@ -2,12 +2,14 @@
 //! Microsoft's.
 
 ghost use Rattle.implib.specs.Formats.Object.{Object};
-ghost use Rattle.implib.specs.Link.Placement.{Bases};
+ghost use Rattle.implib.specs.Link.Image.{image_of};
+ghost use Rattle.implib.specs.Link.Placement.{Bases, placed_from};
 ghost use Rattle.implib.specs.Members.MemberSpec.{MemberView};
 ghost use Rattle.implib.specs.declared.machine.MachineType.{MachineType};
 ghost use Rattle.implib_link.specs.Flavors.Program.{all_members, objects_taken};
 ghost use Rattle.implib_link.specs.Gnu.Packed.{packed, packed_end};
 ghost use Rattle.implib_link.specs.Gnu.Program.{has_tables};
+ghost use Rattle.implib_link.specs.Search.BothExists.{HasClosedForBoth, tables_end_of_both};
 ghost use Rattle.implib_link.specs.Search.BothFlavors.{AreClosedForBoth, AreGivenForBoth};
 ghost use Rattle.implib_link.specs.Search.BothFlavors.{FlavorLibrary, IsFlavorArchive};
 ghost use Rattle.implib_link.specs.Search.BothFlavors.{IsClosedForBoth, LinksClosedForBoth};
@@ -15,12 +17,13 @@ ghost use Rattle.implib_link.specs.Search.BothFlavors.{NamesNoMembers, TakesOfBo
 ghost use Rattle.implib_link.specs.Search.BothFlavors.{archive_of_both, inputs_of_both};
 ghost use Rattle.implib_link.specs.Search.BothFlavors.{msvc_among};
 ghost use Rattle.implib_link.specs.Search.Closed.{unresolved};
+ghost use Rattle.implib_link.specs.Search.Exists.{LieWithin};
 ghost use Rattle.implib_link.specs.Search.Msvc.{TakesFor};
 ghost use Rattle.implib_link.specs.Search.MsvcArchives.{first_null, short_inputs, wanted_with_weak};
 ghost use Rattle.implib_link.specs.Search.MsvcArchives.{weak_in, TakesIntoFor};
 ghost use Rattle.implib_link.specs.Gnu.Program.{HaveSame};
-ghost use Rattle.std.specs.List.{filter};
-ghost use Rattle.std.specs.Prelude.{◌≡◌, ◌<◌, ◌^◌, ◌++◌, ℕ, IsPermutation, List, length, not};
+ghost use Rattle.std.specs.List.{AllByRecursion, filter};
+ghost use Rattle.std.specs.Prelude.{◌≡◌, ◌<◌, ◌^◌, ◌++◌, ℕ, IsPermutation, List, false, length, not};
 
 /// From such an archive a linker takes exactly the members of the exports that are wanted, by the
 /// program or by an alias that is taken, with what their libraries have besides, and weak externals
@@ -63,6 +66,11 @@ pub fn closed_program_of_both_flavors_links()
 /// For objects that may be given to a linker with libraries of both flavours, its search ends; and
 /// if they leave a symbol of some short import unresolved, whatever it takes closes the program, as
 /// what is linked. Nothing is asked of the search.
+///
+/// If none of these objects holds a part of the import tables, there is such a program (`exists`).
+/// Objects that close a program do so in their packed placement from an address on (`packed`), of
+/// which nothing is asked but room: that the address is above 0, and that the tables of the
+/// libraries, whose sizes the definitions alone bound, end below 2^31; there they lie (`within`).
 pub fn objects_given_for_both_flavors_are_closed()
     ensures ends { (machine : MachineType) (libraries : List FlavorLibrary) (own : List Object) →
         IsFlavorArchive machine libraries →
@@ -82,4 +90,30 @@ pub fn objects_given_for_both_flavors_are_closed()
         filter has_tables objects
         ≡ objects_taken machine (before ++ (first_null machine (msvc_among libraries) ++ behind)) →
         AreClosedForBoth machine libraries own taken arranged objects }
+    ensures packed { (machine : MachineType) (libraries : List FlavorLibrary) (own : List Object)
+        (taken : List MemberView) (arranged : List FlavorLibrary) (first : ℕ)
+        (objects : List Object) →
+        IsFlavorArchive machine libraries →
+        AreClosedForBoth machine libraries own taken arranged objects →
+        0 < first →
+        tables_end_of_both first libraries < 2 ^ 31 →
+        IsClosedForBoth machine libraries own taken arranged (packed first objects) objects }
+    ensures within { (machine : MachineType) (libraries : List FlavorLibrary) (own : List Object)
+        (taken : List MemberView) (arranged : List FlavorLibrary) (first : ℕ)
+        (objects : List Object) →
+        IsFlavorArchive machine libraries →
+        AreClosedForBoth machine libraries own taken arranged objects →
+        0 < first →
+        tables_end_of_both first libraries < 2 ^ 31 →
+        LieWithin first (tables_end_of_both first libraries)
+        (image_of machine (packed first objects) (placed_from (packed first objects) objects)) }
+    ensures exists { (machine : MachineType) (libraries : List FlavorLibrary) (own : List Object)
+        (first : ℕ) →
+        IsFlavorArchive machine libraries →
+        AreGivenForBoth machine libraries own →
+        AllByRecursion (λ o. has_tables o ≡ false) own →
+        0 < length (short_inputs (msvc_among libraries) (unresolved own)) →
+        0 < first →
+        tables_end_of_both first libraries < 2 ^ 31 →
+        HasClosedForBoth machine libraries own first }
 {}

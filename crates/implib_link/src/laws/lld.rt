@@ -1,16 +1,7 @@
 //! Laws of the import tables that lld makes of short imports.
 
-ghost use Rattle.implib.specs.Import.{Ask, imp_symbol};
-ghost use Rattle.implib_link.specs.Flavors.LldThunks.{BranchArrivesByThunk, IsThunk, ThunkArrives};
-ghost use Rattle.implib_link.specs.Gnu.Calls.{CanBranch};
-ghost use Rattle.implib_link.specs.Gnu.Fields.{LinkedCode};
-ghost use Rattle.implib_link.specs.Gnu.Moves.{AreInMemory};
-ghost use Rattle.implib_link.specs.Gnu.Operands.{HasBranch};
-ghost use Rattle.implib_link.specs.Gnu.Reading.{ReadsAndWrites};
-ghost use Rattle.implib_link.specs.Tables.{AreSteady, AreTables, Block, CanReadFrom, DefineEntries};
-ghost use Rattle.implib_link.specs.Tables.{Table, TableEntry, Tables, imported_by_table};
+ghost use Rattle.implib_link.specs.Tables.{AreTables, Block, DefineEntries, imported_by_table};
 ghost use Rattle.implib_link.specs.Tables.{packed_tables};
-ghost use Rattle.std.specs.Prelude.{Some, length, map, slice_get, ◌++◌, ◌+◌, ◌≡◌};
 ghost use Rattle.implib.specs.Formats.ShortImport.{ShortImport};
 ghost use Rattle.implib.specs.Link.Image.{AllApart, Range, range_end};
 ghost use Rattle.implib.specs.Link.Placement.{Placed};
@@ -21,7 +12,7 @@ ghost use Rattle.implib_link.specs.Flavors.LldImports.{IsLldProgram, LldLinks};
 ghost use Rattle.implib_link.specs.Flavors.LldTables.{ArePiecesAt, IsImportable, addresses_at};
 ghost use Rattle.implib_link.specs.Flavors.LldTables.{built, hints_at, lookups_at, names_at};
 ghost use Rattle.std.specs.List.{AllByRecursion, Contains};
-ghost use Rattle.std.specs.Prelude.{◌<◌, ◌^◌, ℕ, List};
+ghost use Rattle.std.specs.Prelude.{◌<◌, ◌^◌, ℕ, List, map};
 
 /// The five pieces that lld makes of DLLs and what is asked of them are a directory of exactly
 /// these imports, wherever each piece stands. What lld writes where nothing else has import tables,
@@ -69,51 +60,4 @@ pub fn lld_links()
         (taken : List ShortImport) (image : List Range) (linked : List Placed) →
         IsLldProgram machine descriptors addresses taken image linked →
         LldLinks machine descriptors addresses taken image linked }
-{}
-
-/// In memory at any base lld's thunk of a short import, beside any import tables with an entry of
-/// the import's `__imp_` symbol, jumps to what the DLL gives; and a branch to the bare name, within
-/// its reach, leads to the thunk.
-pub fn thunks_of_any_tables_jump()
-    ensures arrives { (machine : MachineType) (image_base : ℕ) (t : Tables)
-        (codes : List LinkedCode) (targets : LinkedCode → ℕ → ℕ) (memory : List Range)
-        (gives : List ℕ → Ask → List ℕ) →
-        AreTables machine t →
-        AreSteady machine t.linked →
-        AreInMemory machine image_base t.image t.linked codes targets memory →
-        (n : ℕ) (written : List Range) →
-        ((dll : List ℕ) (ask : Ask) → length (gives dll ask) ≡ thunk_width machine) →
-        ReadsAndWrites memory (thunk_width machine) gives n t.directory written →
-        (i j : ℕ) (x : Table) (e : TableEntry) →
-        slice_get t.tables i ≡ Some x →
-        slice_get x.entries j ≡ Some e →
-        CanReadFrom machine image_base x.address →
-        (r : ShortImport) (d : LinkedCode) →
-        e.symbol ≡ Some (imp_symbol r.symbol) →
-        Contains codes d →
-        IsThunk machine d r →
-        ThunkArrives machine image_base (written ++ memory) d.position (gives x.dll e.ask) }
-    ensures calls { (machine : MachineType) (image_base : ℕ) (t : Tables)
-        (codes : List LinkedCode) (targets : LinkedCode → ℕ → ℕ) (memory : List Range)
-        (gives : List ℕ → Ask → List ℕ) →
-        AreTables machine t →
-        AreSteady machine t.linked →
-        AreInMemory machine image_base t.image t.linked codes targets memory →
-        (n : ℕ) (written : List Range) →
-        ((dll : List ℕ) (ask : Ask) → length (gives dll ask) ≡ thunk_width machine) →
-        ReadsAndWrites memory (thunk_width machine) gives n t.directory written →
-        (i j : ℕ) (x : Table) (e : TableEntry) →
-        slice_get t.tables i ≡ Some x →
-        slice_get x.entries j ≡ Some e →
-        CanReadFrom machine image_base x.address →
-        (r : ShortImport) (d : LinkedCode) →
-        e.symbol ≡ Some (imp_symbol r.symbol) →
-        Contains codes d →
-        IsThunk machine d r →
-        (c : LinkedCode) (offset after : ℕ) →
-        Contains codes c →
-        HasBranch machine c offset after r.symbol →
-        CanBranch machine (c.position + offset) d.position →
-        BranchArrivesByThunk machine image_base (written ++ memory) (c.position + offset) after
-        (gives x.dll e.ask) }
 {}

@@ -20,7 +20,8 @@ ghost use Rattle.std.specs.Prelude.{◌≡◌, ℕ, List, Some, bytes_eq};
 /// by the symbols that they are listed for; nothing, where no export is wanted.
 ///
 /// All listed symbols differ, so no export has an alias. The DLL's name leads linkers to its
-/// descriptor.
+/// descriptor; so it does, whatever its ending, where the library's name is the DLL's up to its
+/// last full stop (`found`).
 pub fn search_takes_short_imports()
     ensures takes { (machine : MachineType) (d : DefinitionView) (members taken : List MemberView)
         (wanted : List (List ℕ)) →
@@ -30,11 +31,6 @@ pub fn search_takes_short_imports()
         NamesNoHeader (linked_dll d) wanted →
         TakesFor machine members wanted taken →
         HaveSame taken (msvc_if_any d machine (shorts_wanted d wanted)) }
-{}
-
-/// Linkers find the descriptor of a library whose name is the DLL's up to its last full stop,
-/// whatever the ending of the DLL's name.
-pub fn named_by_stem_is_found()
     ensures found { (d : DefinitionView) →
         d.library_name ≡ Some (before_last_stop d.import_name) →
         IsFoundByName Msvc (names_for Msvc d) }

@@ -1,19 +1,16 @@
-//! Laws of the fields of code against a name, whatever instruction holds them.
+//! The law of the fields of code against a name, whatever instruction holds them.
 
-ghost use Rattle.implib.specs.Link.Image.{Range, image_of};
-ghost use Rattle.implib.specs.Formats.Object.{Object, ObjectSection};
-ghost use Rattle.implib.specs.Link.Placement.{Bases, Placed, placed_from};
+ghost use Rattle.implib.specs.Link.Image.{Range};
+ghost use Rattle.implib.specs.Link.Placement.{Placed};
 ghost use Rattle.implib.specs.declared.machine.MachineType.{MachineType};
 ghost use Rattle.implib.specs.declared.machine.MachineType.TheVariants.{ARM64, ARMNT};
-ghost use Rattle.implib_link.specs.Gnu.Calls.{CallArrives, HasCall, PlacedCode};
-ghost use Rattle.implib_link.specs.Gnu.Choices.{AreSections, DefineOnce};
-ghost use Rattle.implib_link.specs.Gnu.Fields.{AreLinkedBeside, IsRelocated, LinkedCode};
-ghost use Rattle.implib_link.specs.Gnu.Fields.{placed_code};
+ghost use Rattle.implib_link.specs.Gnu.Calls.{CallArrives, HasCall};
+ghost use Rattle.implib_link.specs.Gnu.Fields.{LinkedCode, placed_code};
 ghost use Rattle.implib_link.specs.Gnu.Operands.{AllLeadTo, AreKept};
 ghost use Rattle.implib_link.specs.Gnu.Pages.{HasPage, HasPageOffset, PageArrives};
 ghost use Rattle.implib_link.specs.Gnu.Pointers.{HasLoad, LoadArrives};
-ghost use Rattle.std.specs.List.{AllByRecursion, Contains};
-ghost use Rattle.std.specs.Prelude.{◌≡◌, ◌+◌, ◌<◌, ℕ, List, map};
+ghost use Rattle.std.specs.List.{Contains};
+ghost use Rattle.std.specs.Prelude.{◌≡◌, ◌+◌, ◌<◌, ℕ, List};
 
 /// What the usual instructions are in these terms. Where every field against a name leads to the
 /// only definition of another (its own, or an alias's target), and bytes that no relocation meets
@@ -48,24 +45,4 @@ pub fn usual_instructions_lead()
         HasPageOffset (placed_code c) second paged loaded called →
         PageArrives image_base memory (c.position + first) (c.position + second) paged loaded
         bytes }
-{}
-
-/// There are linked bytes for any code: any section of bytes, at any address, with any addresses
-/// of its symbols. So sections that are placed apart from one another and from the import tables
-/// can be linked beside them, if they define each name at one address, and none that their
-/// undefined symbols find in the tables.
-pub fn linked_bytes_exist()
-    ensures exist { (machine : MachineType) (image_base : ℕ) (targets : ℕ → ℕ) (position : ℕ)
-        (code : ObjectSection) →
-        AllByRecursion (λ b. b < 256) code.bytes →
-        (bytes : List ℕ) × IsRelocated machine image_base targets position code bytes }
-    ensures beside { (machine : MachineType) (image_base : ℕ) (bases : Bases)
-        (objects : List Object) (placed : List PlacedCode) →
-        AreSections machine bases objects placed →
-        DefineOnce (placed_from bases objects) placed →
-        AllByRecursion (λ c. AllByRecursion (λ b. b < 256) c.code.bytes) placed →
-        (codes : List LinkedCode) × ((targets : LinkedCode → ℕ → ℕ) ×
-        ((map placed_code codes ≡ placed) ×
-        AreLinkedBeside machine image_base (image_of machine bases (placed_from bases objects))
-        (placed_from bases objects) codes targets)) }
 {}

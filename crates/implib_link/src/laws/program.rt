@@ -42,7 +42,9 @@ pub fn links_among_others()
 {}
 
 /// Members for GNU's linker and the linker's null descriptor are the objects of a program by
-/// themselves, and with any other objects that claim no symbol of theirs.
+/// themselves, and with any other objects that claim no symbol of theirs. They read the same with
+/// the full names of their sections (`named`), by which other objects are to be read: a section
+/// with a name of more than 8 bytes may belong to the import tables, too.
 pub fn members_are_program()
     ensures alone { (machine : MachineType) (inputs : List LinkInput) →
         AllByRecursion (IsMade machine) inputs →
@@ -55,6 +57,10 @@ pub fn members_are_program()
         AllByRecursion (ClaimsNone (linked_symbols machine inputs))
         (filter (λ o. not (has_tables o)) objects) →
         AreProgramObjects machine OfLinker (map gnu_input inputs) objects }
+    ensures named { (machine : MachineType) (inputs : List LinkInput) →
+        AllByRecursion (IsMade machine) inputs →
+        map (λ m. object_by_full_names m.bytes) (all_linked machine inputs)
+        ≡ map Some (objects_in (all_linked machine inputs)) }
 {}
 
 /// A loader that walks a directory and reads either table of each descriptor, however lenient it is
@@ -65,13 +71,4 @@ pub fn directory_once()
     ensures once { (image : List Range) (width address : ℕ) (imports others : List Imported) →
         DirectoryAt image width address imports → WalkFinds image width address others →
         imports ≡ others }
-{}
-
-/// The members read the same with the full names of their sections, by which other objects are to
-/// be read: a section with a name of more than 8 bytes may belong to the import tables, too.
-pub fn members_have_full_names()
-    ensures members { (machine : MachineType) (inputs : List LinkInput) →
-        AllByRecursion (IsMade machine) inputs →
-        map (λ m. object_by_full_names m.bytes) (all_linked machine inputs)
-        ≡ map Some (objects_in (all_linked machine inputs)) }
 {}

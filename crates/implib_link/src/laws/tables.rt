@@ -17,12 +17,13 @@ ghost use Rattle.implib_link.specs.Gnu.Moves.{AreInMemory, ArePaged, CanBeMoved}
 ghost use Rattle.implib_link.specs.Gnu.Operands.{AllLead, AreKept, BranchArrives, BranchStays};
 ghost use Rattle.implib_link.specs.Gnu.Operands.{HasBranch};
 ghost use Rattle.implib_link.specs.Gnu.Reading.{ReadsAndWrites};
-ghost use Rattle.implib_link.specs.Tables.{AreSteady, AreTables, AreTablesLoaded, CanReadFrom};
-ghost use Rattle.implib_link.specs.Tables.{Table, TableEntry, Tables, block_of_flavor};
-ghost use Rattle.implib_link.specs.Tables.{imported_by_table, tables_at, tables_of_lld};
+ghost use Rattle.implib_link.specs.Gnu.Stored.{AreFurtherHeld, AreStoredInMemory};
+ghost use Rattle.implib_link.specs.InMemory.{AreAsWide, OfEntries, WhereLoaded};
+ghost use Rattle.implib_link.specs.Tables.{AreSteady, AreTables, AreTablesLoaded, Tables};
+ghost use Rattle.implib_link.specs.Tables.{block_of_flavor, imported_by_table, tables_at};
+ghost use Rattle.implib_link.specs.Tables.{tables_of_lld};
 ghost use Rattle.std.specs.List.{AllByRecursion, Contains};
-ghost use Rattle.std.specs.Prelude.{◌≡◌, ◌+◌, ◌++◌, ◌∷◌, ◌<◌, ◌^◌, ℕ, List, Some, length, map};
-ghost use Rattle.std.specs.Prelude.{slice_get};
+ghost use Rattle.std.specs.Prelude.{◌≡◌, ◌+◌, ◌++◌, ◌∷◌, ◌<◌, ◌^◌, ℕ, List, length, map};
 
 /// Programs of members for GNU's linker and for Microsoft's, whatever ends their directory, and of
 /// short imports that lld took have import tables, each DLL's of exactly what is imported from it.
@@ -53,14 +54,14 @@ pub fn any_tables_load()
     ensures loads { (machine : MachineType) (t : Tables) (gives : List ℕ → Ask → List ℕ)
         (written : List Range) →
         AreTables machine t →
-        ((dll : List ℕ) (ask : Ask) → length (gives dll ask) ≡ thunk_width machine) →
+        AreAsWide machine gives →
         Writes t.image (thunk_width machine) gives t.directory (map imported_by_table t.tables)
         written →
         AreTablesLoaded machine t gives written }
     ensures reads { (machine : MachineType) (t : Tables) (gives : List ℕ → Ask → List ℕ) (n : ℕ)
         (written : List Range) →
         AreTables machine t →
-        ((dll : List ℕ) (ask : Ask) → length (gives dll ask) ≡ thunk_width machine) →
+        AreAsWide machine gives →
         ReadsAndWrites t.image (thunk_width machine) gives n t.directory written →
         (n ≡ length t.tables) × AreTablesLoaded machine t gives written }
     ensures ends { (machine : MachineType) (t : Tables) (gives : List ℕ → Ask → List ℕ) →
@@ -74,22 +75,16 @@ pub fn any_tables_load()
 {}
 
 /// Any import tables are in memory with code beside them, at the base that they were linked for or
-/// at another, which changes none of them. A loader that reads them there loads the same imports.
+/// at another, which changes none of them. A loader that reads them there loads the same imports;
+/// there is one, and it writes what one does that is handed the imports (`handed`).
 /// Every field of code against the symbol of an entry leads, by the processor's rule, to the entry,
 /// where the loader wrote what the DLL gives, whatever instruction holds the field; a branch to a
 /// name leads to where code defines it, and but for its distance is as it was; other bytes of code
 /// are as they were.
 pub fn fields_lead_to_any_tables()
-    ensures loads { (machine : MachineType) (image_base : ℕ) (t : Tables)
-        (codes : List LinkedCode) (targets : LinkedCode → ℕ → ℕ) (memory : List Range)
-        (gives : List ℕ → Ask → List ℕ) →
-        AreTables machine t →
-        AreSteady machine t.linked →
-        AreInMemory machine image_base t.image t.linked codes targets memory →
-        (n : ℕ) (written : List Range) →
-        ((dll : List ℕ) (ask : Ask) → length (gives dll ask) ≡ thunk_width machine) →
-        ReadsAndWrites memory (thunk_width machine) gives n t.directory written →
-        (n ≡ length t.tables) × AreTablesLoaded machine t gives written }
+    ensures loads { WhereLoaded AreInMemory
+        (λ machine image_base t codes targets memory gives n written.
+        (n ≡ length t.tables) × AreTablesLoaded machine t gives written) }
     ensures ends { (machine : MachineType) (image_base : ℕ) (t : Tables)
         (codes : List LinkedCode) (targets : LinkedCode → ℕ → ℕ) (memory : List Range)
         (gives : List ℕ → Ask → List ℕ) →
@@ -108,30 +103,12 @@ pub fn fields_lead_to_any_tables()
         Writes t.image (thunk_width machine) gives t.directory (map imported_by_table t.tables)
         written →
         ReadsAndWrites memory (thunk_width machine) gives (length t.tables) t.directory written }
-    ensures leads { (machine : MachineType) (image_base : ℕ) (t : Tables)
-        (codes : List LinkedCode) (targets : LinkedCode → ℕ → ℕ) (memory : List Range)
-        (gives : List ℕ → Ask → List ℕ) →
-        AreTables machine t →
-        AreSteady machine t.linked →
-        AreInMemory machine image_base t.image t.linked codes targets memory →
-        (n : ℕ) (written : List Range) →
-        ((dll : List ℕ) (ask : Ask) → length (gives dll ask) ≡ thunk_width machine) →
-        ReadsAndWrites memory (thunk_width machine) gives n t.directory written →
-        (i j : ℕ) (x : Table) (e : TableEntry) (name : List ℕ) →
-        slice_get t.tables i ≡ Some x →
-        slice_get x.entries j ≡ Some e →
-        e.symbol ≡ Some name →
-        CanReadFrom machine image_base x.address →
-        AllLead machine image_base t.linked codes (written ++ memory) name (gives x.dll e.ask) }
-    ensures branches { (machine : MachineType) (image_base : ℕ) (t : Tables)
-        (codes : List LinkedCode) (targets : LinkedCode → ℕ → ℕ) (memory : List Range)
-        (gives : List ℕ → Ask → List ℕ) →
-        AreTables machine t →
-        AreSteady machine t.linked →
-        AreInMemory machine image_base t.image t.linked codes targets memory →
-        (n : ℕ) (written : List Range) →
-        ((dll : List ℕ) (ask : Ask) → length (gives dll ask) ≡ thunk_width machine) →
-        ReadsAndWrites memory (thunk_width machine) gives n t.directory written →
+    ensures leads { WhereLoaded AreInMemory
+        (λ machine image_base t codes targets memory gives n written.
+        OfEntries machine image_base t gives (λ name entry given.
+        AllLead machine image_base t.linked codes (written ++ memory) name given)) }
+    ensures branches { WhereLoaded AreInMemory
+        (λ machine image_base t codes targets memory gives n written.
         (c d : LinkedCode) (offset after : ℕ) (name : List ℕ) (s : ObjectSymbol) →
         Contains codes c →
         HasBranch machine c offset after name →
@@ -141,16 +118,9 @@ pub fn fields_lead_to_any_tables()
         d.position + s.value < 2 ^ 31 →
         CanBranch machine (c.position + offset) (d.position + s.value) →
         BranchArrives machine image_base (written ++ memory) (c.position + offset) after
-        (d.position + s.value) }
-    ensures stay { (machine : MachineType) (image_base : ℕ) (t : Tables)
-        (codes : List LinkedCode) (targets : LinkedCode → ℕ → ℕ) (memory : List Range)
-        (gives : List ℕ → Ask → List ℕ) →
-        AreTables machine t →
-        AreSteady machine t.linked →
-        AreInMemory machine image_base t.image t.linked codes targets memory →
-        (n : ℕ) (written : List Range) →
-        ((dll : List ℕ) (ask : Ask) → length (gives dll ask) ≡ thunk_width machine) →
-        ReadsAndWrites memory (thunk_width machine) gives n t.directory written →
+        (d.position + s.value)) }
+    ensures stay { WhereLoaded AreInMemory
+        (λ machine image_base t codes targets memory gives n written.
         (c d : LinkedCode) (offset after : ℕ) (name : List ℕ) (s : ObjectSymbol) →
         Contains codes c →
         HasBranch machine c offset after name →
@@ -159,22 +129,16 @@ pub fn fields_lead_to_any_tables()
         s.name ≡ name →
         CanBranch machine (c.position + offset) (d.position + s.value) →
         BranchStays machine (written ++ memory) (c.position + offset)
-        (field_at c.code.bytes offset 4) }
-    ensures kept { (machine : MachineType) (image_base : ℕ) (t : Tables)
-        (codes : List LinkedCode) (targets : LinkedCode → ℕ → ℕ) (memory : List Range)
-        (gives : List ℕ → Ask → List ℕ) →
-        AreTables machine t →
-        AreSteady machine t.linked →
-        AreInMemory machine image_base t.image t.linked codes targets memory →
-        (n : ℕ) (written : List Range) →
-        ((dll : List ℕ) (ask : Ask) → length (gives dll ask) ≡ thunk_width machine) →
-        ReadsAndWrites memory (thunk_width machine) gives n t.directory written →
-        AreKept machine codes (written ++ memory) }
+        (field_at c.code.bytes offset 4)) }
+    ensures kept { WhereLoaded AreInMemory
+        (λ machine image_base t codes targets memory gives n written.
+        AreKept machine codes (written ++ memory)) }
 {}
 
 /// Linked code can be in memory beside any import tables at any base that its machine can move it
 /// to, if in each section the fields that store addresses whole are within it, and no two of them
-/// have an address in common.
+/// have an address in common; with the addresses that it holds as numbers, too (`stored`). Memory
+/// with these is memory for all other laws (`plain`).
 pub fn any_tables_can_be_moved()
     ensures moved { (machine : MachineType) (from to : ℕ) (image : List Range)
         (linked : List Placed) (codes : List LinkedCode) (targets : LinkedCode → ℕ → ℕ) →
@@ -183,4 +147,18 @@ pub fn any_tables_can_be_moved()
         CanBeMoved machine codes →
         ArePaged machine from to →
         (memory : List Range) × AreInMemory machine to image linked codes targets memory }
+    ensures stored { (machine : MachineType) (from to : ℕ) (image : List Range)
+        (linked : List Placed) (codes : List LinkedCode) (targets : LinkedCode → ℕ → ℕ) →
+        AreSteady machine linked →
+        AreLinkedBeside machine from image linked codes targets →
+        AreFurtherHeld machine from codes targets →
+        CanBeMoved machine codes →
+        ArePaged machine from to →
+        (memory : List Range) ×
+        AreStoredInMemory machine to image linked codes targets memory }
+    ensures plain { (machine : MachineType) (image_base : ℕ) (image : List Range)
+        (linked : List Placed) (codes : List LinkedCode) (targets : LinkedCode → ℕ → ℕ)
+        (memory : List Range) →
+        AreStoredInMemory machine image_base image linked codes targets memory →
+        AreInMemory machine image_base image linked codes targets memory }
 {}

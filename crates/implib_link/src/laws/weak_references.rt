@@ -8,17 +8,17 @@ ghost use Rattle.implib_link.specs.Search.BothFlavors.{FlavorLibrary, IsFlavorAr
 ghost use Rattle.implib_link.specs.Search.BothFlavors.{archive_of_both};
 ghost use Rattle.implib_link.specs.Search.Closed.{TakesIntoAs, unresolved};
 ghost use Rattle.implib_link.specs.Search.MsvcArchives.{TakesIntoFor};
-ghost use Rattle.implib_link.specs.Search.Plainly.{HaveNoWeak, IsWeakAmong, TakesPlainly};
-ghost use Rattle.implib_link.specs.Search.Plainly.{WeakAreFirst, left_plainly};
-ghost use Rattle.implib_link.specs.Search.Search.{objects_as};
-ghost use Rattle.std.specs.List.{Contains};
+ghost use Rattle.implib_link.specs.Search.Plainly.{AreOnlyWeak, HaveNoWeak, IsWeakAmong};
+ghost use Rattle.implib_link.specs.Search.Plainly.{TakesPlainly, WeakAreFirst, left_plainly};
+ghost use Rattle.implib_link.specs.Search.Search.{objects_as, undefined_in};
+ghost use Rattle.std.specs.List.{Contains, flat_map};
 ghost use Rattle.std.specs.Prelude.{ℕ, ◌++◌, List, Option};
 
 /// GNU `ld` resolves no plain reference by a weak external. For objects that have none it takes of
 /// an archive, each of whose weak externals its name leads to, what a linker takes that does
 /// resolve by them, so that all that is proved of such a search holds of its own. A name that stays
-/// unresolved there does here, too (`still`), and a further one is that of a weak external that is
-/// taken (`left`). That each such name is left is said by the definition, and worked by hand.
+/// unresolved there does here, too (`still`); a further one is that of a weak external that is taken
+/// (`left`); and each name is left that is wanted and that weak externals alone give (`leaves`).
 ///
 /// So it is with libraries of both flavours, whose short imports it expands.
 pub fn weak_externals_satisfy_no_reference()
@@ -46,8 +46,12 @@ pub fn weak_externals_satisfy_no_reference()
         TakesIntoFor machine (archive_of_both libraries) own taken }
     ensures still { (reads : List ℕ → Option Object) (own : List Object)
         (taken : List MemberView) (name : List ℕ) →
-        HaveNoWeak own →
         Contains (unresolved (own ++ objects_as reads taken)) name →
+        Contains (left_plainly reads own taken) name }
+    ensures leaves { (reads : List ℕ → Option Object) (own : List Object)
+        (taken : List MemberView) (name : List ℕ) →
+        Contains (flat_map undefined_in (own ++ objects_as reads taken)) name →
+        AreOnlyWeak (own ++ objects_as reads taken) name →
         Contains (left_plainly reads own taken) name }
     ensures left { (reads : List ℕ → Option Object) (own : List Object)
         (taken : List MemberView) (name : List ℕ) →

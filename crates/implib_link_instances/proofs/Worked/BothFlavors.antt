@@ -167,10 +167,10 @@ abbrev first_of : List (List ℕ) → List ℕ
 first_of [] = []
 first_of (name ∷ rest) = name
 
-abbrev first_symbol : MemberView → List ℕ
+abbrev pub first_symbol : MemberView → List ℕ
 first_symbol m = first_of m.symbols
 
-new_by : (taken : List MemberView) (m : MemberView) → list_any (bytes_eq (first_symbol m)) (map first_symbol taken) ≡ false → Contains taken m → ⊥
+pub new_by : (taken : List MemberView) (m : MemberView) → list_any (bytes_eq (first_symbol m)) (map first_symbol taken) ≡ false → Contains taken m → ⊥
 new_by taken m new has = true≢false (sym (among_any (first_symbol m) (map first_symbol taken) (among_map first_symbol m taken (contains_among m taken has))) ∙ new)
 
 stopped : TakesIntoFor AMD64 (archive_of_both foo_and_zed) (choosing ∷ []) mixed_without_last → ⊥

@@ -1,5 +1,6 @@
+use Rattle.implib_link.proofs.Search.Exists.{closed_exists, packed_closes, packed_within}
 use Rattle.implib_link.proofs.Search.Given.{given_closes, given_ends}
 use Rattle.implib_link.proofs.laws.closed.given_objects_are_closed.Goals as goal
 
 pub returns : goal.returns
-returns c = record { ends = given_ends; closes = given_closes }
+returns c = record { ends = given_ends; closes = given_closes; packed = packed_closes; within = packed_within; exists = closed_exists }

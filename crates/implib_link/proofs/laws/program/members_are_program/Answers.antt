@@ -1,5 +1,6 @@
 use Rattle.implib_link.proofs.Flavors.GnuPrograms.{gnu_objects, members_are_objects}
+use Rattle.implib_link.proofs.Gnu.FullNames.{members_by_full_names}
 use Rattle.implib_link.proofs.laws.program.members_are_program.Goals as goal
 
 pub returns : goal.returns
-returns c = record { alone = members_are_objects; beside = gnu_objects }
+returns c = record { alone = members_are_objects; beside = gnu_objects; named = members_by_full_names }

@@ -1,4 +1,4 @@
-use Rattle.implib_link.proofs.Search.Plainly.{left, libraries_plain, libraries_weak, plain, still, weak}
+use Rattle.implib_link.proofs.Search.Plainly.{leaves, left, libraries_plain, libraries_weak, plain, still, weak}
 use Rattle.implib_link.proofs.laws.weak_references.weak_externals_satisfy_no_reference.Goals as goal
 
 pub returns : goal.returns
@@ -8,5 +8,6 @@ returns c = record {
   libraries_plain = λ machine libraries own taken archive. libraries_plain machine libraries archive own taken;
   libraries_weak = λ machine libraries own taken archive. libraries_weak machine libraries archive own taken;
   still = still;
-  left = left;
+  leaves = leaves;
+  left = λ reads own taken name none. left reads own none taken name;
 }

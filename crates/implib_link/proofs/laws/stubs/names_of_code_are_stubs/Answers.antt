@@ -1,5 +1,0 @@
-use Rattle.implib_link.proofs.Flavors.PlacedStubs.{stub_at}
-use Rattle.implib_link.proofs.laws.stubs.names_of_code_are_stubs.Goals as goal
-
-pub returns : goal.returns
-returns c = record { stubs = stub_at }
