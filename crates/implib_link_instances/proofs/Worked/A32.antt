@@ -13,7 +13,7 @@ use Rattle.implib.specs.Members.WeakExternal.{weak_object}
 use Rattle.implib.specs.Worked.Statements.{plain_export}
 use Rattle.implib.proofs.Link.Loading.{number_once}
 use Rattle.implib.proofs.Link.Ranges.{Among, apart_as_they_rise}
-use Rattle.implib_link.specs.Gnu.A32.{A32JumpReads, HoldDistances, distance_from}
+use Rattle.implib_link.specs.Gnu.A32.{A32JumpReads, HoldDistances, OfArmStubs, distance_from}
 use Rattle.implib_link.specs.Gnu.Fields.{AreBeside, DefinesIn, LinkedCode, field_at, placed_code}
 use Rattle.implib_link.specs.Gnu.Program.{has_tables}
 use Rattle.implib_link.specs.Flavors.Program.{IsProgram}
@@ -35,7 +35,11 @@ use Rattle.implib_link.proofs.Gnu.Memory.{byte_first}
 use Rattle.implib_link_instances.proofs.Worked.Instances.{put_last}
 use Rattle.implib_link_instances.proofs.Worked.Rebased.{resolves_by_tables}
 use Rattle.implib_link_instances.proofs.Worked.RefusedLinks.{are_located, differ, is_each_located, number}
-use Rattle.implib_link.specs.Flavors.Program.{OfLinker, gnu_input}
+use Rattle.implib_link.specs.Flavors.Program.{FlavorInput, OfLinker, gnu_input}
+use Rattle.implib_link.specs.Tables.{block_of_flavor, tables_at}
+use Rattle.implib_link.proofs.Flavors.Steady.{program_tables_none}
+use Rattle.implib_link.proofs.TablesInMemory.{tables_end_in_memory}
+use Rattle.implib_link.proofs.TablesOfPrograms.{program_tables}
 
 -- The premises.
 
@@ -167,11 +171,27 @@ address_refused holds =
 abbrev further : List Range
 further = a32_code (8 ∷ 0xC0 ∷ 0x9F ∷ 0xE5 ∷ 0 ∷ 0xF0 ∷ 0x9C ∷ 0xE5 ∷ (zeros 8 ++ entry_address))
 
+-- one of them that a loader has read
+loaded_stub : OfArmStubs (λ image_base memory d t entry. ⊥) → ⊥
+unfolding opened alias_specs encoded_size weak_object has_tables
+loaded_stub holds =
+    let literal : List ℕ = 0x54 ∷ 0xF0 ∷ 0xFF ∷ 0xFF ∷ [] in
+    let inputs : List FlavorInput = map gnu_input (both_inputs ARMNT) in
+    let made = worked_programs.armnt.made in
+    let program = worked_programs.armnt.program in
+    let ends = tables_end_in_memory ARMNT 0x40_0000 (tables_at ARMNT touching_4 (program_objects ARMNT) (map (block_of_flavor ARMNT) inputs)) (armnt_stub touching_4 0x1000 literal ∷ []) (as_placed (armnt_targets touching_4))
+    (armnt_memory touching_4 0x1000 literal) (gives_by_hand ARMNT) (program_tables ARMNT OfLinker touching_4 inputs (program_objects ARMNT) made program)
+    (program_tables_none ARMNT OfLinker touching_4 inputs (program_objects ARMNT) made program.held.ended) (inl (behind_beside, refl)) in
+    holds 0x40_0000 OfLinker touching_4 inputs (program_objects ARMNT) (armnt_stub touching_4 0x1000 literal ∷ []) (as_placed (armnt_targets touching_4)) (armnt_memory touching_4 0x1000 literal) (gives_by_hand ARMNT) made program
+    (inl (behind_beside, refl)) behind_distances 2 ends.0 0 1 (gnu_input (foo_input ARMNT)) (record (plain_export (symbol_on ARMNT (codes "open"))) { ordinal = 258 }) (armnt_stub touching_4 0x1000 literal)
+    (symbol_of_class (symbol_on ARMNT (codes "open")) 1 class_external) armnt_given ends.1 refl refl refl (0, omega arith, refl) behind_defines refl
+
 pub worked_armnt_stubs : WorkedArmntStubs
 worked_armnt_stubs = record {
   behind = behind;
   in_front = in_front;
   address = address_refused;
+  holds_of_some = loaded_stub;
   reads_address = record {
     load = 0xE59F_C000;
     load_there = number (a32_code (two_loads ++ entry_address)) 4 0x1000 0xE59F_C000 (0 ∷ 0xC0 ∷ 0x9F ∷ 0xE5 ∷ []) refl refl refl;

@@ -29,12 +29,12 @@ use Rattle.implib_link.specs.Tables.{AreSteady, AreTables, Table, Tables, tables
 use Rattle.implib_link.proofs.Parts.Members.{parts_steady}
 use Rattle.implib_link.proofs.Parts.Programs.{parts_tables}
 use Rattle.implib_link.proofs.Search.Lists.{contains_among, each_of}
-use Rattle.implib_link.proofs.TablesInMemory.{other_leads, stub_called_otherwise, thunk_called_otherwise}
+use Rattle.implib_link.proofs.TablesInMemory.{other_leads, stub_called_otherwise, tables_end_in_memory, thunk_called_otherwise}
 use Rattle.implib_link.proofs.TablesOfPrograms.{lld_tables}
 use Rattle.implib_link_instances.specs.Worked.LldPrograms.{code_of_thunk, lld_image_on, linked_code, linked_thunk, mid_on, object_section, shorts_on, taken_address}
 use Rattle.implib_link_instances.specs.Worked.Older.{named_start}
 use Rattle.implib_link_instances.specs.Worked.OtherLibraries.{objects_of}
-use Rattle.implib_link_instances.specs.Worked.OtherNames.{NearStandsFor, WorkedAlternateNames, WorkedOtherNames, lld_other_address, lld_other_code, lld_other_codes, lld_other_linked, lld_other_memory, lld_other_targets, other_address, other_codes, other_linked, other_memory, other_objects, other_placed, other_start, other_targets}
+use Rattle.implib_link_instances.specs.Worked.OtherNames.{HoldsOfSome, NearStandsFor, eight_zeros, other_tables, WorkedAlternateNames, WorkedOtherNames, lld_other_address, lld_other_code, lld_other_codes, lld_other_linked, lld_other_memory, lld_other_targets, other_address, other_codes, other_linked, other_memory, other_objects, other_placed, other_start, other_targets}
 use Rattle.implib_link_instances.specs.Worked.Parts.{asking, gnu_bases, gnu_image, start_code, stub_code, table_at, zoo_parts, zoo_tables}
 use Rattle.implib_link_instances.specs.Worked.Programs.{symbol_of_class}
 use Rattle.implib_link_instances.proofs.Worked.LinkedCode.{relocated_by, relocated_test}
@@ -43,6 +43,7 @@ use Rattle.implib_link_instances.proofs.Worked.LldPrograms.{amd64_pieces, meet_t
 use Rattle.implib_link_instances.proofs.Worked.OtherLibraries.{all_claim_none}
 use Rattle.implib_link_instances.proofs.Worked.Parts.{all_apart, all_apart_test, is_apart, zoo_are, zoo_stores}
 use Rattle.implib_link_instances.proofs.Worked.Programs.{admissible_by, distinct_by, instruction_by, opened}
+use Rattle.implib_link_instances.proofs.Worked.RefusedLinks.{differ}
 
 -- A name that nothing defines is taken to be at one address; it stands for another where that is there.
 
@@ -278,6 +279,22 @@ worked_alternate_names =
             (table_at (codes "beta.dll") 0x2068 (record { ask = Ordinal 7; symbol = Some (codes "__imp_mid") } ∷ asking (codes "zeta") 5 (codes "__imp_zeta") ∷ [])) (record { ask = Ordinal 7; symbol = Some (codes "__imp_mid") }) refl refl tt
             (mid_on AMD64) (code_of_thunk AMD64) refl (1, omega arith, refl) thunk_is lld_other_code 14 0 (codes "mad") (0, omega arith, refl) lld_bare_stands branch_is tt,
       );
+    }
+
+-- What holds of all holds of these.
+
+pub holds_of_some : HoldsOfSome
+unfolding opened refusal renamed_refusal alias_specs encoded_size weak_object lld_opened
+holds_of_some =
+    let ends = tables_end_in_memory AMD64 0x1_4000_0000 other_tables other_codes other_targets other_memory eight_zeros are_tables steady (inl (beside, refl)) in
+    record {
+      where_loaded = λ holds. holds AMD64 0x1_4000_0000 other_tables other_codes other_targets other_memory eight_zeros are_tables steady (inl (beside, refl)) 2 ends.0 (λ dll ask. refl) ends.1;
+      of_entries = λ holds. holds 1 0 zoo_table (asking (codes "zoo_open") 0 (codes "__imp_zoo_open")) (codes "__imp_zoo_open") refl refl refl tt;
+      of_stubs = λ holds. holds 1 0 zoo_table (asking (codes "zoo_open") 0 (codes "__imp_zoo_open")) (codes "__imp_zoo_open") refl refl refl tt stub_code zoo_symbol (1, omega arith, refl) stub_is;
+      of_thunks = λ holds.
+          holds 0 0 (table_at (codes "beta.dll") 0x2068 (record { ask = Ordinal 7; symbol = Some (codes "__imp_mid") } ∷ asking (codes "zeta") 5 (codes "__imp_zeta") ∷ []))
+          (record { ask = Ordinal 7; symbol = Some (codes "__imp_mid") }) refl refl tt (mid_on AMD64) (code_of_thunk AMD64) refl (1, omega arith, refl) thunk_is;
+      as_wide = λ wide. differ 0 8 (wide [] (Ordinal 0)) (omega arith);
     }
 
 -- Near misses.

@@ -109,6 +109,7 @@ pub worked_searched : WorkedSearched
 worked_searched = record {
   takes = takes;
   just = takes_wanted AMD64 three (members_of three) as_taken wanted worked_search.made worked_search.distinct worked_search.plain takes;
+  holds_of_some = λ holds. holds AMD64 three (members_of three) as_taken wanted worked_search.made worked_search.distinct worked_search.plain takes;
   some = (0, omega arith, refl);
   same = turned head_member bar_member qux_member tail_member;
   ascending = ascending;

@@ -9,7 +9,7 @@ use Rattle.implib.specs.Link.Placement.{Bases}
 use Rattle.implib.specs.Link.Resolution.{target_address}
 use Rattle.implib.specs.Members.Gnu.{section, stub_bytes, stub_relocations, text_name}
 use Rattle.implib.specs.Members.ImportTables.{zeros}
-use Rattle.implib_link.specs.Gnu.A32.{A32JumpReads, HoldDistances}
+use Rattle.implib_link.specs.Gnu.A32.{A32JumpReads, HoldDistances, OfArmStubs}
 use Rattle.implib_link.specs.Gnu.Calls.{PlacedCode}
 use Rattle.implib_link.specs.Gnu.Fields.{AreBeside, LinkedCode}
 use Rattle.implib_link.specs.Flavors.Program.{IsProgram}
@@ -81,6 +81,8 @@ pub record WorkedArmntStubs : Type 0 where
   pub in_front : WorkedArmntStub 0x1000_0000 far_4 0x200 (0x54 ∷ 0x50 ∷ 0 ∷ 0 ∷ []) 0x5054 0x5260
   pub address : HoldDistances (armnt_stub touching_4 0x1000 entry_address ∷ [])
       (as_placed (armnt_targets touching_4)) → ⊥
+  -- what holds of each such stub holds of this
+  pub holds_of_some : OfArmStubs (λ image_base memory d t entry. ⊥) → ⊥
   pub reads_address : A32JumpReads (a32_code (two_loads ++ entry_address)) 0x1000 0x40_0060
   -- ldr ip, [pc, 8]; ldr pc, [ip]
   pub reads_further : A32JumpReads

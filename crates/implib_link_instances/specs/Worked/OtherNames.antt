@@ -11,17 +11,20 @@ use Rattle.implib.specs.Formats.Object.{ASymbol, Object}
 use Rattle.implib.specs.Import.{Ask, Name, Ordinal}
 use Rattle.implib.specs.Link.Image.{Range, image_of}
 use Rattle.implib.specs.Link.Placement.{Placed, Unplaced, placed_from}
+use Rattle.implib.specs.Members.ImportTables.{zeros}
 use Rattle.implib_link.specs.Flavors.LldImports.{IsLldProgram, placed_by_lld}
 use Rattle.implib_link.specs.Flavors.LldThunks.{BranchArrivesByThunk, IsThunk, placed_thunk}
 use Rattle.implib_link.specs.Gnu.Aliases.{StandsFor}
 use Rattle.implib_link.specs.Gnu.Calls.{DirectCallArrives, HasDirectCall, StubAt}
 use Rattle.implib_link.specs.Gnu.Fields.{AreLinkedBeside, DefinesIn, LinkedCode, placed_code}
 use Rattle.implib_link.specs.Gnu.Fields.{ranges_of_codes}
+use Rattle.implib_link.specs.Gnu.Moves.{AreInMemory}
 use Rattle.implib_link.specs.Gnu.Operands.{AllLeadTo, HasBranch, HasInstruction}
 use Rattle.implib_link.specs.Gnu.Program.{null_descriptor}
 use Rattle.implib_link.specs.Gnu.Reading.{ReadsAndWrites}
 use Rattle.implib_link.specs.Parts.{IsProgramOfParts}
-use Rattle.implib_link.specs.Tables.{AreSteady}
+use Rattle.implib_link.specs.InMemory.{AreAsWide, OfEntries, OfStubs, OfThunks, WhereLoaded}
+use Rattle.implib_link.specs.Tables.{AreSteady, Tables, tables_of_lld}
 use Rattle.implib_link_instances.specs.But.Links.{MissesStandsFor}
 use Rattle.implib_link_instances.specs.Worked.LldPrograms.{addresses_on, calling_object}
 use Rattle.implib_link_instances.specs.Worked.LldPrograms.{code_of_object, code_of_thunk}
@@ -31,7 +34,7 @@ use Rattle.implib_link_instances.specs.Worked.Older.{named_start}
 use Rattle.implib_link_instances.specs.Worked.OtherLibraries.{objects_of}
 use Rattle.implib_link_instances.specs.Worked.Parts.{first_section, gnu_bases, gnu_image, kernel}
 use Rattle.implib_link_instances.specs.Worked.Parts.{placed_or_null, start_code, stub_code, zoo}
-use Rattle.implib_link_instances.specs.Worked.Parts.{zoo_parts}
+use Rattle.implib_link_instances.specs.Worked.Parts.{zoo_parts, zoo_tables}
 use Rattle.implib_link_instances.specs.Worked.Programs.{input_objects, symbol_of_class}
 
 -- GNU ld's program: what is linked, and the code of the object and the stub, with the addresses of
@@ -150,6 +153,31 @@ pub record WorkedAlternateNames : Type 0 where
       (codes "__imp_gee") (gives (codes "alpha.dll") (Name (codes "gee") 258))
       × BranchArrivesByThunk AMD64 0x1_4000_0000 (written ++ lld_other_memory) 0x100E 0
       (gives (codes "beta.dll") (Ordinal 7))
+
+-- What holds of all import tables in memory, of each entry, of each stub and of each thunk, holds of
+-- something: of those of these programs. And what has no bytes is not as wide as an entry.
+abbrev pub other_tables : Tables
+other_tables = record {
+  image = gnu_image;
+  linked = other_linked;
+  directory = 0x3000;
+  tables = zoo_tables 0x3060 0x3070;
+}
+
+abbrev pub eight_zeros : List ℕ → Ask → List ℕ
+eight_zeros dll ask = zeros 8
+
+pub record HoldsOfSome : Type 0 where
+  pub where_loaded : WhereLoaded AreInMemory
+      (λ machine image_base t codes targets memory gives n written. ⊥) → ⊥
+  pub of_entries : OfEntries AMD64 0x1_4000_0000 other_tables eight_zeros (λ name entry given. ⊥)
+      → ⊥
+  pub of_stubs : OfStubs AMD64 0x1_4000_0000 other_tables other_codes eight_zeros (λ d s given. ⊥)
+      → ⊥
+  pub of_thunks : OfThunks AMD64 0x1_4000_0000
+      (tables_of_lld AMD64 0x2000 0x2068 (shorts_on AMD64) (lld_image_on AMD64) lld_other_linked)
+      lld_other_codes eight_zeros (λ d r given. ⊥) → ⊥
+  pub as_wide : AreAsWide AMD64 (λ dll ask. []) → ⊥
 
 -- a name that stands for another entry; and one that stands for other code
 pub record NearStandsFor : Type 0 where

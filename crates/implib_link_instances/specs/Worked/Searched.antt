@@ -15,7 +15,8 @@ use Rattle.implib_link.specs.Flavors.Program.{LinksAmong, IsProgram}
 use Rattle.implib_link.specs.Search.Archives.{TakesOfLibraries, archive_of, inputs_wanted}
 use Rattle.implib_link.specs.Search.Archives.{wanted_with}
 use Rattle.implib_link.specs.Search.Search.{ImportsWanted, IsArranged, IsLinkedOfWanted}
-use Rattle.implib_link.specs.Search.Search.{IsLinkedWith, Takes, exports_wanted, linked_if_any}
+use Rattle.implib_link.specs.Search.Search.{IsLinkedWith, OfTaken, Takes, exports_wanted}
+use Rattle.implib_link.specs.Search.Search.{linked_if_any}
 use Rattle.implib_link_instances.specs.Worked.Archives.{both_wanted, two_libraries}
 use Rattle.implib_link_instances.specs.Worked.Programs.{code_object, symbol_of_class}
 use Rattle.implib_link_instances.specs.Worked.Search.{members_of, three, wanted}
@@ -58,6 +59,7 @@ searched_objects =
 pub record WorkedSearched : Type 0 where
   pub takes : Takes (members_of three) wanted as_taken
   pub just : HaveSame as_taken (linked_if_any three AMD64 (0 ∷ 2 ∷ []))
+  pub holds_of_some : OfTaken (λ machine d members taken wanted. ⊥) → ⊥
   pub some : Contains (exports_wanted three wanted) 0
   pub same : HaveSame as_taken by_name
   pub ascending : IsAscending (map (λ m. m.name) by_name)

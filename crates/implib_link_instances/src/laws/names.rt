@@ -2,7 +2,7 @@
 
 ghost use Rattle.implib_link_instances.specs.Worked.Aliases.{OverriddenAlias, WorkedAlias};
 ghost use Rattle.implib_link_instances.specs.Worked.Aliases.{WorkedFlavorAlias};
-ghost use Rattle.implib_link_instances.specs.Worked.OtherNames.{NearStandsFor};
+ghost use Rattle.implib_link_instances.specs.Worked.OtherNames.{HoldsOfSome, NearStandsFor};
 ghost use Rattle.implib_link_instances.specs.Worked.OtherNames.{WorkedAlternateNames};
 ghost use Rattle.implib_link_instances.specs.Worked.OtherNames.{WorkedOtherNames};
 ghost use Rattle.implib_link_instances.specs.Worked.Wanting.{WorkedWanting};
@@ -12,6 +12,8 @@ ghost use Rattle.implib_link_instances.specs.Worked.Wanting.{WorkedWanting};
 ///
 /// Programs whose objects have names that stand for others are what the law asks for: one of GNU
 /// `ld` with `--defsym`, and one of lld with `/alternatename`. Names that stand for others do not.
+/// What laws of import tables in memory say of all of them, of each entry, stub and thunk, they say
+/// of these.
 ///
 /// A list of names in the place of an object that names them: a linker takes the same members, and
 /// programs with a list are programs. What is no such name: one that an object has, and a common
@@ -23,5 +25,6 @@ pub fn worked_names()
     ensures worked_other_names { WorkedOtherNames }
     ensures worked_alternate_names { WorkedAlternateNames }
     ensures near_stands_for { NearStandsFor }
+    ensures holds_of_some { HoldsOfSome }
     ensures worked_wanting { WorkedWanting }
 {}
