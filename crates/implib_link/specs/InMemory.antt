@@ -19,10 +19,10 @@ use Rattle.implib_link.specs.Tables.{AreSteady, AreTables, CanReadFrom, Table, T
 abbrev pub AreAsWide : MachineType → (List ℕ → Ask → List ℕ) → Type 0
 AreAsWide machine gives = (dll : List ℕ) (ask : Ask) → length (gives dll ask) ≡ thunk_width machine
 
--- What holds where a loader has read any import tables in memory and has written what the DLLs give:
--- the tables store no address whole, and are in memory beside linked code in this way, as they were
--- linked or moved to another base. It holds of the memory, what was written, and the number of
--- descriptors that were read (`n`).
+-- What holds where a loader has read any import tables in memory and has written what the DLLs
+-- give: the tables store no address whole, and are there beside linked code in a way (`AreThere`),
+-- as they were linked or moved to another base. It holds of the memory, of what was written, and of
+-- the number of descriptors that were read (`n`).
 abbrev pub WhereLoaded : (MachineType → ℕ → List Range → List Placed → List LinkedCode →
     (LinkedCode → ℕ → ℕ) → List Range → Type 0) →
     (MachineType → ℕ → Tables → List LinkedCode → (LinkedCode → ℕ → ℕ) → List Range →

@@ -23,7 +23,8 @@ ghost use Rattle.implib_link.specs.Search.MsvcArchives.{first_null, short_inputs
 ghost use Rattle.implib_link.specs.Search.MsvcArchives.{weak_in, TakesIntoFor};
 ghost use Rattle.implib_link.specs.Gnu.Program.{HaveSame};
 ghost use Rattle.std.specs.List.{AllByRecursion, filter};
-ghost use Rattle.std.specs.Prelude.{◌≡◌, ◌<◌, ◌^◌, ◌++◌, ℕ, IsPermutation, List, false, length, not};
+ghost use Rattle.std.specs.Prelude.{◌≡◌, ◌<◌, ◌^◌, ◌++◌, ℕ, IsPermutation, List, false, length};
+ghost use Rattle.std.specs.Prelude.{not};
 
 /// From such an archive a linker takes exactly the members of the exports that are wanted, by the
 /// program or by an alias that is taken, with what their libraries have besides, and weak externals

@@ -33,11 +33,11 @@ pub fn closed_program_links()
 /// For objects that may be given to a linker with libraries, its search ends; and whatever it takes
 /// closes the program, as what is linked. Nothing is asked of the search.
 ///
-/// If none of these objects holds a part of the import tables, there is a closed program (`exists`):
-/// whatever the search takes, its packed placement from an address on closes the program, in any
-/// order of the objects (`packed`). Of the placement nothing is asked but room: that the address is
-/// above 0, and that the tables of the libraries, whose sizes the definitions alone bound, end below
-/// 2^31; there they lie (`within`).
+/// If none of these objects holds a part of the import tables, there is a closed program
+/// (`exists`): whatever the search takes, its packed placement from an address on closes the
+/// program, in any order of the objects (`packed`). Of the placement nothing is asked but room: that
+/// the address is above 0, and that the tables of the libraries, whose sizes the definitions alone
+/// bound, end below 2^31; there they lie (`within`).
 pub fn given_objects_are_closed()
     ensures ends { (machine : MachineType) (libraries : List Library) (own : List Object) →
         IsArchive machine libraries →

@@ -17,8 +17,9 @@ ghost use Rattle.std.specs.Prelude.{ℕ, ◌++◌, List, Option};
 /// GNU `ld` resolves no plain reference by a weak external. For objects that have none it takes of
 /// an archive, each of whose weak externals its name leads to, what a linker takes that does
 /// resolve by them, so that all that is proved of such a search holds of its own. A name that stays
-/// unresolved there does here, too (`still`); a further one is that of a weak external that is taken
-/// (`left`); and each name is left that is wanted and that weak externals alone give (`leaves`).
+/// unresolved there does here, too (`still`); a further one is that of a weak external that is
+/// taken (`left`); and each name is left that is wanted and that weak externals alone give
+/// (`leaves`).
 ///
 /// So it is with libraries of both flavours, whose short imports it expands.
 pub fn weak_externals_satisfy_no_reference()

@@ -154,8 +154,8 @@ pub record WorkedAlternateNames : Type 0 where
       × BranchArrivesByThunk AMD64 0x1_4000_0000 (written ++ lld_other_memory) 0x100E 0
       (gives (codes "beta.dll") (Ordinal 7))
 
--- What holds of all import tables in memory, of each entry, of each stub and of each thunk, holds of
--- something: of those of these programs. And what has no bytes is not as wide as an entry.
+-- What holds of all import tables in memory, of each entry, of each stub and of each thunk, holds
+-- of something: of those of these programs. And what has no bytes is not as wide as an entry.
 abbrev pub other_tables : Tables
 other_tables = record {
   image = gnu_image;
