@@ -100,14 +100,21 @@ pub fn folder_of(path: &str) -> &str {
     }
 }
 
-// Removes the new files beside another, whose names begin so, that killed processes left.
+// Removes the new files beside another, whose names begin so, that killed processes left. One that
+// cannot be removed stays, as what has a name that is not UTF-8 does, and keeps no other.
 fn sweep<R: Files + AllocGlobal + Clone + Drop>(rt: &R, path: &str, front: &str) -> io::Result<()> {
     for entry in fs::read_dir(rt, folder_of(path))? {
-        let entry = entry?;
-        if let Some(process) = maker_of(entry.file_name(), front) {
-            if is_gone(rt, process)? {
-                fs::remove_file(rt, entry.path())?;
+        match entry {
+            Ok(entry) => {
+                if let Some(process) = maker_of(entry.file_name(), front) {
+                    if is_gone(rt, process)? {
+                        let _ = fs::remove_file(rt, entry.path());
+                    }
+                }
             }
+            // A name that is not UTF-8.
+            Err(error) if error.kind() == ErrorKind::InvalidFilename => {}
+            Err(error) => return Err(error),
         }
     }
     Ok(())
@@ -120,7 +127,7 @@ fn open_beside<R: Files + AllocGlobal + Clone + Drop>(
     id: u32,
 ) -> io::Result<(R::File, String)> {
     let front = front_of(rt.alloc(), path)?;
-    // What cannot be removed is in nobody's way.
+    // What stays is in nobody's way.
     let _ = sweep(rt, path, front.as_str());
     let mut how = OpenOptions::new();
     how.write(true);
