@@ -12,6 +12,7 @@ pub mod against;
 pub mod arm64ec;
 mod beside;
 pub mod call;
+mod checking;
 mod console;
 pub mod defining;
 pub mod definition;

@@ -1,52 +1,40 @@
 //! The program: its arguments, its files, what it writes, and its exit status.
 
-ghost use Rattle.std.specs.Prelude.{◌≡◌, ℕ, false, length, List, map, true, IfOk};
-ghost use Rattle.implib_check_driver.specs.Answers.{AnswersBeside, AnswersDefine, AnswersOf};
-ghost use Rattle.implib_check_driver.specs.Answers.{AnswersOfBoth, AnswersTask, CheckedAs};
-ghost use Rattle.implib_check_driver.specs.Answers.{DefinedAs, IsAnswerWith, IsCheckedBeside};
-ghost use Rattle.implib_check_driver.specs.Answers.{IsCheckedForArm64ec, IsCheckedOrdinary};
-ghost use Rattle.implib_check_driver.specs.Answers.{OrFailed, asks_for_dll, compared_as};
-ghost use Rattle.implib_check_driver.specs.Answers.{identified, listed};
-ghost use Rattle.implib_check_driver.specs.Calls.{check_view, define_view};
-ghost use Rattle.implib_check_driver.specs.Calls.{is_searching as IsSearching};
-ghost use Rattle.implib_dll_check.specs.Folders.{AreKnown, folder_view};
-ghost use Rattle.implib_check_driver.specs.Through.{through};
+ghost use Rattle.std.specs.Prelude.{◌≡◌, false, length, map, IfOk};
+ghost use Rattle.implib_check_driver.specs.Answers.{AnswersDefine, AnswersOf, AnswersOfBoth};
+ghost use Rattle.implib_check_driver.specs.Answers.{AnswersTask, DefinedAs, OrFailed};
+ghost use Rattle.implib_check_driver.specs.Answers.{compared_as, identified, listed};
+ghost use Rattle.implib_check_driver.specs.Calls.{define_view};
 ghost use Rattle.implib_compare.specs.Comparison.{has_unread, verdict};
-ghost use Rattle.implib_compare.specs.Working.{working_of};
-ghost use Rattle.implib_compare.specs.declared.compare.Verdict.TheVariants.{Same};
-ghost use Rattle.implib_read.specs.ArchiveViews.{archive_view};
 ghost use Rattle.implib_read.specs.Archives.{archive_in};
-ghost use Rattle.implib_read.specs.Classes.{members_read};
 ghost use Rattle.implib_read.specs.ClassViews.{member_read_view};
 ghost use Rattle.implib_check_driver.specs.Tasks.{in_form, task_named};
-ghost use Rattle.std.specs.Option.{option_and_then, option_map};
+ghost use Rattle.std.specs.Option.{option_and_then};
 ghost use Rattle.std.specs.String.{string_bytes};
 ghost use Rattle.implib_read.specs.Identity.{dlls_of};
-ghost use Rattle.implib_check_driver.specs.Status.{comparison_status, identity_status};
+ghost use Rattle.implib_check_driver.specs.Status.{identity_status};
 ghost use Rattle.implib_check_driver.specs.Status.{undefined_status};
 
-use crate::against::{begins_dll, is_library};
-use crate::arm64ec::{Arm64ecError, check_arm64ec, refuse_arm64ec};
-use crate::beside::{run_against, run_exports};
-use crate::call::{Check, Define, is_searching};
-use crate::console::{NAME, bytes_of, complain, doubt, library_of, print, refuse, status_of};
+use crate::against::begins_dll;
+use crate::beside::run_exports;
+use crate::call::Define;
+use crate::checking::run_check;
+use crate::console::{NAME, bytes_of, complain, doubt, library_of, print, status_of};
 use crate::defining::{Undefined, definition_of};
-use crate::definition::{CheckError, check_definition};
 use crate::differences::tell_both;
 use crate::finding::{Finding, Source};
 use crate::joined::run_together;
 use crate::of_dll::library_of_dll;
 use crate::report::{BUFFER, Failure, Form, Lines, flushed, tell};
 use crate::shelf::Shelf;
-use crate::starting::{folders_of, run_program};
+use crate::starting::run_program;
 use crate::status::{comparison_status, identity_status, list_status, undefined_status};
-use crate::target::{has_arm64ec, is_for_arm64ec, is_unfit, options_for, options_of};
+use crate::target::{has_arm64ec, options_of};
 use crate::task::{CommandLine, Task, call_named};
 use crate::text::{Place, Shown, Site, fault_of, is_listed};
-use crate::works::{run_works, tell_working};
-use implib_compare::compare::{Comparison, Verdict, compare, has_unread};
-use implib_compare::working::{Working, both_work};
-use implib_dll_check::Folder;
+use crate::works::{run_works, tell_working_if_same};
+use implib_compare::compare::{Comparison, compare, has_unread};
+use implib_compare::working::both_work;
 use implib_read::{Library, MemberRead, dlls_of};
 use indexmap::IndexSet;
 use std::alloc::{AllocError, Global};
@@ -248,24 +236,6 @@ fn run_identify<S: Shelf, O: Write, E: Write>(
     identify(alloc, printer, faults, path, members, is_strict)
 }
 
-// Writes why a library that is the same as another does not work, if it does not.
-fn tell_working_if_same<O: Write>(
-    form: Form,
-    printer: &mut O,
-    verdict: Verdict,
-    path: &str,
-    library: &Library,
-) -> Result<Working, Failure>
-    ensures { IfOk result (λ working. verdict ≡ Same → working
-        ≡ working_of (archive_view library.now.archive)
-        (map member_read_view library.now.members.items)) }
-{
-    match verdict {
-        Verdict::Same => tell_working(form, printer, path, library),
-        Verdict::Different | Verdict::NotDecided => Ok(Working::Works),
-    }
-}
-
 // Writes in what two libraries differ, or why one does not work; and gives the exit status.
 fn tell_same<O: Write>(
     form: Form,
@@ -286,26 +256,6 @@ fn tell_same<O: Write>(
     let first = tell_working_if_same(form, printer, found.verdict, paths.0, left)?;
     let second = tell_working_if_same(form, printer, found.verdict, paths.1, right)?;
     Ok(comparison_status(found.verdict, both_work(first, second)))
-}
-
-// Writes why a library that means what a definition means does not work, if it does not; and gives
-// the exit status.
-fn tell_checked<O: Write, E: Write>(
-    form: Form,
-    printer: &mut O,
-    faults: &mut E,
-    verdict: Verdict,
-    path: &str,
-    library: &Library,
-) -> u8
-    ensures { OrFailed result (result ≡ comparison_status verdict
-        (working_of (archive_view library.now.archive)
-        (map member_read_view library.now.members.items))) }
-{
-    match tell_working_if_same(form, printer, verdict, path, library) {
-        Ok(working) => comparison_status(verdict, working),
-        Err(failure) => status_of(faults, Err(failure), 3),
-    }
 }
 
 // Compares two libraries that are read, and gives the exit status.
@@ -368,228 +318,6 @@ fn run_same<S: Shelf, O: Write, E: Write>(
         (left_path, right_path),
         &left,
         &right,
-    )
-}
-
-// Compares a library that is read with a definition, and gives the exit status.
-#[tactic(auto, using(crate::proofs::Answers::checked_refused))]
-fn check_ordinary<O: Write, E: Write>(
-    form: Form,
-    printer: &mut O,
-    faults: &mut E,
-    check: &Check,
-    library: &Library,
-    definition: &[u8],
-) -> u8
-    requires { map member_read_view library.now.members.items
-        ≡ members_read (archive_view library.now.archive).members }
-    ensures { OrFailed result
-        (IsCheckedOrdinary (check_view check.now) (archive_view library.now.archive) definition.now
-        result) }
-{
-    let members = library.members.as_slice();
-    let options = options_for(check, members);
-    let paths = (check.library, check.definition);
-    let checked = check_definition(
-        form,
-        printer,
-        paths,
-        members,
-        definition,
-        &options,
-        check.older_symbols,
-    );
-    match checked {
-        Ok(verdict) => tell_checked(form, printer, faults, verdict, check.library, library),
-        Err(CheckError::Refused(refusal)) => refuse(faults, check.definition, &refusal),
-        Err(CheckError::Failed(failure)) => status_of(faults, Err(failure), 3),
-    }
-}
-
-// Compares a library that is read with the definitions of one for ARM64EC, and gives the exit
-// status.
-#[tactic(auto, using(crate::proofs::Answers::checked_arm64ec_refused))]
-fn check_for_arm64ec<O: Write, E: Write>(
-    form: Form,
-    printer: &mut O,
-    faults: &mut E,
-    check: &Check,
-    library: &Library,
-    definition: &[u8],
-    native: Option<&[u8]>,
-) -> u8
-    requires { map member_read_view library.now.members.items
-        ≡ members_read (archive_view library.now.archive).members }
-    ensures { OrFailed result
-        (IsCheckedForArm64ec (check_view check.now) (archive_view library.now.archive)
-        definition.now
-        (option_map (λ text. text.now) native.entry) result) }
-{
-    let members = library.members.as_slice();
-    let options = options_for(check, members);
-    let checked = check_arm64ec(form, printer, check, members, definition, native, &options);
-    match checked {
-        Ok(verdict) => tell_checked(form, printer, faults, verdict, check.library, library),
-        Err(Arm64ecError::Refused(fault)) => refuse_arm64ec(faults, check, &fault),
-        Err(Arm64ecError::Failed(failure)) => status_of(faults, Err(failure), 3),
-    }
-}
-
-// What is said of a call that asks for what a library for ARM64EC, or another one, is not made
-// with.
-fn unfit_text(is_for_arm64ec: bool) -> &'static str {
-    if is_for_arm64ec {
-        "arm64ec: not supported for GNU's linker; leave out -C, and --flavor or make it msvc"
-    } else {
-        "--input-native-def: for arm64ec alone; add -m arm64ec"
-    }
-}
-
-// Compares a library that is read with a definition, and gives the exit status.
-#[tactic(auto, using(crate::proofs::Answers::checked_unfit, crate::proofs::Answers::checked_for_arm64ec, crate::proofs::Answers::checked_ordinary))]
-fn check_read<O: Write, E: Write>(
-    form: Form,
-    printer: &mut O,
-    faults: &mut E,
-    check: &Check,
-    library: &Library,
-    definition: &[u8],
-    native: Option<&[u8]>,
-) -> u8
-    requires { map member_read_view library.now.members.items
-        ≡ members_read (archive_view library.now.archive).members }
-    ensures { OrFailed result
-        (IsCheckedBeside (check_view check.now) (archive_view library.now.archive) definition.now
-        (option_map (λ text. text.now) native.entry) result) }
-{
-    let members = library.members.as_slice();
-    if is_unfit(check, members) {
-        let message = unfit_text(is_for_arm64ec(check, members));
-        return complain(faults, NAME, message, 2);
-    }
-    doubt(faults, check.library, members, true);
-    if is_for_arm64ec(check, members) {
-        check_for_arm64ec(form, printer, faults, check, library, definition, native)
-    } else {
-        check_ordinary(form, printer, faults, check, library, definition)
-    }
-}
-
-// Compares a library with a definition, and gives the exit status.
-fn check_library<O: Write, E: Write>(
-    form: Form,
-    printer: &mut O,
-    faults: &mut E,
-    check: &Check,
-    bytes: &[u8],
-    definition: &[u8],
-    native: Option<&[u8]>,
-) -> u8
-    ensures { OrFailed result (CheckedAs (check_view check.now) bytes.now definition.now
-        (option_map (λ text. text.now) native.entry) (archive_in bytes.now) result) }
-{
-    let library = match library_of(form.alloc, faults, check.library, bytes) {
-        Ok(library) => library,
-        Err(status) => return status,
-    };
-    if is_library(definition) {
-        let message = "a library, and no definition; --same LIB LIB compares two libraries";
-        return complain(faults, check.definition, message, 2);
-    }
-    check_read(form, printer, faults, check, &library, definition, native)
-}
-
-// Whether a call asks for more of a DLL: its exports, or where its forwarders lead.
-fn asks_for_dll(check: &Check) -> bool
-    ensures { result ≡ asks_for_dll (check_view check.now) }
-{
-    check.lists_unasked || is_searching(check)
-}
-
-// Compares bytes with a definition, or holds them against a DLL, and gives the exit status.
-#[tactic(auto, using(crate::proofs::BesideDlls::beside_dll, crate::proofs::BesideDlls::beside_all, crate::proofs::BesideDlls::beside_definition))]
-fn check_bytes<S: Shelf, O: Write, E: Write>(
-    form: Form,
-    shelf: &S,
-    printer: &mut O,
-    faults: &mut E,
-    check: &Check,
-    bytes: &[u8],
-    definition: &[u8],
-    native: Option<&[u8]>,
-    folders: &[Folder],
-) -> u8
-    ensures { (file : List ℕ → List ℕ)
-        → (IsSearching (check_view check.now) ≡ true → AreKnown (S.seen shelf.now) file)
-        → OrFailed result
-        (IsAnswerWith (through file (map folder_view folders.now) (check_view check.now))
-        (check_view check.now) bytes.now definition.now (option_map (λ text. text.now) native.entry)
-        result) }
-{
-    if begins_dll(definition) {
-        return run_against(
-            form, shelf, printer, faults, check, bytes, definition, folders,
-        );
-    }
-    if asks_for_dll(check) {
-        let message = "no DLL, and --all or --search asks for one";
-        return complain(faults, check.definition, message, 2);
-    }
-    check_library(form, printer, faults, check, bytes, definition, native)
-}
-
-// Compares a library with a definition, or holds one of them against a DLL, and gives the exit
-// status.
-#[tactic(auto, using(crate::proofs::BesideDlls::beside_failed, crate::proofs::BesideDlls::beside_files))]
-fn run_check<S: Shelf, O: Write, E: Write>(
-    alloc: Global,
-    shelf: &S,
-    form: Form,
-    printer: &mut O,
-    faults: &mut E,
-    check: &Check,
-) -> u8
-    ensures { AnswersBeside (S.seen shelf.now) (S.listed shelf.now) (check_view check.now) result }
-{
-    let bytes = match bytes_of(alloc, shelf, faults, check.library) {
-        Ok(bytes) => bytes,
-        Err(status) => return status,
-    };
-    let definition = match bytes_of(alloc, shelf, faults, check.definition) {
-        Ok(definition) => definition,
-        Err(status) => return status,
-    };
-    let folders = match folders_of(alloc, shelf, faults, check.folders) {
-        Ok(folders) => folders,
-        Err(status) => return status,
-    };
-    let Some(path) = check.native else {
-        return check_bytes(
-            form,
-            shelf,
-            printer,
-            faults,
-            check,
-            &bytes,
-            &definition,
-            None,
-            &folders,
-        );
-    };
-    let native = match bytes_of(alloc, shelf, faults, path) {
-        Ok(native) => native,
-        Err(status) => return status,
-    };
-    check_bytes(
-        form,
-        shelf,
-        printer,
-        faults,
-        check,
-        &bytes,
-        &definition,
-        Some(native.as_slice()),
-        &folders,
     )
 }
 

@@ -3,6 +3,7 @@
 ghost use Rattle.std.specs.Prelude.{◌≡◌, IfOk, map};
 ghost use Rattle.implib_check_driver.specs.Answers.{AnswersOf, OrFailed, worked};
 ghost use Rattle.implib_compare.specs.Working.{working_of, working_status};
+ghost use Rattle.implib_compare.specs.declared.compare.Verdict.TheVariants.{Same};
 ghost use Rattle.implib_read.specs.ArchiveViews.{archive_view};
 ghost use Rattle.implib_read.specs.ClassViews.{member_read_view};
 
@@ -11,6 +12,7 @@ use crate::finding::{Fault, Finding};
 use crate::report::{Failure, Form, tell};
 use crate::shelf::Shelf;
 use implib::Flavor;
+use implib_compare::compare::Verdict;
 use implib_compare::working::{
     Examined, IndexFound, Piece, Working, examine, has_one, working_status,
 };
@@ -137,6 +139,24 @@ pub(crate) fn tell_working<O: Write>(
         tell(form, printer, &Finding::Fault(path, Fault::SeveralDlls))?;
     }
     Ok(examined.working)
+}
+
+// Writes why a library that is the same as another does not work, if it does not.
+pub(crate) fn tell_working_if_same<O: Write>(
+    form: Form,
+    printer: &mut O,
+    verdict: Verdict,
+    path: &str,
+    library: &Library,
+) -> Result<Working, Failure>
+    ensures { IfOk result (λ working. verdict ≡ Same → working
+        ≡ working_of (archive_view library.now.archive)
+        (map member_read_view library.now.members.items)) }
+{
+    match verdict {
+        Verdict::Same => tell_working(form, printer, path, library),
+        Verdict::Different | Verdict::NotDecided => Ok(Working::Works),
+    }
 }
 
 // Says whether a library that is read works, and gives the exit status.

@@ -12,11 +12,13 @@ ghost use Rattle.implib_driver.specs.Request.{request_view};
 ghost use Rattle.std.specs.Option.{option_map};
 ghost use Rattle.std.specs.Prelude.{◌≡◌, [], IfNone, IfSome, None, Some, map, unwrap_or};
 
+use crate::definition_program::{begins_utf16, bytes_of};
 use crate::disk::Disk;
 use crate::placing::place_if;
-use crate::program::{Counted, begins_utf16, bytes_of, give_up, refusal_status, warn};
 use crate::reporter::{Complaint, Reporter};
 use crate::request::Request;
+use crate::telling::{give_up, refusal_status};
+use crate::warned::{Counted, warn};
 use implib_arm64ec_library::{
     Arm64ecLibrary, Arm64ecRefusal, arm64ec_archive, arm64ec_library_for,
 };

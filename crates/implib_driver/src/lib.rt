@@ -8,8 +8,11 @@
 
 pub mod arguments;
 mod arm64ec;
+mod definition_program;
 pub mod disk;
 pub mod dll;
+mod dll_program;
+mod help;
 pub mod identity;
 pub mod laws;
 pub mod lib_words;
@@ -22,3 +25,5 @@ pub mod reporter;
 pub mod request;
 pub mod search;
 pub mod stubs;
+mod telling;
+mod warned;

@@ -2,7 +2,7 @@ use Rattle.std.proofs.Common.{take, map}
 use Rattle.implib_driver.specs.Program.{warning_lines}
 use Rattle.implib_driver.specs.Reports.{Says}
 use Rattle.implib_rules.specs.Warnings.{warning_view}
-use Rattle.implib_driver.proofs.program.say_warnings.Given as goal
+use Rattle.implib_driver.proofs.warned.say_warnings.Given as goal
 
 -- the warnings up to here are said
 abbrev pub invariant-loop-warning : goal.invariant-loop-warning

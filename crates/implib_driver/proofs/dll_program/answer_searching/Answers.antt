@@ -4,7 +4,7 @@ use Rattle.implib_dll.specs.Views.{exports_view}
 use Rattle.implib_from_dll.specs.Definition.{exports_of}
 use Rattle.implib_driver.specs.Request.{request_view}
 use Rattle.implib_driver.specs.Search.{IsSearched}
-use Rattle.implib_driver.proofs.program.answer_searching.Goals as goal
+use Rattle.implib_driver.proofs.dll_program.answer_searching.Goals as goal
 
 pub returns-in-Ok : goal.returns-in-Ok
 returns-in-Ok g c =

@@ -2,7 +2,7 @@ use Rattle.std.proofs.Common.{Err, false, inl, inr, refl}
 use Rattle.implib_rules.specs.declared.library.LibraryError.TheVariants.{Refused}
 use Rattle.implib_rules.specs.Options.{library_options_view}
 use Rattle.implib_driver.proofs.Finishing.{counts_without, has_memory, without_members}
-use Rattle.implib_driver.proofs.program.refuse.Goals as goal
+use Rattle.implib_driver.proofs.definition_program.refuse.Goals as goal
 
 pub returns-in-Ok : goal.returns-in-Ok
 returns-in-Ok g c = λ other refused known disk.

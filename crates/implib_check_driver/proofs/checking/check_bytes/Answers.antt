@@ -4,7 +4,7 @@ use Rattle.implib_check_driver.specs.Calls.{check_view}
 use Rattle.implib_dll_check.specs.Folders.{folder_view}
 use Rattle.implib_check_driver.specs.Through.{through}
 use Rattle.implib_check_driver.proofs.BesideDlls.{beside_all, beside_definition, beside_dll}
-use Rattle.implib_check_driver.proofs.program.check_bytes.Goals as goal
+use Rattle.implib_check_driver.proofs.checking.check_bytes.Goals as goal
 
 pub returns-then-begins_dll : goal.returns-then-begins_dll
 returns-then-begins_dll g c = λ file known.

@@ -3,7 +3,7 @@ use Rattle.implib_rules.specs.Library.{CountsMembers}
 use Rattle.implib_rules.specs.Options.{library_options_view}
 use Rattle.implib_driver.specs.Program.{is_bare, members_counted}
 use Rattle.implib_driver.proofs.Finishing.{counts_with}
-use Rattle.implib_driver.proofs.program.finish.Goals as goal
+use Rattle.implib_driver.proofs.definition_program.finish.Goals as goal
 
 pub returns-in-Ok : goal.returns-in-Ok
 returns-in-Ok g c = λ other made runs.

@@ -2,7 +2,7 @@ use Rattle.std.proofs.Common.{inl, inr, refl}
 use Rattle.implib_rules.specs.Options.{library_options_view}
 use Rattle.implib_delay_library.specs.declared.library.DelayRefusal.TheVariants.{Refused}
 use Rattle.implib_delay_library.proofs.Refusals.{no_archive}
-use Rattle.implib_driver.proofs.program.answer_delaying.Goals as goal
+use Rattle.implib_driver.proofs.definition_program.answer_delaying.Goals as goal
 
 pub returns : goal.returns
 returns g c =

@@ -1,7 +1,7 @@
 use Rattle.implib_driver.proofs.Saying.{says_none, warned_more}
 use Rattle.implib_rules.specs.declared.warnings.Notice.TheVariants as notice
 use Rattle.implib_rules.specs.declared.warnings.Warning.{Warning}
-use Rattle.implib_driver.proofs.program.say_warnings.Goals as goal
+use Rattle.implib_driver.proofs.warned.say_warnings.Goals as goal
 
 abbrev no_warning : Warning
 no_warning = record { notice = notice.NoExport; position = record { offset = 0; line = 0; column = 0 } }

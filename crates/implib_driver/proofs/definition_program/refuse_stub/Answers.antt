@@ -1,7 +1,7 @@
 use Rattle.std.proofs.Common.{inl, inr, refl}
 use Rattle.implib_rules.specs.Options.{library_options_view}
 use Rattle.implib_driver.proofs.Finishing.{counts_failing}
-use Rattle.implib_driver.proofs.program.refuse_stub.Goals as goal
+use Rattle.implib_driver.proofs.definition_program.refuse_stub.Goals as goal
 
 pub returns-in-Ok : goal.returns-in-Ok
 returns-in-Ok g c = λ made fails known disk.

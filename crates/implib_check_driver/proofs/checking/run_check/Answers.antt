@@ -6,7 +6,7 @@ use Rattle.implib_dll_check.specs.Folders.{folder_view, listings}
 use Rattle.implib_check_driver.specs.Through.{Through, through}
 use Rattle.implib_check_driver.proofs.BesideDlls.{beside_files, native_none, native_read}
 use Rattle.implib_check_driver.proofs.LoadedDlls.{through_same}
-use Rattle.implib_check_driver.proofs.program.run_check.Goals as goal
+use Rattle.implib_check_driver.proofs.checking.run_check.Goals as goal
 
 pub returns-in_default : goal.returns-in_default
 returns-in_default g c = λ file names known.

@@ -5,7 +5,7 @@ use Rattle.implib_read.specs.ClassViews.{member_read_view}
 use Rattle.implib_check_driver.specs.Calls.{check_view}
 use Rattle.implib_check_driver.specs.Targets.{is_for_arm64ec, is_unfit}
 use Rattle.implib_check_driver.proofs.Answers.{checked_for_arm64ec}
-use Rattle.implib_check_driver.proofs.program.check_read.Goals as goal
+use Rattle.implib_check_driver.proofs.checking.check_read.Goals as goal
 
 pub returns-then-is_for_arm64ec : goal.returns-then-is_for_arm64ec
 returns-then-is_for_arm64ec g c =

@@ -3,7 +3,7 @@ use Rattle.std.specs.Option.{option_map}
 use Rattle.implib_read.specs.ArchiveViews.{archive_view}
 use Rattle.implib_check_driver.specs.Calls.{check_view}
 use Rattle.implib_check_driver.proofs.Answers.{checked_beside}
-use Rattle.implib_check_driver.proofs.program.check_library.Goals as goal
+use Rattle.implib_check_driver.proofs.checking.check_library.Goals as goal
 
 pub returns : goal.returns
 returns g c =

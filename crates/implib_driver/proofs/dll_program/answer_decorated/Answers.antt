@@ -7,7 +7,7 @@ use Rattle.implib_dll_library.specs.Decorations.{decoration_view}
 use Rattle.implib_driver.specs.declared.dll.DllRefusal.TheVariants.{OutOfMemory}
 use Rattle.implib_driver.specs.DllProgram.{FinishesList}
 use Rattle.implib_driver.specs.Request.{request_view}
-use Rattle.implib_driver.proofs.program.answer_decorated.Goals as goal
+use Rattle.implib_driver.proofs.dll_program.answer_decorated.Goals as goal
 
 pub returns-in-Ok-decorate : goal.returns-in-Ok-decorate
 returns-in-Ok-decorate g c =
