@@ -13,27 +13,13 @@ use Rattle.implib.specs.Members.MsvcObjects.{descriptor_symbol, null_descriptor_
 use Rattle.implib.specs.Members.MsvcObjects.{null_thunk_symbol}
 use Rattle.implib.specs.Renaming.{renamed}
 use Rattle.implib_link.specs.Flavors.Program.{null_member, specs_in}
-use Rattle.implib_link.specs.Search.Search.{AreTakenInTurnAs, PullsInAs, TakesAs, claimed_as}
-use Rattle.implib_link.specs.Search.Search.{left_as, numbers_passing}
+use Rattle.implib_link.specs.Search.Search.{TakesAs, left_as, numbers_passing}
 use Rattle.implib.specs.LibraryName.{linked_dll}
 
 -- The same for a linker for a machine, which reads short imports, too, as what it takes them for:
 -- the names that members leave to others.
 abbrev pub left_in : MachineType → List MemberView → List (List ℕ)
 left_in machine = left_as (expanded_in machine)
-
--- the names that they claim
-abbrev pub claimed_in : MachineType → List MemberView → List (List ℕ)
-claimed_in machine = claimed_as (expanded_in machine)
-
--- an undefined name pulls in a member
-abbrev pub PullsInFor : MachineType → List MemberView → List (List ℕ) → List MemberView → List ℕ →
-    MemberView → Type 0
-PullsInFor machine = PullsInAs (expanded_in machine)
-
--- members are taken one after another
-abbrev pub AreTakenInTurn : MachineType → List MemberView → List (List ℕ) → List MemberView → Type 0
-AreTakenInTurn machine = AreTakenInTurnAs (expanded_in machine)
 
 -- what the linker takes
 abbrev pub TakesFor : MachineType → List MemberView → List (List ℕ) → List MemberView → Type 0

@@ -81,10 +81,6 @@ pub record TakesAs (reads : List ℕ → Option Object) (archive : List MemberVi
 abbrev pub names_undefined : List MemberView → List (List ℕ)
 names_undefined = left_as object_in
 
--- the names that they claim
-abbrev pub names_claimed : List MemberView → List (List ℕ)
-names_claimed = claimed_as object_in
-
 -- an undefined name pulls in a member
 abbrev pub PullsIn : List MemberView → List (List ℕ) → List MemberView → List ℕ → MemberView →
     Type 0
