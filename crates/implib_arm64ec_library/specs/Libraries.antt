@@ -71,7 +71,7 @@ asking written (e ∷ exports) = asking_by written e ∷ asking (drop 1 written)
 -- export under the name to link by
 abbrev pub for_linkers : List ExportView → DefinitionView → DefinitionView
 for_linkers written d =
-    renamed (with_library_name Msvc (record d { exports = asking written d.exports }))
+    renamed (with_library_name ARM64 Msvc (record d { exports = asking written d.exports }))
 
 -- Each export of a definition that is read so asks for its own name: none is an alias, which is
 -- weak for the symbol of another, and asks for nothing.

@@ -160,7 +160,7 @@ fn for_linkers(alloc: Global, written: &ModuleDef, def: ModuleDef) -> Result<Mod
 {
     let mut def = def;
     ask_as_written(&mut def.exports, written.exports.as_slice())?;
-    def.library_name = library_name_for(alloc, Flavor::Msvc, &def)?;
+    def.library_name = library_name_for(alloc, MachineType::ARM64, Flavor::Msvc, &def)?;
     Ok(ImportLibrary::from_def(def, MachineType::ARM64, Flavor::Msvc).into_def())
 }
 

@@ -12,6 +12,7 @@ use implib_driver::disk::Disk;
 use std::alloc::Global;
 use std::fs::{Files, OpenFile, OpenOptions, Permissions};
 use std::io::ErrorKind;
+use std::os::unix::fs::MetadataExt;
 use std::path::Path;
 use std::{fs, io};
 
@@ -51,6 +52,52 @@ fn followed<R: Files + AllocGlobal>(
         target = next.into_string();
     }
     Err(no_file())
+}
+
+// Where a path leads: to what is there, by its device and number, or into a folder, under a name
+// that nothing has.
+#[derive(Drop, PartialEq)]
+enum Place {
+    There(u64, u64),
+    Free(u64, u64, String),
+}
+
+// Where a path leads by its links, and those of the folders before it. A file whose folder is not
+// there has no place.
+fn place_of<R: Files + AllocGlobal>(
+    rt: &R,
+    alloc: Global,
+    path: &str,
+) -> io::Result<Option<Place>> {
+    match fs::metadata(rt, path) {
+        Ok(metadata) => Ok(Some(Place::There(metadata.dev(), metadata.ino()))),
+        Err(error) if error.kind() == ErrorKind::NotFound => {
+            let (target, _) = followed(rt, path)?;
+            let name = Path::new(target.as_str()).file_name().unwrap_or("");
+            match fs::metadata(rt, folder_of(target.as_str())) {
+                Ok(folder) => {
+                    let name = String::from_str(alloc, name)?;
+                    Ok(Some(Place::Free(folder.dev(), folder.ino(), name)))
+                }
+                Err(_) => Ok(None),
+            }
+        }
+        // What cannot be looked at can be neither read nor replaced.
+        Err(_) => Ok(None),
+    }
+}
+
+// Whether two paths lead to one file, or into one folder under one name that nothing has.
+fn are_one<R: Files + AllocGlobal>(
+    rt: &R,
+    alloc: Global,
+    one: &str,
+    other: &str,
+) -> io::Result<bool> {
+    let Some(place) = place_of(rt, alloc, one)? else {
+        return Ok(false);
+    };
+    Ok(Some(place) == place_of(rt, alloc, other)?)
 }
 
 // The longest name of a file, in bytes, that is in the names of new files beside it: those of
@@ -268,6 +315,16 @@ impl<'a, R: Files + AllocGlobal + Clone + Drop> Disk for SystemDisk<'a, R> {
     fn read(&mut self, _alloc: Global, path: &str) -> io::Result<Vec<u8>> {
         match fs::read(self.rt, path) {
             Ok(bytes) => Ok(bytes),
+            Err(error) => {
+                self.state.has_failed = true;
+                Err(error)
+            }
+        }
+    }
+
+    fn is_same(&mut self, alloc: Global, one: &str, other: &str) -> io::Result<bool> {
+        match are_one(self.rt, alloc, one, other) {
+            Ok(is_same) => Ok(is_same),
             Err(error) => {
                 self.state.has_failed = true;
                 Err(error)

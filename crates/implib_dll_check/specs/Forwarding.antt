@@ -107,7 +107,7 @@ end_by (suc n) known machine is_data text =
 
 -- how many are followed
 abbrev pub most_forwarders : ℕ
-most_forwarders = 1000
+most_forwarders = 32
 
 -- a DLL of a loader's name, and what there is of it
 pub record Known : Type 0 where

@@ -20,9 +20,9 @@ use implib_dll::{AddressKind, Exports, Target};
 use implib_read::{ImportFound, MemberClass, MemberRead};
 use std::alloc::{AllocError, Global};
 
-/// How many forwarders are followed, one after the other. A loader, which calls itself at each, has
-/// no stack for so many.
-pub const MOST_FORWARDERS: usize = 1000;
+/// How many forwarders are followed, one after the other, so that time is linear in the exports. No
+/// DLL that was seen needs more than four.
+pub const MOST_FORWARDERS: usize = 32;
 
 /// What there is of a DLL that a forwarder names.
 #[derive(Drop)]

@@ -1,5 +1,5 @@
 -- What is known of where definitions are read from and libraries go (this project's own).
-use Rattle.std.specs.Prelude.{◌≡◌, ℕ, Bool, true, List, Option, None, Some, IfSome, codes}
+use Rattle.std.specs.Prelude.{◌≡◌, ℕ, Bool, true, false, List, Option, None, Some, IfSome, codes}
 use Rattle.std.specs.Prelude.{if◌then◌else◌}
 use Rattle.std.specs.Str.{bytes_eq}
 
@@ -7,6 +7,9 @@ use Rattle.std.specs.Str.{bytes_eq}
 pub record DiskView : Type 0 where
   -- the bytes of the file that a path leads to, where they are known
   pub seen : List ℕ → Option (List ℕ)
+  -- whether two paths lead to one file, where that is known; where there is no file yet, to one
+  -- place for it
+  pub same : List ℕ → List ℕ → Option Bool
   -- the names of what is in the folder that a path leads to, where they are known
   pub listed : List ℕ → Option (List (List ℕ))
   -- the path whose file a new one is to replace, while the new one is there
@@ -32,10 +35,19 @@ removed disk = record disk { left = None }
 abbrev pub stuck : DiskView → DiskView
 stuck disk = record disk { is_stuck = true }
 
--- A new file took the place of the one that its path leads to, where bytes are known. Of other
--- paths nothing is said: links may lead there.
+-- all files are as they were but the one that a path leads to, and paths that lead to different
+-- files still do
+pub record KeepsOthers (before after : DiskView) (path : List ℕ) : Type 0 where
+  pub seen : (other : List ℕ) → before.same path other ≡ Some false →
+      after.seen other ≡ before.seen other
+  pub apart : (one other : List ℕ) → before.same one other ≡ Some false →
+      after.same one other ≡ Some false
+
+-- A new file took the place of the one that its path leads to, where bytes are known. Other files
+-- stay; of other paths that lead there, by links, nothing is said.
 pub record Replaces (known : Bool) (before after : DiskView) (file : Option (List ℕ)) : Type 0 where
   pub at_path : known ≡ true → IfSome before.left (λ path. after.seen path ≡ file)
+  pub others : IfSome before.left (KeepsOthers before after)
   pub none_left : after.left ≡ None
   pub same_failures : after.has_failed ≡ before.has_failed
   pub same_removals : after.is_stuck ≡ before.is_stuck

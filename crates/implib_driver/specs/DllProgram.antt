@@ -1,10 +1,13 @@
 -- What is done with the bytes of a DLL (this project's own).
 use Rattle.std.specs.Prelude.{◌≡◌, ◌⊎◌, ℕ, Bool, true, false, List, [], ◌∷◌, Option, None, Some}
-use Rattle.std.specs.Prelude.{IfSome, ◌&&◌, count_by, nat_lt}
+use Rattle.std.specs.Prelude.{IfSome, ◌&&◌, codes, count_by, is_none, nat_lt, not}
+use Rattle.std.specs.Str.{bytes_eq}
 use Rattle.implib.specs.declared.machine.MachineType.{MachineType}
 use Rattle.implib.specs.Definition.{ExportView}
+use Rattle.implib.specs.Import.{is_empty_text}
 use Rattle.implib.specs.Members.MemberSpec.{MemberView}
 use Rattle.implib_dll.specs.Exports.{Exports}
+use Rattle.implib_dll_check.specs.DllName.{loader_name}
 use Rattle.implib_driver.specs.declared.dll.DllCallError.{DllCallError}
 use Rattle.implib_driver.specs.declared.dll.DllCallError.TheVariants.{Call, Dll}
 use Rattle.implib_driver.specs.declared.dll.DllRefusal.{DllRefusal}
@@ -15,9 +18,10 @@ use Rattle.implib_driver.specs.Dll.{IsRefusalOfReading, IsRefusalOfRequest, IsRe
 use Rattle.implib_driver.specs.Dll.{IsUnmade, MembersOfDll, ReadsDll, SuitsDll, dll_status}
 use Rattle.implib_driver.specs.Placing.{Answer, AnswersMembers}
 use Rattle.implib_driver.specs.Reports.{ComplaintView, Complains, Line, OfAstray, OfCall, OfDll}
-use Rattle.implib_driver.specs.Reports.{OfMissing, OfNoLibrary, OfStub, OfSystem, Refuses, Says}
-use Rattle.implib_driver.specs.Request.{Asked, RequestView, call_fault_view}
-use Rattle.implib_driver.specs.Search.{IsSearched}
+use Rattle.implib_driver.specs.Reports.{OfMissing, OfNoLibrary, OfRenamed, OfStub, OfSystem}
+use Rattle.implib_driver.specs.Reports.{Refuses, Says}
+use Rattle.implib_driver.specs.Request.{Asked, ReplacesSearched, RequestView, call_fault_view}
+use Rattle.implib_driver.specs.Search.{IsSearched, TakesDll}
 use Rattle.implib_driver.specs.Stubs.{has_failing_stub}
 use Rattle.implib_driver.specs.Verdicts.{answer_status, verdict}
 use Rattle.implib_dll_library.specs.declared.decorations.NotDecorations.{NotDecorations}
@@ -27,6 +31,7 @@ use Rattle.implib_dll_library.specs.Decorated.{is_missing, with_symbols}
 use Rattle.implib_dll_library.specs.Decorations.{AreDecorations, DecorationView, HasNoDecorations}
 use Rattle.implib_from_dll.specs.Definition.{exports_of}
 use Rattle.implib_rules.specs.Library.{status_of}
+use Rattle.implib_rules.specs.Names.{last_part}
 
 -- the library of members was put, and then the answer was said
 pub record PutsMembers (known : Bool) (members : List MemberView) (request : RequestView)
@@ -174,6 +179,14 @@ pub record HasUnreadFolder (disk put : DiskView) (before after : Option (List Li
   pub path : List ℕ
   pub unread : HasUnreadFile path disk put before after status
 
+-- the library would take the place of a DLL in a folder, which was said, and nothing was put
+pub record WouldTakeDll (request : RequestView) (disk put : DiskView)
+    (before after : Option (List Line)) (status : ℕ) : Type 0 where
+  pub takes : TakesDll disk request.output
+  pub same_disk : put ≡ disk
+  pub says : Says before after (Complains request.definition (OfCall ReplacesSearched) ∷ [])
+  pub is_status : status ≡ 2
+
 -- what is done for a DLL, where the DLLs of folders are searched, and where none is
 abbrev pub FinishesKinds : Bool → Bool → Exports → RequestView → DiskView → DiskView →
     Option (List Line) → Option (List Line) → ℕ → Type 0
@@ -182,13 +195,25 @@ FinishesKinds false known e request disk put before after status =
 FinishesKinds true known e request disk put before after status =
     HasSearched known e request disk put before after status
     ⊎ HasUnreadFolder disk put before after status
+    ⊎ WouldTakeDll request disk put before after status
     ⊎ IsRefused request.definition (λ refusal. refusal ≡ OutOfMemory) disk put before after status
 
--- what is asked for suits a DLL, and this was done for it
+-- whether the name of a DLL by its export directory is another than its file's, as loaders compare
+-- names, and none is given
+abbrev pub is_renamed : RequestView → Exports → Bool
+is_renamed request e =
+    is_none request.library.dll
+    && (not (bytes_eq request.definition (codes "-")) && (not (is_empty_text e.dll)
+    && not (bytes_eq (loader_name (last_part request.definition)) (loader_name e.dll))))
+
+-- what is asked for suits a DLL; it was said where its directory has another name than its file,
+-- and this was done for it
 pub record IsSuited (known : Bool) (e : Exports) (request : RequestView) (disk put : DiskView)
     (before after : Option (List Line)) (status : ℕ) : Type 0 where
   pub suits : SuitsDll request
-  pub finishes : FinishesKinds (has_values request.search) known e request disk put before after
+  pub warned : Option (List Line)
+  pub warns : SaysIf (is_renamed request e) request.definition OfRenamed before warned
+  pub finishes : FinishesKinds (has_values request.search) known e request disk put warned after
       status
 
 -- what is done for a DLL of these exports and a request that fits its machine

@@ -6,6 +6,7 @@ pub mod Request
 pub mod Dll
 pub mod LibWords
 pub mod Disk
+pub mod Apart
 pub mod Reports
 pub mod Stubs
 pub mod Placing

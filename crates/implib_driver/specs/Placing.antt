@@ -2,7 +2,7 @@
 use Rattle.std.specs.Prelude.{◌≡◌, ◌⊎◌, ℕ, Bool, true, false, List, Option, None, Some, Result, Ok}
 use Rattle.std.specs.Prelude.{Err}
 use Rattle.implib.specs.Members.MemberSpec.{MemberView}
-use Rattle.implib_driver.specs.Disk.{DiskView}
+use Rattle.implib_driver.specs.Disk.{DiskView, KeepsOthers}
 use Rattle.implib_driver.specs.Request.{RequestView}
 use Rattle.implib_driver.specs.Stubs.{has_failing_stub}
 use Rattle.implib_rules.specs.declared.library.LibraryError.{LibraryError}
@@ -13,10 +13,11 @@ use Rattle.implib_archive.specs.Refusal.{refusal_of}
 use Rattle.implib_rules.specs.Library.{IsRefusalOfArchive, kind_of}
 use Rattle.implib_rules.specs.Older.{IsLibraryAsked, IsRefusalOfBytesAsked, MembersAsked}
 
--- a file is in its place, and all of it, where bytes are known; nothing new is left, and no call
--- failed
+-- a file is in its place, and all of it, where bytes are known; other files are as they were,
+-- nothing new is left, and no call failed
 pub record IsPlaced (known : Bool) (before after : DiskView) (path file : List ℕ) : Type 0 where
   pub in_place : known ≡ true → after.seen path ≡ Some file
+  pub others : KeepsOthers before after path
   pub none_left : after.left ≡ None
   pub same_failures : after.has_failed ≡ before.has_failed
   pub same_removals : after.is_stuck ≡ before.is_stuck

@@ -17,14 +17,17 @@ use Rattle.implib_driver.specs.declared.identity.NotIdentified.{NotIdentified}
 use Rattle.implib_driver.specs.declared.identity.Wanted.{Wanted}
 use Rattle.implib_driver.specs.Identity.{identified}
 use Rattle.implib_delay_library.specs.declared.library.DelayRefusal.{DelayRefusal}
+use Rattle.implib_delay_library.specs.declared.library.LeftOut.{LeftOut}
 use Rattle.implib_delay_library.specs.declared.library.DelayRefusal.TheVariants.{Refused}
 use Rattle.implib_delay_library.specs.declared.library.DelayRefusal.TheVariants.{Undelayed as CannotDelay}
 use Rattle.implib_delay_library.specs.Libraries.{IsDelayedLibrary, IsRefusalOfDelayed}
 use Rattle.implib_driver.specs.Placing.{Answer, Answers, IsPlaced, IsUnplaced}
 use Rattle.implib_driver.specs.Reports.{ComplaintView, Complains, Line, OfArgument, OfCall}
-use Rattle.implib_driver.specs.Reports.{OfIdentity, OfMemory, OfStub, OfSystem, OfUndelayed, OfWord}
+use Rattle.implib_driver.specs.Reports.{OfIdentity, OfLeftOut, OfMemory, OfStub, OfSystem}
+use Rattle.implib_driver.specs.Reports.{OfUndelayed, OfWord}
 use Rattle.implib_driver.specs.Reports.{OfWriting, Refuses, Says}
 use Rattle.implib_driver.specs.LibWords.{words_read}
+use Rattle.implib_driver.specs.Apart.{AreApart, IsMisplaced}
 pub use Rattle.implib_driver.specs.Disk.{KeepsFiles, definition_in}
 pub use Rattle.implib_driver.specs.Verdicts.{answer_status, output_or_none, verdict}
 pub use Rattle.implib_driver.specs.Warned.{IsInUtf16, IsUnwarned, Warned, begins_utf16, is_bare}
@@ -148,9 +151,8 @@ abbrev pub delay_status : DelayRefusal → ℕ
 delay_status (Refused refusal) = status_of refusal
 delay_status (CannotDelay why) = 1
 
--- The other library was put with status 0, if one is asked for, and then that of delayed imports.
--- The first is there, whole, when the second is begun; what becomes of it when the second takes its
--- place is not stated, as of all other paths (Disk).
+-- The other library was put with status 0, if one is asked for, and then that of delayed imports,
+-- in another place (Apart), so that the first stays.
 pub record IsDelayed (known : Bool) (bytes path file : List ℕ) (request : RequestView)
     (disk put : DiskView) (before after : Option (List Line)) (status : ℕ) : Type 0 where
   pub middle : DiskView
@@ -184,12 +186,21 @@ FinishesDelayed known bytes path file request disk put before after status =
     ⊎ FailsToDelay known bytes path request disk put before after status
     ⊎ StopsBefore known bytes request disk put before after status
 
--- the definition has a library of delayed imports, and this was done with it
+-- what a library of delayed imports leaves out was said, if it does
+abbrev pub SaysLeftOut : List ℕ → Option LeftOut → Option (List Line) → Option (List Line) → Type 0
+SaysLeftOut path None before after = after ≡ before
+SaysLeftOut path (Some found) before after =
+    Says before after (Complains path (OfLeftOut found.count found.first) ∷ [])
+
+-- the definition has a library of delayed imports; what that leaves out was said, and this was done
+-- with it
 pub record HasDelayed (known : Bool) (bytes path : List ℕ) (request : RequestView)
     (disk put : DiskView) (before after : Option (List Line)) (status : ℕ) : Type 0 where
   pub file : List ℕ
   pub is_library : IsDelayedLibrary bytes request.library file
-  pub finishes : FinishesDelayed known bytes path file request disk put before after status
+  pub warned : Option (List Line)
+  pub warns : SaysLeftOut request.definition is_library.found before warned
+  pub finishes : FinishesDelayed known bytes path file request disk put warned after status
 
 -- the definition has none, which was said, and nothing was put
 pub record HasNoDelayed (bytes : List ℕ) (request : RequestView) (disk put : DiskView)
@@ -330,11 +341,19 @@ pub record OnlyPrints (name text : List ℕ) (before after : Devices)
   pub same_input : after.input ≡ before.input
   pub outcome : Prints name text before.said after.said printed prints status
 
--- what was asked for was made, and nothing printed
+-- what was asked for was made, in no place of a file that was read, and nothing printed
 pub record OnlyMakes (known : Bool) (machines : ForMachine) (request : RequestView)
     (before after : Devices) (printed prints : Option (List ℕ)) (status : ℕ) : Type 0 where
+  pub apart : AreApart before.disk request
   pub same_output : prints ≡ printed
   pub outcome : Makes known machines request before after status
+
+-- a library would take the place of a file that is read, or of the other library, which was said
+pub record WasMisplaced (name : List ℕ) (request : RequestView) (before after : Devices)
+    (printed prints : Option (List ℕ)) (status : ℕ) : Type 0 where
+  pub fault : CallFaultView
+  pub is : IsMisplaced before.disk request fault
+  pub complained : Complained name (OfCall fault) 2 before after printed prints status
 
 -- a complaint of a file was said, and nothing printed
 pub record OnlyComplains (path : List ℕ) (complaint : ComplaintView) (number : ℕ)
@@ -343,6 +362,21 @@ pub record OnlyComplains (path : List ℕ) (complaint : ComplaintView) (number :
   pub same_output : prints ≡ printed
   pub says : Says before after (Complains path complaint ∷ [])
   pub is_status : status ≡ number
+
+-- what the disk could not tell was said, and nothing else was done
+pub record IsUntold (name : List ℕ) (before after : Devices) (printed prints : Option (List ℕ))
+    (status : ℕ) : Type 0 where
+  pub keeps : KeepsFiles before.disk after.disk
+  pub same_input : after.input ≡ before.input
+  pub complains : OnlyComplains name OfSystem 3 before.said after.said printed prints status
+
+-- what is done for a library that is asked for, unless it would take the place of another file
+abbrev pub MakesApart : Bool → List ℕ → ForMachine → RequestView → Devices → Devices →
+    Option (List ℕ) → Option (List ℕ) → ℕ → Type 0
+MakesApart known name machines request before after printed prints status =
+    OnlyMakes known machines request before after printed prints status
+    ⊎ WasMisplaced name request before after printed prints status
+    ⊎ IsUntold name before after printed prints status
 
 -- the DLLs of a library were printed, or that there are none was said
 abbrev pub NamesDlls : List ℕ → List ℕ → Result (List ℕ) NotIdentified → Option (List Line) →
@@ -395,7 +429,7 @@ DoesTask known texts name machines (Ok (AsksIdentity path wanted)) before after 
     status =
     Identifies name path wanted before after printed prints status
 DoesTask known texts name machines (Ok (Asks request)) before after printed prints status =
-    OnlyMakes known machines request before after printed prints status
+    MakesApart known name machines request before after printed prints status
 DoesTask known texts name machines (Err fault) before after printed prints status =
     Complained name (OfCall fault) 2 before after printed prints status
 

@@ -120,6 +120,8 @@ pub data CallFaultView : Type 0 where
   HasNoUnderscore : CallFaultView
   HasNoOlderSymbols : CallFaultView
   ReplacesDefinition : CallFaultView
+  ReplacesDecorations : CallFaultView
+  ReplacesSearched : CallFaultView
   HasOneOutput : CallFaultView
   HasNoDelay : CallFaultView
   DelaysForMicrosoft : CallFaultView
@@ -145,6 +147,8 @@ call_fault_view fault.OtherArchitecture = IsOtherArchitecture
 call_fault_view fault.NoUnderscore = HasNoUnderscore
 call_fault_view fault.NoOlderSymbols = HasNoOlderSymbols
 call_fault_view fault.OutputIsDefinition = ReplacesDefinition
+call_fault_view fault.OutputIsDecorations = ReplacesDecorations
+call_fault_view fault.OutputIsSearched = ReplacesSearched
 call_fault_view fault.OneOutput = HasOneOutput
 call_fault_view fault.NoDelay = HasNoDelay
 call_fault_view fault.DelayForMicrosoft = DelaysForMicrosoft
@@ -344,62 +348,38 @@ dll_or (Some name) = if nat_eq (length (last_part name)) 0 then Err HasEmptyDll 
 abbrev pub dll_in : List OccurrenceView → Asked (Option (List ℕ))
 dll_in options = dll_or (last_given Dll options)
 
--- the library's file, which is not standard output, and not the definition
-abbrev pub output_or : List ℕ → Option (List ℕ) → Asked (Option (List ℕ))
-output_or definition None = Ok None
-output_or definition (Some path) =
+-- a library's file, which is not standard output (whose place it would take, Apart says)
+abbrev pub output_or : Option (List ℕ) → Asked (Option (List ℕ))
+output_or None = Ok None
+output_or (Some path) =
     if bytes_eq path (codes "-") then Err GoesToStandard
     else if bytes_eq path [] then Err HasEmptyOutput
-    else if bytes_eq path definition then Err ReplacesDefinition
     else Ok (Some path)
 
--- the library's file that options give
-abbrev pub output_in : List ℕ → List OccurrenceView → Asked (Option (List ℕ))
-output_in definition options = output_or definition (last_given Output options)
-
--- the file of a library of delayed imports, which is not the other library's
-abbrev pub delayed_apart : Option (List ℕ) → Option (List ℕ) → Asked (Option (List ℕ))
-delayed_apart None delayed = Ok delayed
-delayed_apart (Some path) None = Ok None
-delayed_apart (Some path) (Some other) =
-    if bytes_eq other path then Err HasOneOutput else Ok (Some other)
-
--- the file of the library of delayed imports that options give
-abbrev pub delayed_in : List ℕ → Option (List ℕ) → List OccurrenceView → Asked (Option (List ℕ))
-delayed_in definition output options =
-    with (output_or definition (last_given DelayedOutput options))
-    (λ delayed. delayed_apart output delayed)
-
--- whether this is the file of the library
-abbrev pub is_output : Option (List ℕ) → List ℕ → Bool
-is_output None path = false
-is_output (Some output) path = bytes_eq path output
-
--- the file of the native definition, which has a name, is not standard input if the definition is,
--- and not the library's
-abbrev pub native_or : List ℕ → Option (List ℕ) → Option (List ℕ) → Asked (Option (List ℕ))
-native_or definition output None = Ok None
-native_or definition output (Some path) =
+-- the file of the native definition, which has a name, and is not standard input if the definition
+-- is
+abbrev pub native_or : List ℕ → Option (List ℕ) → Asked (Option (List ℕ))
+native_or definition None = Ok None
+native_or definition (Some path) =
     if bytes_eq path [] then Err HasEmptyNative
     else if bytes_eq path (codes "-") && bytes_eq definition (codes "-") then Err HasOneInput
-    else if is_output output path then Err ReplacesNative
     else Ok (Some path)
 
 -- what is asked for beside a library for ARM64EC, which is for Microsoft's linkers; for other
 -- machines there is no native definition
-abbrev pub arm64ec_or : LibraryMachine → Flavor → List ℕ → Option (List ℕ) → Option (List ℕ) →
+abbrev pub arm64ec_or : LibraryMachine → Flavor → List ℕ → Option (List ℕ) →
     Asked (Option (Option (List ℕ)))
-arm64ec_or (Ordinary machine) flavor definition output None = Ok None
-arm64ec_or (Ordinary machine) flavor definition output (Some path) = Err HasNativeElsewhere
-arm64ec_or Arm64ec Gnu definition output given = Err IsArm64ecForGnu
-arm64ec_or Arm64ec Msvc definition output given =
-    with (native_or definition output given) (λ native. Ok (Some native))
+arm64ec_or (Ordinary machine) flavor definition None = Ok None
+arm64ec_or (Ordinary machine) flavor definition (Some path) = Err HasNativeElsewhere
+arm64ec_or Arm64ec Gnu definition given = Err IsArm64ecForGnu
+arm64ec_or Arm64ec Msvc definition given =
+    with (native_or definition given) (λ native. Ok (Some native))
 
 -- what options ask for beside a library for ARM64EC, if the machine is that
-abbrev pub arm64ec_in : LibraryMachine → Flavor → List ℕ → Option (List ℕ) → List OccurrenceView →
+abbrev pub arm64ec_in : LibraryMachine → Flavor → List ℕ → List OccurrenceView →
     Asked (Option (Option (List ℕ)))
-arm64ec_in machine flavor definition output options =
-    arm64ec_or machine flavor definition output (last_given NativeDefinition options)
+arm64ec_in machine flavor definition options =
+    arm64ec_or machine flavor definition (last_given NativeDefinition options)
 
 -- Whether imports can be delayed: I386 and AMD64 have the code, and Microsoft's linkers delay the
 -- imports of an ordinary library by their option `/delayload`.
@@ -456,11 +436,11 @@ definition_or (Some path) = if bytes_eq path [] then Err HasEmptyDefinition else
 abbrev pub request_of : Caller → List OccurrenceView → Option (List ℕ) → Asked RequestView
 request_of caller options given =
     with (definition_or given) (λ definition.
-    with (output_in definition options) (λ output.
-    with (delayed_in definition output options) (λ delayed.
+    with (output_or (last_given Output options)) (λ output.
+    with (output_or (last_given DelayedOutput options)) (λ delayed.
     with (machine_in caller.machine options) (λ machine.
     with (flavor_in caller.called_as (machine_type machine) output options) (λ flavor.
-    with (arm64ec_in machine flavor definition output options) (λ arm64ec.
+    with (arm64ec_in machine flavor definition options) (λ arm64ec.
     with (dll_in options) (λ dll.
     with (naming_in (machine_type machine) options) (λ naming.
     with (delay_for (machine_type machine) flavor delayed) (λ delays.

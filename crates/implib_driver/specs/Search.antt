@@ -1,6 +1,6 @@
 -- Of which kinds the exports of a DLL are through the DLLs of some folders (this project's choice;
 -- docs/DLLTOOL.md, "From a DLL").
-use Rattle.std.specs.Prelude.{◌≡◌, ◌⊎◌, ℕ, List, Option, Some, count_by}
+use Rattle.std.specs.Prelude.{◌≡◌, ◌⊎◌, ℕ, List, None, Option, Some, count_by, true}
 use Rattle.std.specs.Option.{option_map}
 use Rattle.implib.specs.Definition.{ExportView}
 use Rattle.implib_dll.specs.Exports.{Exports}
@@ -8,10 +8,11 @@ use Rattle.implib_dll_check.specs.DllName.{names_of}
 use Rattle.implib_dll_check.specs.Folders.{AreKnown, Listing, content_at, listings}
 use Rattle.implib_dll_check.specs.Forwarding.{Beside}
 use Rattle.implib_dll_check.specs.Kinds.{is_astray, kinds_followed}
+use Rattle.implib_driver.specs.Apart.{AreSame}
 use Rattle.implib_driver.specs.Disk.{DiskView, failing}
 use Rattle.implib_driver.specs.Request.{RequestView}
 use Rattle.implib_driver.specs.declared.search.Unsearched.{Unsearched}
-use Rattle.implib_driver.specs.declared.search.Unsearched.TheVariants.{System, OutOfMemory}
+use Rattle.implib_driver.specs.declared.search.Unsearched.TheVariants.{System, OutOfMemory, Taken}
 use Rattle.implib_rules.specs.Names.{last_part}
 
 -- the names by which loaders know the DLL of a request
@@ -41,8 +42,18 @@ IsSearched disk e request before after astray =
     → AreFollowed (beside_folders file (listings names request.search) (own_names request e) e)
     before after astray
 
+-- the file of a library, if there is one for it, is that of a DLL in a folder
+pub record IsThatOfDll (disk : DiskView) (output : List ℕ) : Type 0 where
+  pub path : List ℕ
+  pub same : AreSame disk output path true
+
+abbrev pub TakesDll : DiskView → Option (List ℕ) → Type 0
+TakesDll disk None = ⊥
+TakesDll disk (Some output) = IsThatOfDll disk output
+
 -- what a disk is where folders were not searched: as after a call that failed, or as before where
--- memory was refused
-abbrev pub FailsToSearch : DiskView → DiskView → Unsearched → Type 0
-FailsToSearch before after (System path cause) = after ≡ failing before
-FailsToSearch before after OutOfMemory = after ≡ before
+-- the library would take a DLL's place or memory was refused
+abbrev pub FailsToSearch : DiskView → DiskView → Option (List ℕ) → Unsearched → Type 0
+FailsToSearch before after output (System path cause) = after ≡ failing before
+FailsToSearch before after output Taken = (after ≡ before) × TakesDll before output
+FailsToSearch before after output OutOfMemory = after ≡ before

@@ -25,7 +25,7 @@ use Rattle.implib_driver.specs.Reports.{Complains, OfUnimported, Refuses}
 use Rattle.implib_driver.specs.Request.{Asked, Asks, HasEmptyNative, HasNativeElsewhere}
 use Rattle.implib_driver.specs.Request.{HasNoDelay, HasNoOlderSymbols, HasOneInput, IsArm64ecForGnu}
 use Rattle.implib_driver.specs.Request.{IsUnknownFlavor, IsUnknownMachine, LacksDefinition}
-use Rattle.implib_driver.specs.Request.{ReplacesDefinition, ReplacesNative, RequestView, TaskView}
+use Rattle.implib_driver.specs.Request.{GoesToStandard, RequestView, TaskView}
 use Rattle.implib_driver.specs.Request.{arm64ec_in, caller_of, native_or, request_for, task_of}
 use Rattle.implib_driver.specs.WorkedCalls.{itself}
 use Rattle.implib_rules.specs.declared.library.Refusal.TheVariants.{Members, NoName, OutOfMemory}
@@ -116,7 +116,7 @@ pub record Arm64ecAsked : Type 0 where
   pub by_name : task_of (caller_of (codes "arm64ec-w64-mingw32-dlltool"))
       (Given Definition (codes "a") ∷ native ∷ [])
       ≡ Ok (Asks (asked_for (codes "a") None usual (Some (codes "n"))))
-  pub named_beside : arm64ec_in (Ordinary ARM64) Msvc (codes "a") None [] ≡ Ok None
+  pub named_beside : arm64ec_in (Ordinary ARM64) Msvc (codes "a") [] ≡ Ok None
   -- the flavour is Microsoft's, whatever the ending and who calls
   pub own_ending : ask (Given Output (codes "b.a") ∷ [])
       ≡ Ok (Asks (asked_for (codes "a") (Some (codes "b.a")) usual None))
@@ -133,24 +133,19 @@ pub record Arm64ecAsked : Type 0 where
       ≡ Err HasNativeElsewhere
   pub arm64x : ask_other (Given Machine (codes "arm64x") ∷ [])
       ≡ Err (IsUnknownMachine (codes "arm64x"))
-  -- files of the native definition: none, the library's, standard input alone and beside the
-  -- definition, and the definition's own
+  -- files of the native definition: none, standard input alone and beside the definition, and the
+  -- definition's own
   pub empty : ask (Given NativeDefinition [] ∷ []) ≡ Err HasEmptyNative
-  pub replaced : ask (native ∷ Given Output (codes "n") ∷ []) ≡ Err ReplacesNative
-  pub near_output : native_or (codes "a") (Some (codes "nn")) (Some (codes "n"))
-      ≡ Ok (Some (codes "n"))
-  pub one_input : native_or (codes "-") (Some (codes "b")) (Some (codes "-")) ≡ Err HasOneInput
-  pub input : native_or (codes "a") (Some (codes "b")) (Some (codes "-")) ≡ Ok (Some (codes "-"))
-  pub beside_input : native_or (codes "-") (Some (codes "b")) (Some (codes "n"))
-      ≡ Ok (Some (codes "n"))
-  pub same_file : native_or (codes "a") (Some (codes "b")) (Some (codes "a"))
-      ≡ Ok (Some (codes "a"))
+  pub one_input : native_or (codes "-") (Some (codes "-")) ≡ Err HasOneInput
+  pub input : native_or (codes "a") (Some (codes "-")) ≡ Ok (Some (codes "-"))
+  pub beside_input : native_or (codes "-") (Some (codes "n")) ≡ Ok (Some (codes "n"))
+  pub same_file : native_or (codes "a") (Some (codes "a")) ≡ Ok (Some (codes "a"))
   -- of two faults the first
   pub definition_first :
       task_of itself (Given Machine (codes "arm64ec") ∷ Given NativeDefinition [] ∷ [])
       ≡ Err LacksDefinition
-  pub output_first : ask (Given Output (codes "a") ∷ Given NativeDefinition [] ∷ [])
-      ≡ Err ReplacesDefinition
+  pub output_first : ask (Given Output (codes "-") ∷ Given NativeDefinition [] ∷ [])
+      ≡ Err GoesToStandard
   pub machine_first : ask_other (native ∷ Given Machine (codes "mips") ∷ [])
       ≡ Err (IsUnknownMachine (codes "mips"))
   pub flavor_first : ask_other (native ∷ Given FlavorSetting (codes "x") ∷ [])

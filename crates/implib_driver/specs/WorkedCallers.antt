@@ -27,7 +27,7 @@ use Rattle.implib_driver.specs.declared.identity.NotIdentified.TheVariants.{Seve
 use Rattle.implib_driver.specs.Identity.{fault_of, lines_unless, named_of}
 use Rattle.implib_driver.specs.Request.{Asked, AsksHelp, AsksIdentity, AsksVersion, GoesToStandard}
 use Rattle.implib_driver.specs.Request.{HasEmptyDll, HasEmptyOutput, HasNoOlderSymbols}
-use Rattle.implib_driver.specs.Request.{HasNoUnderscore, ReplacesDefinition, IsOtherArchitecture}
+use Rattle.implib_driver.specs.Request.{HasNoUnderscore, IsOtherArchitecture}
 use Rattle.implib_driver.specs.Request.{IsUnknownFlavor, IsUnknownMachine, LacksDefinition}
 use Rattle.implib_driver.specs.Request.{caller_of, default_flavor, flavor_in, machine_in, naming_in}
 use Rattle.implib_driver.specs.Request.{additions_in, older_symbols_in, task_of}
@@ -145,8 +145,6 @@ pub record FaultsOrdered : Type 0 where
   pub definition_first : task_of itself (Given Output (codes "-") ∷ []) ≡ Err LacksDefinition
   pub empty_output : task_of itself (given ∷ Given Output [] ∷ Given Machine (codes "mips") ∷ [])
       ≡ Err HasEmptyOutput
-  pub definition_replaced : task_of itself (given ∷ Given Output (codes "a") ∷ [])
-      ≡ Err ReplacesDefinition
   pub output_first : task_of itself
       (given ∷ Given Output (codes "-") ∷ Given Machine (codes "mips") ∷ []) ≡ Err GoesToStandard
   pub machine_first : task_of itself

@@ -22,9 +22,9 @@ use Rattle.implib_delay_library.specs.Libraries.{delayed_options, position_of_un
 use Rattle.implib_driver.specs.Program.{delay_lines, delay_status}
 use Rattle.implib_driver.specs.Reports.{Complains, OfUndelayed, Refuses}
 use Rattle.implib_driver.specs.Request.{AsksIdentity, Asks, DelaysForMicrosoft, GoesToStandard}
-use Rattle.implib_driver.specs.Request.{HasEmptyOutput, HasNoDelay, HasNoUnderscore, HasOneOutput}
-use Rattle.implib_driver.specs.Request.{IsUnknownMachine, LacksDefinition, ReplacesDefinition}
-use Rattle.implib_driver.specs.Request.{delay_for, delayed_in, task_of}
+use Rattle.implib_driver.specs.Request.{HasEmptyOutput, HasNoDelay, HasNoUnderscore}
+use Rattle.implib_driver.specs.Request.{IsUnknownMachine, LacksDefinition}
+use Rattle.implib_driver.specs.Request.{delay_for, task_of}
 use Rattle.implib_driver.specs.WorkedCalls.{itself}
 use Rattle.implib_rules.specs.declared.library.Refusal.TheVariants.{NoName, OutOfMemory}
 use Rattle.implib_rules.specs.Additions.{no_additions}
@@ -132,20 +132,10 @@ pub record DelaysAsked : Type 0 where
         older_symbols = false;
         is_verbose = false;
       }))
-  pub last_counts : delayed_in (codes "a") None (delayed ∷ Given DelayedOutput (codes "z") ∷ [])
-      ≡ Ok (Some (codes "z"))
-  pub none_given : delayed_in (codes "a") (Some (codes "b")) (given ∷ []) ≡ Ok None
-  pub beside : delayed_in (codes "a") (Some (codes "b")) (delayed ∷ []) ≡ Ok (Some (codes "y"))
-  -- files that it cannot go to, and one whose name only begins as the other library's
+  -- files that it cannot go to
   pub to_standard : task_of itself (given ∷ Given DelayedOutput (codes "-") ∷ [])
       ≡ Err GoesToStandard
   pub to_no_name : task_of itself (given ∷ Given DelayedOutput [] ∷ []) ≡ Err HasEmptyOutput
-  pub to_definition : task_of itself (given ∷ Given DelayedOutput (codes "a") ∷ [])
-      ≡ Err ReplacesDefinition
-  pub to_other_library : task_of itself (given ∷ Given Output (codes "y") ∷ delayed ∷ [])
-      ≡ Err HasOneOutput
-  pub near_other_library : delayed_in (codes "a") (Some (codes "yy")) (delayed ∷ [])
-      ≡ Ok (Some (codes "y"))
   -- what has no delayed imports: two machines, and Microsoft's linkers
   pub machines : map (λ machine. delay_for machine Gnu (Some (codes "y"))) (I386 ∷ ARMNT ∷ AMD64
       ∷ ARM64 ∷ [])

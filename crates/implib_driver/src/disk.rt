@@ -26,6 +26,14 @@ pub trait Disk {
         ensures same { OnOk result (view self.new ≡ view self.old) }
         ensures fault { OnErr result (view self.new ≡ failing (view self.old)) };
 
+    /// Whether two paths lead to one file, by whatever names and links; where there is no file yet,
+    /// to one place for it.
+    fn is_same(&mut self, alloc: Global, one: &str, other: &str) -> io::Result<bool>
+        ensures told { IfOk result (λ is. IfSome ((view self.old).same one.now other.now)
+            (λ known. is ≡ known)) }
+        ensures same { OnOk result (view self.new ≡ view self.old) }
+        ensures fault { OnErr result (view self.new ≡ failing (view self.old)) };
+
     /// The names of what is in a folder, in the order that the system has them in; without those
     /// that are not UTF-8.
     fn names(&mut self, alloc: Global, folder: &str) -> io::Result<Vec<String>>

@@ -2,12 +2,13 @@
 
 ghost use Rattle.implib.specs.Definition.{export_view};
 ghost use Rattle.implib_dll.specs.Views.{exports_view};
-ghost use Rattle.implib_driver.specs.Arguments.{occurrence_view};
+ghost use Rattle.implib_driver.specs.Arguments.{has_values, occurrence_view};
 ghost use Rattle.implib_driver.specs.Dll.{IsRefusalOfRequest, IsRequested, ReadsDll, dll_status};
 ghost use Rattle.implib_driver.specs.DllProgram.{FinishesBytes, FinishesDll, FinishesExports};
 ghost use Rattle.implib_driver.specs.DllProgram.{FinishesKinds, FinishesList, FinishesListed};
 ghost use Rattle.implib_driver.specs.DllProgram.{PutsMembers, SaysIf, call_status, complaint_of};
-ghost use Rattle.implib_driver.specs.DllProgram.{tells, undecorated_lines, undecorated_status};
+ghost use Rattle.implib_driver.specs.DllProgram.{is_renamed, tells, undecorated_lines};
+ghost use Rattle.implib_driver.specs.DllProgram.{undecorated_status};
 ghost use Rattle.implib_driver.specs.Reports.{Complains, OfDll, Says, complaint_view};
 ghost use Rattle.implib_driver.specs.Request.{request_for, request_view};
 ghost use Rattle.implib_from_dll.specs.Definition.{exports_of};
@@ -20,16 +21,18 @@ use crate::machine::LibraryMachine;
 use crate::options::Setting;
 use crate::placing::put;
 use crate::reporter::{Complaint, Reporter};
-use crate::request::{CallError, Caller, Request, request_in};
+use crate::request::{CallError, CallFault, Caller, Request, request_in};
 use crate::search::{Unsearched, search};
 use crate::stubs::has_failing_stub;
-use crate::telling::{conclude, refusal_status};
+use crate::telling::{complain, conclude, refusal_status};
 use implib::def::ShortExport;
 use implib_dll::Exports;
+use implib_dll_check::loader_name;
 use implib_dll_library::{NotDecorations, count_missing, decorate, decorations_in};
 use implib_from_dll::machine_of;
 use implib_rules::members::LibraryMembers;
-use std::alloc::Global;
+use implib_rules::name::last_part;
+use std::alloc::{AllocError, Global};
 use std::mem;
 
 // A call for a library: what is asked for, by these options of a caller.
@@ -305,10 +308,55 @@ fn answer_searching<D: Disk, T: Reporter>(
             reporter.complain(path.as_str(), Complaint::System(error));
             3
         }
+        Err(Unsearched::Taken) => {
+            let fault = CallFault::OutputIsSearched;
+            complain(reporter, request.definition, Complaint::Call(fault), 2)
+        }
         Err(Unsearched::OutOfMemory) => {
             refuse_dll(reporter, request.definition, DllRefusal::OutOfMemory)
         }
     }
+}
+
+// Whether the name of a DLL by its export directory is another than its file's.
+fn is_renamed(
+    alloc: Global,
+    exports: &Exports<'_>,
+    request: &Request<'_>,
+) -> Result<bool, AllocError>
+    ensures { IfOk result
+        (λ is. is ≡ is_renamed (request_view request.now) (exports_view exports.now)) }
+{
+    let path = request.definition;
+    if request.library.dll.is_some() || path == "-" || exports.dll.is_empty() {
+        return Ok(false);
+    }
+    let file = loader_name(alloc, last_part(path).as_bytes())?;
+    let own = loader_name(alloc, exports.dll)?;
+    Ok(file.as_slice() != own.as_slice())
+}
+
+// Puts the library of exports of a DLL that suits a request, and gives the exit status.
+fn answer_kinds<D: Disk, T: Reporter>(
+    alloc: Global,
+    bytes: &[u8],
+    exports: &Exports<'_>,
+    list: Vec<ShortExport>,
+    disk: &mut D,
+    request: &Request<'_>,
+    reporter: &mut T,
+) -> u8
+    requires room { (D.view disk.old).left ≡ None }
+    requires reads { ReadsDll bytes.now (exports_view exports.now) }
+    requires listed { map export_view list.items ≡ exports_of (exports_view exports.now) }
+    ensures { FinishesKinds (has_values (request_view request.now).search) D.is_known
+        (exports_view exports.now) (request_view request.now)
+        (D.view disk.old) (D.view disk.new) (T.said reporter.old) (T.said reporter.new) result }
+{
+    if is_given(request.options, Setting::Search) {
+        return answer_searching(alloc, bytes, exports, list, disk, request, reporter);
+    }
+    answer_listed(alloc, exports, list, disk, request, reporter)
 }
 
 // Puts the library of a DLL, and gives the exit status.
@@ -329,10 +377,12 @@ fn answer_exports<D: Disk, T: Reporter>(
         Ok(list) => list,
         Err(refusal) => return refuse_dll(reporter, request.definition, refusal),
     };
-    if is_given(request.options, Setting::Search) {
-        return answer_searching(alloc, bytes, exports, list, disk, request, reporter);
+    match is_renamed(alloc, exports, request) {
+        Ok(true) => reporter.complain(request.definition, Complaint::Renamed),
+        Ok(false) => {}
+        Err(_) => return refuse_dll(reporter, request.definition, DllRefusal::OutOfMemory),
     }
-    answer_listed(alloc, exports, list, disk, request, reporter)
+    answer_kinds(alloc, bytes, exports, list, disk, request, reporter)
 }
 
 // Puts the library of a DLL that is read, and gives the exit status.

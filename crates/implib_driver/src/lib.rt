@@ -6,6 +6,7 @@
 //! [`placing`] do that over a [`disk`] and a [`reporter`]; those of the system are the program's.
 #![tactic(auto)]
 
+mod apart;
 pub mod arguments;
 mod arm64ec;
 mod definition_program;

@@ -195,6 +195,12 @@ impl<'a> fmt::Display for CallFault<'a> {
             CallFault::OutputIsDefinition => {
                 f.write_str("the library would take the place of the definition")
             }
+            CallFault::OutputIsDecorations => f.write_str(
+                "the library would take the place of the file of --decorations",
+            ),
+            CallFault::OutputIsSearched => f.write_str(
+                "the library would take the place of a DLL in a folder of --search",
+            ),
             CallFault::OneOutput => {
                 f.write_str("-l and -y name one file; expected a file for each library")
             }
@@ -344,6 +350,18 @@ impl<'a> fmt::Display for Complaint<'a> {
             Complaint::Astray(count) => write!(
                 f,
                 "warning: {count} forwarders lead to nothing in the folders, and stay code"
+            ),
+            Complaint::Renamed => f.write_str(
+                "warning: its export directory has another name, by which programs will ask for \
+                 the DLL; -D gives the library the file's",
+            ),
+            Complaint::LeftOut(1, _) => f.write_str(
+                "warning: data cannot be delayed: this export is left out of the library of -y",
+            ),
+            Complaint::LeftOut(count, _) => write!(
+                f,
+                "warning: data cannot be delayed: {count} exports, this one first, are left out of \
+                 the library of -y"
             ),
             Complaint::Undelayed(why) => f.write_str(undelayed_text(why)),
             Complaint::Unimported(why) => write!(f, "{}", UnimportedMessage(why)),

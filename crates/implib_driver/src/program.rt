@@ -4,7 +4,7 @@ ghost use Rattle.implib_driver.specs.Arguments.{occurrence_view};
 ghost use Rattle.implib_driver.specs.Dll.{begins_dll};
 ghost use Rattle.implib_driver.specs.Identity.{identified};
 ghost use Rattle.implib_driver.specs.Program.{DoesWords, FinishesFor, FinishesRead, Identifies};
-ghost use Rattle.implib_driver.specs.Program.{IsUncalled, Makes, NamesDlls, OnlyComplains};
+ghost use Rattle.implib_driver.specs.Program.{IsUncalled, Makes, MakesApart, NamesDlls, OnlyComplains};
 ghost use Rattle.implib_driver.specs.Program.{Performs, Runs, devices, misuse, texts};
 ghost use Rattle.implib_driver.specs.Reports.{OfMemory};
 ghost use Rattle.implib_driver.specs.Request.{call_fault_view, request_for, request_view};
@@ -14,6 +14,7 @@ ghost use Rattle.std.specs.Prelude.{◌≡◌, ◌⊎◌, IfErr, IfOk, List, Non
 ghost use Rattle.std.specs.String.{string_bytes};
 ghost use Rattle.std.specs.Vec.Iter.{into_iter_items};
 
+use crate::apart::misplaced;
 use crate::arguments::{ReadWordsError, is_given};
 use crate::arm64ec::answer_arm64ec;
 use crate::definition_program::{answer_text, bytes_of};
@@ -116,6 +117,34 @@ fn make<D: Disk, I: Read, T: Reporter>(
     }
 }
 
+// Makes a library, unless it would take the place of a file that is read or of the other library,
+// and gives the exit status.
+fn make_apart<D: Disk, I: Read, T: Reporter>(
+    alloc: Global,
+    name: &str,
+    disk: &mut D,
+    call: &LibraryCall<'_>,
+    input: &mut I,
+    reporter: &mut T,
+) -> u8
+    requires { (D.view disk.old).left ≡ None }
+    ensures { (printed : Option (List ℕ)) → MakesApart D.is_known name.now
+        (request_for call.now.caller (map occurrence_view call.now.options.now))
+        (request_view call.now.request)
+        (devices (I.remaining input.old) (D.view disk.old) (T.said reporter.old))
+        (devices (I.remaining input.new) (D.view disk.new) (T.said reporter.new))
+        printed printed result }
+{
+    match misplaced(alloc, disk, &call.request) {
+        Ok(None) => make(alloc, disk, call, input, reporter),
+        Ok(Some(fault)) => complain(reporter, name, Complaint::Call(fault), 2),
+        Err(error) => {
+            reporter.complain(name, Complaint::System(error));
+            3
+        }
+    }
+}
+
 // Names the DLLs in a library's bytes, and gives the exit status.
 fn name_dlls<O: Write, T: Reporter>(
     alloc: Global,
@@ -209,7 +238,7 @@ fn perform_call<D: Disk, I: Read, O: Write, T: Reporter>(
                 options: options.as_slice(),
                 request,
             };
-            make(alloc, disk, &library, input, reporter)
+            make_apart(alloc, name, disk, &library, input, reporter)
         }
         Err(CallError::Refused(fault)) => complain(reporter, name, Complaint::Call(fault), 2),
         Err(CallError::OutOfMemory) => complain(reporter, name, Complaint::OutOfMemory, 3),

@@ -6,7 +6,7 @@ ghost use Rattle.implib_driver.specs.declared.options.Setting.TheVariants.{Input
 ghost use Rattle.implib_driver.specs.declared.request.CallFault.TheVariants.{TwoInputs};
 ghost use Rattle.implib_rules.specs.Additions.{additions_view};
 ghost use Rattle.implib_rules.specs.Linked.{naming_view};
-ghost use Rattle.implib_driver.specs.Request.{additions_in, arm64ec_in, is_output, native_or};
+ghost use Rattle.implib_driver.specs.Request.{additions_in, arm64ec_in, native_or};
 ghost use Rattle.implib_driver.specs.Request.{IsCallRefusal, architecture_named, call_fault_view};
 ghost use Rattle.implib_driver.specs.Request.{called_as};
 ghost use Rattle.implib_driver.specs.Request.{caller_of};
@@ -16,8 +16,8 @@ ghost use Rattle.implib_driver.specs.Request.{has_gnu_habits, holds_text, input_
 ghost use Rattle.implib_driver.specs.Request.{is_other_architecture};
 ghost use Rattle.implib_driver.specs.Request.{machine_in, machine_named, machine_of_architecture};
 ghost use Rattle.implib_driver.specs.Request.{machine_of_name};
-ghost use Rattle.implib_driver.specs.Request.{delay_for, delayed_apart, delayed_in, output_or};
-ghost use Rattle.implib_driver.specs.Request.{naming_in, older_symbols_in, output_in, request_in};
+ghost use Rattle.implib_driver.specs.Request.{delay_for, output_or};
+ghost use Rattle.implib_driver.specs.Request.{naming_in, older_symbols_in, request_in};
 ghost use Rattle.implib_driver.specs.Request.{request_view, wish_view};
 ghost use Rattle.implib_driver.specs.Request.{task_of, task_view, wanted_of};
 ghost use Rattle.std.specs.Option.{option_map, option_to_list};
@@ -113,9 +113,13 @@ pub enum CallFault<'a> {
     NoUnderscore,
     /// `--compat-implib` for Microsoft's linker, whose short imports cannot declare its symbols.
     NoOlderSymbols,
-    /// The library would take the definition's place.
+    /// A library would take the definition's or the DLL's place.
     OutputIsDefinition,
-    /// The library of delayed imports would take the other library's place.
+    /// A library would take the place of the file of symbols.
+    OutputIsDecorations,
+    /// A library would take the place of a DLL in a folder of `--search`.
+    OutputIsSearched,
+    /// Both libraries would be in one place.
     OneOutput,
     /// `--output-delaylib` for a machine without code for delayed imports.
     NoDelay,
@@ -131,7 +135,7 @@ pub enum CallFault<'a> {
     NativeElsewhere,
     /// The name of the native definition's file is empty.
     EmptyNative,
-    /// The library would take the native definition's place.
+    /// A library would take the native definition's place.
     OutputIsNative,
     /// Both definitions are standard input.
     OneInput,
@@ -397,104 +401,34 @@ fn dll_in<'a>(options: &[Occurrence<'a>]) -> Result<Option<&'a str>, CallFault<'
     Ok(Some(name))
 }
 
-// The file of a library, which is not the definition's.
-fn file_given<'a>(
-    given: Option<&'a str>,
-    definition: &str,
-) -> Result<Option<&'a str>, CallFault<'a>>
-    ensures ok { IfOk result (λ output.
-        output_or definition.now (option_map (λ text. text.now) given.entry)
+// The file of a library.
+fn output_given(given: Option<&str>) -> Result<Option<&str>, CallFault<'_>>
+    ensures ok { IfOk result (λ output. output_or (option_map (λ text. text.now) given.entry)
         ≡ Ok (option_map (λ text. text.now) output)) }
     ensures refused { IfErr result (λ fault.
-        output_or definition.now (option_map (λ text. text.now) given.entry)
-        ≡ Err (call_fault_view fault)) }
+        output_or (option_map (λ text. text.now) given.entry) ≡ Err (call_fault_view fault)) }
 {
     match given {
         Some("-") => Err(CallFault::OutputToStandard),
         Some("") => Err(CallFault::EmptyOutput),
-        Some(path) if path == definition => Err(CallFault::OutputIsDefinition),
         output => Ok(output),
     }
 }
 
-// The file of the library that the options give, which is not the definition's.
-fn output_in<'a>(
-    options: &[Occurrence<'a>],
-    definition: &str,
-) -> Result<Option<&'a str>, CallFault<'a>>
-    ensures ok { IfOk result (λ output. output_in definition.now (map occurrence_view options.now)
-        ≡ Ok (option_map (λ text. text.now) output)) }
-    ensures refused { IfErr result (λ fault.
-        output_in definition.now (map occurrence_view options.now) ≡ Err (call_fault_view fault)) }
-{
-    file_given(last_given(options, Setting::Output), definition)
-}
-
-// The file of a library of delayed imports, which is not the other library's.
-fn delayed_apart<'a>(
-    output: Option<&str>,
-    delayed: Option<&'a str>,
-) -> Result<Option<&'a str>, CallFault<'a>>
-    ensures ok { IfOk result (λ file. delayed_apart (option_map (λ text. text.now) output.entry)
-        (option_map (λ text. text.now) delayed.entry) ≡ Ok (option_map (λ text. text.now) file)) }
-    ensures refused { IfErr result (λ fault.
-        delayed_apart (option_map (λ text. text.now) output.entry)
-        (option_map (λ text. text.now) delayed.entry) ≡ Err (call_fault_view fault)) }
-{
-    let Some(path) = output else {
-        return Ok(delayed);
-    };
-    match delayed {
-        Some(other) if other == path => Err(CallFault::OneOutput),
-        _ => Ok(delayed),
-    }
-}
-
-// The file of the library of delayed imports that the options give.
-fn delayed_in<'a>(
-    options: &[Occurrence<'a>],
-    definition: &str,
-    output: Option<&str>,
-) -> Result<Option<&'a str>, CallFault<'a>>
-    ensures ok { IfOk result (λ file.
-        delayed_in definition.now (option_map (λ text. text.now) output.entry)
-        (map occurrence_view options.now) ≡ Ok (option_map (λ text. text.now) file)) }
-    ensures refused { IfErr result (λ fault.
-        delayed_in definition.now (option_map (λ text. text.now) output.entry)
-        (map occurrence_view options.now) ≡ Err (call_fault_view fault)) }
-{
-    let delayed = file_given(last_given(options, Setting::DelayedOutput), definition)?;
-    delayed_apart(output, delayed)
-}
-
-// Whether this is the file of the library.
-fn is_output(output: Option<&str>, path: &str) -> bool
-    ensures { result ≡ is_output (option_map (λ text. text.now) output.entry) path.now }
-{
-    match output {
-        Some(output) => path == output,
-        None => false,
-    }
-}
-
-// The file of the native definition, which is not the library's, and not standard input if the
-// definition is.
+// The file of the native definition, which is not standard input if the definition is.
 fn native_given<'a>(
     given: Option<&'a str>,
     definition: &str,
-    output: Option<&str>,
 ) -> Result<Option<&'a str>, CallFault<'a>>
     ensures ok { IfOk result (λ native. native_or definition.now
-        (option_map (λ text. text.now) output.entry) (option_map (λ text. text.now) given.entry)
+        (option_map (λ text. text.now) given.entry)
         ≡ Ok (option_map (λ text. text.now) native)) }
     ensures refused { IfErr result (λ fault. native_or definition.now
-        (option_map (λ text. text.now) output.entry) (option_map (λ text. text.now) given.entry)
-        ≡ Err (call_fault_view fault)) }
+        (option_map (λ text. text.now) given.entry) ≡ Err (call_fault_view fault)) }
 {
     match given {
         Some("") => Err(CallFault::EmptyNative),
         Some("-") if definition == "-" => Err(CallFault::OneInput),
-        Some(path) if is_output(output, path) => Err(CallFault::OutputIsNative),
         native => Ok(native),
     }
 }
@@ -505,14 +439,11 @@ fn arm64ec_in<'a>(
     machine: LibraryMachine,
     flavor: Flavor,
     definition: &str,
-    output: Option<&str>,
 ) -> Result<Option<Arm64ecWish<'a>>, CallFault<'a>>
     ensures ok { IfOk result (λ wish. arm64ec_in machine flavor definition.now
-        (option_map (λ text. text.now) output.entry) (map occurrence_view options.now)
-        ≡ Ok (option_map wish_view wish)) }
+        (map occurrence_view options.now) ≡ Ok (option_map wish_view wish)) }
     ensures refused { IfErr result (λ fault. arm64ec_in machine flavor definition.now
-        (option_map (λ text. text.now) output.entry) (map occurrence_view options.now)
-        ≡ Err (call_fault_view fault)) }
+        (map occurrence_view options.now) ≡ Err (call_fault_view fault)) }
 {
     let given = last_given(options, Setting::NativeDefinition);
     match machine {
@@ -521,7 +452,7 @@ fn arm64ec_in<'a>(
         LibraryMachine::Arm64ec => match flavor {
             Flavor::Gnu => Err(CallFault::Arm64ecForGnu),
             Flavor::Msvc => {
-                let native = native_given(given, definition, output)?;
+                let native = native_given(given, definition)?;
                 Ok(Some(Arm64ecWish { native }))
             }
         },
@@ -660,12 +591,12 @@ pub(crate) fn request_in<'a>(
     if definition.is_empty() {
         return Err(CallError::Refused(CallFault::EmptyDefinition));
     }
-    let output = output_in(options, definition)?;
-    let delayed = delayed_in(options, definition, output)?;
+    let output = output_given(last_given(options, Setting::Output))?;
+    let delayed = output_given(last_given(options, Setting::DelayedOutput))?;
     let named = machine_in(alloc, options, caller.machine)?;
     let machine = named.machine_type();
     let flavor = flavor_in(options, caller.called_as, machine, output)?;
-    let arm64ec = arm64ec_in(options, named, flavor, definition, output)?;
+    let arm64ec = arm64ec_in(options, named, flavor, definition)?;
     let dll = dll_in(options)?;
     let naming = naming_in(options, machine)?;
     test_delay(delayed, machine, flavor)?;
@@ -709,13 +640,13 @@ fn wanted_of(options: &[Occurrence<'_>]) -> Wanted
 /// # Errors
 ///
 /// What is wrong first: two files to make a library of; no definition, or one in a file without a
-/// name; the library, and then that of delayed imports, to standard output, to a file without a
-/// name or to the definition's; both to one file; an unknown machine, or none where the program's
-/// name is of another architecture; an unknown flavour; ARM64EC for GNU's linker, or a native
-/// definition for another machine, in a file without a name, twice from standard input, or in the
-/// library's file; an empty name of the DLL; an underscore where C's symbols have none; delayed
-/// imports for a machine without their code, or for Microsoft's linkers; older symbols for
-/// Microsoft's linker. `OutOfMemory` may come before those that follow the machine.
+/// name; the library, and then that of delayed imports, to standard output or to a file without a
+/// name; an unknown machine, or none where the program's name is of another architecture; an
+/// unknown flavour; ARM64EC for GNU's linker, or a native definition for another machine, in a file
+/// without a name, or twice from standard input; an empty name of the DLL; an underscore where C's
+/// symbols have none; delayed imports for a machine without their code, or for Microsoft's linkers;
+/// older symbols for Microsoft's linker. `OutOfMemory` may come before those that follow the
+/// machine.
 pub fn task_of<'a>(
     alloc: Global,
     options: &'a [Occurrence<'a>],

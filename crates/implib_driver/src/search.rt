@@ -8,16 +8,18 @@
 ghost use Rattle.implib.specs.Definition.{export_view};
 ghost use Rattle.implib_dll.specs.Exports.{Exports as SeenExports};
 ghost use Rattle.implib_dll.specs.Views.{exports_view};
-ghost use Rattle.implib_dll_check.specs.Folders.{AreKnown, IsRight, Listing, folder_view, listings};
-ghost use Rattle.implib_dll_check.specs.Folders.{loaded_view};
+ghost use Rattle.implib_dll_check.specs.Folders.{AreKnown, IsRight, Listing, dll_path, folder_view};
+ghost use Rattle.implib_dll_check.specs.Folders.{listings, loaded_view};
+ghost use Rattle.implib_driver.specs.Apart.{AreSame};
 ghost use Rattle.implib_driver.specs.Arguments.{has_values};
 ghost use Rattle.implib_driver.specs.Dll.{ReadsDll};
 ghost use Rattle.implib_driver.specs.Request.{request_view};
-ghost use Rattle.implib_driver.specs.Search.{AreFollowed, FailsToSearch, IsSearched};
+ghost use Rattle.implib_driver.specs.Search.{AreFollowed, FailsToSearch, IsSearched, TakesDll};
 ghost use Rattle.implib_driver.specs.Search.{beside_folders};
 ghost use Rattle.implib_driver.specs.Search.{own_names};
 ghost use Rattle.implib_driver.specs.declared.search.Unsearched.TheVariants.{OutOfMemory};
-ghost use Rattle.std.specs.Prelude.{◌≡◌, ℕ, All, IfErr, IfOk, List, OnOk, map};
+ghost use Rattle.std.specs.Option.{option_map};
+ghost use Rattle.std.specs.Prelude.{◌≡◌, ℕ, All, IfErr, IfOk, IfSome, List, None, OnOk, false, map, true};
 ghost use Rattle.std.specs.String.{string_bytes};
 
 use crate::arguments::all_given;
@@ -41,6 +43,8 @@ use std::io;
 pub enum Unsearched {
     /// This folder, or this file in one, could not be read.
     System(String, io::Error),
+    /// The library would take the place of a DLL that is read.
+    Taken,
     /// An allocation failed.
     OutOfMemory,
 }
@@ -91,7 +95,7 @@ fn folder_at<'a, D: Disk>(
         → AreKnown (D.view disk.old).listed names → folder_view folder
         ≡ (path.now, names path.now)) }
     ensures same { OnOk result (D.view disk.new ≡ D.view disk.old) }
-    ensures failed { IfErr result (FailsToSearch (D.view disk.old) (D.view disk.new)) }
+    ensures failed { IfErr result (FailsToSearch (D.view disk.old) (D.view disk.new) None) }
 {
     let own = String::from_str(alloc, path)?;
     match disk.names(alloc, path) {
@@ -110,7 +114,7 @@ fn folders_at<'a, D: Disk>(
         → AreKnown (D.view disk.old).listed names
         → map folder_view folders.items ≡ listings names (map (λ path. path.now) paths.now)) }
     ensures same { OnOk result (D.view disk.new ≡ D.view disk.old) }
-    ensures failed { IfErr result (FailsToSearch (D.view disk.old) (D.view disk.new)) }
+    ensures failed { IfErr result (FailsToSearch (D.view disk.old) (D.view disk.new) None) }
 {
     let mut folders = Vec::new(alloc);
     for path in paths {
@@ -119,22 +123,57 @@ fn folders_at<'a, D: Disk>(
     Ok(folders)
 }
 
-// The DLL of a loader's name.
+// Whether the library's file is that of a DLL in a folder.
+fn takes_dll<D: Disk>(
+    alloc: Global,
+    disk: &mut D,
+    output: Option<&str>,
+    path: &str,
+) -> Result<bool, Unsearched>
+    ensures leaves { IfOk result (λ takes. takes ≡ false → IfSome
+        (option_map (λ text. text.now) output.entry)
+        (λ file. AreSame (D.view disk.old) file path.now false)) }
+    ensures takes { IfOk result (λ takes. takes ≡ true → TakesDll (D.view disk.old)
+        (option_map (λ text. text.now) output.entry)) }
+    ensures same { OnOk result (D.view disk.new ≡ D.view disk.old) }
+    ensures failed { IfErr result (FailsToSearch (D.view disk.old) (D.view disk.new)
+        (option_map (λ text. text.now) output.entry)) }
+{
+    let Some(output) = output else {
+        return Ok(false);
+    };
+    let own = String::from_str(alloc, path)?;
+    match disk.is_same(alloc, output, path) {
+        Ok(is_same) => Ok(is_same),
+        Err(error) => Err(Unsearched::System(own, error)),
+    }
+}
+
+// The DLL of a loader's name, whose file is not the library's.
 fn load<D: Disk>(
     alloc: Global,
     disk: &mut D,
     folders: &[Folder<'_>],
+    output: Option<&str>,
     name: Vec<u8>,
 ) -> Result<Loaded, Unsearched>
+    ensures apart { IfOk result (λ loaded. IfSome
+        (dll_path (map folder_view folders.now) (loaded_view loaded).name) (λ path. IfSome
+        (option_map (λ text. text.now) output.entry)
+        (λ file. AreSame (D.view disk.old) file path false))) }
     ensures loaded { IfOk result (λ loaded. (file : List ℕ → List ℕ)
         → AreKnown (D.view disk.old).seen file
         → IsRight file (map folder_view folders.now) (loaded_view loaded)) }
     ensures same { OnOk result (D.view disk.new ≡ D.view disk.old) }
-    ensures failed { IfErr result (FailsToSearch (D.view disk.old) (D.view disk.new)) }
+    ensures failed { IfErr result (FailsToSearch (D.view disk.old) (D.view disk.new)
+        (option_map (λ text. text.now) output.entry)) }
 {
     let Some(path) = dll_path(alloc, folders, &name)? else {
         return Ok(Loaded { name, bytes: None });
     };
+    if takes_dll(alloc, disk, output, &path)? {
+        return Err(Unsearched::Taken);
+    }
     match disk.read(alloc, &path) {
         Ok(bytes) => Ok(Loaded {
             name,
@@ -154,6 +193,7 @@ fn load_once<D: Disk>(
     alloc: Global,
     disk: &mut D,
     folders: &[Folder<'_>],
+    output: Option<&str>,
     loaded: &mut Vec<Loaded>,
     name: Vec<u8>,
 ) -> Result<(), Unsearched>
@@ -161,12 +201,13 @@ fn load_once<D: Disk>(
         → All (IsRight file (map folder_view folders.now)) (map loaded_view loaded.old.items)
         → All (IsRight file (map folder_view folders.now)) (map loaded_view loaded.new.items)) }
     ensures same { OnOk result (D.view disk.new ≡ D.view disk.old) }
-    ensures failed { IfErr result (FailsToSearch (D.view disk.old) (D.view disk.new)) }
+    ensures failed { IfErr result (FailsToSearch (D.view disk.old) (D.view disk.new)
+        (option_map (λ text. text.now) output.entry)) }
 {
     if is_loaded(loaded, &name) {
         return Ok(());
     }
-    let next = load(alloc, disk, folders, name)?;
+    let next = load(alloc, disk, folders, output, name)?;
     loaded.push(next)?;
     Ok(())
 }
@@ -176,6 +217,7 @@ fn load_all<D: Disk>(
     alloc: Global,
     disk: &mut D,
     folders: &[Folder<'_>],
+    output: Option<&str>,
     loaded: &mut Vec<Loaded>,
     names: Vec<Vec<u8>>,
 ) -> Result<(), Unsearched>
@@ -183,10 +225,11 @@ fn load_all<D: Disk>(
         → All (IsRight file (map folder_view folders.now)) (map loaded_view loaded.old.items)
         → All (IsRight file (map folder_view folders.now)) (map loaded_view loaded.new.items)) }
     ensures same { OnOk result (D.view disk.new ≡ D.view disk.old) }
-    ensures failed { IfErr result (FailsToSearch (D.view disk.old) (D.view disk.new)) }
+    ensures failed { IfErr result (FailsToSearch (D.view disk.old) (D.view disk.new)
+        (option_map (λ text. text.now) output.entry)) }
 {
     for name in names {
-        load_once(alloc, disk, folders, loaded, name)?;
+        load_once(alloc, disk, folders, output, loaded, name)?;
     }
     Ok(())
 }
@@ -217,6 +260,7 @@ fn load_behind<D: Disk>(
     alloc: Global,
     disk: &mut D,
     folders: &[Folder<'_>],
+    output: Option<&str>,
     bytes: &[u8],
     names: &[Vec<u8>],
     list: &[ShortExport],
@@ -225,7 +269,8 @@ fn load_behind<D: Disk>(
         → AreKnown (D.view disk.old).seen file
         → All (IsRight file (map folder_view folders.now)) (map loaded_view loaded.items)) }
     ensures same { OnOk result (D.view disk.new ≡ D.view disk.old) }
-    ensures failed { IfErr result (FailsToSearch (D.view disk.old) (D.view disk.new)) }
+    ensures failed { IfErr result (FailsToSearch (D.view disk.old) (D.view disk.new)
+        (option_map (λ text. text.now) output.entry)) }
 {
     let mut loaded = Vec::new(alloc);
     let mut left = MOST_ROUNDS;
@@ -235,7 +280,7 @@ fn load_behind<D: Disk>(
         if wanted.is_empty() {
             break;
         }
-        load_all(alloc, disk, folders, &mut loaded, wanted)?;
+        load_all(alloc, disk, folders, output, &mut loaded, wanted)?;
     }
     Ok(loaded)
 }
@@ -291,7 +336,8 @@ fn mark_through<'x>(
 ///
 /// # Errors
 ///
-/// `System`: a folder, or the file of a DLL in one, could not be read; or an allocation failed.
+/// `System`: a folder, or the file of a DLL in one, could not be read. `Taken`: the library would
+/// take such a file's place. Or an allocation failed.
 pub fn search<D: Disk>(
     alloc: Global,
     disk: &mut D,
@@ -305,12 +351,14 @@ pub fn search<D: Disk>(
         (request_view request.now) (map export_view list.old.items)
         (map export_view list.new.items)) }
     ensures same { OnOk result (D.view disk.new ≡ D.view disk.old) }
-    ensures failed { IfErr result (FailsToSearch (D.view disk.old) (D.view disk.new)) }
+    ensures failed { IfErr result (FailsToSearch (D.view disk.old) (D.view disk.new)
+        (request_view request.now).output) }
 {
     let paths = all_given(alloc, request.options, Setting::Search)?;
     let folders = folders_at(alloc, disk, &paths)?;
     let names = own_names(alloc, exports, request)?;
-    let loaded = load_behind(alloc, disk, &folders, bytes, &names, list)?;
+    let output = request.output;
+    let loaded = load_behind(alloc, disk, &folders, output, bytes, &names, list)?;
     let astray = mark_through(alloc, bytes, &names, &loaded, list)?;
     Ok(astray)
 }

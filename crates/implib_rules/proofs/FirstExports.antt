@@ -29,7 +29,7 @@ first_where-push test (first ∷ items) item =
     push_first (test first) (test item) (first_where test items) (first_where test (items ++ item ∷ [])) (length items) (first_where-push test items item)
 
 -- one export more, by a test
-where_more : (test : ExportView → Bool) (items : List ShortExport) (index : ℕ) (d : ShortExport) → index < length items
+pub where_more : (test : ExportView → Bool) (items : List ShortExport) (index : ℕ) (d : ShortExport) → index < length items
     → option_or (first_where test (map export_view (take index items))) (if test (export_view (get_or items index d)) then Some index else None)
     ≡ first_where test (map export_view (take (index + 1) items))
 where_more test items index d within =

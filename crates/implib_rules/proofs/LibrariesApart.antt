@@ -12,6 +12,7 @@ use Rattle.md5.specs.Md5.{md5}
 use Rattle.md5.proofs.StandardFacts.{length-md5}
 use Rattle.implib.specs.declared.flavor.Flavor.{Flavor}
 use Rattle.implib.specs.declared.flavor.Flavor.TheVariants.{Msvc, Gnu}
+use Rattle.implib.specs.declared.machine.MachineType.{MachineType}
 use Rattle.implib.specs.Ascii.{underscore}
 use Rattle.implib.specs.Definition.{DefinitionView}
 use Rattle.implib.specs.Import.{is_empty_text}
@@ -22,8 +23,9 @@ use Rattle.implib.proofs.LibraryNames.{base_of_named}
 use Rattle.implib_rules.specs.Additions.{extended}
 use Rattle.implib_rules.specs.Library.{DefinitionFor}
 use Rattle.implib_rules.specs.LibraryLaws.{IsFoundByGnu}
-use Rattle.implib_rules.specs.LibraryName.{exports_taken, gnu_library_name, if_filled, library_name_for, with_library_name, without_ending}
+use Rattle.implib_rules.specs.LibraryName.{exports_taken, gnu_library_name, has_gnu_linker, if_filled, library_name_for, msvc_library_name, with_library_name, without_ending}
 use Rattle.implib_rules.specs.Linked.{linked}
+use Rattle.implib_rules.specs.Nameless.{asking_by_ordinal}
 use Rattle.implib_rules.specs.Names.{dll_name, is_program, own_name}
 use Rattle.implib_rules.specs.Repeats.{without_repeats}
 use Rattle.implib_rules.specs.Options.{LibraryOptionsView}
@@ -39,22 +41,23 @@ found_named d name named is = record {
 }
 
 -- a definition with the name of its library
-named_of : (flavor : Flavor) (d whole : DefinitionView) → flavor ≡ Msvc → whole ≡ with_library_name flavor d → is_empty_text (without_ending whole.import_name) ≡ false
+named_of : (machine : MachineType) (flavor : Flavor) (d whole : DefinitionView) → flavor ≡ Msvc → has_gnu_linker machine ≡ true → whole ≡ with_library_name machine flavor d → is_empty_text (without_ending whole.import_name) ≡ false
     → whole.library_name ≡ Some (without_ending whole.import_name)
-named_of flavor d whole msvc is text =
+named_of machine flavor d whole msvc links is text =
     let same : whole.import_name ≡ d.import_name = ap (λ (x : DefinitionView). x.import_name) is in
     ap (λ (x : DefinitionView). x.library_name) is
-    ∙ ap (λ f. library_name_for f d) msvc
+    ∙ ap (λ f. library_name_for machine f d) msvc
+    ∙ ap (λ b. if b then msvc_library_name d else None) links
     ∙ ap (λ name. if_filled (without_ending name)) (sym same)
     ∙ filled (without_ending whole.import_name) text
 
 -- GNU `ld` finds the library of a text
 pub found_of_text : (text : List ℕ) (options : LibraryOptionsView) (d : DefinitionView) → DefinitionFor text options d → options.flavor ≡ Msvc
-    → is_empty_text (without_ending d.import_name) ≡ false → IsFoundByGnu d
-found_of_text text options d meant msvc filled =
+    → has_gnu_linker options.machine ≡ true → is_empty_text (without_ending d.import_name) ≡ false → IsFoundByGnu d
+found_of_text text options d meant msvc links filled =
     let plain = record meant.parsed { import_name = dll_name options.dll (own_name meant.heard) (is_program meant.heard) } in
-    let before = linked options.machine options.naming options.flavor (without_repeats (extended options.machine options.naming options.additions plain)) in
-    found_named d (without_ending d.import_name) (named_of options.flavor before d msvc meant.is filled) refl
+    let before = linked options.machine options.naming options.flavor (asking_by_ordinal (without_repeats (extended options.machine options.naming options.additions plain))) in
+    found_named d (without_ending d.import_name) (named_of options.machine options.flavor before d msvc links meant.is filled) refl
 
 other : (b : Bool) (d : ℕ) → not b ≡ true → (if b then underscore else d) ≡ d
 other false d is = refl
@@ -90,9 +93,9 @@ sixteen d =
     length-encode_with lower_digits (take 8 (md5 message)) ∙ ap (λ n. 2 * n) eight
 
 -- what the names of its members begin with: the DLL's name, and then the digits
-prefix_of : (d : DefinitionView) → member_prefix (with_library_name Gnu d) ≡ mangled_name d.import_name ++ (0x5F ∷ (digits_of d ++ codes "_a_"))
+prefix_of : (machine : MachineType) (d : DefinitionView) → member_prefix (with_library_name machine Gnu d) ≡ mangled_name d.import_name ++ (0x5F ∷ (digits_of d ++ codes "_a_"))
 unfolding mangled_name gnu_library_name
-prefix_of d =
+prefix_of machine d =
     let dll = map without_full_stop d.import_name in
     ap (λ t. t ++ codes "_a_") (map-append without_full_stop d.import_name (0x5F ∷ digits_of d) ∙ ap (λ t. dll ++ (0x5F ∷ t)) (digits_kept (take 8 (md5 (exports_taken d.exports)))))
     ∙ append_assoc dll (0x5F ∷ digits_of d) (codes "_a_")
@@ -110,14 +113,14 @@ unfolding gnu_library_name
 named_by d = refl
 
 -- two libraries of one DLL have one name where what the members of one are named by begins the other's
-pub apart : (first second : DefinitionView) → first.import_name ≡ second.import_name → gnu_library_name first ≢ gnu_library_name second
-    → IsPrefixOf (member_prefix (with_library_name Gnu first)) (member_prefix (with_library_name Gnu second)) → ⊥
-apart first second dll other begins =
+pub apart : (machine : MachineType) (first second : DefinitionView) → first.import_name ≡ second.import_name → gnu_library_name first ≢ gnu_library_name second
+    → IsPrefixOf (member_prefix (with_library_name machine Gnu first)) (member_prefix (with_library_name machine Gnu second)) → ⊥
+apart machine first second dll other begins =
     let front = mangled_name first.import_name in
     let one = 0x5F ∷ (digits_of first ++ codes "_a_") in
     let two = 0x5F ∷ (digits_of second ++ codes "_a_") in
     let joined : front ++ two ≡ front ++ (one ++ begins.0) =
-    ap (λ n. mangled_name n ++ two) dll ∙ sym (prefix_of second) ∙ begins.1 ∙ ap (λ p. p ++ begins.0) (prefix_of first) ∙ append_assoc front one begins.0 in
+    ap (λ n. mangled_name n ++ two) dll ∙ sym (prefix_of machine second) ∙ begins.1 ∙ ap (λ p. p ++ begins.0) (prefix_of machine first) ∙ append_assoc front one begins.0 in
     let digits : digits_of second ++ codes "_a_" ≡ digits_of first ++ (codes "_a_" ++ begins.0) =
     ap after_first_of (append_cancel_left front two (one ++ begins.0) joined) ∙ append_assoc (digits_of first) (codes "_a_") begins.0 in
     let same : digits_of first ≡ digits_of second =

@@ -38,11 +38,11 @@ gets_one a word = not (begins_with at_sign word)
     && (a.underscore || (a.stdcall_underscore && list_any is_at_sign word))
 
 -- An export of a word that gets an underscore: as if it were written with the word that it asks for
--- then. Under `-k` the name is cut after that. What follows `==` is asked for as it is written.
+-- then, which under `-k` is cut before that. What follows `==` is asked for as it is written.
 abbrev pub underscored : MachineType → NamingView → AdditionsView → ExportView → ExportView
 underscored machine naming a e =
     if not (has_target e) && gets_one a (word_of e)
-    then record e { alias_target = word_asked machine naming (underscore ∷ word_of e) }
+    then record e { alias_target = underscore ∷ word_asked machine naming (word_of e) }
     else e
 
 -- The further export of one: its name is the prefix and then the symbol of the other, and it asks

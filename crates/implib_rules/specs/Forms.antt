@@ -20,6 +20,7 @@ use Rattle.implib_rules.specs.declared.form.Problem.TheVariants.{NoOrdinal, Seco
 use Rattle.implib_rules.specs.declared.plain.Part.{Part}
 use Rattle.implib_rules.specs.declared.plain.Part.TheVariants.{Between}
 use Rattle.implib_rules.specs.declared.plain.Reading.{Reading}
+use Rattle.implib_rules.specs.Linked.{is_at_sign}
 use Rattle.implib_rules.specs.Names.{is_identifier}
 use Rattle.implib_rules.specs.Plain.{after_all, beginning, step_of}
 use Rattle.implib_rules.specs.Warnings.{is_ordinal_like}
@@ -86,12 +87,19 @@ is_same_line text from to = not (list_any (λ b. b == 10) (drop from (take to te
 abbrev pub is_ordinal : Point → TokenView → Bool
 is_ordinal p t = is_identifier t.kind && (not p.after_sign && begins_with at_sign t.value)
 
+-- Whether a word behind an export in its line can be meant as an ordinal alone: it begins as one
+-- does, or with an `@` and has no other, so that it is no name of fastcall, as `@seven`.
+abbrev pub is_meant_as_ordinal : List ℕ → Bool
+is_meant_as_ordinal word =
+    is_ordinal_like word
+    || (begins_with at_sign word && not (list_any is_at_sign (drop 1 word)))
+
 -- What is wrong with a token, where the one before it is of an export: it is the name of another
--- one in the same line, which begins as an ordinal does, or a second ordinal.
+-- one in the same line, which can be meant as an ordinal alone, or a second ordinal.
 abbrev pub problem_at : List ℕ → Point → Role → TokenView → Option Problem
 problem_at text p Name t =
-    if p.in_export && (is_ordinal_like t.value && is_same_line text p.at t.at) then Some NoOrdinal
-    else None
+    if p.in_export && (is_meant_as_ordinal t.value && is_same_line text p.at t.at)
+    then Some NoOrdinal else None
 problem_at text p Other t =
     if p.in_export && (p.has_ordinal && is_ordinal p t) then Some SecondOrdinal else None
 

@@ -1,5 +1,5 @@
 -- The name that a library is given for the linker (docs/DECISIONS.md, "The name of a library").
-use Rattle.std.specs.Prelude.{ℕ, Bool, not, List, [], ◌∷◌, ◌++◌, Option, None, Some, ◌==◌}
+use Rattle.std.specs.Prelude.{ℕ, Bool, true, false, not, List, [], ◌∷◌, ◌++◌, Option, None, Some, ◌==◌}
 use Rattle.std.specs.Prelude.{if◌then◌else◌, take}
 use Rattle.std.specs.Int.{to_le_bytes, w16}
 use Rattle.std.specs.List.{before_last, filter, flat_map, list_any}
@@ -7,6 +7,8 @@ use Rattle.hex.specs.Hex.{encode_lower}
 use Rattle.md5.specs.Md5.{md5}
 use Rattle.implib.specs.declared.flavor.Flavor.{Flavor}
 use Rattle.implib.specs.declared.flavor.Flavor.TheVariants.{Msvc, Gnu}
+use Rattle.implib.specs.declared.machine.MachineType.{MachineType}
+use Rattle.implib.specs.declared.machine.MachineType.TheVariants.{I386, ARMNT, AMD64, ARM64}
 use Rattle.implib.specs.Definition.{DefinitionView, ExportView, given_name}
 use Rattle.implib.specs.Import.{is_empty_text}
 
@@ -57,11 +59,20 @@ if_filled text = if is_empty_text text then None else Some text
 abbrev pub msvc_library_name : DefinitionView → Option (List ℕ)
 msvc_library_name d = if_filled (without_ending d.import_name)
 
--- the name of a library in a flavour
-abbrev pub library_name_for : Flavor → DefinitionView → Option (List ℕ)
-library_name_for Msvc d = msvc_library_name d
-library_name_for Gnu d = Some (gnu_library_name d)
+-- whether GNU `ld` links for a machine: it reads no library for ARM64
+abbrev pub has_gnu_linker : MachineType → Bool
+has_gnu_linker I386 = true
+has_gnu_linker ARMNT = true
+has_gnu_linker AMD64 = true
+has_gnu_linker ARM64 = false
+
+-- the name of a library in a flavour; in Microsoft's it is for GNU `ld` alone, and where that links
+-- nothing the library is named after the whole name of the DLL, as llvm-dlltool does
+abbrev pub library_name_for : MachineType → Flavor → DefinitionView → Option (List ℕ)
+library_name_for machine Msvc d = if has_gnu_linker machine then msvc_library_name d else None
+library_name_for machine Gnu d = Some (gnu_library_name d)
 
 -- the definition with the name of its library
-abbrev pub with_library_name : Flavor → DefinitionView → DefinitionView
-with_library_name flavor d = record d { library_name = library_name_for flavor d }
+abbrev pub with_library_name : MachineType → Flavor → DefinitionView → DefinitionView
+with_library_name machine flavor d =
+    record d { library_name = library_name_for machine flavor d }

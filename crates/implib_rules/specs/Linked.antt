@@ -2,7 +2,8 @@
 -- llvm-dlltool (docs/DECISIONS.md). A word is one of the definition as it is written.
 use Rattle.std.specs.Prelude.{ℕ, ◌≡◌, ◌==◌, Bool, true, false, not, ◌&&◌, ◌||◌, List, [], ◌∷◌, ◌++◌}
 use Rattle.std.specs.Prelude.{Option, Some, None, if◌then◌else◌, bytes_eq, is_some, length, map}
-use Rattle.std.specs.Prelude.{nat_lt}
+use Rattle.std.specs.Prelude.{codes, drop, nat_eq, nat_lt, suc}
+use Rattle.std.specs.Char.{is_ascii_digit}
 use Rattle.std.specs.Option.{option_map, option_or}
 use Rattle.implib.specs.declared.flavor.Flavor.{Flavor}
 use Rattle.implib.specs.declared.flavor.Flavor.TheVariants.{Msvc, Gnu}
@@ -13,7 +14,8 @@ use Rattle.implib.specs.Formats.ShortImport.{before_at_sign, without_prefix}
 use Rattle.implib.specs.Import.{is_empty_text, name_asked}
 use Rattle.implib.specs.Machine.{has_leading_underscore}
 use Rattle.implib.specs.Renaming.{name_to_link}
-use Rattle.std.specs.List.{after_first, before_first, find, list_any, position_or_len}
+use Rattle.std.specs.List.{after_first, before_first, before_last, ends_with, find, list_all}
+use Rattle.std.specs.List.{list_any, position_or_len}
 use Rattle.implib_rules.specs.declared.linked.Naming.{Naming}
 
 -- how names are read on I386, and how a short import names what Microsoft's linker asks for
@@ -78,11 +80,29 @@ has_at_sign word = nat_lt (position_or_len is_at_sign word) (length word)
 abbrev pub killed_fastcall : List ℕ → List ℕ → List ℕ
 killed_fastcall behind word = if has_at_sign behind then before_first is_at_sign behind else word
 
+-- whether a text is digits, and has some
+abbrev pub is_number : List ℕ → Bool
+is_number text = not (length text == 0) && list_all is_ascii_digit text
+
+-- the text after the last `@`, of a word that has one
+abbrev pub after_last_at_sign : List ℕ → List ℕ
+after_last_at_sign word = drop (suc (length (before_last is_at_sign word))) word
+
+-- A name of C++ without the size of its arguments, which Wine's definitions have behind the names of
+-- functions as behind those of stdcall: without its last `@` and the digits after that, where what
+-- is left ends in Z, as C++'s names of functions do. For example, `??0X@@QAE@XZ@4` gives
+-- `??0X@@QAE@XZ`; `?x@@3HA` and `?x@8` stay.
+abbrev pub without_size : List ℕ → List ℕ
+without_size word =
+    if ends_with nat_eq (before_last is_at_sign word) (codes "Z")
+    && is_number (after_last_at_sign word)
+    then before_last is_at_sign word else word
+
 -- A word without its `@` and the number after it, and without the `@` of fastcall in front. For
--- example, `f@8` and `@f@8` give f, `_f@8` gives `_f`, and C++'s names stay.
+-- example, `f@8` and `@f@8` give f, `_f@8` gives `_f`, and C++'s names lose no more than a size.
 abbrev pub killed : List ℕ → List ℕ
 killed word =
-    if begins_with question_mark word then word
+    if begins_with question_mark word then without_size word
     else if not (has_at_sign word) then word
     else if length (before_first is_at_sign word) == 0
     then killed_fastcall (after_first is_at_sign word) word

@@ -3,7 +3,7 @@ use Rattle.std.specs.Prelude.{◌≡◌, ℕ, ◌==◌, ◌+◌, ◌-◌, ◌≤
 use Rattle.std.specs.Prelude.{◌∷◌, ◌++◌, Option, None, Some, codes, if◌then◌else◌, is_none, is_some}
 use Rattle.std.specs.Prelude.{length, nat_eq, nat_lt, slice_get, slice_index, take}
 use Rattle.std.specs.Char.{is_ascii_digit}
-use Rattle.std.specs.List.{after_first, before_first, list_all, list_any}
+use Rattle.std.specs.List.{after_first, before_first, list_any}
 use Rattle.std.specs.Option.{option_map}
 use Rattle.std.specs.Str.{IsUtf8, bytes_eq, str_eq_ignore_ascii_case}
 use Rattle.implib.specs.declared.def.position.Position.{Position}
@@ -25,7 +25,7 @@ use Rattle.implib_rules.specs.declared.warnings.words.Attribute.{Attribute}
 use Rattle.implib_rules.specs.declared.warnings.words.Attribute.TheVariants.{Data, Constant}
 use Rattle.implib_rules.specs.declared.warnings.words.Attribute.TheVariants.{Private, NoName}
 use Rattle.implib_rules.specs.Firsts.{first_declared, first_of_ordinal, first_of_word}
-use Rattle.implib_rules.specs.Linked.{NamingView, has_at_sign, is_at_sign, word_of}
+use Rattle.implib_rules.specs.Linked.{NamingView, has_at_sign, is_at_sign, is_number, word_of}
 use Rattle.implib_rules.specs.Places.{places_in}
 use Rattle.implib_rules.specs.Repeats.{repeats}
 use Rattle.implib_rules.specs.Options.{LibraryOptionsView}
@@ -58,10 +58,6 @@ lowered_attribute word = if is_attribute word then None else attribute_spelled w
 abbrev pub is_ordinal_like : List ℕ → Bool
 is_ordinal_like word =
     nat_lt 1 (length word) && slice_index word 0 == at_sign && is_ascii_digit (slice_index word 1)
-
--- whether a text is digits, and has some
-abbrev pub is_number : List ℕ → Bool
-is_number text = not (length text == 0) && list_all is_ascii_digit text
 
 -- Whether a word is a name of stdcall: a name that is not C++'s, one `@`, and digits. For example,
 -- `f@8` is one, and fastcall's `@f@8`, vectorcall's `f@@8` and C++'s `?f@8` are not.

@@ -47,6 +47,10 @@ pub record MalformedWorked : Type 0 where
       (opened ++ said Other KwData (codes "DATA") 10 ∷ said Name Identifier (codes "@65536") 15
       ∷ [])
       ≡ Some (record { problem = NoOrdinal; word = codes "@65536"; at = 15 })
+  -- `f @seven`, and `f @g@8`, which is an export
+  pub word : misplaced_in (codes "EXPORTS\nf @seven")
+      (opened ++ said Name Identifier (codes "@seven") 10 ∷ [])
+      ≡ Some (record { problem = NoOrdinal; word = codes "@seven"; at = 10 })
   pub fastcall : misplaced_in (codes "EXPORTS\nf @g@8")
       (opened ++ said Name Identifier (codes "@g@8") 10 ∷ []) ≡ None
   pub first_name : misplaced_in (codes "EXPORTS @65536")

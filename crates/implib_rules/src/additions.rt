@@ -58,9 +58,8 @@ fn underscore(
     if !export.alias_target.is_empty() || !gets_one(additions, word_of(export).as_bytes()) {
         return Ok(());
     }
-    let mut word = String::from_str(alloc, "_")?;
-    word.push_str(word_of(export))?;
-    let asked = String::from_str(alloc, word_asked(machine, naming, word.as_str()))?;
+    let mut asked = String::from_str(alloc, "_")?;
+    asked.push_str(word_asked(machine, naming, word_of(export)))?;
     export.alias_target = asked;
     Ok(())
 }

@@ -5,7 +5,8 @@ ghost use Rattle.implib.specs.Text.Token.{token_view};
 ghost use Rattle.implib.specs.Fault.{cause_of};
 ghost use Rattle.implib_rules.specs.Forms.{begins_statement, cause_of_problem, is_between};
 ghost use Rattle.implib_rules.specs.Forms.{is_in_quotes, is_open, is_ordinal, is_quote_closed};
-ghost use Rattle.implib_rules.specs.Forms.{is_same_line, is_sign, open_quote, point_after};
+ghost use Rattle.implib_rules.specs.Forms.{is_meant_as_ordinal, is_same_line, is_sign, open_quote};
+ghost use Rattle.implib_rules.specs.Forms.{point_after};
 ghost use Rattle.implib_rules.specs.Forms.{problem_at};
 ghost use Rattle.implib_rules.specs.Forms.{unformed};
 ghost use Rattle.implib_rules.specs.Plain.{after_all};
@@ -13,6 +14,7 @@ ghost use Rattle.implib_rules.specs.Heard.{formed_view, misplaced_view};
 ghost use Rattle.std.specs.Option.{option_map};
 ghost use Rattle.std.specs.Prelude.{◌≡◌, ◌-◌, IfOk, None, Some, drop, length, take, take_while};
 
+use crate::linked::has_at_sign;
 use crate::name::{FirstHeading, is_identifier};
 use crate::plain::{BEGINNING, Part, Reading, step_of};
 use crate::warnings::words::is_ordinal_like;
@@ -163,6 +165,19 @@ fn is_ordinal(point: Point, token: Token<'_>) -> bool
     is_identifier(token.kind) && !point.after_sign && token.value.as_bytes().first() == Some(&b'@')
 }
 
+// Whether a word behind an export in its line can be meant as an ordinal alone.
+fn is_meant_as_ordinal(word: &str) -> bool
+    ensures { result ≡ is_meant_as_ordinal word.now }
+{
+    if is_ordinal_like(word) {
+        return true;
+    }
+    match word.as_bytes() {
+        [b'@', rest @ ..] => !has_at_sign(rest),
+        _ => false,
+    }
+}
+
 // What is wrong with a token.
 fn problem_at(text: &[u8], point: Point, role: Role, token: Token<'_>) -> Option<Problem>
     ensures { result ≡ problem_at text.now point role (token_view token.entry) }
@@ -170,7 +185,7 @@ fn problem_at(text: &[u8], point: Point, role: Role, token: Token<'_>) -> Option
     let is_wrong = match role {
         Role::Name => {
             point.in_export
-                && is_ordinal_like(token.value)
+                && is_meant_as_ordinal(token.value)
                 && is_same_line(text, point.at, token.at)
         }
         Role::Other => point.in_export && point.has_ordinal && is_ordinal(point, token),

@@ -3,7 +3,8 @@
 ghost use Rattle.implib.specs.Definition.{definition_view, export_view, given_name};
 ghost use Rattle.implib.specs.LibraryName.{linked_dll};
 ghost use Rattle.implib_rules.specs.LibraryName.{export_taken, exports_taken, flag_taken};
-ghost use Rattle.implib_rules.specs.LibraryName.{gnu_library_name, library_name_for};
+ghost use Rattle.implib_rules.specs.LibraryName.{gnu_library_name, has_gnu_linker};
+ghost use Rattle.implib_rules.specs.LibraryName.{library_name_for};
 ghost use Rattle.implib_rules.specs.LibraryName.{msvc_library_name, numbers_taken, text_taken};
 ghost use Rattle.implib_rules.specs.LibraryName.{without_ending};
 ghost use Rattle.md5.specs.Md5.{Holds, md5};
@@ -11,8 +12,8 @@ ghost use Rattle.std.specs.Option.{option_map};
 ghost use Rattle.std.specs.Prelude.{◌≡◌, ◌++◌, ℕ, IfOk, List, map};
 ghost use Rattle.std.specs.String.{string_bytes};
 
-use implib::Flavor;
 use implib::def::{ModuleDef, ShortExport};
+use implib::{Flavor, MachineType};
 use md5::{Digest, Md5};
 use std::alloc::{AllocError, Global};
 
@@ -113,20 +114,33 @@ fn msvc_library_name(alloc: Global, def: &ModuleDef) -> Result<Option<String>, A
     Ok(Some(String::from_str(alloc, base)?))
 }
 
-/// The name that the library of a definition gets for the linker of a flavour, if it gets one.
+// Whether GNU `ld` links for a machine.
+fn has_gnu_linker(machine: MachineType) -> bool
+    ensures { result ≡ has_gnu_linker machine }
+{
+    match machine {
+        MachineType::I386 | MachineType::ARMNT | MachineType::AMD64 => true,
+        MachineType::ARM64 => false,
+    }
+}
+
+/// The name that the library of a definition gets for the linker of a flavour, if it gets one. In
+/// Microsoft's it is for GNU `ld`, and there is none for ARM64, for which that links nothing.
 ///
 /// # Errors
 ///
 /// An allocation failed.
 pub fn library_name_for(
     alloc: Global,
+    machine: MachineType,
     flavor: Flavor,
     def: &ModuleDef,
 ) -> Result<Option<String>, AllocError>
-    ensures { IfOk result
-        (λ name. option_map string_bytes name ≡ library_name_for flavor (definition_view def.now)) }
+    ensures { IfOk result (λ name. option_map string_bytes name
+        ≡ library_name_for machine flavor (definition_view def.now)) }
 {
     match flavor {
+        Flavor::Msvc if !has_gnu_linker(machine) => Ok(None),
         Flavor::Msvc => msvc_library_name(alloc, def),
         Flavor::Gnu => Ok(Some(gnu_library_name(alloc, def)?)),
     }

@@ -3,13 +3,15 @@
 ghost use Rattle.implib.specs.Definition.{export_view};
 ghost use Rattle.implib_rules.specs.Linked.{asked_of, asks_apart, has_two_at_signs, is_at_sign};
 ghost use Rattle.implib_rules.specs.Linked.{keeps_word};
-ghost use Rattle.implib_rules.specs.Linked.{is_apart, is_named_import, killed, linked_alias};
+ghost use Rattle.implib_rules.specs.Linked.{is_apart, is_named_import, is_number, killed};
+ghost use Rattle.implib_rules.specs.Linked.{linked_alias, without_size};
 ghost use Rattle.implib_rules.specs.Linked.{linked_import, linked_to, makes};
 ghost use Rattle.implib_rules.specs.Linked.{name_given, naming_view, symbol_linked, symbol_of};
 ghost use Rattle.implib_rules.specs.Linked.{word_asked, word_of};
 ghost use Rattle.implib_rules.specs.Views.{first_symbol, is_linked, linked_by};
 ghost use Rattle.std.specs.Prelude.{◌==◌, ◌≡◌, IfOk, OnOk, drop, map, option_map};
-ghost use Rattle.std.specs.List.{list_any};
+ghost use Rattle.std.specs.Char.{is_ascii_digit};
+ghost use Rattle.std.specs.List.{before_last, list_all, list_any};
 ghost use Rattle.std.specs.String.{string_bytes};
 
 use implib::MachineType;
@@ -89,12 +91,57 @@ pub fn symbol_of(
     Ok(symbol)
 }
 
+// Whether bytes are digits alone.
+fn are_digits(bytes: &[u8]) -> bool
+    ensures { result ≡ list_all is_ascii_digit bytes.now }
+{
+    bytes.iter().all(|byte| byte.is_ascii_digit())
+}
+
+// Whether a text is digits, and has some.
+pub(crate) fn is_number(text: &[u8]) -> bool
+    ensures { result ≡ is_number text.now }
+{
+    !text.is_empty() && are_digits(text)
+}
+
+// The text before the last `@` of a word; nothing where it has none.
+fn before_last_at_sign(word: &str) -> &str
+    ensures { result.now ≡ before_last is_at_sign word.now }
+{
+    match word.rfind('@') {
+        Some(end) => &word[..end],
+        None => "",
+    }
+}
+
+// A text from an offset on.
+fn from_offset(text: &[u8], from: usize) -> &[u8]
+    ensures { result.now ≡ drop from text.now }
+{
+    &text[from.min(text.len())..]
+}
+
+// A name of C++ without the size of its arguments behind it.
+fn without_size(word: &str) -> &str
+    ensures { result.now ≡ without_size word.now }
+{
+    let front = before_last_at_sign(word);
+    if front.as_bytes().ends_with(b"Z")
+        && is_number(from_offset(word.as_bytes(), front.len() + 1))
+    {
+        front
+    } else {
+        word
+    }
+}
+
 // A word without its `@` and the number after it, and without the `@` of fastcall in front.
 fn killed(word: &str) -> &str
     ensures { result.now ≡ killed word.now }
 {
     if word.as_bytes().first() == Some(&b'?') {
-        return word;
+        return without_size(word);
     }
     let Some((front, rest)) = word.split_once('@') else {
         return word;

@@ -1,11 +1,11 @@
 //! Words that may be meant for something else than they are.
 
-ghost use Rattle.implib_rules.specs.Warnings.{attribute_spelled, is_attribute, is_number};
+ghost use Rattle.implib_rules.specs.Warnings.{attribute_spelled, is_attribute};
 ghost use Rattle.implib_rules.specs.Warnings.{is_ordinal_like, is_stdcall_word};
 ghost use Rattle.implib_rules.specs.Warnings.{lowered_attribute};
-ghost use Rattle.std.specs.Char.{is_ascii_digit};
-ghost use Rattle.std.specs.List.{list_all};
 ghost use Rattle.std.specs.Prelude.{◌≡◌};
+
+use crate::linked::is_number;
 
 /// An attribute of an export.
 #[derive(Clone, Copy, Debug, PartialEq, Eq)]
@@ -67,20 +67,6 @@ pub fn is_ordinal_like(word: &str) -> bool
     bytes.len() > 1 && bytes[0] == b'@' && bytes[1].is_ascii_digit()
 }
 
-// Whether bytes are digits alone.
-fn are_digits(bytes: &[u8]) -> bool
-    ensures { result ≡ list_all is_ascii_digit bytes.now }
-{
-    bytes.iter().all(|byte| byte.is_ascii_digit())
-}
-
-// Whether a text is digits, and has some.
-fn is_number(text: &str) -> bool
-    ensures { result ≡ is_number text.now }
-{
-    !text.is_empty() && are_digits(text.as_bytes())
-}
-
 /// Whether a word is a name of stdcall: `name@8`, of C and not C++.
 pub fn is_stdcall_word(word: &str) -> bool
     ensures { result ≡ is_stdcall_word word.now }
@@ -89,7 +75,7 @@ pub fn is_stdcall_word(word: &str) -> bool
         return false;
     }
     match word.split_once('@') {
-        Some((name, number)) => !name.is_empty() && is_number(number),
+        Some((name, number)) => !name.is_empty() && is_number(number.as_bytes()),
         None => false,
     }
 }

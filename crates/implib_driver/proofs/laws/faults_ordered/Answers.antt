@@ -20,7 +20,6 @@ worked = record {
   no_library = refl;
   definition_first = refl;
   empty_output = refl;
-  definition_replaced = refl;
   output_first = refl;
   machine_first = refl;
   flavor_first = refl;

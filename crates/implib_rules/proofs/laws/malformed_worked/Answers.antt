@@ -19,6 +19,7 @@ worked = record {
   in_hexadecimal = refl;
   next_line = refl;
   after_attribute = refl;
+  word = refl;
   fastcall = refl;
   first_name = refl;
   twice = refl;
