@@ -48,7 +48,7 @@ without_data d = record d { exports = map left_out d.exports }
 
 -- how many exports are left out, and where the first of them begins
 abbrev pub AreLeftOut : List ℕ → DefinitionView → Option LeftOut → Type 0
-AreLeftOut text d None = count_by is_undelayable d.exports ≡ 0
+AreLeftOut text d None = first_where is_undelayable d.exports ≡ None
 AreLeftOut text d (Some found) =
     (found.count ≡ count_by is_undelayable d.exports)
     × ((index : ℕ) × ((first_where is_undelayable d.exports ≡ Some index)

@@ -10,6 +10,7 @@ ghost use Rattle.implib_delay.specs.Refusal.{delay_cause};
 ghost use Rattle.implib_rules.specs.Options.{library_options_view};
 ghost use Rattle.implib.specs.Definition.{definition_view, export_view};
 ghost use Rattle.implib_delay_library.specs.Libraries.{AreLeftOut, is_undelayable, left_out};
+ghost use Rattle.implib_delay_library.specs.Libraries.{without_data};
 ghost use Rattle.implib_rules.specs.Firsts.{first_where};
 ghost use Rattle.std.specs.Prelude.{◌≡◌, IfErr, IfOk, None, OnOk, count_by, map};
 
@@ -177,6 +178,14 @@ fn leave_out_data(exports: &mut Vec<ShortExport>)
     }
 }
 
+// A definition without its data.
+fn without_data(mut def: ModuleDef) -> ModuleDef
+    ensures { definition_view result ≡ without_data (definition_view def) }
+{
+    leave_out_data(&mut def.exports);
+    def
+}
+
 // What is left out of the exports of a text's definition.
 fn left_out_of(alloc: Global, text: &str, def: &ModuleDef) -> Result<Option<LeftOut>, AllocError>
     ensures { IfOk result (AreLeftOut text.now (definition_view def.now)) }
@@ -216,10 +225,9 @@ pub fn delayed_members_for(
         Ok(text) => text,
         Err(position) => return Err(DelayRefusal::Refused(Refusal::NotUtf8(position))),
     };
-    let mut def = definition_for(alloc, text, &delayed_options(options))?;
+    let def = definition_for(alloc, text, &delayed_options(options))?;
     let left_out = left_out_of(alloc, text, &def)?;
-    leave_out_data(&mut def.exports);
-    match delayed_members(def, options.machine) {
+    match delayed_members(without_data(def), options.machine) {
         Ok(members) => Ok(DelayedImports { members, left_out }),
         Err(DelayError::Invalid(fault)) => Err(refusal_placed(alloc, text, fault)),
         Err(DelayError::OutOfMemory(_)) => Err(DelayRefusal::Refused(Refusal::OutOfMemory)),
