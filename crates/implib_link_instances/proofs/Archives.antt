@@ -1,11 +1,7 @@
 -- The same, computed.
-pub mod WorkedLibraries
-pub mod WorkedSearches
-pub mod WorkedWay
-pub mod WorkedLldWay
-pub mod WorkedBothWay
-pub mod NearMisses
-pub mod NearBothWay
-pub mod Following
-pub mod Files
 pub mod FileLines
+pub mod Files
+pub mod WorkedBothWay
+pub mod WorkedLibraries
+pub mod WorkedLldWay
+pub mod WorkedSearches

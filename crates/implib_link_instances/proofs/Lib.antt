@@ -1,3 +1,2 @@
-pub mod Worked
 pub mod Archives
-pub mod Machines
+pub mod Worked

@@ -1,11 +1,10 @@
 -- The command lines of files, by computing and by the laws.
-use Rattle.std.proofs.Common.{◌≡◌, ◌⊎◌, ℕ, List, [], ◌∷◌, ◌++◌, Option, None, Some, codes, length, refl, sym, ap, subst, ◌∙◌, inl, inr, arith}
-use Rattle.std.specs.Prelude.{bytes_eq, drop, slice_get, slice_index}
+use Rattle.std.proofs.Common.{◌≡◌, List, [], ◌∷◌, ◌++◌, codes, refl, sym, ap, subst, ◌∙◌, inl, inr}
+use Rattle.std.specs.Prelude.{bytes_eq, drop, slice_get}
 use Rattle.std.specs.List.{IsDistinct, flat_map}
 use Rattle.implib.specs.declared.machine.MachineType.TheVariants.{AMD64, I386}
 use Rattle.implib.specs.Definition.{empty_definition}
 use Rattle.implib.specs.Formats.Object.{Object}
-use Rattle.implib.specs.Members.MemberSpec.{MemberView}
 use Rattle.implib.specs.Members.MsvcObjects.{null_descriptor_symbol}
 use Rattle.implib.proofs.Link.Ranges.{Among}
 use Rattle.implib_archive_link.specs.Files.{members_in_files, members_read}
@@ -14,23 +13,19 @@ use Rattle.implib_archive_link.specs.LldWay.{AreCalledAlike}
 use Rattle.implib_archive_link.proofs.LldFiles.{files_lead_to_lld}
 use Rattle.implib_link.specs.Search.Archives.{Library}
 use Rattle.implib_link.specs.Search.BothFlavors.{FlavorLibrary, archive_of_both, msvc_among}
-use Rattle.implib_link.specs.Search.Closed.{PullsIntoAs, listed_in}
-use Rattle.implib_link.specs.Search.CommandLines.{AnObject, Archives, AreFirst, AreListedWhole, AreTakenBehind, AreUnclaimedBehind, HaveAll, LldSearches, LldSearchesFrom, SearchesFlavors, names_left}
+use Rattle.implib_link.specs.Search.Closed.{listed_in}
+use Rattle.implib_link.specs.Search.CommandLines.{AreListedWhole, AreTakenBehind, AreUnclaimedBehind, HaveAll, LldSearches, LldSearchesFrom, SearchesFlavors, names_left}
 use Rattle.implib_link.specs.Search.MsvcArchives.{IsMsvcArchive, symbols_of_shorts}
-use Rattle.implib_link.specs.Search.Sweeps.{members_at}
 use Rattle.implib_link.proofs.Search.CommandLines.{are_first_of_distinct, lld_members}
-use Rattle.implib_link.proofs.Search.Lists.{among_either, any_among, contains_among}
-use Rattle.implib.proofs.Link.LinkedMembers.{among_contains}
-use Rattle.implib_link_instances.specs.Archives.FileLines.{NearSearchesByLld, WorkedFileLine, WorkedFileLines, amd64_files, i386_files, lld_taken, other_first, other_quit, shorts_first, with_more_listed, with_other}
+use Rattle.implib_link.proofs.Search.Lists.{contains_among}
+use Rattle.implib_link_instances.specs.Archives.FileLines.{WorkedFileLine, WorkedFileLines, amd64_files, i386_files, lld_taken, shorts_first}
 use Rattle.implib_link_instances.specs.Archives.Files.{i386_libquit, libquit}
-use Rattle.implib_link_instances.specs.Worked.CommandLines.{i386_wants_bytes, inputs_of, is_quit, quitting, read_or_none, wants_bytes}
+use Rattle.implib_link_instances.specs.Worked.CommandLines.{i386_wants_bytes, is_quit, read_or_none, wants_bytes}
 use Rattle.implib_link_instances.specs.Worked.FlavorLines.{amd64_kernels, amd64_shorts, i386_kernels, i386_shorts, shorts_grouped, shorts_last, shorts_taken}
 use Rattle.implib_link_instances.proofs.Archives.Files.{i386_kernel, kernel, worked_files}
-use Rattle.implib_link_instances.proofs.Worked.CommandLines.{ended_by, first_byte, member_or_none, none_there, pulls_by, whole_at}
+use Rattle.implib_link_instances.proofs.Worked.CommandLines.{ended_by, member_or_none, none_there, pulls_by, whole_at}
 use Rattle.implib_link_instances.proofs.Worked.FlavorLines.{worked_flavor_lines}
-use Rattle.implib_link_instances.proofs.Worked.NearSearches.{none_in, searched}
-use Rattle.implib_link_instances.proofs.Worked.RefusedLinks.{differ}
-use Rattle.std.proofs.lemmas.Bool.{true≢false}
+use Rattle.implib_link_instances.proofs.Worked.NearSearches.{searched}
 use Rattle.implib_link_instances.proofs.Worked.Programs.{distinct_by}
 
 -- one library alone is called like itself
@@ -243,197 +238,3 @@ i386_line =
 
 pub worked_file_lines : WorkedFileLines
 worked_file_lines = record { amd64 = line; i386 = i386_line }
-
--- Near misses.
-
-abbrev first_of_name : MemberView → ℕ
-first_of_name m = first_byte m.name
-
--- the first byte of the time of a member's object
-abbrev time_of_option : Option MemberView → ℕ
-time_of_option None = 0
-time_of_option (Some m) = slice_index m.bytes 4
-
-not_more : Among (codes "more") (codes "quit" ∷ []) → ⊥
-unfolding Among
-not_more (inl is) = differ 109 113 (ap first_byte is) (omega arith)
-not_more (inr none) = absurd none
-
-not_of_kernel : Among (member_or_none (slice_get amd64_shorts 4)) (archive_of_both amd64_kernels) → ⊥
-unfolding searched Among
-not_of_kernel (inl is) = differ 107 113 (sym (ap first_of_name is)) (omega arith)
-not_of_kernel (inr (inl is)) = differ 107 113 (sym (ap first_of_name is)) (omega arith)
-not_of_kernel (inr (inr (inl is))) = differ 107 113 (sym (ap first_of_name is)) (omega arith)
-not_of_kernel (inr (inr (inr (inl is)))) = differ 107 113 (sym (ap first_of_name is)) (omega arith)
-not_of_kernel (inr (inr (inr (inr none)))) = absurd none
-
--- the second member of `quit` in front: it is taken, and for it the short import
-
-other_by_lld : LldSearches (read_by_lld AMD64) with_other other_first (members_at with_other (3 ∷ 5 ∷ []))
-unfolding searched read_by_lld AreTakenBehind LldSearchesFrom
-other_by_lld = (
-  [],
-  record { more = []; taken = refl; in_turn = tt; ended = ended_by (read_by_lld AMD64) [] own [] refl },
-  (
-    other_quit ∷ [],
-    record {
-      more = other_quit ∷ [];
-      taken = refl;
-      in_turn = ((codes "quit", pulls_by (read_by_lld AMD64) (other_quit ∷ []) own [] (codes "quit") other_quit refl refl refl), tt);
-      ended = ended_by (read_by_lld AMD64) (other_quit ∷ []) own (other_quit ∷ []) refl;
-    },
-    (
-      members_at with_other (3 ∷ 5 ∷ []),
-      record {
-        more = members_at with_other (3 ∷ []);
-        taken = refl;
-        in_turn = ((codes "ExitProcess", pulls_by (read_by_lld AMD64) (other_quit ∷ archive_of_both amd64_kernels) own (other_quit ∷ []) (codes "ExitProcess") (member_or_none (slice_get amd64_shorts 3)) refl refl refl), tt);
-        ended = ended_by (read_by_lld AMD64) (other_quit ∷ archive_of_both amd64_kernels) own (members_at with_other (3 ∷ 5 ∷ [])) refl;
-      },
-      (
-        members_at with_other (3 ∷ 5 ∷ []),
-        record { more = []; taken = refl; in_turn = tt; ended = ended_by (read_by_lld AMD64) (other_quit ∷ amd64_shorts) own (members_at with_other (3 ∷ 5 ∷ [])) refl },
-        refl,
-      ),
-    ),
-  ),
-)
-
-other_whole : AreListedWhole (read_by_lld AMD64) with_other
-unfolding searched read_by_lld
-other_whole = (
-  whole_at (read_by_lld AMD64) (member_or_none (slice_get with_other 0)) refl,
-  (
-    whole_at (read_by_lld AMD64) (member_or_none (slice_get with_other 1)) refl,
-    (
-      whole_at (read_by_lld AMD64) (member_or_none (slice_get with_other 2)) refl,
-      (
-        whole_at (read_by_lld AMD64) (member_or_none (slice_get with_other 3)) refl,
-        (whole_at (read_by_lld AMD64) (member_or_none (slice_get with_other 4)) refl, (whole_at (read_by_lld AMD64) (member_or_none (slice_get with_other 5)) refl, tt)),
-      ),
-    ),
-  ),
-)
-
-last_in_front : (m : MemberView) → Among m amd64_shorts ⊎ Among m (other_quit ∷ []) → Among m (other_quit ∷ amd64_shorts)
-unfolding Among
-last_in_front m (inl first) = inr first
-last_in_front m (inr (inl is)) = inl is
-last_in_front m (inr (inr none)) = absurd none
-
-all_other : HaveAll with_other other_first
-unfolding searched
-all_other m held = among_contains m (other_quit ∷ amd64_shorts) (last_in_front m (among_either m amd64_shorts (other_quit ∷ []) (contains_among m with_other held)))
-
--- an object behind the archives, for which nothing more is taken
-
-quitting_by_lld : LldSearches (read_by_lld AMD64) amd64_shorts (shorts_first own ++ AnObject quitting ∷ []) (lld_taken amd64_shorts)
-unfolding searched read_by_lld AreTakenBehind LldSearchesFrom by_lld
-quitting_by_lld = (
-  by_lld.0,
-  by_lld.1,
-  (
-    by_lld.2.0,
-    by_lld.2.1,
-    (
-      lld_taken amd64_shorts,
-      by_lld.2.2.1,
-      (
-        lld_taken amd64_shorts,
-        record { more = []; taken = refl; in_turn = tt; ended = ended_by (read_by_lld AMD64) amd64_shorts (own ++ quitting ∷ []) (lld_taken amd64_shorts) refl },
-        refl,
-      ),
-    ),
-  ),
-)
-
--- without the archive nothing is taken
-
-nothing_by_lld : LldSearches (read_by_lld AMD64) amd64_shorts (inputs_of own ++ Archives ((0 ∷ 1 ∷ 2 ∷ 3 ∷ []) ∷ []) ∷ []) []
-unfolding searched read_by_lld AreTakenBehind LldSearchesFrom
-nothing_by_lld = (
-  [],
-  record { more = []; taken = refl; in_turn = tt; ended = ended_by (read_by_lld AMD64) [] own [] refl },
-  ([], record { more = []; taken = refl; in_turn = tt; ended = ended_by (read_by_lld AMD64) (archive_of_both amd64_kernels) own [] refl }, refl),
-)
-
--- the member that is listed for a name more is taken as the other one is
-
-more_by_lld : LldSearches (read_by_lld AMD64) with_more_listed (shorts_first own) (lld_taken with_more_listed)
-unfolding searched read_by_lld AreTakenBehind LldSearchesFrom
-more_by_lld = (
-  [],
-  record { more = []; taken = refl; in_turn = tt; ended = ended_by (read_by_lld AMD64) [] own [] refl },
-  (
-    [],
-    record { more = []; taken = refl; in_turn = tt; ended = ended_by (read_by_lld AMD64) (archive_of_both amd64_kernels) own [] refl },
-    (
-      lld_taken with_more_listed,
-      record {
-        more = lld_taken with_more_listed;
-        taken = refl;
-        in_turn = (
-          (codes "ExitProcess", pulls_by (read_by_lld AMD64) with_more_listed own (drop 1 (lld_taken with_more_listed)) (codes "ExitProcess") (member_or_none (slice_get with_more_listed 3)) refl refl refl),
-          ((codes "quit", pulls_by (read_by_lld AMD64) with_more_listed own [] (codes "quit") (member_or_none (slice_get with_more_listed 4)) refl refl refl), tt),
-        );
-        ended = ended_by (read_by_lld AMD64) with_more_listed own (lld_taken with_more_listed) refl;
-      },
-      refl,
-    ),
-  ),
-)
-
-more_distinct : IsDistinct bytes_eq (listed_in with_more_listed)
-unfolding searched
-more_distinct = distinct_by (listed_in with_more_listed) refl
-
-more_first : AreFirst with_more_listed (names_left (read_by_lld AMD64) own (lld_taken with_more_listed)) (lld_taken with_more_listed)
-more_first =
-    are_first_of_distinct with_more_listed (names_left (read_by_lld AMD64) own (lld_taken with_more_listed)) (lld_taken with_more_listed) more_distinct
-    (lld_members (read_by_lld AMD64) with_more_listed [] [] (shorts_first own) [] (lld_taken with_more_listed) more_by_lld (none_there with_more_listed))
-
-quitting_first : AreFirst amd64_shorts (names_left (read_by_lld AMD64) (own ++ quitting ∷ []) (lld_taken amd64_shorts)) (lld_taken amd64_shorts)
-quitting_first =
-    are_first_of_distinct amd64_shorts (names_left (read_by_lld AMD64) (own ++ quitting ∷ []) (lld_taken amd64_shorts)) (lld_taken amd64_shorts) lld_distinct
-    (lld_members (read_by_lld AMD64) amd64_shorts [] [] (shorts_first own) [] (lld_taken amd64_shorts) by_lld (none_there amd64_shorts))
-
-pub near_searches_by_lld : NearSearchesByLld
-unfolding searched read_by_lld AreTakenBehind LldSearchesFrom AreUnclaimedBehind Among
-near_searches_by_lld = record {
-  libraries_are = (
-    record { libraries_are = tt; first = searches_by_lld.first; unclaimed = lld_unclaimed; all = all; whole = lld_whole; searches = by_lld },
-    λ x. differ 0 4 (sym (ap length x.libraries_are)) (omega arith),
-  );
-  first = (
-    record { libraries_are = refl; first = tt; unclaimed = ((tt, tt), (tt, (tt, (tt, tt)))); all = all_other; whole = other_whole; searches = other_by_lld },
-    λ x.
-        let named : List (List ℕ) = names_left (read_by_lld AMD64) own (members_at with_other (3 ∷ 5 ∷ [])) in
-        let is = x.first (codes "quit") other_quit (among_contains (codes "quit") named (any_among (codes "quit") named refl))
-        (among_contains other_quit (members_at with_other (3 ∷ 5 ∷ [])) (inr (inl refl))) (among_contains (codes "quit") (codes "quit" ∷ []) (inl refl)) in
-        differ 0 1 (ap time_of_option is) (omega arith),
-  );
-  unclaimed = (
-    record { libraries_are = refl; first = quitting_first; unclaimed = tt; all = λ m held. held; whole = lld_whole; searches = quitting_by_lld },
-    λ x. true≢false x.unclaimed.1.1.1.0.0.1.1.1.1.1.0,
-  );
-  all = (
-    record { libraries_are = refl; first = λ name m named held listed. absurd (none_in m held); unclaimed = ((tt, tt), (tt, tt)); all = tt; whole = lld_whole; searches = nothing_by_lld },
-    λ x.
-        not_of_kernel (contains_among (member_or_none (slice_get amd64_shorts 4)) (archive_of_both amd64_kernels)
-        (x.all (member_or_none (slice_get amd64_shorts 4)) (among_contains (member_or_none (slice_get amd64_shorts 4)) amd64_shorts (inr (inr (inr (inr (inl refl)))))))),
-  );
-  whole = (
-    record { libraries_are = refl; first = more_first; unclaimed = ((tt, tt), (tt, (tt, tt))); all = λ m held. held; whole = tt; searches = more_by_lld },
-    λ x.
-        not_more (contains_among (codes "more") (codes "quit" ∷ []) ((x.whole.1.1.1.1.0 (codes "more")).1 (among_contains (codes "more") (codes "quit" ∷ codes "more" ∷ []) (inr (inl refl))))),
-  );
-  searches = (
-    record { libraries_are = refl; first = λ name m named held listed. absurd (none_in m held); unclaimed = lld_unclaimed; all = all; whole = lld_whole; searches = tt },
-    λ x.
-        let closed = x.searches.2.2.1 in
-        let none : x.searches.2.2.0 ≡ [] = x.searches.2.2.2 in
-        closed.ended (codes "quit") (member_or_none (slice_get amd64_shorts 4))
-        (subst (λ taken. PullsIntoAs (read_by_lld AMD64) amd64_shorts own taken (codes "quit") (member_or_none (slice_get amd64_shorts 4))) (sym none)
-        (pulls_by (read_by_lld AMD64) amd64_shorts own [] (codes "quit") (member_or_none (slice_get amd64_shorts 4)) refl refl refl)),
-  );
-}

@@ -1,17 +1,15 @@
 -- The archives that were read by hand, by computing.
-use Rattle.std.proofs.Common.{◌≡◌, ℕ, List, [], ◌∷◌, Option, None, Some, refl, ap, sym, ◌∙◌, arith}
+use Rattle.std.proofs.Common.{[], ◌∷◌, refl}
 use Rattle.implib_archive.specs.Leads.{headers_among, headers_in, with_header}
 use Rattle.implib_archive.specs.Reader.{data_at, first_in, linker_data, linker_in, long_name, long_name_at, long_names_in, long_names_or, member_at, name_in, number_in, numbers_in, paired, read_as, stored_at, stored_from, stored_in, texts_in, trimmed}
 use Rattle.implib_archive_link.specs.Files.{entries_by, entries_in, member_after, members_read_as, symbols_at}
-use Rattle.implib.specs.Members.MemberSpec.{MemberView}
 use Rattle.implib.specs.Worked.Digits.{bytes_of_digits}
 use Rattle.implib_archive.specs.declared.kind.Kind.TheVariants.{Coff}
 use Rattle.implib_archive_link.specs.Files.{HasMembersAs}
 use Rattle.implib_link.specs.Search.BothFlavors.{archive_of_both}
-use Rattle.implib_link_instances.specs.Archives.Files.{NearHasMembersAs, WorkedFiles, i386_kernel_lib, kernel_lib, two_members}
+use Rattle.implib_link_instances.specs.Archives.Files.{WorkedFiles, i386_kernel_lib, kernel_lib}
 use Rattle.implib_link_instances.specs.Worked.FlavorLines.{amd64_kernels, i386_kernels}
 use Rattle.implib_link_instances.proofs.Worked.NearSearches.{searched}
-use Rattle.implib_link_instances.proofs.Worked.RefusedLinks.{differ}
 
 -- what the computing has to open
 unfoldable opened_files : Unit {0}
@@ -34,34 +32,3 @@ worked_files = record {
   coff = kernel;
   i386_coff = i386_kernel;
 }
-
-abbrev first_byte : List ℕ → ℕ
-first_byte [] = 0
-first_byte (byte ∷ bytes) = byte
-
-abbrev first_of_names : List MemberView → ℕ
-first_of_names [] = 0
-first_of_names (m ∷ members) = first_byte m.name
-
-abbrev first_byte_of : List (List ℕ × ℕ) → ℕ
-first_byte_of [] = 0
-first_byte_of (e ∷ entries) = first_byte e.0
-
-pub near_has_members : NearHasMembersAs
-unfolding opened_files
-near_has_members = record {
-  located = (record { headers = []; located = tt; read = refl; ordered = refl }, λ has. nowhere has.headers has.located);
-  read = (record { headers = 82 ∷ []; located = refl; read = tt; ordered = refl }, λ has. differ 111 113 (sym (ap first_of_names has.read)) (omega arith));
-  ordered = (
-    record { headers = 84 ∷ 146 ∷ []; located = refl; read = refl; ordered = tt },
-    λ has.
-        let same : has.headers ≡ 84 ∷ 146 ∷ [] = sym (these (84 ∷ 146 ∷ []) has.headers has.located) in
-        differ 120 121 (sym (ap first_byte_of (has.ordered ∙ ap (λ headers. entries_by headers two_members) same))) (omega arith),
-  );
-}
-  where
-    nowhere : (headers : List ℕ) → ◌≡◌ {A = Option (List ℕ)} None (Some headers) → ⊥
-    nowhere headers is = cc
-
-    these : (xs ys : List ℕ) → ◌≡◌ {A = Option (List ℕ)} (Some xs) (Some ys) → xs ≡ ys
-    these xs ys is = cc

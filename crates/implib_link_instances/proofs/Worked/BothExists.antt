@@ -1,26 +1,16 @@
 -- That there are closed programs of both flavours of what was linked by hand, by computing and by the law.
-use Rattle.std.proofs.Common.{ℕ, ◌≡◌, ◌^◌, ◌<◌, List, [], ◌∷◌, refl, sym, arith}
-use Rattle.std.specs.Prelude.{not}
-use Rattle.std.specs.List.{filter}
-use Rattle.std.proofs.lemmas.Bool.{true≢false}
+use Rattle.std.proofs.Common.{ℕ, ◌≡◌, ◌^◌, ◌<◌, [], ◌∷◌, refl, arith}
 use Rattle.implib.specs.declared.machine.MachineType.TheVariants.{AMD64}
-use Rattle.implib.specs.Formats.Object.{Object}
 use Rattle.implib.specs.Link.Placement.{next_multiple}
-use Rattle.implib.proofs.Link.LinkedMembers.{among_contains}
-use Rattle.implib.proofs.Link.Ranges.{among_first}
-use Rattle.implib_link.specs.Flavors.Program.{objects_taken}
 use Rattle.implib_link.specs.Gnu.Packed.{group_end, packed, packed_end, sections_end}
-use Rattle.implib_link.specs.Gnu.Program.{has_tables, null_descriptor}
+use Rattle.implib_link.specs.Gnu.Program.{null_descriptor}
 use Rattle.implib_link.specs.Search.BothExists.{HasClosedForBoth, objects_closed_of_both, tables_end_of_both}
-use Rattle.implib_link.specs.Search.BothFlavors.{AreGivenForBoth, IsClosedForBoth, kept_of_both}
-use Rattle.implib_link.specs.Search.MsvcArchives.{weak_in}
+use Rattle.implib_link.specs.Search.BothFlavors.{AreGivenForBoth, kept_of_both}
 use Rattle.implib_link_instances.specs.Worked.BothExists.{WorkedBothExists, WorkedReversedExists}
 use Rattle.implib_link_instances.specs.Worked.BothFlavors.{foo_and_zed, mixed_objects, mixed_taken, zed_and_foo}
 use Rattle.implib_link_instances.specs.Worked.BothReversed.{reversed_objects}
 use Rattle.implib_link_instances.specs.Worked.Closed.{choosing}
 use Rattle.implib_link.proofs.Search.BothExists.{both_exists, placed_closed, placed_within}
-use Rattle.implib_link.proofs.Search.Lists.{passing}
-use Rattle.implib_link.proofs.Search.Lists.{contains_among}
 use Rattle.implib_link_instances.proofs.Worked.BothFlavors.{worked_both, worked_given_for_both}
 use Rattle.implib_link_instances.proofs.Worked.BothReversed.{worked_reversed}
 use Rattle.implib_link_instances.proofs.Worked.NearSearches.{searched}
@@ -29,19 +19,12 @@ use Rattle.implib_link_instances.proofs.Worked.Programs.{claims_none_by, opened}
 above_zero : 0 < 0x2000
 above_zero = omega arith
 
-above : (n m : ℕ) → n ≡ m → 2 ^ 31 < m → n < 2 ^ 31 → ⊥
-above n m same over below = omega arith
-
 none_below : (n : ℕ) → n ≡ 0 → 0 < n → ⊥
 none_below n is over = omega arith
 
 room : tables_end_of_both 0x2000 foo_and_zed ≡ 0x218E
 unfolding opened
 room = refl
-
-far : tables_end_of_both 0x7FFF_FF00 foo_and_zed ≡ 0x8000_008E
-unfolding opened
-far = refl
 
 room_below : tables_end_of_both 0x2000 foo_and_zed < 2 ^ 31
 room_below = (let is = room in omega arith)
@@ -50,26 +33,9 @@ end : packed_end 0x2000 mixed_objects ≡ 0x20A4
 unfolding searched group_end sections_end
 end = refl
 
-no_room : tables_end_of_both 0x7FFF_FF00 foo_and_zed < 2 ^ 31 → ⊥
-no_room below = (let is = far in omega arith)
-
-too_far : IsClosedForBoth AMD64 foo_and_zed (choosing ∷ []) mixed_taken zed_and_foo (packed 0x7FFF_FFF8 mixed_objects) mixed_objects → ⊥
-unfolding searched group_end sections_end
-too_far is = above 0x8000_0020 0x8000_0020 refl (omega arith) is.admissible.ends.0
-
 at_zero : HasClosedForBoth AMD64 foo_and_zed (choosing ∷ []) 0 → ⊥
 unfolding next_multiple
 at_zero has = none_below (packed 0 (objects_closed_of_both AMD64 foo_and_zed (choosing ∷ []) has.0)).descriptors refl has.1.admissible.descriptors.0
-
--- an object with tables is not among those without
-tables_given : HasClosedForBoth AMD64 foo_and_zed (null_descriptor ∷ []) 0x2000 → ⊥
-unfolding has_tables
-tables_given has =
-    let objects : List Object = objects_closed_of_both AMD64 foo_and_zed (null_descriptor ∷ []) has.0 in
-    let held = (has.1.closed.others null_descriptor).1
-    (among_contains null_descriptor (null_descriptor ∷ objects_taken AMD64 (weak_in AMD64 has.0)) (among_first null_descriptor (objects_taken AMD64 (weak_in AMD64 has.0)))) in
-    let none = passing (λ o. not (has_tables o)) null_descriptor objects (contains_among null_descriptor (filter (λ o. not (has_tables o)) objects) held) in
-    true≢false (sym none.1)
 
 pub worked_both_exists : WorkedBothExists
 unfolding searched group_end sections_end
@@ -81,9 +47,6 @@ worked_both_exists = record {
   within = placed_within AMD64 foo_and_zed (choosing ∷ []) mixed_taken zed_and_foo 0x2000 mixed_objects worked_both.archive worked_both.closed.closed above_zero room_below;
   exists = both_exists AMD64 foo_and_zed (choosing ∷ []) 0x2000 worked_both.archive worked_given_for_both.given (refl, tt) worked_given_for_both.wants above_zero room_below;
   at_zero = at_zero;
-  no_room = no_room;
-  too_far = too_far;
-  tables_given = tables_given;
 }
 
 -- The other order.
@@ -92,26 +55,12 @@ reversed_room : tables_end_of_both 0x71000 zed_and_foo ≡ 0x7118E
 unfolding opened
 reversed_room = refl
 
-last_room : tables_end_of_both 0x7FFF_FE71 zed_and_foo ≡ 0x7FFF_FFFF
-unfolding opened
-last_room = refl
-
-reversed_far : tables_end_of_both 0x7FFF_FE72 zed_and_foo ≡ 0x8000_0000
-unfolding opened
-reversed_far = refl
-
 reversed_end : packed_end 0x71000 reversed_objects ≡ 0x710A4
 unfolding searched group_end sections_end
 reversed_end = refl
 
 reversed_below : tables_end_of_both 0x71000 zed_and_foo < 2 ^ 31
 reversed_below = (let is = reversed_room in omega arith)
-
-last_below : tables_end_of_both 0x7FFF_FE71 zed_and_foo < 2 ^ 31
-last_below = (let is = last_room in omega arith)
-
-none_behind : tables_end_of_both 0x7FFF_FE72 zed_and_foo < 2 ^ 31 → ⊥
-none_behind below = (let is = reversed_far in omega arith)
 
 reversed_given : AreGivenForBoth AMD64 zed_and_foo (choosing ∷ [])
 unfolding searched
@@ -128,6 +77,4 @@ worked_reversed_exists = record {
   closed = placed_closed AMD64 zed_and_foo (choosing ∷ []) mixed_taken foo_and_zed 0x71000 reversed_objects worked_reversed.archive worked_reversed.closed.closed (omega arith) reversed_below;
   within = placed_within AMD64 zed_and_foo (choosing ∷ []) mixed_taken foo_and_zed 0x71000 reversed_objects worked_reversed.archive worked_reversed.closed.closed (omega arith) reversed_below;
   exists = both_exists AMD64 zed_and_foo (choosing ∷ []) 0x71000 worked_reversed.archive reversed_given (refl, tt) (omega arith) (omega arith) reversed_below;
-  last = both_exists AMD64 zed_and_foo (choosing ∷ []) 0x7FFF_FE71 worked_reversed.archive reversed_given (refl, tt) (omega arith) (omega arith) last_below;
-  no_room = none_behind;
 }

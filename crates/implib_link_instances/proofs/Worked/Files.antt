@@ -2,7 +2,7 @@
 use Rattle.std.proofs.Common.{◌≡◌, Bool, true, List, [], ◌∷◌, ◌++◌, refl, arith}
 use Rattle.std.specs.List.{AllByRecursion, list_all}
 use Rattle.std.proofs.lemmas.Bool.{and_parts}
-use Rattle.implib.specs.declared.machine.MachineType.TheVariants.{I386, AMD64, ARM64}
+use Rattle.implib.specs.declared.machine.MachineType.TheVariants.{I386, AMD64}
 use Rattle.implib.specs.Link.Image.{Range}
 use Rattle.implib.specs.Link.Load.{BytesAt}
 use Rattle.implib_dll.specs.Bytes.{bytes_at, u16_at, u32_at}
@@ -19,8 +19,8 @@ use Rattle.implib_link_instances.specs.Worked.LldPrograms.{addresses_on, lld_ima
 use Rattle.implib_link_instances.specs.Worked.Stored.{holding_codes, holding_placed}
 use Rattle.implib_link.proofs.TablesOfPrograms.{lld_tables}
 use Rattle.implib_link_instances.proofs.Worked.Lld.{lld_opened}
-use Rattle.implib_link_instances.proofs.Worked.RefusedLinks.{are_located, is_each_located}
-use Rattle.implib_link_instances.proofs.Worked.Stored.{amd64_beside, amd64_further, amd64_program, arm64_beside, arm64_further, arm64_program, i386_beside, i386_further, i386_program}
+use Rattle.implib_link_instances.proofs.Worked.Stored.{amd64_beside, amd64_further, amd64_program, i386_beside, i386_further, i386_program}
+use Rattle.implib_link_instances.proofs.Worked.Lemmas.{are_located, is_each_located}
 
 -- what the computing has to open
 unfoldable pub file_opened : Unit {0}
@@ -59,22 +59,10 @@ amd64_file : WorkedFile AMD64 0x2068 0x28
 unfolding lld_opened file_opened
 amd64_file = record { is = amd64_is; beside = amd64_beside; further = amd64_further; tables = amd64_tables; addresses = refl; inside = ((omega arith, omega arith), ((omega arith, omega arith), tt)); exact = refl }
 
-pub arm64_is : IsFileOf ARM64 0x2000 (lld_image_on ARM64 ++ ranges_of_codes (holding_codes ARM64)) (file_on ARM64) (mapped_on ARM64)
-unfolding lld_opened file_opened
-arm64_is = record { mapped = refl; made_for = refl; width = refl; directory = refl; holds = holds_by (mapped_on ARM64).image (lld_image_on ARM64 ++ ranges_of_codes (holding_codes ARM64)) refl }
-
-arm64_tables : AreTables ARM64 (tables_in ARM64)
-arm64_tables = lld_tables ARM64 0x2000 (addresses_on ARM64) (shorts_on ARM64) (lld_image_on ARM64) (holding_placed ARM64) arm64_program
-
-arm64_file : WorkedFile ARM64 0x2068 0x28
-unfolding lld_opened file_opened
-arm64_file = record { is = arm64_is; beside = arm64_beside; further = arm64_further; tables = arm64_tables; addresses = refl; inside = ((omega arith, omega arith), ((omega arith, omega arith), tt)); exact = refl }
-
 pub worked_files : WorkedFiles
 unfolding file_opened
 worked_files = record {
   i386 = i386_file;
   amd64 = amd64_file;
-  arm64 = arm64_file;
   gnu = record { mapped = refl; made_for = refl; width = refl; directory = refl; holds = holds_by gnu_mapped.image (record { start = 0x3000; bytes = gnu_idata } ∷ []) refl };
 }

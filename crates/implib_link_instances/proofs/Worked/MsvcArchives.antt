@@ -1,6 +1,6 @@
 -- The searches of two libraries for Microsoft's linker by hand, by computing and by the law.
-use Rattle.std.proofs.Common.{ℕ, List, [], ◌∷◌, ◌++◌, refl, codes}
-use Rattle.std.specs.List.{IsDistinct, flat_map}
+use Rattle.std.proofs.Common.{ℕ, List, [], ◌∷◌, refl, codes}
+use Rattle.std.specs.List.{flat_map}
 use Rattle.implib.specs.declared.machine.MachineType.TheVariants.{AMD64}
 use Rattle.implib.specs.Formats.Layout.{encoded_size}
 use Rattle.implib.specs.Formats.ShortImport.{short_import_in}
@@ -16,19 +16,12 @@ use Rattle.implib_link.specs.Search.Msvc.{TakesFor}
 use Rattle.implib_link.specs.Search.MsvcArchives.{IsMsvcArchive, NamesNoHeaderOf, is_weak_in, symbols_of_shorts, wanted_with_weak}
 use Rattle.implib_link.specs.Search.Search.{undefined_in, left_as, claimed_as, AreTakenInTurnAs}
 use Rattle.implib_link_instances.specs.Worked.Archives.{both_wanted}
-use Rattle.implib_link_instances.specs.Worked.MsvcArchives.{WorkedMsvcArchives, msvc_zed, queue_taken, queue_wanted, shorts_of_both, two_msvc}
-use Rattle.implib_link.proofs.Search.Lists.{any_among, apart_none}
+use Rattle.implib_link_instances.specs.Worked.MsvcArchives.{WorkedMsvcArchives, shorts_of_both, two_msvc}
 use Rattle.implib_link_instances.proofs.Worked.Search.{takes_by}
 use Rattle.implib_link_instances.proofs.Worked.Programs.{distinct_by, opened}
 
 abbrev archive : List MemberView
 archive = archive_of two_msvc
-
-abbrev foo : List ℕ
-foo = codes "foo.dll"
-
-abbrev zed : List ℕ
-zed = codes "zed.dll"
 
 abbrev to_null : List ℕ
 to_null = codes "__NULL_IMPORT_DESCRIPTOR"
@@ -36,10 +29,6 @@ to_null = codes "__NULL_IMPORT_DESCRIPTOR"
 pub both_take : TakesFor AMD64 (archive_of two_msvc) both_wanted shorts_of_both
 unfolding opened refusal renamed_refusal encoded_size expanded_in short_import_in import_object descriptor_symbol_by_name with_section_symbols descriptor null_descriptor null_thunk descriptor_symbol null_descriptor_symbol null_thunk_symbol base_name descriptor_spec null_descriptor_spec null_thunk_spec header_specs weak_specs weak_object left_as claimed_as undefined_in AreTakenInTurnAs archive_of is_weak_in symbols_of_shorts
 both_take = takes_by ((0x7F ∷ codes "zed_NULL_THUNK_DATA") ∷ codes "__IMPORT_DESCRIPTOR_zed" ∷ codes "__imp_queue" ∷ (0x7F ∷ codes "foo_NULL_THUNK_DATA") ∷ to_null ∷ codes "__IMPORT_DESCRIPTOR_foo" ∷ codes "baz" ∷ codes "bar" ∷ []) refl refl refl
-
-queue_takes : TakesFor AMD64 (archive_of two_msvc) queue_wanted queue_taken
-unfolding opened refusal renamed_refusal encoded_size expanded_in short_import_in import_object descriptor_symbol_by_name with_section_symbols descriptor null_descriptor null_thunk descriptor_symbol null_descriptor_symbol null_thunk_symbol base_name descriptor_spec null_descriptor_spec null_thunk_spec header_specs weak_specs weak_object left_as claimed_as undefined_in AreTakenInTurnAs archive_of is_weak_in symbols_of_shorts
-queue_takes = takes_by ((0x7F ∷ codes "zed_NULL_THUNK_DATA") ∷ to_null ∷ codes "__IMPORT_DESCRIPTOR_zed" ∷ codes "__imp_queue" ∷ []) refl refl refl
 
 pub msvc_archive : IsMsvcArchive AMD64 two_msvc
 unfolding opened refusal renamed_refusal encoded_size expanded_in short_import_in import_object descriptor_symbol_by_name with_section_symbols descriptor null_descriptor null_thunk descriptor_symbol null_descriptor_symbol null_thunk_symbol base_name descriptor_spec null_descriptor_spec null_thunk_spec header_specs weak_specs weak_object left_as claimed_as undefined_in AreTakenInTurnAs archive_of is_weak_in symbols_of_shorts
@@ -53,22 +42,12 @@ pub both_plain : NamesNoHeaderOf two_msvc (wanted_with_weak AMD64 both_wanted sh
 unfolding opened refusal renamed_refusal encoded_size expanded_in short_import_in import_object descriptor_symbol_by_name with_section_symbols descriptor null_descriptor null_thunk descriptor_symbol null_descriptor_symbol null_thunk_symbol base_name descriptor_spec null_descriptor_spec null_thunk_spec header_specs weak_specs weak_object left_as claimed_as undefined_in AreTakenInTurnAs archive_of is_weak_in symbols_of_shorts
 both_plain = (record { descriptor = refl; null_descriptor = refl; null_thunk = refl }, (record { descriptor = refl; null_descriptor = refl; null_thunk = refl }, tt))
 
-twice : IsMsvcArchive AMD64 (msvc_zed ∷ msvc_zed ∷ []) → ⊥
-unfolding opened refusal renamed_refusal encoded_size expanded_in short_import_in import_object descriptor_symbol_by_name with_section_symbols descriptor null_descriptor null_thunk descriptor_symbol null_descriptor_symbol null_thunk_symbol base_name descriptor_spec null_descriptor_spec null_thunk_spec header_specs weak_specs weak_object left_as claimed_as undefined_in AreTakenInTurnAs archive_of is_weak_in symbols_of_shorts IsDistinct
-twice is =
-    let others : List (List ℕ) = null_thunk_symbol zed ∷ codes "__imp_queue" ∷ codes "queue" ∷ codes "__imp_stack" ∷ codes "stack" ∷ symbols_of_shorts msvc_zed ++ [] in
-    apart_none (descriptor_symbol zed) others (any_among (descriptor_symbol zed) others refl) is.distinct.1.0
-
 pub worked_msvc_archives : WorkedMsvcArchives
 unfolding opened refusal renamed_refusal encoded_size expanded_in short_import_in import_object descriptor_symbol_by_name with_section_symbols descriptor null_descriptor null_thunk descriptor_symbol null_descriptor_symbol null_thunk_symbol base_name descriptor_spec null_descriptor_spec null_thunk_spec header_specs weak_specs weak_object left_as claimed_as undefined_in AreTakenInTurnAs archive_of is_weak_in symbols_of_shorts
 worked_msvc_archives = record {
   archive = msvc_archive;
-  twice = twice;
   takes = both_take;
   weak = refl;
   wanted = refl;
   plain = both_plain;
-  address = refl;
-  queue_takes = queue_takes;
-  queue_linked = refl;
 }

@@ -1,20 +1,15 @@
 -- What is taken by hand of an archive of which no short import is wanted, by computing and by the law.
-use Rattle.std.proofs.Common.{ℕ, List, [], ◌∷◌, codes, refl}
-use Rattle.std.specs.Prelude.{◌≡◌, false, bytes_eq}
-use Rattle.std.specs.List.{flat_map, list_any}
-use Rattle.std.proofs.lemmas.Bool.{true≢false}
+use Rattle.std.proofs.Common.{[], ◌∷◌, refl}
+use Rattle.std.specs.List.{flat_map}
 use Rattle.implib.specs.declared.machine.MachineType.TheVariants.{AMD64}
 use Rattle.implib.specs.Members.MsvcObjects.{null_descriptor_symbol}
-use Rattle.implib.proofs.Link.Ranges.{all_among}
 use Rattle.implib_link.specs.Search.Archives.{symbols_of_library}
 use Rattle.implib_link.specs.Search.BothFlavors.{IsFlavorArchive, archive_of_both, gnu_among, msvc_among}
 use Rattle.implib_link.specs.Search.Given.{wanted_at_most}
 use Rattle.implib_link.specs.Search.MsvcArchives.{IsMsvcArchive, symbols_of_shorts, TakesIntoFor}
 use Rattle.implib_link.specs.Search.NoShorts.{WantsNoShort}
-use Rattle.implib_link_instances.specs.Worked.BothFlavors.{foo_and_zed}
 use Rattle.implib_link_instances.specs.Worked.Closed.{choosing, closed_bases, closed_objects, closed_taken, zed_first}
 use Rattle.implib_link_instances.specs.Worked.NoShorts.{WorkedNoShorts, with_far}
-use Rattle.implib_link.proofs.Search.Lists.{any_among}
 use Rattle.implib_link.proofs.Search.NoShorts.{links_alone, takes_of_both}
 use Rattle.implib_link_instances.proofs.Worked.Archives.{worked_archives}
 use Rattle.implib_link_instances.proofs.Worked.BothFlavors.{apart_by}
@@ -42,13 +37,6 @@ none : WantsNoShort with_far (choosing ∷ [])
 unfolding searched
 none = apart_by (wanted_at_most (gnu_among with_far) (choosing ∷ [])) (null_descriptor_symbol ∷ flat_map symbols_of_shorts (msvc_among with_far)) refl
 
-some : WantsNoShort foo_and_zed (choosing ∷ []) → ⊥
-unfolding searched
-some is =
-    let shorts : List (List ℕ) = null_descriptor_symbol ∷ flat_map symbols_of_shorts (msvc_among foo_and_zed) in
-    true≢false (all_among (λ name. list_any (bytes_eq name) (wanted_at_most (gnu_among foo_and_zed) (choosing ∷ [])) ≡ false) (codes "__imp_queue")
-    (null_descriptor_symbol ∷ flat_map symbols_of_shorts (msvc_among foo_and_zed)) (any_among (codes "__imp_queue") shorts refl) is)
-
 takes : TakesIntoFor AMD64 (archive_of_both with_far) (choosing ∷ []) closed_taken
 takes = takes_of_both AMD64 with_far archive (choosing ∷ []) none closed_taken worked_closed.takes
 
@@ -59,5 +47,4 @@ worked_no_shorts = record {
   none = none;
   takes = takes;
   links = links_alone AMD64 with_far archive (choosing ∷ []) none closed_taken zed_first closed_bases closed_objects worked_given.given takes worked_closed.closed.linked;
-  some = some;
 }

@@ -10,11 +10,11 @@ use Rattle.implib.specs.Members.GnuMembers.{alias_specs}
 use Rattle.implib.specs.Members.OlderSymbols.{AreOlderMembersOf, older_object, older_refusal, older_renamed_refusal, older_spec}
 use Rattle.implib.specs.Members.WeakExternal.{weak_object}
 use Rattle.implib_link.specs.Gnu.Program.{has_tables}
-use Rattle.implib_link.specs.Parts.{IsEntry, IsPart, IsProgramOfParts, Part, names_of_parts, stores_none}
+use Rattle.implib_link.specs.Parts.{IsPart, IsProgramOfParts, Part, names_of_parts, stores_none}
 use Rattle.implib_link.proofs.Parts.Older.{older_part, older_stores_none}
-use Rattle.implib_link_instances.specs.Worked.Older.{WorkedOlder, i386_older_objects, i386_older_parts, i386_older_start, i386_older_zoo, named_start, older_aone, older_objects, older_parts, older_zoo}
+use Rattle.implib_link_instances.specs.Worked.Older.{WorkedOlder, i386_older_objects, i386_older_parts, i386_older_start, i386_older_zoo, named_start, older_objects, older_parts, older_zoo}
 use Rattle.implib_link_instances.specs.Worked.OtherLibraries.{objects_of}
-use Rattle.implib_link_instances.specs.Worked.Parts.{asking, gnu_bases, gnu_image, i386_gnu_bases, i386_gnu_image}
+use Rattle.implib_link_instances.specs.Worked.Parts.{gnu_bases, gnu_image, i386_gnu_bases, i386_gnu_image}
 use Rattle.implib_link_instances.proofs.Worked.OtherLibraries.{all_claim_none}
 use Rattle.implib_link_instances.proofs.Worked.Parts.{i386_kernel_is, i386_kernel_stores, kernel_is, kernel_stores, written_by}
 use Rattle.implib_link_instances.proofs.Worked.Programs.{admissible_by, distinct_by, opened}
@@ -59,10 +59,6 @@ i386_image_is : image_of I386 i386_gnu_bases (placed_from i386_gnu_bases i386_ol
 unfolding opened older_refusal older_renamed_refusal older_spec older_object alias_specs encoded_size weak_object has_tables
 i386_image_is = refl
 
-older_named : IsEntry AMD64 older_aone (asking (codes "aone") 1 (codes "___impaone"))
-unfolding opened
-older_named = record { descriptors = refl; lookup = refl; address = refl; symbol = refl }
-
 pub worked_older : WorkedOlder
 unfolding opened
 worked_older = record {
@@ -72,6 +68,4 @@ worked_older = record {
   i386_made = i386_made;
   i386_older = written_by I386 i386_gnu_bases i386_older_parts i386_older_objects i386_gnu_image _ (i386_kernel_is, (older_part I386 i386_older_zoo i386_made (λ e. true), tt)) i386_program
       (i386_kernel_stores, (older_stores_none I386 i386_older_zoo i386_made (λ e. true), tt)) i386_image_is refl;
-  dlltool_older = older_named;
-  dlltool_today = record { descriptors = refl; lookup = refl; address = refl; symbol = refl };
 }

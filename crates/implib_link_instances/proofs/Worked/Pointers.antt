@@ -1,6 +1,6 @@
 -- The pointers by hand, by computing and by the laws.
 use Rattle.std.proofs.Common.{[], ◌∷◌, codes, refl}
-use Rattle.implib.specs.declared.machine.MachineType.TheVariants.{I386, AMD64, ARM64}
+use Rattle.implib.specs.declared.machine.MachineType.TheVariants.{I386, AMD64}
 use Rattle.implib.specs.Formats.Layout.{encoded_size}
 use Rattle.implib.specs.Formats.ShortImport.{short_import_in}
 use Rattle.implib.specs.Import.{imp_symbol}
@@ -41,21 +41,9 @@ i386 = record {
   reads = refl;
 }
 
-pub arm64_has : HasLoad ARM64 (loading_at ARM64) 4 (imp_symbol (symbol_on ARM64 (codes "stat")))
-arm64_has = instructions_at (first_bytes ARM64) (last_bytes ARM64) 1 [] [] tt tt refl refl refl refl
-
-arm64 : WorkedPointer ARM64 0x1_4000_0000 touching_8 (0xE8 ∷ 0xFF ∷ 0xFF ∷ 0xF0 ∷ 8 ∷ 0x45 ∷ 0x40 ∷ 0xF9 ∷ []) 0x88
-unfolding opened alias_specs encoded_size weak_object has_tables
-arm64 = record {
-  loads = arm64_has;
-  bytes = refl;
-  reads = refl;
-}
-
 pub worked_pointers : WorkedPointers
 unfolding opened refusal renamed_refusal alias_specs encoded_size weak_object has_tables expanded_in short_import_in import_object descriptor_symbol_by_name with_section_symbols descriptor null_descriptor null_thunk descriptor_symbol null_descriptor_symbol null_thunk_symbol base_name descriptor_spec null_descriptor_spec null_thunk_spec header_specs weak_specs group_end sections_end
 worked_pointers = record {
   amd64 = amd64;
   i386 = i386;
-  arm64 = arm64;
 }

@@ -1,18 +1,14 @@
 -- The programs that were moved by hand, by computing and by the laws.
-use Rattle.std.proofs.Common.{◌≡◌, ℕ, Bool, true, List, [], codes, refl, ap, sym, ◌∙◌, subst, true≢false}
+use Rattle.std.proofs.Common.{◌≡◌, ℕ, Bool, true, List, codes, ap, sym, ◌∙◌, subst, true≢false}
 use Rattle.std.specs.Prelude.{bytes_eq, not, slice_get, ◌&&◌, ◌==◌, Some, if◌then◌else◌}
 use Rattle.std.specs.List.{Contains, list_all}
 use Rattle.std.proofs.lemmas.Bool.{and_from, eq-eqb, not-true}
 use Rattle.implib.specs.Formats.File.{is_defined_external}
 use Rattle.implib.specs.Formats.Object.{ASymbol, Auxiliary, Entry, ObjectSymbol}
-use Rattle.implib.specs.Link.Image.{Range}
 use Rattle.implib.specs.Link.Placement.{Placed}
 use Rattle.implib.specs.Link.Resolution.{address_or_zero, is_undefined_external, target_address}
 use Rattle.implib.proofs.Link.Definitions.{same_text}
-use Rattle.implib.proofs.Link.Ranges.{Among}
 use Rattle.implib_link.specs.Gnu.Calls.{Defines, PlacedCode, Resolves}
-use Rattle.implib_link.specs.Gnu.Rebased.{IsRebased, Place}
-use Rattle.implib_link_instances.specs.Worked.Rebased.{WorkedPlaces}
 use Rattle.implib_link.proofs.Search.Lists.{among_at, contains_among, each_of}
 use Rattle.implib_link_instances.proofs.Worked.Calls.{is_wanted}
 
@@ -49,13 +45,3 @@ resolves_by_tables linked codes all = record {
   tables = λ c index address entry held at is. rw at (ap address_or_zero is);
   code = λ c d index s t c_held d_held at undefined defines named. absurd (none_wanted codes all c d index s t c_held d_held at undefined defines named);
 }
-
-among_none : (p : Place) → Among p [] → ⊥
-unfolding Among
-among_none p m = m
-
-pub none_rebased : (from to : ℕ) (memory : List Range) → IsRebased from to [] memory memory
-none_rebased from to memory = record { moved = λ p n held number. absurd (among_none p (contains_among p [] held)); kept = λ a byte none is. is }
-
-pub worked_places : WorkedPlaces
-worked_places = record { i386 = refl; amd64 = refl; arm64 = refl; up = refl; down = refl; wide = refl }

@@ -1,8 +1,8 @@
 -- Programs of what was taken by hand, by computing and by the laws.
-use Rattle.std.proofs.Common.{◌≡◌, ℕ, ◌^◌, ◌<◌, true, false, List, [], ◌∷◌, ◌++◌, map, refl, ap, sym, ◌∙◌, inl, inr, arith, codes}
-use Rattle.std.specs.Prelude.{bytes_eq, nat_lt}
-use Rattle.std.specs.List.{IsDistinct, flat_map}
-use Rattle.std.proofs.lemmas.Bool.{ltb-true, true≢false}
+use Rattle.std.proofs.Common.{◌≡◌, ℕ, ◌^◌, ◌<◌, true, List, [], ◌∷◌, map, refl, inl, inr, arith, codes}
+use Rattle.std.specs.Prelude.{nat_lt}
+use Rattle.std.specs.List.{flat_map}
+use Rattle.std.proofs.lemmas.Bool.{ltb-true}
 use Rattle.implib.specs.declared.machine.MachineType.TheVariants.{AMD64}
 use Rattle.implib.specs.Formats.Constants.{class_external}
 use Rattle.implib.specs.Formats.Layout.{encoded_size}
@@ -56,10 +56,6 @@ turned a b c d x = (
 takes : Takes (members_of three) wanted as_taken
 takes = three_takes
 
-abbrev first_name : List MemberView → List ℕ
-first_name [] = []
-first_name (m ∷ members) = m.name
-
 ascending : IsAscending (map (λ (m : MemberView). m.name) by_name)
 unfolding opened
 ascending = (refl, (refl, (refl, tt)))
@@ -69,20 +65,6 @@ unfolding opened alias_specs encoded_size
 arranged =
     sorted_is_arranged AMD64 three (members_of three) as_taken by_name wanted 0 worked_search.made worked_search.distinct worked_search.plain takes
     (0, omega arith, refl) (turned head_member bar_member qux_member tail_member) ascending
-
--- an order with another first name
-other_first : (members others : List MemberView) → members ≡ others → bytes_eq (first_name members) (first_name others) ≡ false → bytes_eq (first_name members) (first_name members) ≡ true → ⊥
-other_first members others same differ own =
-    let is : true ≡ false = sym own ∙ ap (λ ms. bytes_eq (first_name members) (first_name ms)) same ∙ differ in
-    true≢false is
-
-tail_first : IsArranged AMD64 (own_names (codes "foo.dll")) as_taken (tail_member ∷ bar_member ∷ qux_member ∷ head_member ∷ []) → ⊥
-unfolding opened
-tail_first is = other_first (tail_member ∷ bar_member ∷ qux_member ∷ head_member ∷ []) (head_member ∷ (is.between ++ tail_member ∷ [])) is.order refl refl
-
-twice : IsArranged AMD64 (own_names (codes "foo.dll")) as_taken (head_member ∷ bar_member ∷ bar_member ∷ qux_member ∷ tail_member ∷ []) → ⊥
-unfolding opened IsDistinct
-twice is = true≢false is.once.1.0.0
 
 -- a number below 2^31, by computing
 pub below_limit : (n : ℕ) → nat_lt n (2 ^ 31) ≡ true → n < 2 ^ 31
@@ -115,8 +97,6 @@ worked_searched = record {
   ascending = ascending;
   arranged = arranged;
   of_wanted = linked_in_order AMD64 three (members_of three) as_taken by_name wanted worked_search.made worked_search.distinct worked_search.plain takes arranged;
-  tail_first = tail_first;
-  twice = twice;
   program = program;
   imports = searched_links AMD64 three (members_of three) as_taken wanted (packed 1 searched_objects) searched_objects worked_search.made worked_search.distinct worked_search.plain takes program;
   ends = search_ends object_in (members_of three) wanted;

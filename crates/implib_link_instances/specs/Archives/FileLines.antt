@@ -1,6 +1,6 @@
 -- Command lines of files: an object of gcc 12, a library of llvm-dlltool 19 and an archive of GNU
 -- `ar`, the library first for lld and last, or in a group, for GNU `ld`.
-use Rattle.std.specs.Prelude.{◌≡◌, List, [], ◌∷◌, ◌++◌, codes, drop, take}
+use Rattle.std.specs.Prelude.{◌≡◌, List, [], ◌∷◌, ◌++◌}
 use Rattle.implib.specs.declared.machine.MachineType.{MachineType}
 use Rattle.implib.specs.declared.machine.MachineType.TheVariants.{I386, AMD64}
 use Rattle.implib.specs.Formats.Object.{Object}
@@ -9,16 +9,14 @@ use Rattle.implib_archive.specs.declared.kind.Kind.TheVariants.{Coff, Gnu}
 use Rattle.implib_archive_link.specs.Files.{ArchiveFile, members_in_files}
 use Rattle.implib_archive_link.specs.LldFiles.{SearchesByLld, read_by_lld}
 use Rattle.implib_archive_link.specs.LldWay.{AreCalledAlike, LldArrives}
-use Rattle.implib_link.specs.Search.BothFlavors.{FlavorLibrary, archive_of_both, msvc_among}
-use Rattle.implib_link.specs.Search.CommandLines.{AnObject, Archives, Input, SearchesFlavors}
+use Rattle.implib_link.specs.Search.BothFlavors.{FlavorLibrary, msvc_among}
+use Rattle.implib_link.specs.Search.CommandLines.{Archives, Input, SearchesFlavors}
 use Rattle.implib_link.specs.Search.CommandLines.{given_with, others_of}
 use Rattle.implib_link.specs.Search.MsvcArchives.{IsMsvcArchive}
 use Rattle.implib_link.specs.Search.Sweeps.{members_at}
-use Rattle.implib_link_instances.specs.But.ArchiveLinks.{MissesSearchesByLld}
 use Rattle.implib_link_instances.specs.Archives.Files.{i386_kernel_lib, i386_libquit, kernel_lib}
 use Rattle.implib_link_instances.specs.Archives.Files.{libquit}
 use Rattle.implib_link_instances.specs.Worked.CommandLines.{i386_wants_bytes, inputs_of, is_quit}
-use Rattle.implib_link_instances.specs.Worked.CommandLines.{quit_bytes, quit_member, quitting}
 use Rattle.implib_link_instances.specs.Worked.CommandLines.{read_or_none, wants_bytes}
 use Rattle.implib_link_instances.specs.Worked.FlavorLines.{amd64_kernels, amd64_shorts}
 use Rattle.implib_link_instances.specs.Worked.FlavorLines.{i386_kernels, i386_shorts}
@@ -63,51 +61,3 @@ pub record WorkedFileLines : Type 0 where
       (shorts_last (read_or_none wants_bytes))
   pub i386 : WorkedFileLine I386 i386_kernels i386_files i386_shorts (read_or_none i386_wants_bytes)
       (shorts_grouped (read_or_none i386_wants_bytes))
-
--- Near misses, on AMD64.
-
-abbrev pub wanting_own : List Object
-wanting_own = read_or_none wants_bytes
-
--- a second member that is listed for `quit`, of another time
-abbrev pub other_quit : MemberView
-other_quit = quit_member (codes "quit") (take 4 quit_bytes ++ 1 ∷ drop 5 quit_bytes)
-
--- the archive's member, listed for a name more
-abbrev pub listed_more : MemberView
-listed_more =
-    record { name = codes "quit.o"; bytes = quit_bytes; symbols = codes "quit" ∷ codes "more" ∷ [] }
-
--- the members with the second one, and a command line with it in front; and the library's with the
--- one that is listed for a name more
-abbrev pub with_other : List MemberView
-with_other = amd64_shorts ++ other_quit ∷ []
-
-abbrev pub other_first : List Input
-other_first = inputs_of wanting_own
-    ++ Archives ((5 ∷ []) ∷ [])
-    ∷ Archives ((0 ∷ 1 ∷ 2 ∷ 3 ∷ []) ∷ [])
-    ∷ Archives ((4 ∷ []) ∷ [])
-    ∷ []
-
-abbrev pub with_more_listed : List MemberView
-with_more_listed = archive_of_both amd64_kernels ++ listed_more ∷ []
-
--- A command line of lld's, but for one thing: there are no libraries; the second of two members
--- that are listed for a name is taken, from an archive in front; an object behind the archive
--- claims its name; no input has the archive; the member is listed for a name more; nothing is
--- taken.
-pub record NearSearchesByLld : Type 0 where
-  pub libraries_are : MissesSearchesByLld (codes "libraries_are") AMD64 [] amd64_shorts
-      (shorts_first wanting_own) is_quit (lld_taken amd64_shorts)
-  pub first : MissesSearchesByLld (codes "first") AMD64 (msvc_among amd64_kernels) with_other
-      other_first is_quit (members_at with_other (3 ∷ 5 ∷ []))
-  pub unclaimed : MissesSearchesByLld (codes "unclaimed") AMD64 (msvc_among amd64_kernels)
-      amd64_shorts (shorts_first wanting_own ++ AnObject quitting ∷ []) is_quit
-      (lld_taken amd64_shorts)
-  pub all : MissesSearchesByLld (codes "all") AMD64 (msvc_among amd64_kernels) amd64_shorts
-      (inputs_of wanting_own ++ Archives ((0 ∷ 1 ∷ 2 ∷ 3 ∷ []) ∷ []) ∷ []) is_quit []
-  pub whole : MissesSearchesByLld (codes "whole") AMD64 (msvc_among amd64_kernels) with_more_listed
-      (shorts_first wanting_own) is_quit (lld_taken with_more_listed)
-  pub searches : MissesSearchesByLld (codes "searches") AMD64 (msvc_among amd64_kernels)
-      amd64_shorts (shorts_first wanting_own) is_quit []

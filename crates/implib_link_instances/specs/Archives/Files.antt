@@ -1,12 +1,10 @@
 -- Archives of one object each, as GNU `ar` 2.40 wrote them (`ar rcsD`), and a library of
 -- llvm-dlltool 19, read by hand: the members in the bytes.
 use Rattle.std.specs.Prelude.{ℕ, List, [], ◌∷◌, ◌++◌, codes}
-use Rattle.implib.specs.Members.MemberSpec.{MemberView}
 use Rattle.implib.specs.Worked.Digits.{hex}
-use Rattle.implib_archive.specs.declared.kind.Kind.TheVariants.{Coff, Gnu}
+use Rattle.implib_archive.specs.declared.kind.Kind.TheVariants.{Coff}
 use Rattle.implib_archive_link.specs.Files.{HasMembers, HasMembersAs}
 use Rattle.implib_link.specs.Search.BothFlavors.{archive_of_both}
-use Rattle.implib_link_instances.specs.But.ArchiveLinks.{MissesHasMembersAs}
 use Rattle.implib_link_instances.specs.Worked.CommandLines.{i386_quit_bytes, quit_bytes}
 use Rattle.implib_link_instances.specs.Worked.CommandLines.{quit_member}
 use Rattle.implib_link_instances.specs.Worked.FlavorLines.{amd64_kernels, i386_kernels}
@@ -118,26 +116,3 @@ pub record WorkedFiles : Type 0 where
   pub i386 : HasMembers i386_libquit (quit_member (codes "_quit") i386_quit_bytes ∷ [])
   pub coff : HasMembersAs Coff kernel_lib (archive_of_both amd64_kernels)
   pub i386_coff : HasMembersAs Coff i386_kernel_lib (archive_of_both i386_kernels)
-
--- an archive of two members whose index has the second's symbol first, as no `ar` writes it
-abbrev pub reversed : List ℕ
-reversed =
-    codes "!<arch>\n/               0           0     0     0       16        `\n"
-    ++ (0 ∷ 0 ∷ 0 ∷ 2 ∷ 0 ∷ 0 ∷ 0 ∷ 146 ∷ 0 ∷ 0 ∷ 0 ∷ 84 ∷ [])
-    ++ codes "y" ++ (0 ∷ []) ++ codes "x" ++ (0 ∷ [])
-    ++ codes "a.o/            0           0     0     644     2         `\n" ++ (1 ∷ 2 ∷ [])
-    ++ codes "b.o/            0           0     0     644     2         `\n" ++ (3 ∷ 4 ∷ [])
-
-abbrev pub two_members : List MemberView
-two_members =
-    record { name = codes "a.o"; bytes = 1 ∷ 2 ∷ []; symbols = codes "x" ∷ [] }
-    ∷ record { name = codes "b.o"; bytes = 3 ∷ 4 ∷ []; symbols = codes "y" ∷ [] }
-    ∷ []
-
--- no archive; a member of another name; the members of the archive above, whose index is not in
--- their order: all other fields hold
-pub record NearHasMembersAs : Type 0 where
-  pub located : MissesHasMembersAs (codes "located") Gnu [] []
-  pub read : MissesHasMembersAs (codes "read") Gnu libquit
-      (record (quit_member (codes "quit") quit_bytes) { name = codes "other.o" } ∷ [])
-  pub ordered : MissesHasMembersAs (codes "ordered") Gnu reversed two_members

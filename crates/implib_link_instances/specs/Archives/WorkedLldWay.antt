@@ -1,7 +1,7 @@
 -- The way for lld by hand: foo.dll, which exports `bar` and `baz`, on AMD64; and a program that
 -- lld-link 14.0.6 and 19.1.7 wrote, whose code calls `bar` through its entry and by its name. The
 -- library's bytes are those of the archive of its members for Microsoft's linker.
-use Rattle.std.specs.Prelude.{◌≡◌, ℕ, ◌+◌, Bool, true, List, [], ◌∷◌, ◌++◌, codes, map, slice_get}
+use Rattle.std.specs.Prelude.{◌≡◌, ℕ, ◌+◌, Bool, true, List, [], ◌∷◌, ◌++◌, codes, slice_get}
 use Rattle.std.specs.List.{filter}
 use Rattle.implib.specs.declared.machine.MachineType.TheVariants.{AMD64}
 use Rattle.implib.specs.Formats.Constants.{align_16bytes, amd64_rel32, class_external, cnt_code}
@@ -41,10 +41,6 @@ lld_library =
 
 abbrev pub lld_libraries : List Library
 lld_libraries = lld_library ∷ []
-
--- the same DLL under another name
-abbrev pub loud_library : Library
-loud_library = msvc_library (of_dll (codes "FOO.dll") (plain_export (codes "qux") ∷ []))
 
 -- `call [rip + __imp_bar]`, `call bar`, `ret`
 abbrev pub two_calls : ObjectSection
@@ -168,10 +164,3 @@ pub record WorkedLldWay : Type 0 where
   pub calls : (n : ℕ) (written : List Range) →
       ReadsAndWrites lld_memory 8 (given_on AMD64) n 0x2000 written →
       BranchArrivesByThunk AMD64 0x1_4000_0000 (written ++ lld_memory) 0x1007 0 bar_address
-  pub unwanted : IsWantedBy lld_libraries lld_own lld_library (plain_export (codes "baz")) → ⊥
-  pub asked : asks_of_lld AMD64 lld_own [] (codes "bar")
-  pub settled : asks_of_lld AMD64 lld_own (map (λ m. m.bytes) lld_taken) (codes "bar") → ⊥
-  pub no_descriptor : asks_of_lld AMD64 lld_own (map (λ m. m.bytes) lld_taken)
-      (codes "__IMPORT_DESCRIPTOR_foo") → ⊥
-  pub loud : AreCalledAlike (lld_library ∷ loud_library ∷ []) → ⊥
-  pub dead : IsBuiltByLld AMD64 0x2000 0x2038 [] lld_image lld_linked → ⊥

@@ -1,11 +1,10 @@
 -- The closed programs of both flavours by hand, as the law says that there are such; and places
 -- where there is none.
-use Rattle.std.specs.Prelude.{◌≡◌, ◌<◌, ◌^◌, [], ◌∷◌}
+use Rattle.std.specs.Prelude.{◌≡◌, [], ◌∷◌}
 use Rattle.implib.specs.declared.machine.MachineType.TheVariants.{AMD64}
 use Rattle.implib.specs.Link.Image.{image_of}
 use Rattle.implib.specs.Link.Placement.{placed_from}
-use Rattle.implib_link.specs.Gnu.Packed.{packed, packed_end}
-use Rattle.implib_link.specs.Gnu.Program.{null_descriptor}
+use Rattle.implib_link.specs.Gnu.Packed.{packed_end}
 use Rattle.implib_link.specs.Search.BothExists.{HasClosedForBoth, tables_end_of_both}
 use Rattle.implib_link.specs.Search.BothFlavors.{AreClosedForBoth, IsClosedForBoth}
 use Rattle.implib_link.specs.Search.Exists.{LieWithin}
@@ -31,10 +30,6 @@ pub record WorkedBothExists : Type 0 where
       (image_of AMD64 mixed_bases (placed_from mixed_bases mixed_objects))
   pub exists : HasClosedForBoth AMD64 foo_and_zed (choosing ∷ []) 0x2000
   pub at_zero : HasClosedForBoth AMD64 foo_and_zed (choosing ∷ []) 0 → ⊥
-  pub no_room : tables_end_of_both 0x7FFF_FF00 foo_and_zed < 2 ^ 31 → ⊥
-  pub too_far : IsClosedForBoth AMD64 foo_and_zed (choosing ∷ []) mixed_taken zed_and_foo
-      (packed 0x7FFF_FFF8 mixed_objects) mixed_objects → ⊥
-  pub tables_given : HasClosedForBoth AMD64 foo_and_zed (null_descriptor ∷ []) 0x2000 → ⊥
 
 -- With the libraries in the other order, and from 0x71000 on, they end by 0x7118E, and the tables
 -- by hand at 0x710A4. The last address from which there is room is 0x7FFF_FE71.
@@ -46,5 +41,3 @@ pub record WorkedReversedExists : Type 0 where
   pub within : LieWithin 0x71000 0x7118E
       (image_of AMD64 reversed_bases (placed_from reversed_bases reversed_objects))
   pub exists : HasClosedForBoth AMD64 zed_and_foo (choosing ∷ []) 0x71000
-  pub last : HasClosedForBoth AMD64 zed_and_foo (choosing ∷ []) 0x7FFF_FE71
-  pub no_room : tables_end_of_both 0x7FFF_FE72 zed_and_foo < 2 ^ 31 → ⊥

@@ -1,10 +1,10 @@
 -- The bounds of the tables of programs that were linked by hand.
 use Rattle.std.specs.Prelude.{◌≡◌, ℕ, List, [], ◌∷◌, length, map}
 use Rattle.implib.specs.declared.machine.MachineType.{MachineType}
-use Rattle.implib.specs.declared.machine.MachineType.TheVariants.{I386, ARMNT, AMD64, ARM64}
+use Rattle.implib.specs.declared.machine.MachineType.TheVariants.{I386, AMD64}
 use Rattle.implib.specs.Link.Image.{contributions}
 use Rattle.implib.specs.Link.Placement.{Bases, HintNames}
-use Rattle.implib_link.specs.Gnu.Bounds.{AreBounded, HaveEvenHints, IsEven}
+use Rattle.implib_link.specs.Gnu.Bounds.{AreBounded, HaveEvenHints}
 use Rattle.implib_link_instances.specs.Worked.Programs.{both_inputs, program_objects}
 use Rattle.implib_link_instances.specs.Worked.Programs.{program_placed, touching_4, touching_8}
 
@@ -24,9 +24,4 @@ pub record WorkedBound (machine : MachineType) (bases : Bases) (start size : ℕ
 -- on all four machines: seven thunks each, from where the bases say
 pub record WorkedBounds : Type 0 where
   pub amd64 : WorkedBound AMD64 touching_8 120 56 (176 ∷ 176 ∷ 184 ∷ 192 ∷ 200 ∷ [])
-  pub arm64 : WorkedBound ARM64 touching_8 120 56 (176 ∷ 176 ∷ 184 ∷ 192 ∷ 200 ∷ [])
   pub i386 : WorkedBound I386 touching_4 92 28 (120 ∷ 120 ∷ 128 ∷ 136 ∷ 144 ∷ [])
-  pub armnt : WorkedBound ARMNT touching_4 92 28 (120 ∷ 120 ∷ 128 ∷ 136 ∷ 144 ∷ [])
-  -- a hint right after the 7 bytes of that of `open`, at 176, without padding, is not at an even
-  -- address
-  pub refused : IsEven (record { address = 183; bytes = [] }) → ⊥

@@ -1,32 +1,29 @@
 -- Calls that were relocated by hand: a program as in Worked/Programs, whose own code calls `open`
 -- of foo.dll through its entry, on three machines; and a loader that reads the program's image.
-use Rattle.std.specs.Prelude.{◌≡◌, ℕ, ◌+◌, ◌*◌, Bool, false, List, [], ◌∷◌, ◌++◌, bytes_eq, codes}
-use Rattle.std.specs.Prelude.{length, map, slice_get, Option, None, Some, if◌then◌else◌}
+use Rattle.std.specs.Prelude.{◌≡◌, ℕ, ◌+◌, ◌*◌, List, [], ◌∷◌, ◌++◌, codes}
+use Rattle.std.specs.Prelude.{length, map, Option, None, Some}
 use Rattle.std.specs.List.{AllByRecursion}
 use Rattle.implib.specs.declared.machine.MachineType.{MachineType}
 use Rattle.implib.specs.declared.machine.MachineType.TheVariants.{I386, ARMNT, AMD64, ARM64}
 use Rattle.implib.specs.Formats.Bytes.{u32_bytes}
-use Rattle.implib.specs.Formats.Constants.{align_16bytes, align_4bytes, cnt_code, mem_execute_read}
+use Rattle.implib.specs.Formats.Constants.{align_16bytes, cnt_code, mem_execute_read}
 use Rattle.implib.specs.Formats.Constants.{class_external}
-use Rattle.implib.specs.Formats.Object.{ASymbol, Auxiliary, Entry, Object, ObjectSection}
+use Rattle.implib.specs.Formats.Object.{ASymbol, Object, ObjectSection}
 use Rattle.implib.specs.Import.{Ask, Name, Ordinal, imp_symbol}
 use Rattle.implib.specs.Link.Image.{Range, image_of}
 use Rattle.implib.specs.Link.LinkedMembers.{IsMade}
 use Rattle.implib.specs.Link.Load.{BytesAt}
 use Rattle.implib.specs.Link.Placement.{Bases, Placed, Unplaced, placed_from}
 use Rattle.implib.specs.Link.Resolution.{target_address}
-use Rattle.implib.specs.Members.Gnu.{section, stub_bytes, stub_relocations, text_name}
+use Rattle.implib.specs.Members.Gnu.{section, text_name}
 use Rattle.implib.specs.Members.ImportTables.{zeros}
-use Rattle.implib_link.specs.Flavors.Program.{OfMember, IsMadeFor, objects_taken, IsProgramOf}
 use Rattle.implib_link.specs.Flavors.Program.{IsProgram}
-use Rattle.implib_link.specs.Gnu.Calls.{Defines, HasCall, HasDirectCall, PlacedCode, call_bytes}
-use Rattle.implib_link.specs.Gnu.Calls.{call_reads, call_relocations, direct_bytes, direct_leads}
+use Rattle.implib_link.specs.Gnu.Calls.{HasCall, PlacedCode, call_bytes}
+use Rattle.implib_link.specs.Gnu.Calls.{call_reads, call_relocations, direct_bytes}
 use Rattle.implib_link.specs.Gnu.Calls.{direct_relocations, moved_by}
 use Rattle.implib_link.specs.Gnu.Program.{null_descriptor}
 use Rattle.implib_link.specs.Gnu.Reading.{ReadsAndWrites}
-use Rattle.implib_link.specs.Stub.{CanJump, jump_reads}
-use Rattle.implib_link_instances.specs.Worked.Flavors.{both_inputs as flavor_inputs, flavor_bases_8}
-use Rattle.implib_link_instances.specs.Worked.Flavors.{flavor_image, members_with_null}
+use Rattle.implib_link.specs.Stub.{CanJump}
 use Rattle.implib_link_instances.specs.Worked.Programs.{another, both_inputs, foo_input}
 use Rattle.implib_link_instances.specs.Worked.Programs.{input_objects, program_image}
 use Rattle.implib_link_instances.specs.Worked.Programs.{symbol_of_class, symbol_on, touching_4}
@@ -129,45 +126,6 @@ pub record WorkedCall (machine : MachineType) (image_base : ℕ) (bases : Bases)
       ≡ first_bytes machine ++ (relocated ++ last_bytes machine)
   pub reads : call_reads machine (image_base + 0x1004) relocated ≡ Some (image_base + entry)
 
--- the calls of `open`, whose entry is at 0x80 or 0x60
-pub record WorkedCalls : Type 0 where
-  -- call [rip - 0xF8A]
-  pub amd64 : WorkedCall AMD64 0x1_4000_0000 touching_8 (0xFF ∷ 0x15 ∷ 0x76 ∷ 0xF0 ∷ 0xFF ∷ 0xFF ∷ []) 0x80
-  -- call [0x400060]
-  pub i386 : WorkedCall I386 0x40_0000 touching_4 (0xFF ∷ 0x15 ∷ 0x60 ∷ 0 ∷ 0x40 ∷ 0 ∷ []) 0x60
-  -- adrp x16, -0x1000; ldr x16, [x16, 0x80]; blr x16
-  pub arm64 : WorkedCall ARM64 0x1_4000_0000 touching_8
-      (0xF0 ∷ 0xFF ∷ 0xFF ∷ 0xF0 ∷ 0x10 ∷ 0x42 ∷ 0x40 ∷ 0xF9 ∷ 0 ∷ 2 ∷ 0x3F ∷ 0xD6 ∷ []) 0x80
-  -- code at 0x78, over the address tables, is not beside them
-  pub refused : CodesBeside AMD64 0x1_4000_0000 touching_8 (calling_objects AMD64)
-      (calling_at AMD64 0x78 ∷ [])
-      (table_targets AMD64 touching_8) → ⊥
-
--- what is linked of both flavours: the calling object, what the members of foo.dll for Microsoft's
--- linker, its null descriptor, and those of zed.dll for GNU's are taken for, and another object
-abbrev pub calling_flavors : List Object
-calling_flavors =
-    calling AMD64 ∷ (objects_taken AMD64 (members_with_null AMD64 0) ++ another AMD64 ∷ [])
-
-abbrev pub flavors_placed : List Placed
-flavors_placed = placed_from flavor_bases_8 calling_flavors
-
--- what the symbols of code are taken to be: their addresses in the tables
-abbrev pub flavor_targets : PlacedCode → ℕ → ℕ
-flavor_targets c index = target_address flavors_placed c.from index
-
--- The program of both flavours and the code at 0x1000 meet all that the law of calls asks for; the
--- entry of `open` is at 0x88, and the call at 0x1004 reads it.
-pub record WorkedFlavorCall : Type 0 where
-  pub made : AllByRecursion (IsMadeFor AMD64) (flavor_inputs AMD64)
-  pub program : IsProgramOf AMD64 OfMember flavor_bases_8 (flavor_inputs AMD64) calling_flavors
-  pub beside : CodesBeside AMD64 0x1_4000_0000 flavor_bases_8 calling_flavors
-      (calling_at AMD64 0x1000 ∷ []) flavor_targets
-  -- call [rip - 0xF82]
-  pub bytes : (code_range AMD64 0x1_4000_0000 flavor_targets (calling_at AMD64 0x1000)).bytes
-      ≡ first_bytes AMD64 ++ (0xFF ∷ 0x15 ∷ 0x7E ∷ 0xF0 ∷ 0xFF ∷ 0xFF ∷ last_bytes AMD64)
-  pub reads : call_reads AMD64 0x1_4000_1004 (0xFF ∷ 0x15 ∷ 0x7E ∷ 0xF0 ∷ 0xFF ∷ 0xFF ∷ []) ≡ Some 0x1_4000_0088
-
 -- code that calls `open` by its name, at offset 4: `sub rsp, 40`, `call open`, `add rsp, 40`, `ret`
 abbrev pub direct_code : ObjectSection
 direct_code = section text_name (cnt_code + align_16bytes + mem_execute_read)
@@ -183,78 +141,10 @@ direct_calling = record (calling AMD64) {
       ∷ [];
 }
 
--- what is linked: this object, foo.dll's members, zed.dll's members, the null descriptor
-abbrev pub direct_objects : List Object
-direct_objects =
-    direct_calling
-    ∷ (input_objects AMD64 (foo_input AMD64)
-    ++ (input_objects AMD64 (zed_input AMD64) ++ null_descriptor ∷ []))
-
-abbrev pub direct_placed : List Placed
-direct_placed = placed_from touching_8 direct_objects
-
 -- what is placed at an index
 abbrev pub placed_or_empty : Option Placed → Placed
 placed_or_empty None = record { object = direct_calling; section_addresses = [] }
 placed_or_empty (Some p) = p
-
--- the calling code at 0x1000, and the stub of `open`, which is the fourth object's, at 0x1010
-abbrev pub direct_at : PlacedCode
-direct_at = record {
-  from = record { object = direct_calling; section_addresses = Unplaced ∷ [] };
-  number = 1;
-  code = direct_code;
-  position = 0x1000;
-}
-
-abbrev pub stub_at : PlacedCode
-stub_at = record {
-  from = placed_or_empty (slice_get direct_placed 3);
-  number = 1;
-  code = section text_name (cnt_code + align_4bytes + mem_execute_read) (stub_bytes AMD64)
-      (stub_relocations AMD64 2);
-  position = 0x1010;
-}
-
--- whether an entry is a symbol of the name `open`
-abbrev pub is_open : Entry → Bool
-is_open (Auxiliary bytes) = false
-is_open (ASymbol s) = bytes_eq s.name (codes "open")
-
--- the address of an entry in code: that of the stub for `open`, or else that in the tables
-abbrev pub open_or : Option Entry → ℕ → ℕ
-open_or None address = address
-open_or (Some x) address = if is_open x then 0x1010 else address
-
--- what the symbols of code are taken to be
-abbrev pub open_targets : List Placed → PlacedCode → ℕ → ℕ
-open_targets linked c index =
-    open_or (slice_get c.from.object.entries index) (target_address linked c.from index)
-
-abbrev pub direct_targets : PlacedCode → ℕ → ℕ
-direct_targets c index = open_targets direct_placed c index
-
--- The program, the code and the stub meet all that the law of direct calls asks for; they are
--- relocated to these bytes; the call leads to 0x1010, and the jump there reads 0x80.
-pub record WorkedDirectCall : Type 0 where
-  pub program : IsProgram AMD64 touching_8 (both_inputs AMD64) direct_objects
-  pub beside : CodesBeside AMD64 0x1_4000_0000 touching_8 direct_objects (direct_at ∷ stub_at ∷ [])
-      direct_targets
-  pub defines : Defines stub_at (symbol_of_class (codes "open") 1 class_external)
-  pub calls : HasDirectCall AMD64 direct_at 4 (codes "open")
-  -- call +7
-  pub bytes : (code_range AMD64 0x1_4000_0000 direct_targets direct_at).bytes
-      ≡ first_bytes AMD64 ++ (0xE8 ∷ 7 ∷ 0 ∷ 0 ∷ 0 ∷ last_bytes AMD64)
-  pub leads : direct_leads AMD64 0x1_4000_1004 (0xE8 ∷ 7 ∷ 0 ∷ 0 ∷ 0 ∷ []) ≡ Some 0x1_4000_1010
-  -- jmp [rip - 0xF96]
-  pub stub : (code_range AMD64 0x1_4000_0000 direct_targets stub_at).bytes
-      ≡ 0xFF ∷ 0x25 ∷ 0x6A ∷ 0xF0 ∷ 0xFF ∷ 0xFF ∷ 0x90 ∷ 0x90 ∷ []
-  pub reads : jump_reads AMD64 0x1_4000_1010 (0xFF ∷ 0x25 ∷ 0x6A ∷ 0xF0 ∷ 0xFF ∷ 0xFF ∷ 0x90 ∷ 0x90 ∷ []) ≡ Some 0x1_4000_0080
-
--- the image of the worked program with zeros where the first descriptor has the address of the
--- DLL's name
-abbrev pub nameless_image : List Range
-nameless_image = record { start = 16; bytes = zeros 4 } ∷ program_image AMD64 touching_8
 
 -- A loader that reads the worked program's image from 4 on goes on at two descriptors, and writes
 -- what foo.dll gives for `open` to 0x80 (0x60 on I386, 0x88 in the program of both flavours, from 8
@@ -267,14 +157,5 @@ pub record WorkedReading : Type 0 where
   pub i386 : (n : ℕ) (written : List Range) →
       ReadsAndWrites (program_image I386 touching_4) 4 (given_on I386) n 4 written →
       (n ≡ 2) × BytesAt (written ++ program_image I386 touching_4) 0x60 (0x40 ∷ 0 ∷ 0 ∷ 0x10 ∷ [])
-  pub flavors : (n : ℕ) (written : List Range) →
-      ReadsAndWrites (flavor_image AMD64 0 flavor_bases_8) 8 (given_on AMD64) n 8 written →
-      (n ≡ 2) × BytesAt (written ++ flavor_image AMD64 0 flavor_bases_8) 0x88
-      (0x40 ∷ 0 ∷ 0 ∷ 0x10 ∷ 0 ∷ 0 ∷ 0 ∷ 0 ∷ [])
-  pub refused : (n : ℕ) (written : List Range) →
-      ReadsAndWrites nameless_image 8 (given_on AMD64) n 4 written →
-      (n ≡ 0) × (written ≡ [])
   pub amd64_ends : (written : List Range)
       × ReadsAndWrites (program_image AMD64 touching_8) 8 (given_on AMD64) 2 4 written
-  pub flavors_ends : (written : List Range)
-      × ReadsAndWrites (flavor_image AMD64 0 flavor_bases_8) 8 (given_on AMD64) 2 8 written

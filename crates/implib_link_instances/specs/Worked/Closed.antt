@@ -15,7 +15,7 @@ use Rattle.implib.specs.Worked.Statements.{plain_export}
 use Rattle.implib_link.specs.Gnu.Packed.{packed}
 use Rattle.implib_link.specs.Gnu.Program.{null_descriptor}
 use Rattle.implib_link.specs.Search.Archives.{IsArchive, Library, archive_of}
-use Rattle.implib_link.specs.Search.Closed.{IsClosed, LinksClosed, PullsInto, TakesInto, inputs_in}
+use Rattle.implib_link.specs.Search.Closed.{IsClosed, LinksClosed, TakesInto, inputs_in}
 use Rattle.implib_link.specs.Search.Closed.{unresolved, wanted_in}
 use Rattle.implib_link.specs.Search.Given.{AreGiven, symbols_kept}
 use Rattle.implib_link_instances.specs.Worked.Archives.{library_of, two_libraries}
@@ -75,17 +75,6 @@ closed_taken =
     ∷ foo_alias
     ∷ []
 
--- all of them but the last one
-abbrev pub without_last : List MemberView
-without_last =
-    member_of (head_spec AMD64 (codes "zed.dll"))
-    ∷ member_of (export_spec AMD64 (codes "zed.dll") 0 (plain_export (codes "queue")))
-    ∷ member_of (tail_spec AMD64 (own_names (codes "foo.dll")))
-    ∷ member_of (head_spec AMD64 (codes "foo.dll"))
-    ∷ member_of (export_spec AMD64 (codes "foo.dll") 1 (plain_export (codes "baz")))
-    ∷ foo_alias
-    ∷ []
-
 -- the libraries as they are linked, zed.dll first
 abbrev pub zed_first : List Library
 zed_first =
@@ -125,11 +114,6 @@ pub record WorkedClosed : Type 0 where
       ≡ record { name = codes "__imp_queue"; address = Some 0x2060 } ∷ []
   pub baz : definitions_of (codes "__imp_baz") (placed_from closed_bases closed_objects)
       ≡ record { name = codes "__imp_baz"; address = Some 0x2070 } ∷ []
-  pub stopped : TakesInto (archive_of two_libraries) (choosing ∷ []) without_last → ⊥
-  pub claimed : (taken : List MemberView) (m : MemberView) →
-      PullsInto (archive_of two_libraries) (choosing ∷ []) taken (codes "stack") m → ⊥
-  pub clashes : (arranged : List Library) (bases : Bases) (objects : List Object) →
-      IsClosed AMD64 two_libraries (clashing ∷ []) closed_taken arranged bases objects → ⊥
 
 -- The first object may be given: so the search for it ends, and what was taken closes the program.
 -- What members alone may claim are these names, `queue` among them: so the object that has one of
@@ -143,4 +127,3 @@ pub record WorkedGiven : Type 0 where
   pub ends : (taken : List MemberView) × TakesInto (archive_of two_libraries) (choosing ∷ []) taken
   pub closed : IsClosed AMD64 two_libraries (choosing ∷ []) closed_taken zed_first closed_bases
       closed_objects
-  pub refused : AreGiven AMD64 two_libraries (clashing ∷ []) → ⊥

@@ -1,6 +1,6 @@
 -- A direct call by hand, a further one than in Worked/Calls: on ARM64, of `open` of foo.dll by its
 -- name at 0x1004; the stub of `open` is at 0x1010.
-use Rattle.std.specs.Prelude.{◌≡◌, ℕ, ◌+◌, List, [], ◌∷◌, ◌++◌, codes, map, slice_get, Some}
+use Rattle.std.specs.Prelude.{ℕ, ◌+◌, List, [], ◌∷◌, ◌++◌, codes, map, slice_get}
 use Rattle.implib.specs.declared.machine.MachineType.{MachineType}
 use Rattle.implib.specs.declared.machine.MachineType.TheVariants.{ARM64}
 use Rattle.implib.specs.Formats.Constants.{align_16bytes, align_4bytes, class_external, cnt_code}
@@ -8,15 +8,13 @@ use Rattle.implib.specs.Formats.Constants.{mem_execute_read}
 use Rattle.implib.specs.Formats.Object.{ASymbol, Object, ObjectSection}
 use Rattle.implib.specs.Link.Placement.{Placed, Unplaced, placed_from}
 use Rattle.implib.specs.Members.Gnu.{section, stub_bytes, stub_relocations, text_name}
-use Rattle.implib_link.specs.Gnu.Calls.{CanBranch, Defines, HasDirectCall, PlacedCode, direct_bytes}
-use Rattle.implib_link.specs.Gnu.Calls.{direct_leads, direct_relocations, moved_by}
+use Rattle.implib_link.specs.Gnu.Calls.{PlacedCode, direct_bytes}
+use Rattle.implib_link.specs.Gnu.Calls.{direct_relocations, moved_by}
 use Rattle.implib_link.specs.Gnu.Program.{null_descriptor}
-use Rattle.implib_link.specs.Flavors.Program.{IsProgram}
-use Rattle.implib_link_instances.specs.Worked.Calls.{calling, first_bytes, last_bytes, open_targets}
+use Rattle.implib_link_instances.specs.Worked.Calls.{calling, first_bytes, last_bytes}
 use Rattle.implib_link_instances.specs.Worked.Calls.{placed_or_empty}
-use Rattle.implib_link_instances.specs.Worked.Programs.{both_inputs, foo_input, input_objects}
+use Rattle.implib_link_instances.specs.Worked.Programs.{foo_input, input_objects}
 use Rattle.implib_link_instances.specs.Worked.Programs.{symbol_of_class, touching_8, zed_input}
-use Rattle.implib_link_instances.specs.Worked.Relocated.{CodesBeside, code_range}
 
 -- `stp x29, x30, [sp, -16]!`, `bl open`, `ldp x29, x30, [sp], 16`, `ret`
 abbrev pub branch_code : ObjectSection
@@ -65,18 +63,3 @@ stub_of machine linked index = record {
 -- the codes: the call, and the fourth object's stub
 abbrev pub branch_codes : List PlacedCode
 branch_codes = branch_at ∷ stub_of ARM64 branching_placed 3 ∷ []
-
--- On ARM64 the program and its code are linked; the branch calls `open` as the law of stubs asks,
--- and leads to 0x1010.
-pub record WorkedBranch : Type 0 where
-  pub program : IsProgram ARM64 touching_8 (both_inputs ARM64) branching_objects
-  pub beside : CodesBeside ARM64 0x1_4000_0000 touching_8 branching_objects branch_codes
-      (open_targets branching_placed)
-  pub defines : Defines (stub_of ARM64 branching_placed 3)
-      (symbol_of_class (codes "open") 1 class_external)
-  pub calls : HasDirectCall ARM64 branch_at 4 (codes "open")
-  pub reaches : CanBranch ARM64 0x1004 0x1010
-  -- bl +12
-  pub bytes : (code_range ARM64 0x1_4000_0000 (open_targets branching_placed) branch_at).bytes
-      ≡ first_bytes ARM64 ++ (3 ∷ 0 ∷ 0 ∷ 0x94 ∷ last_bytes ARM64)
-  pub leads : direct_leads ARM64 0x1_4000_1004 (3 ∷ 0 ∷ 0 ∷ 0x94 ∷ []) ≡ Some 0x1_4000_1010

@@ -1,10 +1,9 @@
 -- The closed program by hand, as the law says that there is one; and places where there is none.
-use Rattle.std.specs.Prelude.{◌≡◌, ◌<◌, ◌^◌, [], ◌∷◌}
+use Rattle.std.specs.Prelude.{◌≡◌, [], ◌∷◌}
 use Rattle.implib.specs.declared.machine.MachineType.TheVariants.{AMD64}
 use Rattle.implib.specs.Link.Image.{image_of}
 use Rattle.implib.specs.Link.Placement.{placed_from}
-use Rattle.implib_link.specs.Gnu.Packed.{packed, packed_end}
-use Rattle.implib_link.specs.Gnu.Program.{null_descriptor}
+use Rattle.implib_link.specs.Gnu.Packed.{packed_end}
 use Rattle.implib_link.specs.Search.Closed.{IsClosed}
 use Rattle.implib_link.specs.Search.Exists.{AreChosenFor, HasClosed, LieWithin, tables_end}
 use Rattle.implib_link_instances.specs.Worked.Archives.{two_libraries}
@@ -28,7 +27,3 @@ pub record WorkedExists : Type 0 where
       (image_of AMD64 closed_bases (placed_from closed_bases closed_objects))
   pub exists : HasClosed AMD64 two_libraries (choosing ∷ []) 0x2000
   pub at_zero : HasClosed AMD64 two_libraries (choosing ∷ []) 0 → ⊥
-  pub no_room : tables_end 0x7FFF_FF00 two_libraries < 2 ^ 31 → ⊥
-  pub too_far : IsClosed AMD64 two_libraries (choosing ∷ []) closed_taken zed_first
-      (packed 0x7FFF_FFF8 closed_objects) closed_objects → ⊥
-  pub tables_given : HasClosed AMD64 two_libraries (null_descriptor ∷ []) 0x2000 → ⊥

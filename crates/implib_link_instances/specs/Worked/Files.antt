@@ -301,6 +301,5 @@ gnu_mapped = record {
 pub record WorkedFiles : Type 0 where
   pub i386 : WorkedFile I386 0x2050 0x14
   pub amd64 : WorkedFile AMD64 0x2068 0x28
-  pub arm64 : WorkedFile ARM64 0x2068 0x28
   pub gnu : IsFileOf AMD64 0x3000 (record { start = 0x3000; bytes = gnu_idata } ∷ []) gnu_file
       gnu_mapped

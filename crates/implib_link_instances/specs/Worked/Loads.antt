@@ -3,7 +3,7 @@
 use Rattle.implib_link.specs.Tables.{AreTablesLoaded, block_of_flavor, tables_at}
 use Rattle.std.specs.Prelude.{◌≡◌, ℕ, ◌-◌, List, [], ◌∷◌, codes, length, map, slice_index}
 use Rattle.implib.specs.declared.machine.MachineType.{MachineType}
-use Rattle.implib.specs.declared.machine.MachineType.TheVariants.{I386, ARMNT, AMD64, ARM64}
+use Rattle.implib.specs.declared.machine.MachineType.TheVariants.{I386, AMD64}
 use Rattle.implib.specs.Import.{Ask, Name, Ordinal}
 use Rattle.implib.specs.Link.Image.{Range}
 use Rattle.implib.specs.Link.Placement.{Bases}
@@ -78,16 +78,8 @@ pub record WorkedCall (machine : MachineType) (image_base : ℕ) (bases : Bases)
 -- 2^32, an image or address tables at no multiple of 8, and ARMNT
 pub record WorkedLoads : Type 0 where
   pub amd64 : WorkedLoad AMD64 touching_8 (written_8 AMD64)
-  pub arm64 : WorkedLoad ARM64 touching_8 (written_8 ARM64)
   pub i386 : WorkedLoad I386 touching_4 (written_4 I386)
-  pub armnt : WorkedLoad ARMNT touching_4 (written_4 ARMNT)
 
 pub record WorkedCalls : Type 0 where
   pub amd64 : WorkedCall AMD64 0x1_4000_0000 touching_8 128 160
-  pub arm64 : WorkedCall ARM64 0x1_4000_0000 touching_8 128 160
   pub i386 : WorkedCall I386 0x40_0000 touching_4 96 112
-  pub i386_at_most : CanJump I386 0x8000_0000 touching_4
-  pub i386_above : CanJump I386 0x8000_0001 touching_4 → ⊥
-  pub arm64_image : CanJump ARM64 0x1_4000_0004 touching_8 → ⊥
-  pub arm64_tables : CanJump ARM64 0x1_4000_0000 touching_4 → ⊥
-  pub armnt : CanJump ARMNT 0x40_0000 touching_4 → ⊥

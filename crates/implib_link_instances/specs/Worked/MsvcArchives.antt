@@ -1,6 +1,6 @@
 -- Searches by hand of an archive of two libraries for Microsoft's linker, one of which has an
 -- alias.
-use Rattle.std.specs.Prelude.{◌≡◌, ℕ, List, [], ◌∷◌, codes, map, Some}
+use Rattle.std.specs.Prelude.{◌≡◌, ℕ, List, [], ◌∷◌, codes, map}
 use Rattle.implib.specs.declared.flavor.Flavor.TheVariants.{Msvc}
 use Rattle.implib.specs.declared.machine.MachineType.TheVariants.{AMD64}
 use Rattle.implib.specs.Definition.{DefinitionView}
@@ -14,9 +14,8 @@ use Rattle.implib.specs.Worked.Members.{of_dll}
 use Rattle.implib.specs.Worked.Statements.{plain_export}
 use Rattle.implib_link.specs.Search.Archives.{Library, archive_of}
 use Rattle.implib_link.specs.Search.Msvc.{TakesFor}
-use Rattle.implib_link.specs.Search.MsvcArchives.{IsMsvcArchive, NamesNoHeaderOf, shorts_linked}
+use Rattle.implib_link.specs.Search.MsvcArchives.{IsMsvcArchive, NamesNoHeaderOf}
 use Rattle.implib_link.specs.Search.MsvcArchives.{wanted_with_weak, weak_in}
-use Rattle.implib_link.specs.Search.Search.{first_listed}
 use Rattle.implib_link_instances.specs.Worked.Archives.{both_wanted}
 use Rattle.implib_link_instances.specs.Worked.Search.{aliased}
 use Rattle.implib.specs.LibraryName.{own_names}
@@ -70,32 +69,14 @@ shorts_of_both =
     ∷ short_named (codes "zed.dll") (codes "queue")
     ∷ foo_shorts
 
--- what is taken for `__imp_queue` alone: the null descriptor is foo.dll's
-abbrev pub queue_wanted : List (List ℕ)
-queue_wanted = codes "__imp_queue" ∷ []
-
-abbrev pub queue_taken : List MemberView
-queue_taken =
-    thunk_named (codes "zed.dll")
-    ∷ null_named (codes "foo.dll")
-    ∷ descriptor_named (codes "zed.dll")
-    ∷ short_named (codes "zed.dll") (codes "queue")
-    ∷ []
-
 -- The two are an archive that the law speaks of; one of them twice is none, since it shares its
 -- symbols. For `bar` a linker takes the weak external, for which `baz` is wanted, whose short
 -- import brings foo.dll's header; for `__imp_queue` zed.dll's members. The address of the alias
 -- finds its other weak external.
 pub record WorkedMsvcArchives : Type 0 where
   pub archive : IsMsvcArchive AMD64 two_msvc
-  pub twice : IsMsvcArchive AMD64 (msvc_zed ∷ msvc_zed ∷ []) → ⊥
   pub takes : TakesFor AMD64 (archive_of two_msvc) both_wanted shorts_of_both
   pub weak : weak_in AMD64 shorts_of_both ≡ weak_named (codes "bar") (codes "baz") ∷ []
   pub wanted : wanted_with_weak AMD64 both_wanted shorts_of_both
       ≡ codes "bar" ∷ codes "__imp_queue" ∷ codes "printf" ∷ codes "baz" ∷ []
   pub plain : NamesNoHeaderOf two_msvc (wanted_with_weak AMD64 both_wanted shorts_of_both)
-  pub address : first_listed (archive_of two_msvc) (codes "__imp_bar")
-      ≡ Some (weak_named (codes "__imp_bar") (codes "__imp_baz"))
-  pub queue_takes : TakesFor AMD64 (archive_of two_msvc) queue_wanted queue_taken
-  pub queue_linked : map (λ m. m.name) (shorts_linked AMD64 two_msvc queue_wanted)
-      ≡ codes "foo.dll" ∷ codes "zed.dll" ∷ codes "zed.dll" ∷ codes "zed.dll" ∷ []

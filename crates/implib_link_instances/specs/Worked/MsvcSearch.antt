@@ -3,7 +3,7 @@ use Rattle.std.specs.Prelude.{◌≡◌, ℕ, ◌≤◌, List, [], ◌∷◌, by
 use Rattle.std.specs.List.{IsDistinct, flat_map}
 use Rattle.implib.specs.declared.flavor.Flavor.TheVariants.{Msvc}
 use Rattle.implib.specs.declared.machine.MachineType.{MachineType}
-use Rattle.implib.specs.declared.machine.MachineType.TheVariants.{I386, ARMNT, AMD64, ARM64}
+use Rattle.implib.specs.declared.machine.MachineType.TheVariants.{I386, AMD64}
 use Rattle.implib.specs.Definition.{DefinitionView}
 use Rattle.implib.specs.Members.Members.{AreMembersOf, member_specs}
 use Rattle.implib.specs.Members.MemberSpec.{MemberView, member_of}
@@ -16,7 +16,6 @@ use Rattle.implib.specs.Worked.Statements.{plain_export}
 use Rattle.implib_link.specs.Flavors.Expansion.{descriptor_symbol_by_name}
 use Rattle.implib_link.specs.Search.Msvc.{NamesNoHeader, TakesFor, msvc_if_any, shorts_wanted}
 use Rattle.implib_link.specs.Gnu.Program.{HaveSame}
-use Rattle.implib_link_instances.specs.But.Links.{MissesNamesNoHeader}
 use Rattle.implib_link_instances.specs.Worked.Programs.{symbol_on}
 use Rattle.implib.specs.LibraryName.{own_names}
 
@@ -72,15 +71,7 @@ pub record WorkedMsvcSearch (machine : MachineType) : Type 0 where
 -- by which only members name each other are left out
 pub record WorkedMsvcSearches : Type 0 where
   pub amd64 : WorkedMsvcSearch AMD64
-  pub arm64 : WorkedMsvcSearch ARM64
   pub i386 : WorkedMsvcSearch I386
-  pub armnt : WorkedMsvcSearch ARMNT
-  pub no_descriptor : MissesNamesNoHeader (codes "descriptor") (codes "foo.dll")
-      (codes "__IMPORT_DESCRIPTOR_foo" ∷ [])
-  pub no_null_descriptor : MissesNamesNoHeader (codes "null_descriptor") (codes "foo.dll")
-      (codes "__NULL_IMPORT_DESCRIPTOR" ∷ [])
-  pub no_null_thunk : MissesNamesNoHeader (codes "null_thunk") (codes "foo.dll")
-      ((0x7F ∷ codes "foo_NULL_THUNK_DATA") ∷ [])
   pub ends : (taken : List MemberView)
       × TakesFor AMD64 (short_members AMD64) (one_wanted AMD64) taken
   pub bounded : length (four_taken AMD64) ≤ length (short_members AMD64)

@@ -11,7 +11,7 @@ use Rattle.implib_link.specs.Search.Closed.{LinksClosed}
 use Rattle.implib_link.specs.Search.MsvcArchives.{TakesIntoFor}
 use Rattle.implib_link.specs.Search.NoShorts.{WantsNoShort}
 use Rattle.implib_link_instances.specs.Worked.Archives.{library_of, two_libraries}
-use Rattle.implib_link_instances.specs.Worked.BothFlavors.{foo_and_zed, gnu_foo}
+use Rattle.implib_link_instances.specs.Worked.BothFlavors.{gnu_foo}
 use Rattle.implib_link_instances.specs.Worked.Closed.{choosing, closed_bases, closed_objects}
 use Rattle.implib_link_instances.specs.Worked.Closed.{closed_taken, zed_first}
 use Rattle.implib_link_instances.specs.Worked.MsvcArchives.{msvc_library}
@@ -42,4 +42,3 @@ pub record WorkedNoShorts : Type 0 where
   pub takes : TakesIntoFor AMD64 (archive_of_both with_far) (choosing ∷ []) closed_taken
   pub links : LinksClosed AMD64 (gnu_among with_far) (choosing ∷ []) closed_taken zed_first
       closed_bases closed_objects
-  pub some : WantsNoShort foo_and_zed (choosing ∷ []) → ⊥

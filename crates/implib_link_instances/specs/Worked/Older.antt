@@ -6,7 +6,7 @@ use Rattle.std.specs.Prelude.{Bool, ℕ, List, [], ◌∷◌, ◌++◌, codes, d
 use Rattle.implib.specs.declared.machine.MachineType.{MachineType}
 use Rattle.implib.specs.declared.machine.MachineType.TheVariants.{AMD64, I386}
 use Rattle.implib.specs.Definition.{DefinitionView, ExportView}
-use Rattle.implib.specs.Formats.Object.{Object, object_in}
+use Rattle.implib.specs.Formats.Object.{Object}
 use Rattle.implib.specs.Link.LinkedMembers.{LinkInput}
 use Rattle.implib.specs.Members.MemberSpec.{member_of}
 use Rattle.implib.specs.Members.OlderSymbols.{AreOlderMembersOf, older_specs}
@@ -14,8 +14,7 @@ use Rattle.implib.specs.Renaming.{renamed}
 use Rattle.implib.specs.Worked.Members.{of_dll}
 use Rattle.implib.specs.Worked.Statements.{plain_export}
 use Rattle.implib_link.specs.Gnu.Program.{null_descriptor}
-use Rattle.implib_link.specs.Parts.{IsEntry, Part, older_part_of}
-use Rattle.implib_link_instances.specs.Worked.NearParts.{read_or_null}
+use Rattle.implib_link.specs.Parts.{Part, older_part_of}
 use Rattle.implib_link_instances.specs.Worked.OtherLibraries.{objects_of}
 use Rattle.implib_link_instances.specs.Worked.Parts.{IsWritten, asking, gnu_bases, gnu_image}
 use Rattle.implib_link_instances.specs.Worked.Parts.{i386_gnu_bases, i386_gnu_image, i386_kernel}
@@ -74,40 +73,6 @@ IsWrittenWith older symbol = IsWritten AMD64 gnu_bases (older_parts older) older
     ∷ table_at (codes "zoo.dll") 0x3070 (asking (codes "zoo_open") 0 symbol ∷ [])
     ∷ [])
 
--- dlltool's file for an export of aaa.dll
-abbrev pub older_aone_bytes : List ℕ
-older_aone_bytes =
-    0x64 ∷ 0x86 ∷ 7 ∷ 0 ∷ 0 ∷ 0 ∷ 0 ∷ 0 ∷ 0x78 ∷ 1 ∷ 0 ∷ 0 ∷ 0xB ∷ 0 ∷ 0 ∷ 0 ∷ 0 ∷ 0 ∷ 4 ∷ 0 ∷ 0x2E ∷ 0x74 ∷ 0x65 ∷
-    0x78 ∷ 0x74 ∷ 0 ∷ 0 ∷ 0 ∷ 0 ∷ 0 ∷ 0 ∷ 0 ∷ 0 ∷ 0 ∷ 0 ∷ 0 ∷ 8 ∷ 0 ∷ 0 ∷ 0 ∷ 0x2C ∷ 1 ∷ 0 ∷ 0 ∷ 0x50 ∷ 1 ∷ 0 ∷ 0 ∷
-    0 ∷ 0 ∷ 0 ∷ 0 ∷ 1 ∷ 0 ∷ 0 ∷ 0 ∷ 0x20 ∷ 0 ∷ 0x30 ∷ 0x60 ∷ 0x2E ∷ 0x64 ∷ 0x61 ∷ 0x74 ∷ 0x61 ∷ 0 ∷ 0 ∷ 0 ∷ 0 ∷ 0 ∷
-    0 ∷ 0 ∷ 0 ∷ 0 ∷ 0 ∷ 0 ∷ 0 ∷ 0 ∷ 0 ∷ 0 ∷ 0 ∷ 0 ∷ 0 ∷ 0 ∷ 0 ∷ 0 ∷ 0 ∷ 0 ∷ 0 ∷ 0 ∷ 0 ∷ 0 ∷ 0 ∷ 0 ∷ 0 ∷ 0 ∷ 0x40 ∷
-    0 ∷ 0x30 ∷ 0xC0 ∷ 0x2E ∷ 0x62 ∷ 0x73 ∷ 0x73 ∷ 0 ∷ 0 ∷ 0 ∷ 0 ∷ 0 ∷ 0 ∷ 0 ∷ 0 ∷ 0 ∷ 0 ∷ 0 ∷ 0 ∷ 0 ∷ 0 ∷ 0 ∷ 0 ∷ 0 ∷
-    0 ∷ 0 ∷ 0 ∷ 0 ∷ 0 ∷ 0 ∷ 0 ∷ 0 ∷ 0 ∷ 0 ∷ 0 ∷ 0 ∷ 0 ∷ 0 ∷ 0 ∷ 0x80 ∷ 0 ∷ 0x30 ∷ 0xC0 ∷ 0x2E ∷ 0x69 ∷ 0x64 ∷ 0x61 ∷
-    0x74 ∷ 0x61 ∷ 0x24 ∷ 0x37 ∷ 0 ∷ 0 ∷ 0 ∷ 0 ∷ 0 ∷ 0 ∷ 0 ∷ 0 ∷ 4 ∷ 0 ∷ 0 ∷ 0 ∷ 0x34 ∷ 1 ∷ 0 ∷ 0 ∷ 0x5A ∷ 1 ∷ 0 ∷ 0 ∷
-    0 ∷ 0 ∷ 0 ∷ 0 ∷ 1 ∷ 0 ∷ 0 ∷ 0 ∷ 0 ∷ 0 ∷ 0x30 ∷ 0xC0 ∷ 0x2E ∷ 0x69 ∷ 0x64 ∷ 0x61 ∷ 0x74 ∷ 0x61 ∷ 0x24 ∷ 0x35 ∷ 0 ∷
-    0 ∷ 0 ∷ 0 ∷ 0 ∷ 0 ∷ 0 ∷ 0 ∷ 8 ∷ 0 ∷ 0 ∷ 0 ∷ 0x38 ∷ 1 ∷ 0 ∷ 0 ∷ 0x64 ∷ 1 ∷ 0 ∷ 0 ∷ 0 ∷ 0 ∷ 0 ∷ 0 ∷ 1 ∷ 0 ∷ 0 ∷ 0 ∷
-    0 ∷ 0 ∷ 0x30 ∷ 0xC0 ∷ 0x2E ∷ 0x69 ∷ 0x64 ∷ 0x61 ∷ 0x74 ∷ 0x61 ∷ 0x24 ∷ 0x34 ∷ 0 ∷ 0 ∷ 0 ∷ 0 ∷ 0 ∷ 0 ∷ 0 ∷ 0 ∷ 8 ∷
-    0 ∷ 0 ∷ 0 ∷ 0x40 ∷ 1 ∷ 0 ∷ 0 ∷ 0x6E ∷ 1 ∷ 0 ∷ 0 ∷ 0 ∷ 0 ∷ 0 ∷ 0 ∷ 1 ∷ 0 ∷ 0 ∷ 0 ∷ 0 ∷ 0 ∷ 0x30 ∷ 0xC0 ∷ 0x2E ∷
-    0x69 ∷ 0x64 ∷ 0x61 ∷ 0x74 ∷ 0x61 ∷ 0x24 ∷ 0x36 ∷ 0 ∷ 0 ∷ 0 ∷ 0 ∷ 0 ∷ 0 ∷ 0 ∷ 0 ∷ 8 ∷ 0 ∷ 0 ∷ 0 ∷ 0x48 ∷ 1 ∷ 0 ∷
-    0 ∷ 0 ∷ 0 ∷ 0 ∷ 0 ∷ 0 ∷ 0 ∷ 0 ∷ 0 ∷ 0 ∷ 0 ∷ 0 ∷ 0 ∷ 0 ∷ 0 ∷ 0x20 ∷ 0xC0 ∷ 0xFF ∷ 0x25 ∷ 0 ∷ 0 ∷ 0 ∷ 0 ∷ 0x90 ∷
-    0x90 ∷ 0 ∷ 0 ∷ 0 ∷ 0 ∷ 0 ∷ 0 ∷ 0 ∷ 0 ∷ 0 ∷ 0 ∷ 0 ∷ 0 ∷ 0 ∷ 0 ∷ 0 ∷ 0 ∷ 0 ∷ 0 ∷ 0 ∷ 0 ∷ 1 ∷ 0 ∷ 0x61 ∷ 0x6F ∷
-    0x6E ∷ 0x65 ∷ 0 ∷ 0 ∷ 2 ∷ 0 ∷ 0 ∷ 0 ∷ 8 ∷ 0 ∷ 0 ∷ 0 ∷ 4 ∷ 0 ∷ 0 ∷ 0 ∷ 0 ∷ 0 ∷ 0xA ∷ 0 ∷ 0 ∷ 0 ∷ 3 ∷ 0 ∷ 0 ∷ 0 ∷
-    0 ∷ 0 ∷ 6 ∷ 0 ∷ 0 ∷ 0 ∷ 3 ∷ 0 ∷ 0 ∷ 0 ∷ 0 ∷ 0 ∷ 6 ∷ 0 ∷ 0 ∷ 0 ∷ 3 ∷ 0 ∷ 0x2E ∷ 0x74 ∷ 0x65 ∷ 0x78 ∷ 0x74 ∷ 0 ∷
-    0 ∷ 0 ∷ 0 ∷ 0 ∷ 0 ∷ 0 ∷ 1 ∷ 0 ∷ 0 ∷ 0 ∷ 3 ∷ 0 ∷ 0x2E ∷ 0x64 ∷ 0x61 ∷ 0x74 ∷ 0x61 ∷ 0 ∷ 0 ∷ 0 ∷ 0 ∷ 0 ∷ 0 ∷ 0 ∷
-    2 ∷ 0 ∷ 0 ∷ 0 ∷ 3 ∷ 0 ∷ 0x2E ∷ 0x62 ∷ 0x73 ∷ 0x73 ∷ 0 ∷ 0 ∷ 0 ∷ 0 ∷ 0 ∷ 0 ∷ 0 ∷ 0 ∷ 3 ∷ 0 ∷ 0 ∷ 0 ∷ 3 ∷ 0 ∷
-    0x2E ∷ 0x69 ∷ 0x64 ∷ 0x61 ∷ 0x74 ∷ 0x61 ∷ 0x24 ∷ 0x37 ∷ 0 ∷ 0 ∷ 0 ∷ 0 ∷ 4 ∷ 0 ∷ 0 ∷ 0 ∷ 3 ∷ 0 ∷ 0x2E ∷ 0x69 ∷
-    0x64 ∷ 0x61 ∷ 0x74 ∷ 0x61 ∷ 0x24 ∷ 0x35 ∷ 0 ∷ 0 ∷ 0 ∷ 0 ∷ 5 ∷ 0 ∷ 0 ∷ 0 ∷ 3 ∷ 0 ∷ 0x2E ∷ 0x69 ∷ 0x64 ∷ 0x61 ∷
-    0x74 ∷ 0x61 ∷ 0x24 ∷ 0x34 ∷ 0 ∷ 0 ∷ 0 ∷ 0 ∷ 6 ∷ 0 ∷ 0 ∷ 0 ∷ 3 ∷ 0 ∷ 0x2E ∷ 0x69 ∷ 0x64 ∷ 0x61 ∷ 0x74 ∷ 0x61 ∷
-    0x24 ∷ 0x36 ∷ 0 ∷ 0 ∷ 0 ∷ 0 ∷ 7 ∷ 0 ∷ 0 ∷ 0 ∷ 3 ∷ 0 ∷ 0x61 ∷ 0x6F ∷ 0x6E ∷ 0x65 ∷ 0 ∷ 0 ∷ 0 ∷ 0 ∷ 0 ∷ 0 ∷ 0 ∷ 0 ∷
-    1 ∷ 0 ∷ 0 ∷ 0 ∷ 2 ∷ 0 ∷ 0 ∷ 0 ∷ 0 ∷ 0 ∷ 4 ∷ 0 ∷ 0 ∷ 0 ∷ 0 ∷ 0 ∷ 0 ∷ 0 ∷ 5 ∷ 0 ∷ 0 ∷ 0 ∷ 2 ∷ 0 ∷ 0 ∷ 0 ∷ 0 ∷ 0 ∷
-    0xF ∷ 0 ∷ 0 ∷ 0 ∷ 0 ∷ 0 ∷ 0 ∷ 0 ∷ 5 ∷ 0 ∷ 0 ∷ 0 ∷ 2 ∷ 0 ∷ 0 ∷ 0 ∷ 0 ∷ 0 ∷ 0x1A ∷ 0 ∷ 0 ∷ 0 ∷ 0 ∷ 0 ∷ 0 ∷ 0 ∷ 0 ∷
-    0 ∷ 0 ∷ 0 ∷ 2 ∷ 0 ∷ 0x26 ∷ 0 ∷ 0 ∷ 0 ∷ 0x5F ∷ 0x5F ∷ 0x5F ∷ 0x69 ∷ 0x6D ∷ 0x70 ∷ 0x61 ∷ 0x6F ∷ 0x6E ∷ 0x65 ∷ 0 ∷
-    0x5F ∷ 0x5F ∷ 0x69 ∷ 0x6D ∷ 0x70 ∷ 0x5F ∷ 0x61 ∷ 0x6F ∷ 0x6E ∷ 0x65 ∷ 0 ∷ 0x5F ∷ 0x68 ∷ 0x65 ∷ 0x61 ∷ 0x64 ∷
-    0x5F ∷ 0x61 ∷ 0x61 ∷ 0x61 ∷ 0x5F ∷ 0x61 ∷ 0 ∷ []
-
-abbrev pub older_aone : Object
-older_aone = read_or_null (object_in older_aone_bytes)
-
 pub record WorkedOlder : Type 0 where
   pub made : AreOlderMembersOf older_zoo.definition AMD64 older_zoo.members
   pub older : IsWrittenWith (λ e. true) (codes "___impzoo_open")
@@ -119,5 +84,3 @@ pub record WorkedOlder : Type 0 where
       ∷ table_at (codes "zoo.dll") 0x3054
       (asking (codes "zoo_open") 0 (codes "___imp_zoo_open") ∷ [])
       ∷ [])
-  pub dlltool_older : IsEntry AMD64 older_aone (asking (codes "aone") 1 (codes "___impaone"))
-  pub dlltool_today : IsEntry AMD64 older_aone (asking (codes "aone") 1 (codes "__imp_aone"))

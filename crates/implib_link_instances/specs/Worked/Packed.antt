@@ -1,7 +1,7 @@
 -- The programs by hand, packed, and the members alone: what the laws of placement say of them.
-use Rattle.std.specs.Prelude.{◌≡◌, ℕ, ◌<◌, ◌^◌, ◌++◌, ◌∷◌, [], List}
+use Rattle.std.specs.Prelude.{◌≡◌, ℕ, ◌++◌, ◌∷◌, [], List}
 use Rattle.implib.specs.declared.machine.MachineType.{MachineType}
-use Rattle.implib.specs.declared.machine.MachineType.TheVariants.{I386, ARMNT, AMD64, ARM64}
+use Rattle.implib.specs.declared.machine.MachineType.TheVariants.{I386, AMD64}
 use Rattle.implib.specs.Formats.Object.{Object}
 use Rattle.implib.specs.Link.Image.{IsAdmissible}
 use Rattle.implib.specs.Link.Linked.{AllLink}
@@ -53,12 +53,7 @@ pub record WorkedPacking (machine : MachineType) (bases : Bases) (end : ℕ) : T
 -- are a program.
 pub record WorkedPackings : Type 0 where
   pub amd64 : WorkedPacking AMD64 packed_8 0x10FC
-  pub arm64 : WorkedPacking ARM64 packed_8 0x10FC
   pub i386 : WorkedPacking I386 packed_4 0x10CC
-  pub armnt : WorkedPacking ARMNT packed_4 0x10CC
-  pub too_far : packed_end 0x7FFF_FFF8 (program_objects AMD64) < 2 ^ 31 → ⊥
-  pub no_room : IsAdmissible AMD64 (packed 0x7FFF_FFF8 (program_objects AMD64))
-      (program_objects AMD64) → ⊥
   pub any_order : AllLink AMD64 touching_8 (both_inputs AMD64)
       (objects_in (all_linked AMD64 (both_inputs AMD64)))
   pub touching : IsProgram AMD64 touching_8 (both_inputs AMD64) (alone AMD64)

@@ -22,9 +22,7 @@ use Rattle.implib_link.specs.Gnu.Reading.{ReadsAndWrites}
 use Rattle.implib_link.specs.Parts.{IsPart, IsProgramOfParts, Part, part_of}
 use Rattle.implib_link.specs.Tables.{AreSteady, AreTables, Table, TableEntry}
 use Rattle.implib_link_instances.specs.Worked.LldPrograms.{taken_address}
-use Rattle.implib_link_instances.specs.Worked.OtherLibraries.{aaa_objects, beside_objects}
-use Rattle.implib_link_instances.specs.Worked.OtherLibraries.{image_written, linker_bases}
-use Rattle.implib_link_instances.specs.Worked.OtherLibraries.{mid_input, objects_of, zzz_objects}
+use Rattle.implib_link_instances.specs.Worked.OtherLibraries.{objects_of}
 use Rattle.implib_link_instances.specs.Worked.Programs.{chosen_input, input_objects}
 
 -- dlltool's files for kernel32.dll on AMD64, head, export and tail; and an object of GNU C, which
@@ -278,18 +276,6 @@ gnu_written =
     0x65 ∷ 0x6C ∷ 0x33 ∷ 0x32 ∷ 0x2E ∷ 0x64 ∷ 0x6C ∷ 0x6C ∷ 0 ∷ 0 ∷ 0 ∷ 0 ∷ 0x14 ∷ 0x30 ∷ 0 ∷ 0 ∷ 0x7A ∷ 0x6F ∷ 0x6F ∷
     0x2E ∷ 0x64 ∷ 0x6C ∷ 0x6C ∷ 0 ∷ []
 
-abbrev pub lld_written : List ℕ
-lld_written =
-    0x5C ∷ 0x20 ∷ 0 ∷ 0 ∷ 0 ∷ 0 ∷ 0 ∷ 0 ∷ 0 ∷ 0 ∷ 0 ∷ 0 ∷ 0xBC ∷ 0x20 ∷ 0 ∷ 0 ∷ 0x7C ∷ 0x20 ∷ 0 ∷ 0 ∷ 0x6C ∷ 0x20 ∷
-    0 ∷ 0 ∷ 0 ∷ 0 ∷ 0 ∷ 0 ∷ 0 ∷ 0 ∷ 0 ∷ 0 ∷ 0xD0 ∷ 0x20 ∷ 0 ∷ 0 ∷ 0x8C ∷ 0x20 ∷ 0 ∷ 0 ∷ 0 ∷ 0 ∷ 0 ∷ 0 ∷ 0 ∷ 0 ∷ 0 ∷
-    0 ∷ 0 ∷ 0 ∷ 0 ∷ 0 ∷ 0 ∷ 0 ∷ 0 ∷ 0 ∷ 0 ∷ 0 ∷ 0 ∷ 0 ∷ 0x9C ∷ 0x20 ∷ 0 ∷ 0 ∷ 0 ∷ 0 ∷ 0 ∷ 0 ∷ 0 ∷ 0 ∷ 0 ∷ 0 ∷ 0 ∷ 0 ∷
-    0 ∷ 0 ∷ 0xAA ∷ 0x20 ∷ 0 ∷ 0 ∷ 0 ∷ 0 ∷ 0 ∷ 0 ∷ 0 ∷ 0 ∷ 0 ∷ 0 ∷ 0 ∷ 0 ∷ 0 ∷ 0 ∷ 0x9C ∷ 0x20 ∷ 0 ∷ 0 ∷ 0 ∷ 0 ∷ 0 ∷
-    0 ∷ 0 ∷ 0 ∷ 0 ∷ 0 ∷ 0 ∷ 0 ∷ 0 ∷ 0 ∷ 0xAA ∷ 0x20 ∷ 0 ∷ 0 ∷ 0 ∷ 0 ∷ 0 ∷ 0 ∷ 0 ∷ 0 ∷ 0 ∷ 0 ∷ 0 ∷ 0 ∷ 0 ∷ 0 ∷ 1 ∷ 0 ∷
-    0x45 ∷ 0x78 ∷ 0x69 ∷ 0x74 ∷ 0x50 ∷ 0x72 ∷ 0x6F ∷ 0x63 ∷ 0x65 ∷ 0x73 ∷ 0x73 ∷ 0 ∷ 0 ∷ 0 ∷ 0x7A ∷ 0x6F ∷ 0x6F ∷
-    0x5F ∷ 0x6F ∷ 0x70 ∷ 0x65 ∷ 0x6E ∷ 0 ∷ 0 ∷ 0 ∷ 0 ∷ 0x20 ∷ 0x20 ∷ 0 ∷ 0 ∷ 0x6B ∷ 0x65 ∷ 0x72 ∷ 0x6E ∷ 0x65 ∷ 0x6C ∷
-    0x33 ∷ 0x32 ∷ 0x2E ∷ 0x64 ∷ 0x6C ∷ 0x6C ∷ 0 ∷ 0 ∷ 0 ∷ 0 ∷ 0x34 ∷ 0x20 ∷ 0 ∷ 0 ∷ 0x7A ∷ 0x6F ∷ 0x6F ∷ 0x2E ∷ 0x64 ∷
-    0x6C ∷ 0x6C ∷ 0 ∷ []
-
 abbrev pub i386_gnu_written : List ℕ
 i386_gnu_written =
     0x3C ∷ 0x30 ∷ 0 ∷ 0 ∷ 0 ∷ 0 ∷ 0 ∷ 0 ∷ 0 ∷ 0 ∷ 0 ∷ 0 ∷ 0x7C ∷ 0x30 ∷ 0 ∷ 0 ∷ 0x4C ∷ 0x30 ∷ 0 ∷ 0 ∷ 0x44 ∷ 0x30 ∷
@@ -301,50 +287,12 @@ i386_gnu_written =
     0x2E ∷ 0x64 ∷ 0x6C ∷ 0x6C ∷ 0 ∷ 0 ∷ 0 ∷ 0 ∷ 0x14 ∷ 0x30 ∷ 0 ∷ 0 ∷ 0x7A ∷ 0x6F ∷ 0x6F ∷ 0x2E ∷ 0x64 ∷ 0x6C ∷ 0x6C ∷
     0 ∷ []
 
-abbrev pub i386_lld_written : List ℕ
-i386_lld_written =
-    0x4C ∷ 0x20 ∷ 0 ∷ 0 ∷ 0 ∷ 0 ∷ 0 ∷ 0 ∷ 0 ∷ 0 ∷ 0 ∷ 0 ∷ 0x8C ∷ 0x20 ∷ 0 ∷ 0 ∷ 0x5C ∷ 0x20 ∷ 0 ∷ 0 ∷ 0x54 ∷ 0x20 ∷
-    0 ∷ 0 ∷ 0 ∷ 0 ∷ 0 ∷ 0 ∷ 0 ∷ 0 ∷ 0 ∷ 0 ∷ 0xA0 ∷ 0x20 ∷ 0 ∷ 0 ∷ 0x64 ∷ 0x20 ∷ 0 ∷ 0 ∷ 0 ∷ 0 ∷ 0 ∷ 0 ∷ 0 ∷ 0 ∷ 0 ∷
-    0 ∷ 0 ∷ 0 ∷ 0 ∷ 0 ∷ 0 ∷ 0 ∷ 0 ∷ 0 ∷ 0 ∷ 0 ∷ 0 ∷ 0 ∷ 0x6C ∷ 0x20 ∷ 0 ∷ 0 ∷ 0 ∷ 0 ∷ 0 ∷ 0 ∷ 0x7A ∷ 0x20 ∷ 0 ∷ 0 ∷
-    0 ∷ 0 ∷ 0 ∷ 0 ∷ 0x6C ∷ 0x20 ∷ 0 ∷ 0 ∷ 0 ∷ 0 ∷ 0 ∷ 0 ∷ 0x7A ∷ 0x20 ∷ 0 ∷ 0 ∷ 0 ∷ 0 ∷ 0 ∷ 0 ∷ 1 ∷ 0 ∷ 0x45 ∷ 0x78 ∷
-    0x69 ∷ 0x74 ∷ 0x50 ∷ 0x72 ∷ 0x6F ∷ 0x63 ∷ 0x65 ∷ 0x73 ∷ 0x73 ∷ 0 ∷ 0 ∷ 0 ∷ 0x7A ∷ 0x6F ∷ 0x6F ∷ 0x5F ∷ 0x6F ∷
-    0x70 ∷ 0x65 ∷ 0x6E ∷ 0 ∷ 0 ∷ 0 ∷ 0 ∷ 0x10 ∷ 0x20 ∷ 0 ∷ 0 ∷ 0x6B ∷ 0x65 ∷ 0x72 ∷ 0x6E ∷ 0x65 ∷ 0x6C ∷ 0x33 ∷ 0x32 ∷
-    0x2E ∷ 0x64 ∷ 0x6C ∷ 0x6C ∷ 0 ∷ 0 ∷ 0 ∷ 0 ∷ 0x24 ∷ 0x20 ∷ 0 ∷ 0 ∷ 0x7A ∷ 0x6F ∷ 0x6F ∷ 0x2E ∷ 0x64 ∷ 0x6C ∷ 0x6C ∷
-    0 ∷ []
-
 -- an entry that asks by a name, and a table
 abbrev pub asking : List ℕ → ℕ → List ℕ → TableEntry
 asking name hint symbol = record { ask = Name name hint; symbol = Some symbol }
 
 abbrev pub table_at : List ℕ → ℕ → List TableEntry → Table
 table_at dll address entries = record { dll = dll; address = address; entries = entries }
-
--- aaa.dll and zzz.dll of dlltool, and mid.dll of ours between them
-abbrev pub aaa_entries : List TableEntry
-aaa_entries =
-    asking (codes "aone") 1 (codes "__imp_aone") ∷ asking (codes "atwo") 2 (codes "__imp_atwo") ∷ []
-
-abbrev pub mid_entries : List TableEntry
-mid_entries =
-    asking (codes "mone") 0 (codes "__imp_mone") ∷ asking (codes "mtwo") 0 (codes "__imp_mtwo") ∷ []
-
-abbrev pub zzz_entries : List TableEntry
-zzz_entries = asking (codes "zone") 1 (codes "__imp_zone") ∷ []
-
-abbrev pub aaa_part : Part
-aaa_part = record {
-  objects = aaa_objects;
-  table = record { dll = codes "aaa.dll"; entries = aaa_entries };
-}
-
-abbrev pub zzz_part : Part
-zzz_part = record {
-  objects = zzz_objects;
-  table = record { dll = codes "zzz.dll"; entries = zzz_entries };
-}
-
-abbrev pub beside_parts : List Part
-beside_parts = aaa_part ∷ part_of AMD64 mid_input ∷ zzz_part ∷ []
 
 -- kernel32.dll of dlltool, and zoo.dll of ours behind it
 abbrev pub kernel_part : List (List ℕ) → List ℕ → ℕ → Part
@@ -400,16 +348,6 @@ gnu_bases = record {
   dll_names = 0x309C;
 }
 
-abbrev pub lld_bases : Bases
-lld_bases = record {
-  descriptors = 0x2020;
-  directory_ends = 0x205C;
-  lookups = 0x205C;
-  addresses = 0x207C;
-  hint_names = 0x209C;
-  dll_names = 0x20B8;
-}
-
 abbrev pub i386_gnu_bases : Bases
 i386_gnu_bases = record {
   descriptors = 0x3000;
@@ -418,16 +356,6 @@ i386_gnu_bases = record {
   addresses = 0x304C;
   hint_names = 0x305C;
   dll_names = 0x3078;
-}
-
-abbrev pub i386_lld_bases : Bases
-i386_lld_bases = record {
-  descriptors = 0x2010;
-  directory_ends = 0x204C;
-  lookups = 0x204C;
-  addresses = 0x205C;
-  hint_names = 0x206C;
-  dll_names = 0x2088;
 }
 
 -- so many of the bytes that are written from an address on, at a later one
@@ -440,20 +368,10 @@ gnu_image = range_of gnu_written 0x3000 0x3000 60 ∷ range_of gnu_written 0x300
     ∷ range_of gnu_written 0x3000 0x3060 32
     ∷ range_of gnu_written 0x3000 0x3080 25 ∷ range_of gnu_written 0x3000 0x309C 32 ∷ []
 
-abbrev pub lld_image : List Range
-lld_image = range_of lld_written 0x2020 0x2020 60 ∷ range_of lld_written 0x2020 0x205C 32
-    ∷ range_of lld_written 0x2020 0x207C 32
-    ∷ range_of lld_written 0x2020 0x209C 25 ∷ range_of lld_written 0x2020 0x20B8 32 ∷ []
-
 abbrev pub i386_gnu_image : List Range
 i386_gnu_image = range_of i386_gnu_written 0x3000 0x3000 60
     ∷ range_of i386_gnu_written 0x3000 0x303C 16 ∷ range_of i386_gnu_written 0x3000 0x304C 16
     ∷ range_of i386_gnu_written 0x3000 0x305C 25 ∷ range_of i386_gnu_written 0x3000 0x3078 32 ∷ []
-
-abbrev pub i386_lld_image : List Range
-i386_lld_image = range_of i386_lld_written 0x2010 0x2010 60
-    ∷ range_of i386_lld_written 0x2010 0x204C 16 ∷ range_of i386_lld_written 0x2010 0x205C 16
-    ∷ range_of i386_lld_written 0x2010 0x206C 25 ∷ range_of i386_lld_written 0x2010 0x2088 32 ∷ []
 
 abbrev pub zoo_tables : ℕ → ℕ → List Table
 zoo_tables first second =
@@ -485,15 +403,9 @@ pub record IsWritten (machine : MachineType) (bases : Bases) (parts : List Part)
   pub steady : AreSteady machine (placed_from bases objects)
 
 pub record WorkedParts : Type 0 where
-  pub beside : IsWritten AMD64 linker_bases beside_parts beside_objects image_written
-      (table_at (codes "aaa.dll") 0x2090 aaa_entries ∷ table_at (codes "mid.dll") 0x20A8 mid_entries
-      ∷ table_at (codes "zzz.dll") 0x20C0 zzz_entries ∷ [])
   pub gnu : IsWritten AMD64 gnu_bases zoo_parts zoo_objects gnu_image (zoo_tables 0x3060 0x3070)
-  pub lld : IsWritten AMD64 lld_bases zoo_parts zoo_objects lld_image (zoo_tables 0x207C 0x208C)
   pub i386_gnu : IsWritten I386 i386_gnu_bases i386_zoo_parts i386_zoo_objects i386_gnu_image
       (i386_zoo_tables 0x304C 0x3054)
-  pub i386_lld : IsWritten I386 i386_lld_bases i386_zoo_parts i386_zoo_objects i386_lld_image
-      (i386_zoo_tables 0x205C 0x2064)
 
 -- On AMD64, as GNU ld linked it for 0x140000000: the object's code, which calls through the entry
 -- of `zoo_open`, by that name and by a pointer of its own at 0x2000, and jumps through the entry of

@@ -2,7 +2,7 @@
 -- address of `stat`, which is data of foo.dll, through its entry, on three machines.
 use Rattle.std.specs.Prelude.{◌≡◌, ℕ, ◌+◌, List, [], ◌∷◌, ◌++◌, codes, map, Some}
 use Rattle.implib.specs.declared.machine.MachineType.{MachineType}
-use Rattle.implib.specs.declared.machine.MachineType.TheVariants.{I386, AMD64, ARM64}
+use Rattle.implib.specs.declared.machine.MachineType.TheVariants.{I386, AMD64}
 use Rattle.implib.specs.Formats.Constants.{align_16bytes, class_external, cnt_code}
 use Rattle.implib.specs.Formats.Constants.{mem_execute_read}
 use Rattle.implib.specs.Formats.Object.{ASymbol, Object, ObjectSection}
@@ -73,6 +73,3 @@ pub record WorkedPointers : Type 0 where
   pub amd64 : WorkedPointer AMD64 0x1_4000_0000 touching_8 (0x48 ∷ 0x8B ∷ 5 ∷ 0x7D ∷ 0xF0 ∷ 0xFF ∷ 0xFF ∷ []) 0x88
   -- mov eax, [0x400064]
   pub i386 : WorkedPointer I386 0x40_0000 touching_4 (0xA1 ∷ 0x64 ∷ 0 ∷ 0x40 ∷ 0 ∷ []) 0x64
-  -- adrp x8, -0x1000; ldr x8, [x8, 0x88]
-  pub arm64 : WorkedPointer ARM64 0x1_4000_0000 touching_8
-      (0xE8 ∷ 0xFF ∷ 0xFF ∷ 0xF0 ∷ 8 ∷ 0x45 ∷ 0x40 ∷ 0xF9 ∷ []) 0x88

@@ -65,10 +65,6 @@ pub record WorkedSearched : Type 0 where
   pub ascending : IsAscending (map (λ m. m.name) by_name)
   pub arranged : IsArranged AMD64 (own_names (codes "foo.dll")) as_taken by_name
   pub of_wanted : IsLinkedOfWanted AMD64 three wanted by_name
-  pub tail_first : IsArranged AMD64 (own_names (codes "foo.dll")) as_taken
-      (tail_member ∷ bar_member ∷ qux_member ∷ head_member ∷ []) → ⊥
-  pub twice : IsArranged AMD64 (own_names (codes "foo.dll")) as_taken
-      (head_member ∷ bar_member ∷ bar_member ∷ qux_member ∷ tail_member ∷ []) → ⊥
   pub program : IsLinkedWith AMD64 (own_names (codes "foo.dll")) (packed 1 searched_objects)
       as_taken searched_objects
   pub imports : ImportsWanted AMD64 three (members_of three) wanted (packed 1 searched_objects)

@@ -7,8 +7,7 @@ use Rattle.implib.specs.Formats.Constants.{class_external}
 use Rattle.implib.specs.Formats.Object.{Object}
 use Rattle.implib.specs.Members.MemberSpec.{MemberView}
 use Rattle.implib_link.specs.Search.Closed.{TakesIntoAs}
-use Rattle.implib_link.specs.Search.Sweeps.{SweepsTake, members_at}
-use Rattle.implib_link_instances.specs.But.Links.{MissesSweepsTake}
+use Rattle.implib_link.specs.Search.Sweeps.{SweepsTake}
 use Rattle.implib_link_instances.specs.Worked.Programs.{code_object, symbol_of_class}
 
 -- an object that defines `x`, and one that defines `f` and leaves `x` to others
@@ -46,13 +45,3 @@ pub record WorkedSweeps : Type 0 where
   pub twice : SweepsTake reads_by_hand (first_x ∷ wants_x ∷ []) given_f 2 (0 ∷ 1 ∷ [])
   pub once : SweepsTake reads_by_hand (wants_x ∷ second_x ∷ []) given_f 1 (1 ∷ 0 ∷ [])
   pub just : TakesIntoAs reads_by_hand (first_x ∷ wants_x ∷ []) given_f (first_x ∷ wants_x ∷ [])
-  pub behind : SweepsTake reads_by_hand (first_x ∷ wants_x ∷ second_x ∷ []) given_f 1 (2 ∷ 1 ∷ [])
-  pub no_first : TakesIntoAs reads_by_hand (first_x ∷ wants_x ∷ second_x ∷ []) given_f
-      (members_at (first_x ∷ wants_x ∷ second_x ∷ []) (2 ∷ 1 ∷ [])) → ⊥
-
--- one sweep for two, and a sweep that takes something
-pub record NearSweepsTake : Type 0 where
-  pub taken : MissesSweepsTake (codes "taken") reads_by_hand (first_x ∷ wants_x ∷ []) given_f 1
-      (0 ∷ 1 ∷ [])
-  pub ended : MissesSweepsTake (codes "ended") reads_by_hand (first_x ∷ wants_x ∷ []) given_f 1
-      (1 ∷ [])

@@ -1,9 +1,5 @@
 //! Command lines of several archives.
 
-ghost use Rattle.implib_link_instances.specs.Worked.CommandLines.{NearIsClosedOver};
-ghost use Rattle.implib_link_instances.specs.Worked.CommandLines.{NearIsGroupSearched, NearIsSwept};
-ghost use Rattle.implib_link_instances.specs.Worked.CommandLines.{NearSearchesFor};
-ghost use Rattle.implib_link_instances.specs.Worked.CommandLines.{RefusedCommandLines};
 ghost use Rattle.implib_link_instances.specs.Worked.CommandLines.{WorkedCommandLines};
 ghost use Rattle.implib_link_instances.specs.Worked.FlavorLines.{WorkedFlavorLines};
 
@@ -17,9 +13,4 @@ ghost use Rattle.implib_link_instances.specs.Worked.FlavorLines.{WorkedFlavorLin
 pub fn worked_command_lines()
     ensures worked_command_lines { WorkedCommandLines }
     ensures worked_flavor_lines { WorkedFlavorLines }
-    ensures refused_command_lines { RefusedCommandLines }
-    ensures near_is_swept { NearIsSwept }
-    ensures near_is_group_searched { NearIsGroupSearched }
-    ensures near_is_closed_over { NearIsClosedOver }
-    ensures near_searches_libraries { NearSearchesFor }
 {}

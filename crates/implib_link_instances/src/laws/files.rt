@@ -2,7 +2,6 @@
 
 ghost use Rattle.implib.specs.Import.{Ask};
 ghost use Rattle.implib_link_instances.specs.Worked.Files.{WorkedFiles};
-ghost use Rattle.implib_link_instances.specs.Worked.NearFiles.{NearIsFileOf, NearIsInDirectory};
 ghost use Rattle.implib_link_instances.specs.Worked.NearFiles.{WorkedHeaders};
 ghost use Rattle.std.specs.Prelude.{List, ℕ};
 
@@ -12,7 +11,5 @@ ghost use Rattle.std.specs.Prelude.{List, ℕ};
 /// Near misses: those files with single bytes changed, and what these say instead.
 pub fn worked_files()
     ensures worked_files { WorkedFiles }
-    ensures near_is_file_of { NearIsFileOf }
-    ensures near_is_in_directory { NearIsInDirectory }
     ensures worked_headers { (gives : List ℕ → Ask → List ℕ) → WorkedHeaders gives }
 {}

@@ -1,8 +1,8 @@
 //! Names that stand for others, and names that are wanted otherwise.
 
-ghost use Rattle.implib_link_instances.specs.Worked.Aliases.{OverriddenAlias, WorkedAlias};
+ghost use Rattle.implib_link_instances.specs.Worked.Aliases.{WorkedAlias};
 ghost use Rattle.implib_link_instances.specs.Worked.Aliases.{WorkedFlavorAlias};
-ghost use Rattle.implib_link_instances.specs.Worked.OtherNames.{HoldsOfSome, NearStandsFor};
+ghost use Rattle.implib_link_instances.specs.Worked.OtherNames.{HoldsOfSome};
 ghost use Rattle.implib_link_instances.specs.Worked.OtherNames.{WorkedAlternateNames};
 ghost use Rattle.implib_link_instances.specs.Worked.OtherNames.{WorkedOtherNames};
 ghost use Rattle.implib_link_instances.specs.Worked.Wanting.{WorkedWanting};
@@ -21,10 +21,8 @@ ghost use Rattle.implib_link_instances.specs.Worked.Wanting.{WorkedWanting};
 pub fn worked_names()
     ensures worked_alias { WorkedAlias }
     ensures worked_flavor_alias { WorkedFlavorAlias }
-    ensures overridden_alias { OverriddenAlias }
     ensures worked_other_names { WorkedOtherNames }
     ensures worked_alternate_names { WorkedAlternateNames }
-    ensures near_stands_for { NearStandsFor }
     ensures holds_of_some { HoldsOfSome }
     ensures worked_wanting { WorkedWanting }
 {}

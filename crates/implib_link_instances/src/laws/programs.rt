@@ -1,27 +1,13 @@
 //! Programs that were linked by hand, what a loader makes of them, and images that are wrong.
 
-ghost use Rattle.implib_link_instances.specs.Worked.Claims.{WorkedClaims, WorkedDirectCalls};
 ghost use Rattle.implib_link_instances.specs.Worked.Expansion.{WorkedExpansion};
-ghost use Rattle.implib_link_instances.specs.Worked.FlavorLoads.{WorkedFlavorCalls};
-ghost use Rattle.implib_link_instances.specs.Worked.FlavorLoads.{WorkedFlavorLoads};
-ghost use Rattle.implib_link_instances.specs.Worked.Flavors.{RefusedTables, WorkedFlavors};
-ghost use Rattle.implib_link_instances.specs.Worked.FullNames.{WorkedFullNames};
-ghost use Rattle.implib_link_instances.specs.Worked.Jumps.{FarStubs, WorkedJumps, WorkedTargets};
+ghost use Rattle.implib_link_instances.specs.Worked.Flavors.{WorkedFlavors};
 ghost use Rattle.implib_link_instances.specs.Worked.Loads.{WorkedCalls, WorkedLoads};
-ghost use Rattle.implib_link_instances.specs.Worked.LongNames.{WorkedLongNames};
 ghost use Rattle.implib_link_instances.specs.Worked.MsvcSearch.{WorkedMsvcSearches};
 ghost use Rattle.implib_link_instances.specs.Worked.Packed.{WorkedPackings};
-ghost use Rattle.implib_link_instances.specs.Worked.Programs.{WorkedPrograms, WorkedStubs};
-ghost use Rattle.implib_link_instances.specs.Worked.Readings.{WorkedReadings};
-ghost use Rattle.implib_link_instances.specs.Worked.RefusedLinks.{RefusedLinks};
-ghost use Rattle.implib_link_instances.specs.Worked.RefusedTexts.{RefusedTexts};
-ghost use Rattle.implib_link_instances.specs.Worked.Rules.{ArrivalRules, FieldRules, LldRules};
-ghost use Rattle.implib_link_instances.specs.Worked.Rules.{MovingRules, SymbolRules};
+ghost use Rattle.implib_link_instances.specs.Worked.Programs.{WorkedPrograms};
 ghost use Rattle.implib_link_instances.specs.Worked.Searched.{WorkedLibraries, WorkedSearched};
-ghost use Rattle.implib_link_instances.specs.Worked.Sources.{NearFlavorTextLinks};
-ghost use Rattle.implib_link_instances.specs.Worked.Sources.{NearFlavorTextsLink};
-ghost use Rattle.implib_link_instances.specs.Worked.Sources.{NearIsFlavorSource, WorkedSources};
-ghost use Rattle.implib_link_instances.specs.Worked.Walks.{WorkedWalks};
+ghost use Rattle.implib_link_instances.specs.Worked.Sources.{WorkedSources};
 
 /// Files with a section that has a name in the string table, or another, read by full names.
 ///
@@ -72,37 +58,14 @@ ghost use Rattle.implib_link_instances.specs.Worked.Walks.{WorkedWalks};
 /// relocations, which bytes a field meets and how far back a number leads, which symbols stand for
 /// sections, where a symbol is in code, and that what arrives does so at the bytes that are said.
 pub fn worked_programs()
-    ensures full_names { WorkedFullNames }
     ensures worked_programs { WorkedPrograms }
-    ensures worked_stubs { WorkedStubs }
     ensures worked_expansion { WorkedExpansion }
     ensures worked_flavors { WorkedFlavors }
-    ensures refused_tables { RefusedTables }
-    ensures refused_links { RefusedLinks }
-    ensures far_stubs { FarStubs }
-    ensures worked_jumps { WorkedJumps }
-    ensures worked_targets { WorkedTargets }
-    ensures worked_readings { WorkedReadings }
-    ensures worked_walks { WorkedWalks }
-    ensures worked_long_names { WorkedLongNames }
     ensures worked_msvc_searches { WorkedMsvcSearches }
     ensures worked_loads { WorkedLoads }
     ensures worked_calls { WorkedCalls }
     ensures worked_searched { WorkedSearched }
     ensures worked_libraries { WorkedLibraries }
-    ensures worked_flavor_loads { WorkedFlavorLoads }
-    ensures worked_flavor_calls { WorkedFlavorCalls }
     ensures worked_packings { WorkedPackings }
-    ensures refused_texts { RefusedTexts }
     ensures worked_sources { WorkedSources }
-    ensures near_is_flavor_source { NearIsFlavorSource }
-    ensures near_flavor_text_links { NearFlavorTextLinks }
-    ensures near_flavor_texts_link { NearFlavorTextsLink }
-    ensures worked_claims { WorkedClaims }
-    ensures worked_direct_calls { WorkedDirectCalls }
-    ensures lld_rules { LldRules }
-    ensures moving_rules { MovingRules }
-    ensures field_rules { FieldRules }
-    ensures symbol_rules { SymbolRules }
-    ensures arrival_rules { ArrivalRules }
 {}
