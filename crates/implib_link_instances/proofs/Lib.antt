@@ -1,2 +1,3 @@
 pub mod Archives
+pub mod Refused
 pub mod Worked

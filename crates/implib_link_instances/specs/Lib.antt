@@ -1,3 +1,4 @@
 pub mod Archives
 pub mod Machines
+pub mod Refused
 pub mod Worked

@@ -12,4 +12,5 @@ pub mod lld;
 pub mod moves;
 pub mod names;
 pub mod programs;
+pub mod refused;
 pub mod searches;

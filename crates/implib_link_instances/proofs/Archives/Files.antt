@@ -12,7 +12,7 @@ use Rattle.implib_link_instances.specs.Worked.FlavorLines.{amd64_kernels, i386_k
 use Rattle.implib_link_instances.proofs.Worked.NearSearches.{searched}
 
 -- what the computing has to open
-unfoldable opened_files : Unit {0}
+unfoldable pub opened_files : Unit {0}
 unfolding headers_among headers_in with_header data_at first_in linker_data linker_in long_name long_name_at long_names_in long_names_or member_at name_in number_in numbers_in paired read_as stored_at stored_from stored_in texts_in trimmed entries_by entries_in member_after members_read_as symbols_at
 opened_files = tt
 

@@ -1,29 +1,14 @@
-use Rattle.std.proofs.Common.{arith}
-use Rattle.std.proofs.Common.{ℕ}
-use Rattle.std.proofs.Common.{◌≡◌}
-use Rattle.std.proofs.Common.{◌+◌}
-use Rattle.std.proofs.Common.{◌<◌}
-use Rattle.std.proofs.Common.{[]}
-use Rattle.std.proofs.Common.{◌∷◌}
-use Rattle.std.specs.Prelude.{◌&&◌}
-use Rattle.std.proofs.Common.{false}
-use Rattle.std.proofs.Common.{Some}
-use Rattle.std.proofs.Common.{Option}
-use Rattle.std.proofs.Common.{None}
-use Rattle.std.proofs.Common.{Bool}
-use Rattle.std.specs.Prelude.{nat_eq}
-use Rattle.std.proofs.Common.{List}
-use Rattle.implib.specs.Link.Image.{Range}
-use Rattle.std.proofs.Common.{true}
-use Rattle.implib.specs.Link.Image.{byte_at}
-use Rattle.std.proofs.Common.{ap}
-use Rattle.std.proofs.lemmas.Bool.{eqb-true}
-use Rattle.implib.specs.Link.Load.{BytesAt}
-use Rattle.std.proofs.lemmas.Bool.{and_parts}
-use Rattle.implib.specs.Link.Load.{number_in}
-use Rattle.implib.specs.Link.Load.{NumberAt}
-use Rattle.std.proofs.Common.{length}
+-- What instances share: numbers that differ, bytes in images, and what no list has.
+use Rattle.std.proofs.Common.{arith, ℕ, ◌≡◌, ◌+◌, ◌<◌, [], ◌∷◌, false, Some, Option, None, Bool, List, true, ap, length, sym, refl, ◌∙◌, inl, inr}
+use Rattle.std.specs.Prelude.{◌&&◌, nat_eq, slice_get}
+use Rattle.implib.proofs.Link.Ranges.{Among}
+use Rattle.implib.specs.Link.Image.{Range, byte_at}
+use Rattle.implib.specs.Link.Load.{BytesAt, number_in, NumberAt}
+use Rattle.implib.specs.Link.Resolution.{SymbolDefinition}
+use Rattle.implib_link.proofs.Search.Lists.{contains_among}
 use Rattle.implib_link_instances.specs.Worked.Operands.{or_else}
+use Rattle.std.proofs.lemmas.Bool.{eqb-true, and_parts, or_parts, true≢false}
+use Rattle.std.specs.List.{Contains, list_any}
 
 -- numbers that are not equal
 pub differ : (n m : ℕ) → n ≡ m → n < m → ⊥
@@ -54,3 +39,34 @@ number image width a n bytes is count value = record { bytes = bytes; located = 
 
 pub value : (a b : ℕ) → Some a ≡ Some b → a ≡ b
 value a b is = ap (λ o. or_else o 0) is
+
+-- the same bytes, where as many are at one address
+pub same_bytes : (memory : List Range) (xs ys : List ℕ) (a : ℕ) → BytesAt memory a xs → BytesAt memory a ys → length xs ≡ length ys → xs ≡ ys
+unfolding BytesAt
+same_bytes memory [] [] a first second long = refl
+same_bytes memory [] (y ∷ ys) a first second long = absurd (omega arith)
+same_bytes memory (x ∷ xs) [] a first second long = absurd (omega arith)
+same_bytes memory (x ∷ xs) (y ∷ ys) a first second long =
+    rw (value x y (sym first.0 ∙ second.0), same_bytes memory xs ys (a + 1) first.1 second.1 (omega arith)) refl
+
+pub entry_is : (base entry place : ℕ) → Some (base + place) ≡ Some (base + entry) → entry ≡ place
+entry_is base entry place is = let same : base + place ≡ base + entry = value (base + place) (base + entry) is in omega arith
+
+none_passes_among : {X : Type 0} (p : X → Bool) (x : X) (xs : List X) → list_any p xs ≡ false → Among x xs → p x ≡ true → ⊥
+unfolding Among
+none_passes_among p x [] none held is = absurd held
+none_passes_among p x (y ∷ xs) none (inl e) is = true≢false (sym is ∙ ap p e ∙ (or_parts (p y) (list_any p xs) none).0)
+none_passes_among p x (y ∷ xs) none (inr held) is = none_passes_among p x xs (or_parts (p y) (list_any p xs) none).1 held is
+
+-- no element of a list passes a test
+pub none_passes : {X : Type 0} (p : X → Bool) (x : X) (xs : List X) → list_any p xs ≡ false → Contains xs x → p x ≡ true → ⊥
+none_passes p x xs none held is = none_passes_among p x xs none (contains_among x xs held) is
+
+pub none_in : {X : Type 0} (x : X) → Contains [] x → ⊥
+none_in x held = none_passes (λ y. true) x [] refl held refl
+
+pub none_at : {X : Type 0} (i : ℕ) (x : X) → slice_get [] i ≡ Some x → ⊥
+none_at i x is = cc
+
+pub no_definition : (d : SymbolDefinition) → [] ≡ d ∷ [] → ⊥
+no_definition d is = cc
