@@ -1,8 +1,8 @@
 -- What no search in bytes takes, and what does not arrive, by computing.
-use Rattle.std.proofs.Common.{List, None, Option, Some, [], ap, arith, codes, false, length, map, refl, suc, subst, sym, true, zero, ℕ, ◌+◌, ◌<◌, ◌∙◌, ◌∷◌, ◌≡◌, ◌≤◌}
-use Rattle.std.specs.Prelude.{Bool, bytes_eq, slice_get, unwrap_or}
+use Rattle.std.proofs.Common.{List, None, Option, Some, [], ap, arith, codes, false, length, map, refl, suc, subst, sym, true, zero, ℕ, ◌∙◌, ◌∷◌, ◌≡◌, ◌≤◌}
+use Rattle.std.specs.Prelude.{Bool, slice_get, unwrap_or}
 use Rattle.std.specs.Fmt.{digits}
-use Rattle.std.specs.List.{Contains, filter}
+use Rattle.std.specs.List.{filter}
 use Rattle.std.proofs.lemmas.Bool.{true≢false}
 use Rattle.implib.specs.declared.machine.MachineType.TheVariants.{AMD64}
 use Rattle.implib.specs.Formats.ShortImport.{ShortImport}
@@ -16,14 +16,14 @@ use Rattle.implib_archive.specs.Archive.{archive_of, end_from, entries_from, ent
 use Rattle.implib_archive.specs.Leads.{headers_among, headers_in, with_header}
 use Rattle.implib_archive.specs.Parts.{field, header_bytes, padded_part_bytes, padding, part_bytes, signature, u16_le, u32_be, u32_le}
 use Rattle.implib_archive.specs.ReadBack.{read_view}
-use Rattle.implib_archive.specs.Reader.{Read, member_at}
+use Rattle.implib_archive.specs.Reader.{Read}
 use Rattle.implib_archive.specs.Worked.{worked_gnu, worked_members}
 use Rattle.implib_archive.specs.declared.kind.Kind.TheVariants.{Gnu}
 use Rattle.implib_archive.proofs.WorkedBytes.{worked_archives}
 use Rattle.implib_archive_link.specs.Files.{entries_by}
 use Rattle.implib_archive_link.specs.InBytes.{First, TakesAt, asks_for, header_by}
 use Rattle.implib_archive_link.specs.LldWay.{IsBuiltByLld, IsWantedBy, short_of_export, shorts_in}
-use Rattle.implib_archive_link.specs.Results.{AreHeadersOf, IsHeaderOf}
+use Rattle.implib_archive_link.specs.Results.{AreHeadersOf}
 use Rattle.implib_link.specs.Flavors.LldImports.{IsLldProgram, imports_of_lld, placed_by_lld}
 use Rattle.implib_link.specs.Flavors.LldTables.{addresses_at, built, hints_at, lookups_at, names_at}
 use Rattle.implib_link.proofs.Flavors.LldTables.{built_pieces}

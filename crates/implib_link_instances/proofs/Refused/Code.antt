@@ -3,7 +3,6 @@ use Rattle.std.proofs.Common.{List, None, Option, Some, [], ap, append-nil, arit
 use Rattle.implib.specs.declared.machine.MachineType.TheVariants.{AMD64, ARM64}
 use Rattle.implib.specs.Formats.Constants.{class_external}
 use Rattle.implib.specs.Formats.Object.{ASymbol}
-use Rattle.implib.specs.Link.Image.{byte_at}
 use Rattle.implib.specs.Link.Resolution.{symbol_address}
 use Rattle.implib.specs.Link.Load.{BytesAt, NumberAt, number_in}
 use Rattle.implib.proofs.Link.Loading.{number_once}

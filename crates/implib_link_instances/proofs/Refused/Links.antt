@@ -1,21 +1,19 @@
 -- What no link gives, by computing.
-use Rattle.std.proofs.Common.{List, None, Option, Some, [], ap, arith, codes, inl, inr, length, map, refl, suc, subst, sym, zero, ℕ, ◌*◌, ◌+◌, ◌++◌, ◌<◌, ◌∙◌, ◌∷◌, ◌≡◌, ◌⊎◌}
+use Rattle.std.proofs.Common.{List, None, Some, [], ap, arith, codes, inl, inr, length, map, refl, suc, subst, sym, zero, ℕ, ◌*◌, ◌+◌, ◌∙◌, ◌∷◌, ◌≡◌, ◌⊎◌}
 use Rattle.std.specs.Prelude.{bytes_eq, slice_get, slice_index}
 use Rattle.std.specs.List.{Contains}
 use Rattle.implib.specs.declared.flavor.Flavor.TheVariants.{Gnu}
 use Rattle.implib.specs.declared.machine.MachineType.TheVariants.{AMD64, I386}
-use Rattle.implib.specs.Definition.{ExportView}
 use Rattle.implib.specs.Formats.Constants.{class_external, class_static}
 use Rattle.implib.specs.Formats.Object.{ASymbol, ObjectSection, ObjectSymbol}
 use Rattle.implib.specs.Formats.ShortImport.{ShortImport}
 use Rattle.implib.specs.Link.LinkedMembers.{LinkInput, chosen_exports}
 use Rattle.implib.specs.Link.Load.{NumberAt}
 use Rattle.implib.specs.Link.Placement.{Placed}
-use Rattle.implib.specs.Link.Resolution.{SymbolDefinition, definitions_of}
+use Rattle.implib.specs.Link.Resolution.{SymbolDefinition}
 use Rattle.implib.specs.Members.Gnu.{section}
 use Rattle.implib.specs.Members.ImportTables.{table_flags, zeros}
 use Rattle.implib.specs.Members.MemberSpec.{MemberView}
-use Rattle.implib.specs.Worked.Statements.{plain_export}
 use Rattle.implib.proofs.Link.LinkedMembers.{among_contains}
 use Rattle.implib.proofs.Link.Loading.{number_once}
 use Rattle.implib_link.specs.Directory.{DirectoryAt}
@@ -34,7 +32,7 @@ use Rattle.implib_link_instances.proofs.Worked.Calls.{one_of}
 use Rattle.implib_link_instances.proofs.Worked.Lemmas.{differ, no_definition, none_at, none_in, none_passes, number, value}
 use Rattle.implib_link_instances.proofs.Worked.Lld.{lld_opened}
 use Rattle.implib_link_instances.proofs.Worked.NearSearches.{searched}
-use Rattle.implib_link_instances.specs.Refused.Links.{RefusedFlavorTextLinks, RefusedFlavorTextsLink, RefusedInputImports, RefusedIsImported, RefusedIsImportedBy, RefusedIsImportedOfBoth, RefusedIsTaken, RefusedJumpsThrough, RefusedLinksBeside, RefusedLinksClosed, RefusedLinksClosedForBoth, RefusedLldLinks, RefusedProgramLinks, RefusedRunLinks, asking_entry, f_in, f_input, f_inputs, f_library, f_run, f_short, for_gnu, four_before, jump, later_short, listing, loud_short, nul_within, unchosen, with_symbol}
+use Rattle.implib_link_instances.specs.Refused.Links.{RefusedFlavorTextLinks, RefusedFlavorTextsLink, RefusedInputImports, RefusedIsImported, RefusedIsImportedBy, RefusedIsImportedOfBoth, RefusedIsTaken, RefusedJumpsThrough, RefusedLinksBeside, RefusedLinksClosed, RefusedLinksClosedForBoth, RefusedLldLinks, RefusedProgramLinks, RefusedRunLinks, asking_entry, f_in, f_input, f_library, f_run, f_short, for_gnu, four_before, jump, later_short, listing, nul_within, unchosen, with_symbol}
 use Rattle.implib_link_instances.specs.Refused.Tables.{zero_image}
 use Rattle.implib_link_instances.specs.Worked.Programs.{code_object, symbol_of_class, touching_8}
 use Rattle.implib_link_instances.specs.Worked.Sources.{source_in, zed_meant, zed_text}

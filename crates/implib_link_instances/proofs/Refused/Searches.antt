@@ -1,12 +1,12 @@
 -- What no search takes, by computing.
-use Rattle.std.proofs.Common.{List, None, Some, [], ap, arith, codes, inl, inr, length, refl, subst, sym, ℕ, ◌<◌, ◌∙◌, ◌∷◌, ◌≡◌, ◌⊎◌, true, false}
+use Rattle.std.proofs.Common.{List, None, Some, [], ap, arith, codes, inl, inr, length, refl, subst, sym, ℕ, ◌∙◌, ◌∷◌, ◌≡◌, ◌⊎◌}
 use Rattle.std.specs.Prelude.{slice_index}
 use Rattle.std.specs.List.{Contains}
 use Rattle.std.proofs.lemmas.Bool.{true≢false}
 use Rattle.implib.specs.declared.machine.MachineType.TheVariants.{AMD64}
 use Rattle.implib.specs.Definition.{ExportView}
 use Rattle.implib.specs.Import.{imp_symbol}
-use Rattle.implib.specs.Link.LinkedMembers.{LinkInput, linked_members}
+use Rattle.implib.specs.Link.LinkedMembers.{linked_members}
 use Rattle.implib.specs.Members.MemberSpec.{MemberView}
 use Rattle.implib.specs.Members.Msvc.{short_import_symbol}
 use Rattle.implib_link.specs.Flavors.Program.{LinksAmong, gnu_input}

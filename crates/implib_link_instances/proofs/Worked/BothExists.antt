@@ -3,7 +3,6 @@ use Rattle.std.proofs.Common.{ℕ, ◌≡◌, ◌^◌, ◌<◌, [], ◌∷◌, r
 use Rattle.implib.specs.declared.machine.MachineType.TheVariants.{AMD64}
 use Rattle.implib.specs.Link.Placement.{next_multiple}
 use Rattle.implib_link.specs.Gnu.Packed.{group_end, packed, packed_end, sections_end}
-use Rattle.implib_link.specs.Gnu.Program.{null_descriptor}
 use Rattle.implib_link.specs.Search.BothExists.{HasClosedForBoth, objects_closed_of_both, tables_end_of_both}
 use Rattle.implib_link.specs.Search.BothFlavors.{AreGivenForBoth, kept_of_both}
 use Rattle.implib_link_instances.specs.Worked.BothExists.{WorkedBothExists, WorkedReversedExists}

@@ -1,5 +1,5 @@
 -- The closed program of both flavours that was linked by hand, and near misses of it, by computing and by the laws.
-use Rattle.std.proofs.Common.{◌≡◌, ℕ, ◌+◌, true, false, List, [], ◌∷◌, ◌++◌, codes, length, map, refl, sym, ◌∙◌, subst, arith}
+use Rattle.std.proofs.Common.{◌≡◌, ℕ, true, false, List, [], ◌∷◌, ◌++◌, codes, length, map, refl, sym, ◌∙◌, subst, arith}
 use Rattle.std.specs.Prelude.{bytes_eq, not, IsPermutation, ◌<◌}
 use Rattle.std.specs.List.{AllByRecursion, Contains, flat_map, list_all, list_any, filter}
 use Rattle.std.proofs.lemmas.Bool.{and_parts, not-true, true≢false}

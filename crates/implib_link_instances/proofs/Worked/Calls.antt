@@ -1,6 +1,6 @@
 -- The calls that were relocated by hand, and the loader that reads, by computing and by the laws.
 use Rattle.implib_link.specs.Gnu.Loaded.{HoldsAt}
-use Rattle.std.proofs.Common.{◌≡◌, ℕ, zero, suc, ◌+◌, ◌^◌, ◌⊎◌, true, false, List, [], ◌∷◌, ◌++◌, codes, length, Some, None, Option, refl, ap, sym, ◌∙◌, subst, inl, inr, arith, true≢false, map}
+use Rattle.std.proofs.Common.{◌≡◌, ℕ, zero, suc, ◌^◌, ◌⊎◌, true, false, List, [], ◌∷◌, ◌++◌, codes, length, Some, None, Option, refl, ap, sym, ◌∙◌, subst, inl, inr, arith, true≢false, map}
 use Rattle.std.specs.Prelude.{Bool, bytes_eq, slice_get, ◌&&◌}
 use Rattle.std.specs.List.{AllByRecursion}
 use Rattle.implib_link.proofs.Tables.{tables_end, tables_read}

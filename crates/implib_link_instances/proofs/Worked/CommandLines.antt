@@ -1,5 +1,5 @@
 -- The command lines, by computing and by the laws.
-use Rattle.std.proofs.Common.{◌≡◌, ℕ, zero, suc, true, false, List, [], ◌∷◌, ◌++◌, ◌+◌, map, Option, None, Some, refl, sym, ◌∙◌, subst, inl, inr, codes}
+use Rattle.std.proofs.Common.{◌≡◌, ℕ, zero, suc, true, false, List, [], ◌∷◌, ◌++◌, map, Option, None, Some, refl, sym, ◌∙◌, subst, inl, inr, codes}
 use Rattle.std.specs.Prelude.{bytes_eq, drop, is_none, slice_get}
 use Rattle.std.specs.List.{Contains, IsDistinct, flat_map, list_all, list_any}
 use Rattle.std.proofs.lemmas.Bool.{and_parts, true≢false}

@@ -1,5 +1,5 @@
 -- Programs of DLLs in both flavours, by computing.
-use Rattle.std.proofs.Common.{◌≡◌, ◌+◌, List, ◌∷◌, refl, arith, true, ◌++◌}
+use Rattle.std.proofs.Common.{◌≡◌, List, ◌∷◌, refl, arith, true, ◌++◌}
 use Rattle.std.specs.Prelude.{drop, take, not}
 use Rattle.implib.specs.declared.machine.MachineType.TheVariants.{I386, AMD64}
 use Rattle.implib.specs.Link.Image.{with_address}

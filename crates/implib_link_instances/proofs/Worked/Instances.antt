@@ -1,5 +1,5 @@
 -- Premises that are met a second time, by computing.
-use Rattle.std.proofs.Common.{◌+◌, List, [], ◌∷◌, ◌++◌}
+use Rattle.std.proofs.Common.{List, [], ◌∷◌, ◌++◌}
 use Rattle.std.specs.List.{AllByRecursion}
 use Rattle.implib.specs.Link.Image.{AllApart, AreApart, Range}
 use Rattle.implib.proofs.Link.Linked.{all_append}

@@ -22,8 +22,6 @@ use Rattle.implib_link.proofs.Gnu.Memory.{within_bounds}
 use Rattle.implib_link.proofs.Search.Lists.{among_at, contains_among, each_of}
 use Rattle.implib_link_instances.proofs.Worked.Lld.{alike, lld_opened}
 use Rattle.implib_link_instances.proofs.Worked.Programs.{distinct_by}
-use Rattle.implib_link_instances.proofs.Worked.Lemmas.{number}
-use Rattle.implib_link_instances.proofs.Worked.Lemmas.{value}
 
 -- Ranges of which none meets another, in any order.
 

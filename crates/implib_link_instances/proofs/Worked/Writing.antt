@@ -4,7 +4,7 @@ use Rattle.std.specs.List.{AllByRecursion}
 use Rattle.implib.specs.Link.Placement.{Bases}
 use Rattle.implib_link_instances.specs.Worked.Operands.{moved_memory, passing_codes, passing_objects, passing_targets}
 use Rattle.implib_link_instances.proofs.Worked.Operands.{worked_operands}
-use Rattle.std.proofs.Common.{◌≡◌, ℕ, ◌+◌, List, ◌++◌, length, map, refl, ◌∙◌, subst}
+use Rattle.std.proofs.Common.{◌≡◌, ℕ, List, ◌++◌, length, map, refl, ◌∙◌, subst}
 use Rattle.implib.specs.declared.machine.MachineType.{MachineType}
 use Rattle.implib.specs.declared.machine.MachineType.TheVariants.{I386, AMD64}
 use Rattle.implib.specs.Formats.Layout.{encoded_size}

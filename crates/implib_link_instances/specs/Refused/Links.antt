@@ -1,13 +1,13 @@
 -- What no link gives. A record `RefusedX` has for each field of `X` what this field refuses: mostly
 -- links of nothing.
-use Rattle.std.specs.Prelude.{List, [], codes, ℕ, ◌+◌, ◌++◌, ◌∷◌}
+use Rattle.std.specs.Prelude.{List, [], codes, ℕ, ◌++◌, ◌∷◌}
 use Rattle.implib.specs.declared.flavor.Flavor.TheVariants.{Gnu, Msvc}
 use Rattle.implib.specs.declared.machine.MachineType.TheVariants.{AMD64, I386}
 use Rattle.implib.specs.Formats.Constants.{amd64_rel32, class_external, class_static}
 use Rattle.implib.specs.Formats.Object.{ASymbol, Object, ObjectSection, ObjectSymbol}
 use Rattle.implib.specs.Formats.ShortImport.{ShortImport}
 use Rattle.implib.specs.Link.LinkedMembers.{LinkInput}
-use Rattle.implib.specs.Link.Placement.{Bases, Placed, Unplaced}
+use Rattle.implib.specs.Link.Placement.{Placed, Unplaced}
 use Rattle.implib.specs.Members.Gnu.{section}
 use Rattle.implib.specs.Members.ImportTables.{table_flags, zeros}
 use Rattle.implib.specs.Members.MemberSpec.{MemberView}
@@ -15,10 +15,9 @@ use Rattle.implib.specs.Worked.Members.{of_dll}
 use Rattle.implib.specs.Worked.Statements.{plain_export}
 use Rattle.implib_link.specs.Flavors.LldImports.{IsImportedBy, LldLinks}
 use Rattle.implib_link.specs.Flavors.Program.{FlavorInput, InputImports, IsTaken, OfLinker, OfMember}
-use Rattle.implib_link.specs.Flavors.Program.{ProgramLinks, gnu_input, members_linked, null_member}
+use Rattle.implib_link.specs.Flavors.Program.{ProgramLinks, gnu_input}
 use Rattle.implib_link.specs.Flavors.Texts.{FlavorTextLinks, FlavorTextsLink}
 use Rattle.implib_link.specs.Gnu.OtherLibraries.{LinksBeside, Run, RunLinks}
-use Rattle.implib_link.specs.Gnu.Program.{null_descriptor}
 use Rattle.implib_link.specs.Search.Archives.{Library}
 use Rattle.implib_link.specs.Search.BothFlavors.{FlavorLibrary, IsImportedOfBoth, LinksClosedForBoth}
 use Rattle.implib_link.specs.Search.Closed.{IsImported, LinksClosed}

@@ -1,11 +1,10 @@
 -- What no search takes. A record `RefusedX` has for each field of `X` what this field refuses:
 -- mostly searches of no members, or for no names.
-use Rattle.std.specs.Prelude.{List, [], codes, ◌∷◌}
+use Rattle.std.specs.Prelude.{[], codes, ◌∷◌}
 use Rattle.implib.specs.declared.flavor.Flavor.TheVariants.{Gnu}
 use Rattle.implib.specs.declared.machine.MachineType.TheVariants.{AMD64}
 use Rattle.implib.specs.Definition.{ExportView}
 use Rattle.implib.specs.Formats.Object.{object_in}
-use Rattle.implib.specs.Members.MemberSpec.{MemberView}
 use Rattle.implib.specs.Worked.Members.{of_dll}
 use Rattle.implib.specs.Worked.Statements.{plain_export}
 use Rattle.implib_link.specs.Gnu.Program.{HaveSame}

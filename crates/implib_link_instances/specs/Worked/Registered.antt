@@ -1,7 +1,7 @@
 -- Data and code that name `open` by its bare name, by hand, on three machines, in the program of
 -- Worked/Operands with this object in the place of the passing one: at other places, in images at
 -- other bases, and moved to others. Here the name is that of a stub for GNU's linker.
-use Rattle.std.specs.Prelude.{ℕ, ◌+◌, List, [], ◌∷◌, ◌++◌, codes, slice_get}
+use Rattle.std.specs.Prelude.{ℕ, List, [], ◌∷◌, ◌++◌, codes, slice_get}
 use Rattle.implib.specs.declared.coff.object.Relocation.{Relocation}
 use Rattle.implib.specs.declared.machine.MachineType.{MachineType}
 use Rattle.implib.specs.declared.machine.MachineType.TheVariants.{I386, ARMNT, AMD64, ARM64}
