@@ -1,7 +1,5 @@
 -- The same, computed.
-pub mod FileLines
 pub mod Files
+pub mod Worked
 pub mod WorkedBothWay
-pub mod WorkedLibraries
 pub mod WorkedLldWay
-pub mod WorkedSearches

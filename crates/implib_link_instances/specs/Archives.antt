@@ -1,7 +1,5 @@
 -- Searches in an archive's bytes and ways from these to calls, worked by hand, and near misses.
-pub mod FileLines
 pub mod Files
 pub mod Worked
 pub mod WorkedBothWay
 pub mod WorkedLldWay
-pub mod WorkedWay

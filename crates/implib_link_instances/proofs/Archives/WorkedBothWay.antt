@@ -1,5 +1,5 @@
 -- The whole way for libraries of both flavours by hand, by computing and by the laws.
-use Rattle.std.proofs.Common.{◌≡◌, ℕ, ◌^◌, ◌<◌, ◌+◌, List, [], ◌∷◌, ◌++◌, codes, map, refl, ap, sym, ◌∙◌, subst, Some, arith}
+use Rattle.std.proofs.Common.{List, Some, [], ap, arith, codes, map, refl, subst, sym, ℕ, ◌++◌, ◌+◌, ◌<◌, ◌^◌, ◌∙◌, ◌∷◌, ◌≡◌}
 use Rattle.std.specs.Prelude.{slice_get}
 use Rattle.std.specs.List.{AllByRecursion, Contains}
 use Rattle.implib.specs.declared.flavor.Flavor.TheVariants.{Gnu, Msvc}
@@ -14,8 +14,7 @@ use Rattle.implib_archive.specs.declared.kind.Kind.TheVariants.{Coff}
 use Rattle.implib_archive_link.specs.BothWay.{AreLinkedForBoth, BothArrive}
 use Rattle.implib_archive_link.specs.InBytes.{Second}
 use Rattle.implib_archive_link.specs.Results.{HaveArchive}
-use Rattle.implib_link_instances.specs.Archives.WorkedBothWay.{WorkedBothWay, bar_for_gnu, bases, before_null, both, calls_bar, calls_queue, code_at, linked, objects, own, placed, queue_for_msvc, taken}
-use Rattle.implib_link_instances.specs.Archives.WorkedWay.{code}
+use Rattle.implib_link_instances.specs.Archives.WorkedBothWay.{WorkedBothWay, bar_for_gnu, bases, before_null, both, calls_bar, calls_queue, code, code_at, linked, objects, own, placed, queue_for_msvc, taken}
 use Rattle.implib_archive_link.proofs.BothWay.{both_arrive}
 use Rattle.implib_archive_link.proofs.Corollaries.{found_given}
 use Rattle.implib_link.specs.Flavors.Program.{FlavorInput}
@@ -29,23 +28,21 @@ use Rattle.implib_link.specs.Search.Closed.{listed_in, unresolved}
 use Rattle.implib_link.specs.Search.Msvc.{TakesFor, left_in}
 use Rattle.implib_link.specs.Search.MsvcArchives.{TakesIntoFor}
 use Rattle.implib_link_instances.specs.Worked.Calls.{first_bytes, given_on, last_bytes}
-use Rattle.implib_link_instances.specs.Worked.MsvcArchives.{thunk_named}
+use Rattle.implib_link_instances.specs.Worked.MsvcSearch.{thunk_named}
 use Rattle.implib_link.proofs.Gnu.Choices.{found, found_in}
 use Rattle.implib_link.proofs.Gnu.LinkedCodes.{codes_can_be_linked}
 use Rattle.implib_link.proofs.Gnu.Loaded.{mapped_at}
 use Rattle.implib_link.proofs.Search.BothClosed.{packed_both}
 use Rattle.implib_link.proofs.Search.BothGiven.{both_given_closes}
-use Rattle.implib_link.proofs.Search.Closing.{takes_into, claims_apart}
+use Rattle.implib_link.proofs.Search.Closing.{claims_apart, takes_into}
 use Rattle.implib_link.proofs.Search.Lists.{among_at}
 use Rattle.implib_link_instances.proofs.Worked.BothFlavors.{archive_by}
-use Rattle.implib_link_instances.proofs.Worked.Calls.{wide}
-use Rattle.implib_link_instances.proofs.Worked.Choices.{once_by}
-use Rattle.implib_link_instances.proofs.Worked.NearSearches.{searched}
+use Rattle.implib_link_instances.proofs.Worked.Calls.{once_by, wide}
+use Rattle.implib_link_instances.proofs.Worked.Opened.{searched}
 use Rattle.implib_link_instances.proofs.Worked.Programs.{claims_none_by, instructions_at}
-use Rattle.implib_link.specs.Search.Search.{left_as, AreTakenInTurnAs}
+use Rattle.implib_link.specs.Search.Search.{AreTakenInTurnAs, left_as}
 use Rattle.implib_link.specs.Flavors.Expansion.{expanded_in}
-use Rattle.implib_link_instances.proofs.Worked.Search.{takes_by}
-use Rattle.implib_link_instances.proofs.Worked.Searched.{below_limit}
+use Rattle.implib_link_instances.proofs.Worked.Search.{below_limit, takes_by}
 
 archive : IsFlavorArchive AMD64 both
 unfolding searched

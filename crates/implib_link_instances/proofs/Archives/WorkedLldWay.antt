@@ -37,14 +37,13 @@ use Rattle.implib_link.specs.Search.MsvcArchives.{IsMsvcArchive, symbols_of_shor
 use Rattle.implib_link.specs.Search.Search.{undefined_in}
 use Rattle.implib_link.specs.Tables.{AreSteady}
 use Rattle.implib_link_instances.specs.Worked.Calls.{given_on}
-use Rattle.implib_link_instances.specs.Worked.MsvcArchives.{short_named}
+use Rattle.implib_link_instances.specs.Worked.MsvcSearch.{short_named}
 use Rattle.implib_link_instances.specs.Worked.Programs.{symbol_of_class}
 use Rattle.implib_link.proofs.Flavors.LldTables.{built_pieces}
 use Rattle.implib_link.proofs.Search.Lists.{contains_among}
 use Rattle.implib_link_instances.proofs.Worked.Calls.{wide}
 use Rattle.implib_link_instances.proofs.Worked.LinkedCode.{all_needed, only_absolute, rebased_by, relocated_by, relocated_test}
-use Rattle.implib_link_instances.proofs.Worked.Lld.{lld_opened}
-use Rattle.implib_link_instances.proofs.Worked.LldPrograms.{disjoint, meet_test, takes_outside}
+use Rattle.implib_link_instances.proofs.Worked.LldPrograms.{lld_opened, disjoint, meet_test, takes_outside}
 use Rattle.implib_link_instances.proofs.Worked.Programs.{distinct_by, opened, instruction_by}
 
 -- what the computing has to open

@@ -29,12 +29,12 @@ use Rattle.implib_link.specs.Flavors.LldTables.{addresses_at, built, hints_at, l
 use Rattle.implib_link.proofs.Flavors.LldTables.{built_pieces}
 use Rattle.implib_link.proofs.Search.Lists.{any_among}
 use Rattle.implib_link_instances.proofs.Archives.Files.{opened_files}
-use Rattle.implib_link_instances.proofs.Archives.WorkedSearches.{opened_bytes, worked_searches}
+use Rattle.implib_link_instances.proofs.Archives.Worked.{opened_bytes, worked_searches}
 use Rattle.implib_link_instances.proofs.Refused.Links.{first_letter, refused_links_closed, refused_links_closed_for_both}
 use Rattle.implib_link_instances.proofs.Worked.Calls.{wide, worked_reading}
 use Rattle.implib_link_instances.proofs.Worked.Lemmas.{differ, none_at, none_in}
-use Rattle.implib_link_instances.proofs.Worked.Lld.{lld_opened}
-use Rattle.implib_link_instances.proofs.Worked.NearSearches.{searched}
+use Rattle.implib_link_instances.proofs.Worked.LldPrograms.{lld_opened}
+use Rattle.implib_link_instances.proofs.Worked.Opened.{searched}
 use Rattle.implib_link_instances.specs.Refused.Archives.{RefusedAreMembersAt, RefusedBothArrive, RefusedCallsArrive, RefusedHasMembersAs, RefusedInBytes, RefusedIsHeaderOf, RefusedIsInDirectory, RefusedIsSearchOf, RefusedLeadsToFirst, RefusedLldArrives, ways_taken, with_header_in}
 use Rattle.implib_link_instances.specs.Refused.Links.{f_library, listing, own}
 use Rattle.implib_link_instances.specs.Worked.Calls.{given_on}

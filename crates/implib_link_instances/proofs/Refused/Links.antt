@@ -30,8 +30,8 @@ use Rattle.implib_link.proofs.Search.Lists.{any_among, contains_among}
 use Rattle.implib_link_instances.proofs.Refused.Code.{absent, nothing_there}
 use Rattle.implib_link_instances.proofs.Worked.Calls.{one_of}
 use Rattle.implib_link_instances.proofs.Worked.Lemmas.{differ, no_definition, none_at, none_in, none_passes, number, value}
-use Rattle.implib_link_instances.proofs.Worked.Lld.{lld_opened}
-use Rattle.implib_link_instances.proofs.Worked.NearSearches.{searched}
+use Rattle.implib_link_instances.proofs.Worked.LldPrograms.{lld_opened}
+use Rattle.implib_link_instances.proofs.Worked.Opened.{searched}
 use Rattle.implib_link_instances.specs.Refused.Links.{RefusedFlavorTextLinks, RefusedFlavorTextsLink, RefusedInputImports, RefusedIsImported, RefusedIsImportedBy, RefusedIsImportedOfBoth, RefusedIsTaken, RefusedJumpsThrough, RefusedLinksBeside, RefusedLinksClosed, RefusedLinksClosedForBoth, RefusedLldLinks, RefusedProgramLinks, RefusedRunLinks, asking_entry, f_in, f_input, f_library, f_run, f_short, for_gnu, four_before, jump, later_short, listing, nul_within, unchosen, with_symbol}
 use Rattle.implib_link_instances.specs.Refused.Tables.{zero_image}
 use Rattle.implib_link_instances.specs.Worked.Programs.{code_object, symbol_of_class, touching_8}

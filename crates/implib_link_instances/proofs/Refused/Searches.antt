@@ -19,12 +19,11 @@ use Rattle.implib_link.specs.Search.Search.{AreTakenInTurnAs}
 use Rattle.implib_link.proofs.Search.Lists.{contains_among}
 use Rattle.implib_link_instances.proofs.Worked.Calls.{one_of}
 use Rattle.implib_link_instances.proofs.Worked.Lemmas.{differ, no_definition, none_in}
-use Rattle.implib_link_instances.proofs.Worked.NearSearches.{searched}
+use Rattle.implib_link_instances.proofs.Worked.Opened.{searched}
 use Rattle.implib_link_instances.specs.Refused.Links.{f_library, listing}
 use Rattle.implib_link_instances.specs.Refused.Searches.{RefusedImportsWanted, RefusedIsLinkedOfWanted, RefusedIsWeakData, RefusedIsWeakShort, RefusedPullsIntoAs, RefusedSearches, RefusedTakesAs, RefusedTakesIntoAs, RefusedTakesOfBoth, RefusedTakesOfLibraries, exportless, f_export}
 use Rattle.implib_link_instances.specs.Worked.Programs.{touching_8}
-use Rattle.implib_link_instances.specs.Worked.Search.{members_of, three}
-use Rattle.implib_link_instances.specs.Worked.Searched.{by_name, searched_objects}
+use Rattle.implib_link_instances.specs.Worked.Search.{members_of, three, by_name, searched_objects}
 
 pub refused_pulls_into : RefusedPullsIntoAs
 unfolding searched

@@ -13,12 +13,11 @@ use Rattle.implib.proofs.Link.Ranges.{Among, apart_as_they_rise}
 use Rattle.implib_link.specs.Gnu.A32.{HoldDistances, OfArmStubs, distance_from}
 use Rattle.implib_link.specs.Gnu.Fields.{AreBeside, DefinesIn, LinkedCode, field_at, placed_code}
 use Rattle.implib_link.specs.Gnu.Program.{has_tables}
-use Rattle.implib_link.specs.Flavors.Program.{IsProgram}
+use Rattle.implib_link.specs.Flavors.Program.{IsProgram, FlavorInput, OfLinker, gnu_input}
 use Rattle.implib_link_instances.specs.Worked.A32.{WorkedArmntStub, WorkedArmntStubs, armnt_memory, armnt_stub, armnt_targets, two_loads}
-use Rattle.implib_link_instances.specs.Worked.Jumps.{far_4}
+use Rattle.implib_link_instances.specs.Worked.Calls.{far_4, as_placed}
 use Rattle.implib_link_instances.specs.Worked.Loads.{gives_by_hand}
 use Rattle.implib_link_instances.specs.Worked.Programs.{both_inputs, foo_input, program_image, program_objects, program_placed, symbol_of_class, symbol_on, touching_4}
-use Rattle.implib_link_instances.specs.Worked.Relocated.{as_placed}
 use Rattle.implib_link.proofs.Gnu.A32.{armnt_misses, armnt_reads}
 use Rattle.implib_link.proofs.Gnu.Fields.{alone_among}
 use Rattle.implib_link.proofs.Gnu.LinkedCodes.{takes_from}
@@ -26,14 +25,12 @@ use Rattle.implib_link.proofs.Search.Lists.{contains_among}
 use Rattle.implib_link_instances.proofs.Worked.LinkedCode.{relocated_by, relocated_test}
 use Rattle.implib_link_instances.proofs.Worked.Loads.{armnt_given}
 use Rattle.implib_link_instances.proofs.Worked.Programs.{opened, worked_programs, admissible_by, program_by}
-use Rattle.implib_link_instances.proofs.Worked.Instances.{put_last}
-use Rattle.implib_link_instances.proofs.Worked.Rebased.{resolves_by_tables}
-use Rattle.implib_link.specs.Flavors.Program.{FlavorInput, OfLinker, gnu_input}
+use Rattle.implib_link_instances.proofs.Worked.Lemmas.{put_last, are_located}
+use Rattle.implib_link_instances.proofs.Worked.Calls.{resolves_by_tables}
 use Rattle.implib_link.specs.Tables.{block_of_flavor, tables_at}
 use Rattle.implib_link.proofs.Flavors.Steady.{program_tables_none}
 use Rattle.implib_link.proofs.TablesInMemory.{tables_end_in_memory}
 use Rattle.implib_link.proofs.TablesOfPrograms.{program_tables}
-use Rattle.implib_link_instances.proofs.Worked.Lemmas.{are_located}
 
 -- The premises.
 

@@ -29,16 +29,13 @@ use Rattle.implib_link.specs.Gnu.Packed.{group_end, sections_end}
 use Rattle.implib_link.specs.Gnu.Pointers.{HasLoad}
 use Rattle.implib_link.specs.Gnu.Program.{has_tables, linked_symbols}
 use Rattle.implib_link_instances.specs.Worked.Aliases.{WorkedAlias, WorkedFlavorAlias, alias_at, alias_calling, alias_codes, alias_load_at, alias_loading, alias_objects, alias_placed, all_at, opened_flavors, opened_name, opened_placed}
-use Rattle.implib_link_instances.specs.Worked.Calls.{first_bytes, last_bytes}
+use Rattle.implib_link_instances.specs.Worked.Calls.{first_bytes, last_bytes, CodesBeside, code_ranges, linked_codes, as_placed}
 use Rattle.implib_link_instances.specs.Worked.Flavors.{both_inputs as flavor_inputs, flavor_bases_8, foo_input as msvc_input}
 use Rattle.implib_link_instances.specs.Worked.Programs.{both_inputs, touching_8}
 use Rattle.implib_link.proofs.Gnu.Aliases.{weak_is_weak}
 use Rattle.implib_link.proofs.Search.Lists.{among_at, contains_among, each_of}
-use Rattle.implib_link_instances.proofs.Worked.Calls.{is_none}
+use Rattle.implib_link_instances.proofs.Worked.Calls.{is_none, all_unwanted, none_wanted, beside_by, codes_tested}
 use Rattle.implib_link_instances.proofs.Worked.Programs.{claims_none_by, distinct_by, opened, admissible_by, instructions_at}
-use Rattle.implib_link_instances.proofs.Worked.Rebased.{all_unwanted, none_wanted}
-use Rattle.implib_link_instances.specs.Worked.Relocated.{CodesBeside, code_ranges, linked_codes, as_placed}
-use Rattle.implib_link_instances.proofs.Worked.Relocated.{beside_by, codes_tested}
 use Rattle.implib_link_instances.proofs.Worked.Flavors.{flavor_objects_by}
 use Rattle.implib_link_instances.proofs.Worked.LinkedCode.{relocated_test}
 use Rattle.implib_link.proofs.Flavors.GnuPrograms.{gnu_objects}

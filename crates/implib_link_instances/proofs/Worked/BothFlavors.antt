@@ -1,40 +1,41 @@
 -- The closed program of both flavours that was linked by hand, and near misses of it, by computing and by the laws.
-use Rattle.std.proofs.Common.{◌≡◌, ℕ, true, false, List, [], ◌∷◌, ◌++◌, codes, length, map, refl, sym, ◌∙◌, subst, arith}
-use Rattle.std.specs.Prelude.{bytes_eq, not, IsPermutation, ◌<◌}
-use Rattle.std.specs.List.{AllByRecursion, Contains, flat_map, list_all, list_any, filter}
+use Rattle.std.proofs.Common.{List, [], arith, codes, false, length, map, refl, subst, sym, true, ℕ, ◌++◌, ◌<◌, ◌^◌, ◌∙◌, ◌∷◌, ◌≡◌}
+use Rattle.std.specs.Prelude.{IsPermutation, bytes_eq, not}
+use Rattle.std.specs.List.{AllByRecursion, Contains, filter, flat_map, list_all, list_any}
 use Rattle.std.proofs.lemmas.Bool.{and_parts, not-true, true≢false}
 use Rattle.std.proofs.lemmas.Grind.{flat_map-append}
 use Rattle.implib.specs.declared.machine.MachineType.TheVariants.{AMD64}
 use Rattle.implib.specs.Formats.Object.{Object}
 use Rattle.implib.specs.Members.MemberSpec.{MemberView}
-use Rattle.implib.specs.Members.MsvcObjects.{null_descriptor_symbol, descriptor_symbol}
+use Rattle.implib.specs.Members.MsvcObjects.{descriptor_symbol, null_descriptor_symbol}
 use Rattle.implib.proofs.Link.LinkedMembers.{among_contains, among_map}
 use Rattle.implib.proofs.Link.Ranges.{Among, all_among, among_back, among_front}
-use Rattle.implib_link.specs.Flavors.Program.{objects_taken, all_members}
-use Rattle.implib_link.specs.Gnu.Packed.{group_end, packed_end, sections_end}
-use Rattle.implib_link.specs.Gnu.Program.{ClaimsNone, claimed_names, has_tables, HaveSame}
-use Rattle.implib_link.specs.Search.Archives.{IsArchive, symbols_of_library, IsLibrary}
-use Rattle.implib_link.specs.Search.BothFlavors.{AreClosedForBoth, AreGivenForBoth, FlavorLibrary, IsClosedForBoth, IsFlavorArchive, NamesNoMembers, archive_of_both, gnu_among, kept_of_both, msvc_among, inputs_of_both}
+use Rattle.implib_link.specs.Flavors.Program.{all_members, objects_taken}
+use Rattle.implib_link.specs.Gnu.Packed.{group_end, packed, packed_end, sections_end}
+use Rattle.implib_link.specs.Gnu.Program.{ClaimsNone, HaveSame, claimed_names, has_tables}
+use Rattle.implib_link.specs.Search.Archives.{IsArchive, IsLibrary, symbols_of_library}
+use Rattle.implib_link.specs.Search.BothFlavors.{AreClosedForBoth, AreGivenForBoth, FlavorLibrary, IsClosedForBoth, IsFlavorArchive, NamesNoMembers, archive_of_both, gnu_among, inputs_of_both, kept_of_both, msvc_among}
 use Rattle.implib_link.specs.Search.Closed.{listed_in, unresolved}
 use Rattle.implib_link.specs.Search.Msvc.{TakesFor, left_in}
-use Rattle.implib_link.specs.Search.MsvcArchives.{IsMsvcArchive, first_null, symbols_of_all_shorts, symbols_of_shorts, IsMsvcLibrary, short_inputs, weak_in, PullsIntoFor, TakesIntoFor, wanted_for}
+use Rattle.implib_link.specs.Search.MsvcArchives.{IsMsvcArchive, IsMsvcLibrary, PullsIntoFor, TakesIntoFor, first_null, short_inputs, symbols_of_all_shorts, symbols_of_shorts, wanted_for, weak_in}
 use Rattle.implib_link.specs.Search.Search.{AreTakenInTurnAs, left_as, undefined_in}
-use Rattle.implib_link_instances.specs.Worked.BothFlavors.{WorkedBoth, WorkedGivenForBoth, foo_and_zed, mixed_bases, mixed_objects, mixed_taken, mixed_without_last, zed_and_foo}
+use Rattle.implib_link_instances.specs.Worked.BothFlavors.{WorkedBoth, WorkedBothExists, WorkedGivenForBoth, WorkedReversed, WorkedReversedExists, foo_and_zed, mixed_bases, mixed_objects, mixed_taken, mixed_without_last, reversed_bases, reversed_objects, zed_and_foo}
 use Rattle.implib_link_instances.specs.Worked.Closed.{choosing, clashing, foo_linked}
-use Rattle.implib_link_instances.specs.Worked.MsvcArchives.{thunk_named}
-use Rattle.implib_link_instances.specs.Worked.MsvcClosed.{zed_members}
+use Rattle.implib_link_instances.specs.Worked.MsvcSearch.{thunk_named, zed_members}
 use Rattle.implib_link.proofs.Search.Taken.{both_taken}
 use Rattle.implib_link.proofs.Search.BothClosed.{closed_links_of_both, packed_both}
 use Rattle.implib_link.proofs.Search.BothGiven.{both_given_ends}
-use Rattle.implib_link.proofs.Search.Closing.{takes_into, unresolved_parts, claims_apart}
+use Rattle.implib_link.proofs.Search.Closing.{claims_apart, takes_into, unresolved_parts}
 use Rattle.implib_link.proofs.Search.Lists.{among_any, any_among, contains_among}
-use Rattle.implib_link_instances.proofs.Worked.NearSearches.{searched}
-use Rattle.implib_link_instances.proofs.Worked.Programs.{claims_none_by, distinct_by, all_differ}
+use Rattle.implib_link_instances.proofs.Worked.Opened.{searched}
+use Rattle.implib_link_instances.proofs.Worked.Programs.{all_differ, claims_none_by, distinct_by, opened}
 use Rattle.implib_link.specs.Flavors.Expansion.{descriptor_symbol_by_name, expanded_in}
 use Rattle.implib.specs.LibraryName.{linked_dll}
 use Rattle.implib.specs.declared.machine.MachineType.{MachineType}
-use Rattle.implib_link_instances.proofs.Worked.Search.{takes_by}
-use Rattle.implib_link_instances.proofs.Worked.Searched.{below_limit}
+use Rattle.implib_link_instances.proofs.Worked.Search.{below_limit, takes_by}
+use Rattle.implib.specs.Link.Placement.{next_multiple}
+use Rattle.implib_link.specs.Search.BothExists.{HasClosedForBoth, objects_closed_of_both, tables_end_of_both}
+use Rattle.implib_link.proofs.Search.BothExists.{both_exists, placed_closed, placed_within}
 
 abbrev own : List Object
 own = choosing ∷ []
@@ -202,3 +203,116 @@ given = record {
 pub worked_given_for_both : WorkedGivenForBoth
 unfolding searched
 worked_given_for_both = record { given = given; kept = refl; wants = omega arith; ends = both_given_ends AMD64 foo_and_zed own archive given }
+
+abbrev reversed_own : List Object
+reversed_own = choosing ∷ []
+
+reversed_archive : IsFlavorArchive AMD64 zed_and_foo
+unfolding searched
+reversed_archive = record {
+  gnu = gnu_archive;
+  msvc = msvc_archive;
+  apart = apart_by (null_descriptor_symbol ∷ flat_map symbols_of_shorts (msvc_among zed_and_foo)) (flat_map (symbols_of_library AMD64) (gnu_among zed_and_foo)) refl;
+}
+
+abbrev reversed_members : List MemberView
+reversed_members = archive_of_both zed_and_foo
+
+abbrev reversed_wants : List (List ℕ)
+reversed_wants = unresolved (choosing ∷ [])
+
+reversed_takes_wanted : TakesFor AMD64 (archive_of_both zed_and_foo) (unresolved (choosing ∷ [])) mixed_taken
+unfolding searched AreTakenInTurnAs
+reversed_takes_wanted = takes_by ((0x7F ∷ codes "zed_NULL_THUNK_DATA") ∷ codes "__NULL_IMPORT_DESCRIPTOR" ∷ codes "__IMPORT_DESCRIPTOR_zed" ∷ codes "__imp_queue" ∷ codes "foo_dll_iname" ∷ codes "_head_foo_dll" ∷ codes "baz" ∷ codes "bar" ∷ []) refl refl refl
+
+reversed_takes : TakesIntoFor AMD64 (archive_of_both zed_and_foo) (choosing ∷ []) mixed_taken
+reversed_takes = takes_into (expanded_in AMD64) reversed_members reversed_own mixed_taken left_apart reversed_takes_wanted
+
+reversed_names : NamesNoMembers AMD64 zed_and_foo (wanted_for AMD64 (choosing ∷ []) mixed_taken)
+unfolding searched
+reversed_names = record { gnu = (record { head = refl; name = refl }, tt); msvc = (record { descriptor = refl; null_descriptor = refl; null_thunk = refl }, tt) }
+
+reversed_closed_objects : AreClosedForBoth AMD64 zed_and_foo (choosing ∷ []) mixed_taken foo_and_zed reversed_objects
+unfolding searched
+reversed_closed_objects = closed_by (foo_linked ++ zed_members) [] reversed_takes (omega arith) (record { moves = (0, 1) ∷ []; below = (omega arith, omega arith, tt); is = refl }) refl refl refl claims reversed_names
+
+reversed_closed : IsClosedForBoth AMD64 zed_and_foo (choosing ∷ []) mixed_taken foo_and_zed reversed_bases reversed_objects
+unfolding searched group_end sections_end
+reversed_closed = packed_both AMD64 zed_and_foo reversed_own mixed_taken foo_and_zed 0x71000 reversed_objects reversed_archive reversed_closed_objects (omega arith) (below_limit (packed_end 0x71000 reversed_objects) refl)
+
+pub worked_reversed : WorkedReversed
+unfolding searched group_end sections_end
+worked_reversed = record {
+  archive = reversed_archive;
+  takes = reversed_takes;
+  just = both_taken AMD64 zed_and_foo reversed_archive reversed_wants mixed_taken reversed_names reversed_takes_wanted;
+  chosen = refl;
+  closed = reversed_closed;
+  links = closed_links_of_both AMD64 zed_and_foo reversed_own mixed_taken foo_and_zed reversed_bases reversed_objects reversed_archive reversed_closed;
+  left = refl;
+  baz = refl;
+  queue = refl;
+}
+
+above_zero : 0 < 0x2000
+above_zero = omega arith
+
+none_below : (n : ℕ) → n ≡ 0 → 0 < n → ⊥
+none_below n is over = omega arith
+
+room : tables_end_of_both 0x2000 foo_and_zed ≡ 0x218E
+unfolding opened
+room = refl
+
+room_below : tables_end_of_both 0x2000 foo_and_zed < 2 ^ 31
+room_below = (let is = room in omega arith)
+
+end : packed_end 0x2000 mixed_objects ≡ 0x20A4
+unfolding searched group_end sections_end
+end = refl
+
+at_zero : HasClosedForBoth AMD64 foo_and_zed (choosing ∷ []) 0 → ⊥
+unfolding next_multiple
+at_zero has = none_below (packed 0 (objects_closed_of_both AMD64 foo_and_zed (choosing ∷ []) has.0)).descriptors refl has.1.admissible.descriptors.0
+
+pub worked_both_exists : WorkedBothExists
+unfolding searched group_end sections_end
+worked_both_exists = record {
+  room = room;
+  end = end;
+  objects_are = worked_both.closed.closed;
+  closed = placed_closed AMD64 foo_and_zed (choosing ∷ []) mixed_taken zed_and_foo 0x2000 mixed_objects worked_both.archive worked_both.closed.closed above_zero room_below;
+  within = placed_within AMD64 foo_and_zed (choosing ∷ []) mixed_taken zed_and_foo 0x2000 mixed_objects worked_both.archive worked_both.closed.closed above_zero room_below;
+  exists = both_exists AMD64 foo_and_zed (choosing ∷ []) 0x2000 worked_both.archive worked_given_for_both.given (refl, tt) worked_given_for_both.wants above_zero room_below;
+  at_zero = at_zero;
+}
+
+-- The other order.
+
+reversed_room : tables_end_of_both 0x71000 zed_and_foo ≡ 0x7118E
+unfolding opened
+reversed_room = refl
+
+reversed_end : packed_end 0x71000 reversed_objects ≡ 0x710A4
+unfolding searched group_end sections_end
+reversed_end = refl
+
+reversed_below : tables_end_of_both 0x71000 zed_and_foo < 2 ^ 31
+reversed_below = (let is = reversed_room in omega arith)
+
+reversed_given : AreGivenForBoth AMD64 zed_and_foo (choosing ∷ [])
+unfolding searched
+reversed_given = record {
+  claims = (claims_none_by (kept_of_both AMD64 zed_and_foo (choosing ∷ [])) choosing refl, tt);
+  names = record { gnu = (record { head = refl; name = refl }, tt); msvc = (record { descriptor = refl; null_descriptor = refl; null_thunk = refl }, tt) };
+}
+
+pub worked_reversed_exists : WorkedReversedExists
+unfolding searched group_end sections_end
+worked_reversed_exists = record {
+  room = reversed_room;
+  end = reversed_end;
+  closed = placed_closed AMD64 zed_and_foo (choosing ∷ []) mixed_taken foo_and_zed 0x71000 reversed_objects worked_reversed.archive worked_reversed.closed.closed (omega arith) reversed_below;
+  within = placed_within AMD64 zed_and_foo (choosing ∷ []) mixed_taken foo_and_zed 0x71000 reversed_objects worked_reversed.archive worked_reversed.closed.closed (omega arith) reversed_below;
+  exists = both_exists AMD64 zed_and_foo (choosing ∷ []) 0x71000 worked_reversed.archive reversed_given (refl, tt) (omega arith) (omega arith) reversed_below;
+}

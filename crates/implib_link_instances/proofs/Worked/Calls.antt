@@ -1,46 +1,106 @@
--- The calls that were relocated by hand, and the loader that reads, by computing and by the laws.
+-- Worked code with its linked bytes computed is linked beside the tables.
+use Rattle.std.proofs.Common.{Bool, List, None, Option, Some, [], ap, arith, codes, false, inl, inr, length, map, refl, subst, suc, sym, true, true≢false, zero, ℕ, ◌++◌, ◌+◌, ◌^◌, ◌∙◌, ◌∷◌, ◌≡◌, ◌≤◌, ◌⊎◌}
+use Rattle.std.specs.Prelude.{bytes_eq, if◌then◌else◌, nat_eq, not, slice_get, ◌&&◌, ◌==◌}
+use Rattle.std.specs.List.{AllByRecursion, Contains, list_all}
+use Rattle.std.proofs.lemmas.Bool.{and_from, and_parts, eq-eqb, eqb-true, false≢true, not-true}
+use Rattle.implib.specs.declared.machine.MachineType.{MachineType}
+use Rattle.implib.specs.Formats.Object.{ASymbol, Auxiliary, Entry, Object, ObjectSymbol, before_nul, bytes_at, data_at, each_at, entries_at, name_of, object_in, object_of_header, relocation_at, relocation_of, section_at, section_numbered, section_of, strings_at, symbol_of, u16_at, u32_at, up_to_nul}
+use Rattle.implib.specs.Link.Image.{AllApart, Range, image_of, with_address}
+use Rattle.implib.specs.Link.Placement.{Bases, Placed, next_multiple, placed_from}
+use Rattle.implib_link.specs.Gnu.Calls.{Defines, HasCall, PlacedCode, Resolves}
+use Rattle.implib_link.specs.Gnu.Fields.{IsRelocated, LinkedCode, placed_code, range_of_code, ranges_of_codes}
+use Rattle.implib_link_instances.specs.Worked.Calls.{CodesBeside, WorkedCall, WorkedChoices, WorkedPointer, WorkedPointers, WorkedReading, as_placed, branch_codes, branching_objects, branching_placed, calling_at, calling_memory, calling_objects, calling_placed, code_ranges, code_relocated_by, first_bytes, given_on, last_bytes, linked_by, linked_codes, loading_at, table_targets}
+use Rattle.implib_link.proofs.Gnu.LinkedCodes.{linked_beside, takes_from}
+use Rattle.implib_link_instances.proofs.Worked.LinkedCode.{relocated_by, relocated_test}
+use Rattle.implib.proofs.Members.MemberReadings.{map_after}
 use Rattle.implib_link.specs.Gnu.Loaded.{HoldsAt}
-use Rattle.std.proofs.Common.{◌≡◌, ℕ, zero, suc, ◌^◌, ◌⊎◌, true, false, List, [], ◌∷◌, ◌++◌, codes, length, Some, None, Option, refl, ap, sym, ◌∙◌, subst, inl, inr, arith, true≢false, map}
-use Rattle.std.specs.Prelude.{Bool, bytes_eq, slice_get, ◌&&◌}
-use Rattle.std.specs.List.{AllByRecursion}
 use Rattle.implib_link.proofs.Tables.{tables_end, tables_read}
 use Rattle.implib_link.proofs.TablesOfPrograms.{program_count, program_entry, program_tables}
 use Rattle.implib_link.specs.Tables.{block_of_flavor, tables_at}
 use Rattle.std.specs.Fmt.{digits}
-use Rattle.implib.specs.declared.machine.MachineType.{MachineType}
-use Rattle.implib.specs.declared.machine.MachineType.TheVariants.{I386, ARMNT, AMD64, ARM64}
+use Rattle.implib.specs.declared.machine.MachineType.TheVariants.{AMD64, ARM64, ARMNT, I386}
 use Rattle.implib.specs.Definition.{ExportView}
 use Rattle.implib.specs.Formats.Bytes.{u16_bytes, u32_bytes}
 use Rattle.implib.specs.Formats.Constants.{class_external}
 use Rattle.implib.specs.Formats.File.{is_defined_external}
 use Rattle.implib.specs.Import.{Ask, Name, Ordinal, imp_symbol}
-use Rattle.implib.specs.Members.Gnu.{export_object, five_digits, head_name, head_object, head_symbol, hint_name, iname_symbol, numbered_name, relocations_of_stub, relocations_of_thunk, mangled_name, stub, tail_name, tail_object, thunk}
-use Rattle.implib.specs.Link.Image.{Range, image_of, with_address}
+use Rattle.implib.specs.Members.Gnu.{export_object, five_digits, head_name, head_object, head_symbol, hint_name, iname_symbol, mangled_name, numbered_name, relocations_of_stub, relocations_of_thunk, stub, tail_name, tail_object, thunk}
 use Rattle.implib.specs.Link.Load.{BytesAt}
 use Rattle.implib.specs.Members.GnuMembers.{alias_specs, export_spec, head_spec, tail_spec}
 use Rattle.implib.specs.Members.ImportTables.{thunk_width}
 use Rattle.implib.specs.Members.Members.{refusal, renamed_refusal}
 use Rattle.implib.specs.Members.WeakExternal.{weak_object}
-use Rattle.implib.specs.Formats.Object.{ASymbol, Auxiliary, Entry, ObjectSymbol, before_nul, bytes_at, data_at, each_at, entries_at, name_of, object_in, object_of_header, relocation_at, relocation_of, section_at, section_of, strings_at, symbol_of, u16_at, u32_at, up_to_nul, Object}
-use Rattle.implib.specs.Formats.Layout.{auxiliary_bytes, auxiliary_count, contents, contents_offset, contents_size, header_bytes, encoded, encoded_size, name_field, offsets_from, pointer_or_zero, record_count, records, relocation_bytes, section_header, section_headers, string_bytes_of, string_offsets, string_size, string_table, strings_size, symbol_bytes, symbol_table_offset}
-use Rattle.implib.specs.Link.Placement.{Placed, next_multiple, Bases, placed_from}
-use Rattle.implib.specs.Link.Resolution.{address_or_zero, definitions_of, is_undefined_external, target_address}
-use Rattle.implib.specs.Formats.Writer.{long_names, name_location, layout_of, symbol_written, with_long_name, with_name}
+use Rattle.implib.specs.Formats.Layout.{auxiliary_bytes, auxiliary_count, contents, contents_offset, contents_size, encoded, encoded_size, header_bytes, name_field, offsets_from, pointer_or_zero, record_count, records, relocation_bytes, section_header, section_headers, string_bytes_of, string_offsets, string_size, string_table, strings_size, symbol_bytes, symbol_table_offset}
+use Rattle.implib.specs.Link.Resolution.{address_or_zero, definitions_of, is_undefined_external, symbol_address, target_address}
+use Rattle.implib.specs.Formats.Writer.{layout_of, long_names, name_location, symbol_written, with_long_name, with_name}
 use Rattle.implib.proofs.Link.Ranges.{Among, apart_as_they_rise}
 use Rattle.implib.specs.Worked.Statements.{plain_export}
-use Rattle.implib_link.specs.Flavors.Program.{FlavorInput, IsMadeFor, exports_chosen, symbol_in, ask_in, dll_of, IsProgramOf, IsProgram}
-use Rattle.implib_link.specs.Gnu.Calls.{HasCall, PlacedCode, Resolves}
+use Rattle.implib_link.specs.Flavors.Program.{Ending, FlavorInput, IsMadeFor, IsProgram, IsProgramOf, OfLinker, ask_in, dll_of, exports_chosen, gnu_input, symbol_in}
 use Rattle.implib_link.specs.Gnu.Program.{has_tables}
 use Rattle.implib_link.specs.Gnu.Reading.{ReadsAndWrites}
-use Rattle.implib_link_instances.specs.Worked.Calls.{WorkedCall, WorkedReading, calling_at, calling_memory, calling_objects, calling_placed, first_bytes, given_on, last_bytes, table_targets}
 use Rattle.implib_link_instances.specs.Worked.Programs.{both_inputs, foo_input, program_image, program_objects, program_placed, symbol_of_class, symbol_on, touching_4, touching_8}
 use Rattle.implib_link.proofs.Gnu.Stubs.{same_address}
-use Rattle.implib_link.proofs.Search.Lists.{contains_among}
-use Rattle.implib_link_instances.proofs.Worked.Programs.{worked_programs, admissible_by, instructions_at, program_by}
-use Rattle.implib_link_instances.specs.Worked.Relocated.{CodesBeside}
-use Rattle.implib_link_instances.proofs.Worked.Relocated.{beside_by, codes_tested}
-use Rattle.implib_link_instances.proofs.Worked.LinkedCode.{relocated_test}
-use Rattle.implib_link.specs.Flavors.Program.{Ending, OfLinker, gnu_input}
+use Rattle.implib_link.proofs.Search.Lists.{among_at, contains_among, each_of}
+use Rattle.implib_link_instances.proofs.Worked.Programs.{admissible_by, instructions_at, opened as opened_of_programs, program_by, worked_programs}
+use Rattle.implib.proofs.Link.Definitions.{same_text}
+use Rattle.implib.specs.Formats.ShortImport.{short_import_in}
+use Rattle.implib.specs.Members.MsvcMembers.{descriptor_spec, header_specs, null_descriptor_spec, null_thunk_spec, weak_specs}
+use Rattle.implib.specs.Members.MsvcObjects.{base_name, descriptor, descriptor_symbol, null_descriptor, null_descriptor_symbol, null_thunk, null_thunk_symbol}
+use Rattle.implib_link.specs.Flavors.Expansion.{descriptor_symbol_by_name, expanded_in, import_object}
+use Rattle.implib_link.specs.Flavors.SectionSymbols.{with_section_symbols}
+use Rattle.implib_link.specs.Gnu.Packed.{group_end, sections_end}
+use Rattle.implib_link.specs.Gnu.Pointers.{HasLoad}
+use Rattle.implib_link.specs.Gnu.Choices.{AreSections, DefineOnce, plain_range}
+use Rattle.implib_link.proofs.Gnu.Choices.{choice, choice_resolves, defined_found, found, found_in, here_from, is_here}
+
+-- What is computed of placed code beside the tables.
+
+pub record ByHand (machine : MachineType) (image_base : ℕ) (bases : Bases) (objects : List Object) (codes : List PlacedCode) (targets : PlacedCode → ℕ → ℕ) : Type 0 where
+  pub held : AllByRecursion (λ c. Contains (placed_from bases objects) c.from) codes
+  pub sections : AllByRecursion (λ c. section_numbered c.from.object.sections c.number ≡ Some c.code) codes
+  pub ends : AllByRecursion (λ c. c.position + length c.code.bytes + 16 ≤ 2 ^ 31) codes
+  pub apart : AllApart (image_of machine bases (placed_from bases objects) ++ code_ranges machine image_base targets codes)
+  pub resolved : Resolves (placed_from bases objects) codes targets
+
+-- each code's computed bytes are such as a linker makes
+unfoldable pub codes_tested : MachineType → ℕ → (PlacedCode → ℕ → ℕ) → List PlacedCode → Bool
+codes_tested machine image_base targets [] = true
+codes_tested machine image_base targets (c ∷ codes) =
+    relocated_test machine image_base (targets c) c.position c.code (code_relocated_by machine image_base (targets c) c.position c.code.relocations c.code.bytes) && codes_tested machine image_base targets codes
+
+module _ (machine : MachineType) (image_base : ℕ) (targets : PlacedCode → ℕ → ℕ) where
+  all_relocated : (codes : List PlacedCode) → codes_tested machine image_base targets codes ≡ true →
+      AllByRecursion (λ (x : LinkedCode). IsRelocated machine image_base (as_placed targets x) x.position x.code x.bytes) (linked_codes machine image_base targets codes)
+  unfolding codes_tested
+  all_relocated [] test = tt
+  all_relocated (c ∷ codes) test =
+      let bytes : List ℕ = code_relocated_by machine image_base (targets c) c.position c.code.relocations c.code.bytes in
+      let parts = and_parts (relocated_test machine image_base (targets c) c.position c.code (code_relocated_by machine image_base (targets c) c.position c.code.relocations c.code.bytes)) (codes_tested machine image_base targets codes) test in
+      (relocated_by machine image_base (targets c) c.position c.code bytes parts.0, all_relocated codes parts.1)
+
+  all_linked : (P : LinkedCode → Type 0) (codes : List PlacedCode) → AllByRecursion (λ (c : PlacedCode). P (linked_by machine image_base targets c)) codes → AllByRecursion P (linked_codes machine image_base targets codes)
+  all_linked P [] all = tt
+  all_linked P (c ∷ codes) all = (all.0, all_linked P codes all.1)
+
+  pub ranges_are : (codes : List PlacedCode) → ranges_of_codes (linked_codes machine image_base targets codes) ≡ code_ranges machine image_base targets codes
+  ranges_are codes = map_after range_of_code (linked_by machine image_base targets) codes
+
+  placed_again : (codes : List PlacedCode) → map placed_code (linked_codes machine image_base targets codes) ≡ codes
+  placed_again [] = refl
+  placed_again (c ∷ codes) = ap (λ cs. c ∷ cs) (placed_again codes)
+
+pub beside_by : (machine : MachineType) (image_base : ℕ) (bases : Bases) (objects : List Object) (codes : List PlacedCode) (targets : PlacedCode → ℕ → ℕ) → ByHand machine image_base bases objects codes targets →
+    codes_tested machine image_base targets codes ≡ true → CodesBeside machine image_base bases objects codes targets
+beside_by machine image_base bases objects codes targets by test =
+    let linked : List Placed = placed_from bases objects in
+    record {
+      held = all_linked machine image_base targets (λ (c : LinkedCode). Contains linked c.from) codes by.held;
+      sections = all_linked machine image_base targets (λ (c : LinkedCode). section_numbered c.from.object.sections c.number ≡ Some c.code) codes by.sections;
+      ends = all_linked machine image_base targets (λ (c : LinkedCode). c.position + length c.code.bytes + 16 ≤ 2 ^ 31) codes by.ends;
+      apart = subst (λ rs. AllApart (image_of machine bases linked ++ rs)) (sym (ranges_are machine image_base targets codes)) by.apart;
+      relocated = all_relocated machine image_base targets codes test;
+      resolved = takes_from linked codes (linked_codes machine image_base targets codes) targets (placed_again machine image_base targets codes) by.resolved;
+    }
 
 -- what the computing has to open
 abbrev opened : Unit {0}
@@ -221,3 +281,127 @@ is_none (Some n) = false
 abbrev pub is_wanted : List ℕ → Entry → Bool
 is_wanted name (Auxiliary bytes) = false
 is_wanted name (ASymbol s) = is_undefined_external s && bytes_eq s.name name
+
+-- Code whose symbols no code of another object defines is resolved by the tables.
+
+-- what code defines is wanted by no entry
+abbrev unwanted : List Entry → PlacedCode → Entry → Bool
+unwanted wanted d (Auxiliary bytes) = true
+unwanted wanted d (ASymbol t) =
+    if is_defined_external t && (t.section == d.number) then list_all (λ x. not (is_wanted t.name x)) wanted else true
+
+abbrev pub all_unwanted : List PlacedCode → List Entry → Bool
+all_unwanted codes wanted = list_all (λ (d : PlacedCode). list_all (unwanted wanted d) d.from.object.entries) codes
+
+pub none_wanted : (codes : List PlacedCode) → list_all (λ (c : PlacedCode). all_unwanted codes c.from.object.entries) codes ≡ true → (c d : PlacedCode) (index : ℕ) (s t : ObjectSymbol) →
+    Contains codes c → Contains codes d → slice_get c.from.object.entries index ≡ Some (ASymbol s) → is_undefined_external s ≡ true → Defines d t → t.name ≡ s.name → ⊥
+none_wanted codes all c d index s t c_held d_held at undefined defines named =
+    let wanted : List Entry = c.from.object.entries in
+    let one : all_unwanted codes wanted ≡ true = each_of (λ (x : PlacedCode). all_unwanted codes x.from.object.entries) c codes all (contains_among c codes c_held) in
+    let two : list_all (unwanted wanted d) d.from.object.entries ≡ true =
+    each_of (λ (x : PlacedCode). list_all (unwanted wanted x) x.from.object.entries) d codes one (contains_among d codes d_held) in
+    let three : unwanted wanted d (ASymbol t) ≡ true = each_of (unwanted wanted d) (ASymbol t) d.from.object.entries two (contains_among (ASymbol t) d.from.object.entries defines.held) in
+    let external : is_defined_external t ≡ true = defines.external in
+    let here : (t.section == d.number) ≡ true = eq-eqb t.section d.number defines.here in
+    let none : list_all (λ x. not (is_wanted t.name x)) wanted ≡ true = rw (external, here) at three in
+    let four : not (is_wanted t.name (ASymbol s)) ≡ true = each_of (λ x. not (is_wanted t.name x)) (ASymbol s) wanted none (among_at (ASymbol s) wanted index at) in
+    let same : bytes_eq s.name t.name ≡ true = subst (λ n. bytes_eq s.name n ≡ true) (sym named) (same_text s.name) in
+    let is : is_wanted t.name (ASymbol s) ≡ true = and_from (is_undefined_external s) (bytes_eq s.name t.name) undefined same in
+    true≢false (sym is ∙ not-true (is_wanted t.name (ASymbol s)) four)
+
+pub resolves_by_tables : (linked : List Placed) (codes : List PlacedCode) → list_all (λ (c : PlacedCode). all_unwanted codes c.from.object.entries) codes ≡ true →
+    Resolves linked codes (λ c index. target_address linked c.from index)
+resolves_by_tables linked codes all = record {
+  tables = λ c index address entry held at is. rw at (ap address_or_zero is);
+  code = λ c d index s t c_held d_held at undefined defines named. absurd (none_wanted codes all c d index s t c_held d_held at undefined defines named);
+}
+
+pointers_amd64_has : HasLoad AMD64 (loading_at AMD64) 4 (imp_symbol (symbol_on AMD64 (codes "stat")))
+pointers_amd64_has = instructions_at (first_bytes AMD64) (last_bytes AMD64) 1 [] [] tt tt refl refl refl refl
+
+pointers_amd64 : WorkedPointer AMD64 0x1_4000_0000 touching_8 (0x48 ∷ 0x8B ∷ 5 ∷ 0x7D ∷ 0xF0 ∷ 0xFF ∷ 0xFF ∷ []) 0x88
+unfolding opened_of_programs alias_specs encoded_size weak_object has_tables
+pointers_amd64 = record {
+  loads = pointers_amd64_has;
+  bytes = refl;
+  reads = refl;
+}
+
+pub pointers_i386_has : HasLoad I386 (loading_at I386) 4 (imp_symbol (symbol_on I386 (codes "stat")))
+pointers_i386_has = instructions_at (first_bytes I386) (last_bytes I386) 1 [] [] tt tt refl refl refl refl
+
+pointers_i386 : WorkedPointer I386 0x40_0000 touching_4 (0xA1 ∷ 0x64 ∷ 0 ∷ 0x40 ∷ 0 ∷ []) 0x64
+unfolding opened_of_programs alias_specs encoded_size weak_object has_tables
+pointers_i386 = record {
+  loads = pointers_i386_has;
+  bytes = refl;
+  reads = refl;
+}
+
+pub worked_pointers : WorkedPointers
+unfolding opened_of_programs refusal renamed_refusal alias_specs encoded_size weak_object has_tables expanded_in short_import_in import_object descriptor_symbol_by_name with_section_symbols descriptor null_descriptor null_thunk descriptor_symbol null_descriptor_symbol null_thunk_symbol base_name descriptor_spec null_descriptor_spec null_thunk_spec header_specs weak_specs group_end sections_end
+worked_pointers = record {
+  amd64 = pointers_amd64;
+  i386 = pointers_i386;
+}
+
+-- Whether code defines each name once, and none that the tables have.
+
+abbrev own_once : List PlacedCode → PlacedCode → Entry → Bool
+own_once codes c (Auxiliary bytes) = true
+own_once codes c (ASymbol s) = if is_here s.name c s then list_all (nat_eq (c.position + s.value)) (found s.name codes) else true
+
+abbrev none_where : Option ℕ → List ℕ → Bool
+none_where None xs = true
+none_where (Some address) [] = true
+none_where (Some address) (x ∷ xs) = false
+
+abbrev in_no_table : List Placed → List PlacedCode → PlacedCode → Entry → Bool
+in_no_table linked codes c (Auxiliary bytes) = true
+in_no_table linked codes c (ASymbol s) = none_where (symbol_address linked c.from (ASymbol s)) (found s.name codes)
+
+not_none : (address x : ℕ) (xs : List ℕ) → Among x xs → none_where (Some address) xs ≡ true → ⊥
+unfolding Among
+not_none address x [] m none = absurd m
+not_none address x (y ∷ xs) m none = false≢true none
+
+pub once_by : (linked : List Placed) (codes : List PlacedCode) → list_all (λ (c : PlacedCode). list_all (own_once codes c) c.from.object.entries) codes ≡ true →
+    list_all (λ (c : PlacedCode). list_all (in_no_table linked codes c) c.from.object.entries) codes ≡ true → DefineOnce linked codes
+once_by linked codes one two = record {
+  once = λ c d s t c_held d_held c_defines d_defines named.
+      let all : list_all (own_once codes c) c.from.object.entries ≡ true =
+      each_of (λ (x : PlacedCode). list_all (own_once codes x) x.from.object.entries) c codes one (contains_among c codes c_held) in
+      let own : own_once codes c (ASymbol s) ≡ true = each_of (own_once codes c) (ASymbol s) c.from.object.entries all (contains_among (ASymbol s) c.from.object.entries c_defines.held) in
+      let here : is_here s.name c s ≡ true = here_from s.name c s c_defines refl in
+      let only : list_all (nat_eq (c.position + s.value)) (found s.name codes) ≡ true = rw here at own in
+      eqb-true (c.position + s.value) (d.position + t.value)
+      (each_of (nat_eq (c.position + s.value)) (d.position + t.value) (found s.name codes) only (defined_found s.name codes d t (contains_among d codes d_held) d_defines (sym named)));
+  tables = λ c d s t address c_held d_held held undefined is defines named.
+      let all : list_all (in_no_table linked codes c) c.from.object.entries ≡ true =
+      each_of (λ (x : PlacedCode). list_all (in_no_table linked codes x) x.from.object.entries) c codes two (contains_among c codes c_held) in
+      let own : in_no_table linked codes c (ASymbol s) ≡ true = each_of (in_no_table linked codes c) (ASymbol s) c.from.object.entries all (contains_among (ASymbol s) c.from.object.entries held) in
+      not_none address (d.position + t.value) (found s.name codes) (defined_found s.name codes d t (contains_among d codes d_held) defines named)
+      (subst (λ o. none_where o (found s.name codes) ≡ true) is own);
+}
+
+sections : AreSections ARM64 touching_8 branching_objects branch_codes
+unfolding opened_of_programs alias_specs encoded_size weak_object has_tables
+sections = record {
+  held = ((0, omega arith, refl), ((3, omega arith, refl), tt));
+  sections = (refl, (refl, tt));
+  ends = (omega arith, (omega arith, tt));
+  apart = apart_as_they_rise (2 ^ 31) (image_of ARM64 touching_8 branching_placed ++ map plain_range branch_codes) refl;
+}
+
+once : DefineOnce branching_placed branch_codes
+unfolding opened_of_programs alias_specs encoded_size weak_object has_tables found found_in
+once = once_by branching_placed branch_codes refl refl
+
+-- Of four bytes that are the number 1 the first is 1 and the third 0.
+
+pub worked_choices : WorkedChoices
+worked_choices = record {
+  sections = sections;
+  once = once;
+  beside = (choice branching_placed branch_codes, linked_beside ARM64 0x1_4000_0000 touching_8 branching_objects branch_codes sections (choice branching_placed branch_codes) (choice_resolves branching_placed branch_codes once));
+}

@@ -1,9 +1,9 @@
 -- The closed program that was linked by hand, by computing and by the law.
-use Rattle.std.proofs.Common.{◌≡◌, ℕ, ◌^◌, ◌<◌, true, List, [], ◌∷◌, ◌++◌, refl, inl, inr, arith}
+use Rattle.std.proofs.Common.{List, [], arith, codes, inl, inr, map, refl, true, ℕ, ◌++◌, ◌<◌, ◌^◌, ◌∷◌, ◌≡◌}
 use Rattle.std.specs.Prelude.{nat_lt}
 use Rattle.std.specs.List.{AllByRecursion, flat_map}
 use Rattle.std.proofs.lemmas.Bool.{ltb-true}
-use Rattle.implib.specs.declared.machine.MachineType.TheVariants.{AMD64}
+use Rattle.implib.specs.declared.machine.MachineType.TheVariants.{AMD64, I386}
 use Rattle.implib.specs.Formats.Layout.{encoded_size}
 use Rattle.implib.specs.Formats.Object.{Object, object_in}
 use Rattle.implib.specs.Members.GnuMembers.{alias_specs}
@@ -11,22 +11,39 @@ use Rattle.implib.specs.Members.WeakExternal.{weak_object}
 use Rattle.implib.specs.Link.LinkedMembers.{LinkInput, objects_in}
 use Rattle.implib.proofs.Link.LinkedMembers.{among_contains}
 use Rattle.implib.proofs.Link.Ranges.{Among, among_back}
-use Rattle.implib_link.specs.Gnu.Packed.{group_end, packed_end, sections_end}
-use Rattle.implib_link.specs.Gnu.Program.{ClaimsNone, claimed_names, has_tables, HaveSame}
-use Rattle.implib_link.specs.Search.Archives.{NamesNoHeadOrTailOf, archive_of, is_weak}
+use Rattle.implib_link.specs.Gnu.Packed.{group_end, packed, packed_end, sections_end}
+use Rattle.implib_link.specs.Gnu.Program.{ClaimsNone, HaveSame, claimed_names, has_tables}
+use Rattle.implib_link.specs.Search.Archives.{NamesNoHeadOrTailOf, archive_of, is_weak, symbols_of_library}
 use Rattle.implib_link.specs.Search.Closed.{IsClosed, TakesInto, claims_of, inputs_in, listed_in, references_of, wanted_in}
-use Rattle.implib_link.specs.Search.Given.{AreGiven, symbols_kept}
-use Rattle.implib_link.specs.Search.Search.{names_undefined, undefined_in, left_as}
-use Rattle.implib_link_instances.specs.Worked.Archives.{two_libraries}
+use Rattle.implib_link.specs.Search.Given.{AreGiven, symbols_kept, wanted_at_most}
+use Rattle.implib_link.specs.Search.Search.{left_as, names_undefined, undefined_in}
+use Rattle.implib_link_instances.specs.Worked.Search.{two_libraries}
 use Rattle.implib_link_instances.specs.Worked.Closed.{WorkedClosed, WorkedGiven, choosing, closed_bases, closed_objects, closed_taken, zed_first}
 use Rattle.implib_link_instances.proofs.Worked.GnuPacked.{packed_is_admissible}
 use Rattle.implib_link.proofs.Search.Arranged.{inputs_made}
 use Rattle.implib_link.proofs.Search.Closed.{closed_links}
-use Rattle.implib_link.proofs.Search.Closing.{takes_into, claims_apart}
+use Rattle.implib_link.proofs.Search.Closing.{claims_apart, takes_into}
 use Rattle.implib_link.proofs.Search.Given.{given_closes, given_ends}
 use Rattle.implib_link.proofs.Search.Lists.{contains_among}
-use Rattle.implib_link_instances.proofs.Worked.Archives.{both_takes, worked_archives}
-use Rattle.implib_link_instances.proofs.Worked.Programs.{claims_none_by, opened}
+use Rattle.implib_link_instances.proofs.Worked.Search.{both_takes, worked_archives}
+use Rattle.implib_link_instances.proofs.Worked.Programs.{claims_none_by, distinct_by, opened, worked_programs}
+use Rattle.implib.specs.Link.Placement.{next_multiple}
+use Rattle.implib_link.specs.Search.Exists.{AreChosenFor, HasClosed, objects_closed, tables_end}
+use Rattle.implib_link_instances.specs.Worked.Exists.{WorkedExists}
+use Rattle.implib_link.proofs.Search.Exists.{closed_exists, packed_closes, packed_within}
+use Rattle.implib.specs.Members.MsvcObjects.{null_descriptor_symbol}
+use Rattle.implib_link.specs.Search.BothFlavors.{IsFlavorArchive, archive_of_both, gnu_among, msvc_among}
+use Rattle.implib_link.specs.Search.MsvcArchives.{IsMsvcArchive, TakesIntoFor, symbols_of_shorts}
+use Rattle.implib_link.specs.Search.NoShorts.{WantsNoShort}
+use Rattle.implib_link_instances.specs.Worked.NoShorts.{WorkedNoShorts, with_far}
+use Rattle.implib_link.proofs.Search.NoShorts.{links_alone, takes_of_both}
+use Rattle.implib_link_instances.proofs.Worked.BothFlavors.{apart_by}
+use Rattle.implib_link_instances.proofs.Worked.Opened.{searched}
+use Rattle.implib_link.specs.Flavors.Program.{OfLinker, gnu_input}
+use Rattle.implib_link.specs.Search.Wanting.{wanting}
+use Rattle.implib_link_instances.specs.Worked.Programs.{both_inputs, program_objects, touching_4, touching_8}
+use Rattle.implib_link_instances.specs.Worked.Wanting.{WorkedWanting, listed_names, quiet, with_names}
+use Rattle.implib_link.proofs.Search.Wanting.{program_with}
 
 abbrev own : List Object
 own = choosing ∷ []
@@ -111,4 +128,98 @@ worked_given = record {
   kept = refl;
   ends = given_ends AMD64 two_libraries own worked_archives.archive given;
   closed = given_closes AMD64 two_libraries own closed_taken zed_first closed_bases closed_objects worked_archives.archive given takes is_closed.linked;
+}
+
+room : tables_end 0x2000 two_libraries ≡ 0x2186
+unfolding opened
+room = refl
+
+above_zero : 0 < 0x2000
+above_zero = omega arith
+
+room_below : tables_end 0x2000 two_libraries < 2 ^ 31
+room_below = (let is = room in omega arith)
+
+chosen : AreChosenFor AMD64 two_libraries (choosing ∷ []) closed_taken zed_first closed_objects
+chosen = record { order = worked_closed.closed.linked.order; others = worked_closed.closed.linked.others; tables = worked_closed.closed.linked.tables }
+
+end : packed_end 0x2000 closed_objects ≡ 0x20A8
+unfolding opened alias_specs encoded_size weak_object has_tables group_end sections_end
+end = refl
+
+none_below : (n : ℕ) → n ≡ 0 → 0 < n → ⊥
+none_below n is over = omega arith
+
+at_zero : HasClosed AMD64 two_libraries (choosing ∷ []) 0 → ⊥
+unfolding next_multiple
+at_zero has = none_below (packed 0 (objects_closed AMD64 two_libraries (choosing ∷ []) has.0)).descriptors refl has.1.linked.admissible.descriptors.0
+
+pub worked_exists : WorkedExists
+unfolding opened alias_specs encoded_size weak_object has_tables group_end sections_end
+worked_exists = record {
+  room = room;
+  end = end;
+  chosen = chosen;
+  closed = packed_closes AMD64 two_libraries (choosing ∷ []) closed_taken zed_first 0x2000 closed_objects worked_archives.archive worked_given.given worked_closed.takes chosen above_zero room_below;
+  within = packed_within AMD64 two_libraries (choosing ∷ []) closed_taken zed_first 0x2000 closed_objects worked_archives.archive chosen above_zero room_below;
+  exists = closed_exists AMD64 two_libraries (choosing ∷ []) 0x2000 worked_archives.archive worked_given.given (refl, tt) above_zero room_below;
+  at_zero = at_zero;
+}
+
+msvc_archive : IsMsvcArchive AMD64 (msvc_among with_far)
+unfolding searched
+msvc_archive = record {
+  made = (record { accepted = refl; made = refl; ordinals = refl }, tt);
+  distinct = distinct_by (null_descriptor_symbol ∷ flat_map symbols_of_shorts (msvc_among with_far)) refl;
+  found = (refl, tt);
+}
+
+archive : IsFlavorArchive AMD64 with_far
+unfolding searched
+archive = record {
+  gnu = worked_archives.archive;
+  msvc = msvc_archive;
+  apart = apart_by (null_descriptor_symbol ∷ flat_map symbols_of_shorts (msvc_among with_far)) (flat_map (symbols_of_library AMD64) (gnu_among with_far)) refl;
+}
+
+none : WantsNoShort with_far (choosing ∷ [])
+unfolding searched
+none = apart_by (wanted_at_most (gnu_among with_far) (choosing ∷ [])) (null_descriptor_symbol ∷ flat_map symbols_of_shorts (msvc_among with_far)) refl
+
+no_shorts_takes : TakesIntoFor AMD64 (archive_of_both with_far) (choosing ∷ []) closed_taken
+no_shorts_takes = takes_of_both AMD64 with_far archive (choosing ∷ []) none closed_taken worked_closed.takes
+
+pub worked_no_shorts : WorkedNoShorts
+worked_no_shorts = record {
+  archive = archive;
+  others = refl;
+  none = none;
+  takes = no_shorts_takes;
+  links = links_alone AMD64 with_far archive (choosing ∷ []) none closed_taken zed_first closed_bases closed_objects worked_given.given no_shorts_takes worked_closed.closed.linked;
+}
+
+wanting_claims : AllByRecursion (ClaimsNone (listed_in closed_taken ++ names_undefined closed_taken)) with_names
+unfolding opened alias_specs encoded_size weak_object left_as undefined_in
+wanting_claims = (claims_none_by (listed_in closed_taken ++ names_undefined closed_taken) (wanting listed_names) refl, (claims_none_by (listed_in closed_taken ++ names_undefined closed_taken) quiet refl, tt))
+
+-- what the members that are taken leave, neither wanting_claims
+wanting_left_apart : (name : List ℕ) → Among name (flat_map undefined_in (objects_in closed_taken)) → Among name (flat_map claimed_names with_names) → ⊥
+unfolding left_as
+wanting_left_apart name left = claims_apart (listed_in closed_taken ++ names_undefined closed_taken) with_names wanting_claims name (among_back name (listed_in closed_taken) (names_undefined closed_taken) left)
+
+wanting_takes : TakesInto (archive_of two_libraries) with_names closed_taken
+unfolding references_of claims_of undefined_in
+wanting_takes = takes_into object_in (archive_of two_libraries) with_names closed_taken wanting_left_apart both_takes
+
+pub worked_wanting : WorkedWanting
+unfolding references_of claims_of undefined_in
+worked_wanting = record {
+  alone = refl;
+  wanted = refl;
+  had = refl;
+  none = refl;
+  common = refl;
+  takes = wanting_takes;
+  amd64 = program_with listed_names AMD64 touching_8 (program_objects AMD64) OfLinker (map gnu_input (both_inputs AMD64)) worked_programs.amd64.program;
+  i386 = program_with (codes "_open" ∷ []) I386 touching_4 (program_objects I386) OfLinker (map gnu_input (both_inputs I386)) worked_programs.i386.program;
 }

@@ -1,8 +1,8 @@
 -- Files that linkers wrote, by computing.
-use Rattle.std.proofs.Common.{◌≡◌, Bool, true, List, [], ◌∷◌, ◌++◌, refl, arith}
+use Rattle.std.proofs.Common.{Bool, List, [], arith, refl, sym, true, ℕ, ◌++◌, ◌∷◌, ◌≡◌}
 use Rattle.std.specs.List.{AllByRecursion, list_all}
 use Rattle.std.proofs.lemmas.Bool.{and_parts}
-use Rattle.implib.specs.declared.machine.MachineType.TheVariants.{I386, AMD64}
+use Rattle.implib.specs.declared.machine.MachineType.TheVariants.{AMD64, I386}
 use Rattle.implib.specs.Link.Image.{Range}
 use Rattle.implib.specs.Link.Load.{BytesAt}
 use Rattle.implib_dll.specs.Bytes.{bytes_at, u16_at, u32_at}
@@ -14,13 +14,15 @@ use Rattle.implib_image.specs.Files.{mapped_file}
 use Rattle.implib_image.specs.Laws.{IsFileOf}
 use Rattle.implib_link.specs.Gnu.Fields.{ranges_of_codes}
 use Rattle.implib_link.specs.Tables.{AreTables}
-use Rattle.implib_link_instances.specs.Worked.Files.{WorkedFile, WorkedFiles, amd64_headers, arm64_headers, file_on, gnu_data, gnu_file, gnu_headers, gnu_idata, gnu_mapped, gnu_reloc, gnu_text, i386_headers, mapped_on, tables_in}
+use Rattle.implib_link_instances.specs.Worked.Files.{WorkedFile, WorkedFiles, WorkedHeaders, amd64_headers, arm64_headers, file_on, gnu_data, gnu_file, gnu_headers, gnu_idata, gnu_mapped, gnu_reloc, gnu_text, i386_headers, mapped_on, tables_in}
 use Rattle.implib_link_instances.specs.Worked.LldPrograms.{addresses_on, lld_image_on, shorts_on}
 use Rattle.implib_link_instances.specs.Worked.Stored.{holding_codes, holding_placed}
 use Rattle.implib_link.proofs.TablesOfPrograms.{lld_tables}
-use Rattle.implib_link_instances.proofs.Worked.Lld.{lld_opened}
+use Rattle.implib_link_instances.proofs.Worked.LldPrograms.{lld_opened}
 use Rattle.implib_link_instances.proofs.Worked.Stored.{amd64_beside, amd64_further, amd64_program, i386_beside, i386_further, i386_program}
-use Rattle.implib_link_instances.proofs.Worked.Lemmas.{are_located, is_each_located}
+use Rattle.implib_link_instances.proofs.Worked.Lemmas.{are_located, differ, is_each_located}
+use Rattle.implib.specs.Import.{Ask}
+use Rattle.implib_dll.specs.WorkedFiles.{worked_pe32}
 
 -- what the computing has to open
 unfoldable pub file_opened : Unit {0}
@@ -65,4 +67,20 @@ worked_files = record {
   i386 = i386_file;
   amd64 = amd64_file;
   gnu = record { mapped = refl; made_for = refl; width = refl; directory = refl; holds = holds_by gnu_mapped.image (record { start = 0x3000; bytes = gnu_idata } ∷ []) refl };
+}
+
+-- the files have their tables in memory
+
+pub worked_headers : (gives : List ℕ → Ask → List ℕ) → WorkedHeaders gives
+unfolding lld_opened file_opened worked_pe32
+worked_headers gives = record {
+  thirteen = refl;
+  twelve = refl;
+  one = refl;
+  base = refl;
+  base_4 = refl;
+  bss = refl;
+  none = (refl, refl);
+  at_0 = (refl, refl);
+  none_more = λ x. differ 0 1 (sym x.0) (omega arith);
 }

@@ -14,7 +14,7 @@ use Rattle.implib_link_instances.specs.Worked.CommandLines.{i386_wants_bytes, is
 use Rattle.implib_link_instances.specs.Worked.FlavorLines.{WorkedFlavorLine, WorkedFlavorLines, amd64_kernels, amd64_shorts, i386_kernels, i386_shorts, shorts_grouped, shorts_last, shorts_taken, with_quit}
 use Rattle.implib_link_instances.proofs.Worked.BothFlavors.{archive_by}
 use Rattle.implib_link_instances.proofs.Worked.CommandLines.{member_or_none, object_at, whole_at}
-use Rattle.implib_link_instances.proofs.Worked.NearSearches.{searched}
+use Rattle.implib_link_instances.proofs.Worked.Opened.{searched}
 use Rattle.implib_link_instances.proofs.Worked.Programs.{claims_none_by, distinct_by}
 
 -- AMD64

@@ -1,27 +1,40 @@
--- The programs that lld wrote, by computing and by the laws.
-use Rattle.std.proofs.Common.{◌≡◌, ℕ, ◌+◌, ◌<◌, ◌≤◌, ◌⊎◌, true, List, [], ◌∷◌, codes, Some, refl, ap, subst, inl, inr, arith}
-use Rattle.std.specs.Prelude.{Bool, bytes_eq, slice_get, ◌&&◌, ◌==◌, if◌then◌else◌}
-use Rattle.std.specs.List.{list_all}
+-- The tables that lld wrote, by computing.
+use Rattle.std.proofs.Common.{List, Some, [], ap, arith, codes, inl, inr, refl, subst, true, ℕ, ◌+◌, ◌<◌, ◌∷◌, ◌≡◌, ◌≤◌, ◌⊎◌}
+use Rattle.std.specs.List.{AllByRecursion, Contains, list_all}
+use Rattle.implib.specs.Formats.Bytes.{u16_bytes, u32_bytes}
+use Rattle.implib.specs.Formats.Object.{ASymbol, Auxiliary, Entry, u16_at, u32_at}
+use Rattle.implib.specs.Formats.ShortImport.{ShortImport, short_import_in}
+use Rattle.implib.specs.Link.Placement.{Placed, next_multiple}
+use Rattle.implib.proofs.Link.Ranges.{Among, all_among}
+use Rattle.implib_link.specs.Flavors.LldImports.{IsLldProgram, comes_first, entries_of_groups, group_entries, grouped, imp_symbols_of, imports_of_lld, in_small, put_in, put_into, short_for}
+use Rattle.implib_link.specs.Flavors.LldTables.{ArePiecesAt, IsAskable, all_hints, all_names, built, built_bytes, descriptor_built, directory_built, hint_built, hints_built, tables_built, thunk_built, thunks_built}
+use Rattle.implib_link.proofs.Search.Lists.{among_at, contains_among, each_of}
+use Rattle.std.specs.Prelude.{Bool, bytes_eq, if◌then◌else◌, slice_get, ◌&&◌, ◌==◌}
 use Rattle.std.proofs.lemmas.Bool.{and_from, eq-eqb, eqb-true}
-use Rattle.implib.specs.declared.machine.MachineType.TheVariants.{I386, AMD64, ARM64}
+use Rattle.implib.specs.declared.machine.MachineType.TheVariants.{AMD64, ARM64, I386}
 use Rattle.implib.specs.Formats.File.{is_defined_external}
-use Rattle.implib.specs.Formats.Object.{ASymbol, Auxiliary, Entry}
 use Rattle.implib.specs.Link.Image.{AreApart, Range, range_end}
-use Rattle.implib.specs.Link.Placement.{Placed}
 use Rattle.implib.specs.Link.Resolution.{is_undefined_external, symbol_address}
 use Rattle.implib.proofs.Link.Definitions.{same_text}
 use Rattle.implib.proofs.Link.LinkedMembers.{among_contains}
-use Rattle.implib.proofs.Link.Ranges.{Among}
-use Rattle.implib_link.specs.Flavors.LldImports.{IsLldProgram, imp_symbols_of, imports_of_lld}
-use Rattle.implib_link.specs.Flavors.LldTables.{ArePiecesAt, IsAskable, built, built_bytes}
 use Rattle.implib_link.specs.Flavors.LldThunks.{placed_thunk}
 use Rattle.implib_link.specs.Gnu.Fields.{LinkedCode, TakesSymbols}
 use Rattle.implib_link_instances.specs.Worked.LldPrograms.{lld_image_on, lld_linked_on, mid_on, or_thunk, placed_object, shorts_on, tables_on, taken_address}
 use Rattle.implib_link.proofs.Flavors.LldTables.{built_pieces}
 use Rattle.implib_link.proofs.Gnu.Memory.{within_bounds}
-use Rattle.implib_link.proofs.Search.Lists.{among_at, contains_among, each_of}
-use Rattle.implib_link_instances.proofs.Worked.Lld.{alike, lld_opened}
 use Rattle.implib_link_instances.proofs.Worked.Programs.{distinct_by}
+
+-- what the computing has to open
+unfoldable pub lld_opened : Unit {0}
+unfolding short_import_in comes_first entries_of_groups group_entries grouped put_in put_into short_for all_hints all_names built_bytes descriptor_built directory_built hint_built hints_built tables_built thunk_built thunks_built next_multiple u16_bytes u32_bytes u16_at u32_at
+lld_opened = tt
+
+-- two that are called alike in small letters are called alike
+pub alike : (ks : List ShortImport) → AllByRecursion (λ r. AllByRecursion (λ s. (in_small r.dll ≡ in_small s.dll) → r.dll ≡ s.dll) ks) ks →
+    (r s : ShortImport) → Contains ks r → Contains ks s → in_small r.dll ≡ in_small s.dll → r.dll ≡ s.dll
+alike ks all r s first second same =
+    all_among (λ s. (in_small r.dll ≡ in_small s.dll) → r.dll ≡ s.dll) s ks (contains_among s ks second)
+    (all_among (λ r. AllByRecursion (λ s. (in_small r.dll ≡ in_small s.dll) → r.dll ≡ s.dll) ks) r ks (contains_among r ks first) all) same
 
 -- Ranges of which none meets another, in any order.
 

@@ -16,7 +16,7 @@ use Rattle.implib.specs.Worked.Statements.{plain_export}
 use Rattle.implib_link.specs.Directory.{imported}
 use Rattle.implib_link.specs.Gnu.Loaded.{Writes, entries_written}
 use Rattle.implib_link.specs.Gnu.Program.{has_tables}
-use Rattle.implib_link.specs.Flavors.Program.{IsProgram}
+use Rattle.implib_link.specs.Flavors.Program.{IsProgram, Ending, FlavorInput, IsMadeFor, IsProgramOf, OfLinker, gnu_input, imported_in}
 use Rattle.implib_link.specs.Stub.{CanJump}
 use Rattle.implib_link.proofs.PackedTables.{packed_imports}
 use Rattle.implib_link.proofs.Tables.{tables_load}
@@ -28,7 +28,6 @@ use Rattle.implib_link.proofs.Gnu.Directory.{directory_walk}
 use Rattle.implib_link.proofs.Flavors.Program.{program_links}
 use Rattle.implib_link.proofs.Flavors.Stubs.{stubs_jump}
 use Rattle.implib_link_instances.proofs.Worked.Programs.{opened, worked_programs}
-use Rattle.implib_link.specs.Flavors.Program.{Ending, FlavorInput, IsMadeFor, IsProgramOf, OfLinker, gnu_input, imported_in}
 use Rattle.implib_link_instances.proofs.Worked.Lemmas.{number}
 
 -- a loader that is handed the imports loads the tables

@@ -18,7 +18,7 @@ use Rattle.implib_link.specs.Gnu.Moves.{AreInMemory, AreMoved, CanBeMoved, place
 use Rattle.implib_link.specs.Gnu.Operands.{HasBranch, HasInstruction, HasOffsetField, HasOperand, HasPageField, HasPointer, Names}
 use Rattle.implib_link.specs.Gnu.Pages.{HasPage, HasPageOffset}
 use Rattle.implib_link.specs.Gnu.Program.{has_tables}
-use Rattle.implib_link.specs.Flavors.Program.{IsProgram}
+use Rattle.implib_link.specs.Flavors.Program.{IsProgram, OfLinker, gnu_input}
 use Rattle.implib_link.specs.Gnu.Choices.{ArePlacesApart}
 use Rattle.implib_link.specs.Gnu.Rebased.{IsRebased, Place, covers, table_places}
 use Rattle.implib_link_instances.specs.Worked.Operands.{AdjacentCalls, MovableCode, PassingFields, WorkedFields, WorkedOperands, amd64_rel32_1, field, imp_open, arm64_pageoffset_12a, arm64_secrel, moved_memory, open_on, passing_at, passing_bytes, passing_codes, passing_image, passing_memory, passing_objects, passing_placed, passing_places, passing_targets, stub_of_open, x86_secrel}
@@ -28,7 +28,6 @@ use Rattle.implib_link.proofs.Gnu.MovedPrograms.{moved_memory_exists}
 use Rattle.implib_link.proofs.Flavors.Steady.{program_tables_none}
 use Rattle.implib_link_instances.proofs.Worked.LinkedCode.{all_needed, only_absolute, rebased_by, relocated_by, relocated_test, takes_by}
 use Rattle.implib_link_instances.proofs.Worked.Programs.{opened, worked_programs, admissible_by, instructions_at, program_by, instruction_by}
-use Rattle.implib_link.specs.Flavors.Program.{OfLinker, gnu_input}
 use Rattle.implib_link_instances.proofs.Worked.Lemmas.{number}
 
 amd64_program : IsProgram AMD64 touching_8 (both_inputs AMD64) (passing_objects AMD64)

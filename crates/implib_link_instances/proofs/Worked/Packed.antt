@@ -9,12 +9,11 @@ use Rattle.implib.specs.Members.WeakExternal.{weak_object}
 use Rattle.implib.proofs.Link.LinkedInputs.{gnu_inputs_link}
 use Rattle.implib_link.specs.Gnu.Packed.{group_end, packed_end, sections_end}
 use Rattle.implib_link.specs.Gnu.Program.{has_tables}
-use Rattle.implib_link_instances.specs.Worked.Packed.{WorkedPacking, WorkedPackings, alone, packed_4, packed_8}
+use Rattle.implib_link_instances.specs.Worked.Loads.{WorkedPacking, WorkedPackings, alone, packed_4, packed_8}
 use Rattle.implib_link_instances.specs.Worked.Programs.{both_inputs, program_objects, touching_8}
-use Rattle.implib_link_instances.proofs.Worked.GnuPacked.{members_are_program}
-use Rattle.implib_link_instances.proofs.Worked.GnuPacked.{packed_is_admissible, packed_is_program}
+use Rattle.implib_link_instances.proofs.Worked.GnuPacked.{members_are_program, packed_is_admissible, packed_is_program}
 use Rattle.implib_link_instances.proofs.Worked.Programs.{opened, worked_programs, admissible_by}
-use Rattle.implib_link_instances.proofs.Worked.Searched.{below_limit}
+use Rattle.implib_link_instances.proofs.Worked.Search.{below_limit}
 
 amd64 : WorkedPacking AMD64 packed_8 0x10FC
 unfolding opened alias_specs encoded_size weak_object has_tables group_end sections_end

@@ -1,11 +1,11 @@
 -- Programs of libraries of GNU dlltool and of ours, by computing.
-use Rattle.std.proofs.Common.{◌≡◌, Bool, List, [], ◌∷◌, ◌++◌, codes, inl, inr, map, refl, subst, true, arith}
-use Rattle.std.specs.Prelude.{◌&&◌, ◌||◌, bytes_eq, nat_le, if◌then◌else◌}
+use Rattle.std.proofs.Common.{Bool, List, [], arith, codes, false, inl, inr, map, refl, subst, true, ◌++◌, ◌∷◌, ◌≡◌}
+use Rattle.std.specs.Prelude.{bytes_eq, if◌then◌else◌, nat_le, ◌&&◌, ◌||◌}
 use Rattle.std.specs.List.{AllByRecursion, list_all}
 use Rattle.std.proofs.lemmas.Bool.{and_parts, cases_Bool, leb-true}
 use Rattle.implib.specs.Formats.Constants.{amd64_rel32, class_external}
 use Rattle.implib.specs.declared.machine.MachineType.{MachineType}
-use Rattle.implib.specs.declared.machine.MachineType.TheVariants.{I386, AMD64}
+use Rattle.implib.specs.declared.machine.MachineType.TheVariants.{AMD64, I386}
 use Rattle.implib.specs.Formats.Layout.{encoded_size}
 use Rattle.implib.specs.Formats.Object.{Object}
 use Rattle.implib.specs.Link.Image.{AllApart, AreApart, Range, image_of, range_end}
@@ -24,13 +24,16 @@ use Rattle.implib_link.specs.Tables.{AreTables, Table, Tables, packed_tables}
 use Rattle.implib_link.proofs.Parts.Members.{members_are_part, members_store_none, parts_steady}
 use Rattle.implib_link.proofs.Parts.Programs.{parts_tables}
 use Rattle.implib_link_instances.specs.Worked.OtherLibraries.{objects_of}
-use Rattle.implib_link_instances.specs.Worked.Parts.{IsWritten, WorkedParts, WorkedReach, asking, gnu_bases, gnu_image, i386_gnu_bases, i386_gnu_image, i386_kernel, i386_start_bytes, i386_zoo, i386_zoo_objects, i386_zoo_parts, kernel, start_bytes, start_code, stub_code, table_at, zoo, zoo_codes, zoo_linked, zoo_memory, zoo_objects, zoo_parts, zoo_tables, zoo_targets}
+use Rattle.implib_link_instances.specs.Worked.Parts.{IsWritten, WorkedOlder, WorkedParts, WorkedReach, asking, gnu_bases, gnu_image, i386_gnu_bases, i386_gnu_image, i386_kernel, i386_older_objects, i386_older_parts, i386_older_start, i386_older_zoo, i386_start_bytes, i386_zoo, i386_zoo_objects, i386_zoo_parts, kernel, named_start, older_objects, older_parts, older_zoo, start_bytes, start_code, stub_code, table_at, zoo, zoo_codes, zoo_linked, zoo_memory, zoo_objects, zoo_parts, zoo_tables, zoo_targets}
 use Rattle.implib_link_instances.specs.Worked.Programs.{symbol_of_class}
 use Rattle.implib_link.proofs.TablesInMemory.{tables_lead_in_memory, tables_load_in_memory}
 use Rattle.implib_link_instances.proofs.Worked.LinkedCode.{relocated_by, relocated_test}
 use Rattle.implib_link_instances.proofs.Worked.LldPrograms.{disjoint, meet_test, takes_outside}
 use Rattle.implib_link_instances.proofs.Worked.OtherLibraries.{all_claim_none, all_hold_fields}
 use Rattle.implib_link_instances.proofs.Worked.Programs.{admissible_by, distinct_by, instruction_by, opened}
+use Rattle.implib.specs.Definition.{ExportView}
+use Rattle.implib.specs.Members.OlderSymbols.{AreOlderMembersOf, older_object, older_refusal, older_renamed_refusal, older_spec}
+use Rattle.implib_link.proofs.Parts.Older.{older_part, older_stores_none}
 
 pub written_by : (machine : MachineType) (bases : Bases) (parts : List Part) (objects : List Object) (written : List Range) (tables : List Table) → AllByRecursion (IsPart machine) parts →
     IsProgramOfParts machine bases parts objects → AllByRecursion (λ (p : Part). list_all (stores_none machine) p.objects ≡ true) parts → image_of machine bases (placed_from bases objects) ≡ written →
@@ -204,4 +207,55 @@ worked_reach = record {
       let of_kernel = tables_lead_in_memory AMD64 0x1_4000_0000 tables zoo_codes zoo_targets zoo_memory gives worked_parts.gnu.tables_are worked_parts.gnu.steady code_in_memory n written wide reads
       0 0 (table_at (codes "kernel32.dll") 0x3060 (asking (codes "ExitProcess") 1 (codes "__imp_ExitProcess") ∷ [])) (asking (codes "ExitProcess") 1 (codes "__imp_ExitProcess")) (codes "__imp_ExitProcess") refl refl refl tt in
       (load.0, (of_zoo.instructions start_code 5 (0xFF ∷ 0x15 ∷ []) [] (0, omega arith, refl) call_is, of_kernel.instructions start_code 34 (0xFF ∷ 0x25 ∷ []) [] (0, omega arith, refl) jump_is));
+}
+
+made : AreOlderMembersOf older_zoo.definition AMD64 older_zoo.members
+unfolding opened older_refusal older_renamed_refusal older_spec older_object alias_specs encoded_size weak_object
+made = record { accepted = refl; made = refl; ordinals = refl }
+
+are_parts : (older : ExportView → Bool) → AllByRecursion (IsPart AMD64) (older_parts older)
+are_parts older = (kernel_is, (older_part AMD64 older_zoo made older, tt))
+
+store_none : (older : ExportView → Bool) → AllByRecursion (λ (p : Part). list_all (stores_none AMD64) p.objects ≡ true) (older_parts older)
+store_none older = (kernel_stores, (older_stores_none AMD64 older_zoo made older, tt))
+
+program : (older : ExportView → Bool) → IsProgramOfParts AMD64 gnu_bases (older_parts older) older_objects
+unfolding opened older_refusal older_renamed_refusal older_spec older_object alias_specs encoded_size weak_object has_tables
+program older = record {
+  tables = refl;
+  distinct = distinct_by (names_of_parts (older_parts older)) refl;
+  others = all_claim_none (names_of_parts (older_parts older)) (objects_of (named_start (codes "zoo_open") (codes "___impzoo_open") ∷ [])) refl;
+  admissible = admissible_by refl refl;
+}
+
+image_is : image_of AMD64 gnu_bases (placed_from gnu_bases older_objects) ≡ gnu_image
+unfolding opened older_refusal older_renamed_refusal older_spec older_object alias_specs encoded_size weak_object has_tables
+image_is = refl
+
+i386_made : AreOlderMembersOf i386_older_zoo.definition I386 i386_older_zoo.members
+unfolding opened older_refusal older_renamed_refusal older_spec older_object alias_specs encoded_size weak_object
+i386_made = record { accepted = refl; made = refl; ordinals = refl }
+
+i386_program : IsProgramOfParts I386 i386_gnu_bases i386_older_parts i386_older_objects
+unfolding opened older_refusal older_renamed_refusal older_spec older_object alias_specs encoded_size weak_object has_tables
+i386_program = record {
+  tables = refl;
+  distinct = distinct_by (names_of_parts i386_older_parts) refl;
+  others = all_claim_none (names_of_parts i386_older_parts) (objects_of (i386_older_start ∷ [])) refl;
+  admissible = admissible_by refl refl;
+}
+
+i386_image_is : image_of I386 i386_gnu_bases (placed_from i386_gnu_bases i386_older_objects) ≡ i386_gnu_image
+unfolding opened older_refusal older_renamed_refusal older_spec older_object alias_specs encoded_size weak_object has_tables
+i386_image_is = refl
+
+pub worked_older : WorkedOlder
+unfolding opened
+worked_older = record {
+  made = made;
+  older = written_by AMD64 gnu_bases (older_parts (λ e. true)) older_objects gnu_image _ (are_parts (λ e. true)) (program (λ e. true)) (store_none (λ e. true)) image_is refl;
+  today = written_by AMD64 gnu_bases (older_parts (λ e. false)) older_objects gnu_image _ (are_parts (λ e. false)) (program (λ e. false)) (store_none (λ e. false)) image_is refl;
+  i386_made = i386_made;
+  i386_older = written_by I386 i386_gnu_bases i386_older_parts i386_older_objects i386_gnu_image _ (i386_kernel_is, (older_part I386 i386_older_zoo i386_made (λ e. true), tt)) i386_program
+      (i386_kernel_stores, (older_stores_none I386 i386_older_zoo i386_made (λ e. true), tt)) i386_image_is refl;
 }

@@ -1,5 +1,5 @@
 -- What GNU ld takes, by the law, and what stays undefined, by computing.
-use Rattle.std.proofs.Common.{◌≡◌, ℕ, Bool, true, false, List, [], ◌∷◌, ◌++◌, Option, Some, None, drop, map, refl, sym, subst}
+use Rattle.std.proofs.Common.{Bool, List, None, Option, Some, [], drop, false, map, refl, subst, sym, true, ℕ, ◌++◌, ◌∷◌, ◌≡◌}
 use Rattle.std.specs.Prelude.{bytes_eq, codes, not, ◌||◌}
 use Rattle.std.specs.List.{list_all, list_any}
 use Rattle.implib.specs.Formats.Object.{Entry, Object}
@@ -17,14 +17,13 @@ use Rattle.implib_link.specs.Search.Plainly.{AreOnlyWeak, without_weak}
 use Rattle.implib_link.specs.Search.Search.{first_listed, objects_as}
 use Rattle.implib_link.proofs.Search.Lists.{any_among, contains_among, each_of}
 use Rattle.implib_link.proofs.Search.Plainly.{libraries_plain}
-use Rattle.implib_link_instances.specs.Machines.Parts.{descriptor_on, null_on, short_on, thunk_on}
+use Rattle.implib_link_instances.specs.Worked.Plainly.{WorkedPlainly, descriptor_on, kernel, kernel_library, kernel_taken, null_on, short_on, thunk_on}
 use Rattle.implib_link_instances.specs.Worked.BothFlavors.{foo_and_zed, mixed_taken}
 use Rattle.implib_link_instances.specs.Worked.Closed.{choosing}
 use Rattle.implib_link_instances.specs.Worked.CommandLines.{read_or_none, wants_bytes}
-use Rattle.implib_link_instances.specs.Worked.Plainly.{WorkedPlainly, kernel, kernel_library, kernel_taken}
 use Rattle.implib_link_instances.proofs.Worked.BothFlavors.{archive_by, first_symbol, new_by, worked_both}
 use Rattle.implib_link_instances.proofs.Worked.CommandLines.{ended_by}
-use Rattle.implib_link_instances.proofs.Worked.NearSearches.{searched}
+use Rattle.implib_link_instances.proofs.Worked.Opened.{searched}
 
 -- gcc's object and the library of kernel32.dll
 

@@ -13,7 +13,7 @@ use Rattle.implib.specs.Members.WeakExternal.{weak_object}
 use Rattle.implib.specs.Text.Parses.{Parses}
 use Rattle.implib.proofs.Worked.Statements.{opened as text_opened, parses}
 use Rattle.implib_link.specs.Flavors.Expansion.{import_object, descriptor_symbol_by_name, expanded_in}
-use Rattle.implib_link.specs.Flavors.Program.{OfMember, all_members, IsProgramOf, AreProgramObjects, IsProgram}
+use Rattle.implib_link.specs.Flavors.Program.{OfMember, all_members, IsProgramOf, AreProgramObjects, IsProgram, OfLinker}
 use Rattle.implib_link.specs.Flavors.SectionSymbols.{with_section_symbols}
 use Rattle.implib_link.specs.Flavors.Texts.{FlavorSource, IsFlavorSource, input_of}
 use Rattle.implib_link.specs.Gnu.Packed.{group_end, packed, packed_end, sections_end}
@@ -25,8 +25,7 @@ use Rattle.implib_link.proofs.Flavors.Texts.{texts_link}
 use Rattle.implib_link_instances.proofs.Worked.GnuPacked.{packed_is_program}
 use Rattle.implib_link_instances.proofs.Worked.Flavors.{opened, flavor_objects_by}
 use Rattle.implib_link_instances.proofs.Worked.Programs.{distinct_by}
-use Rattle.implib_link_instances.proofs.Worked.Searched.{below_limit}
-use Rattle.implib_link.specs.Flavors.Program.{OfLinker}
+use Rattle.implib_link_instances.proofs.Worked.Search.{below_limit}
 
 amd64_foo : Parses foo_text AMD64 (foo_meant AMD64)
 unfolding text_opened

@@ -24,13 +24,9 @@ use Rattle.implib_link_instances.specs.Worked.Programs.{symbol_of_class}
 use Rattle.implib_link_instances.specs.Worked.Stored.{WorkedHolding, WorkedHoldings, held_at, held_linked, held_section, holding_codes, holding_memory, holding_moved_memory, holding_placed, holding_places, holding_targets, mid_name, mid_thunk, mid_thunk_at, picking_at, picking_linked, picking_section, placed_holding, unwind_at, unwind_linked, unwind_section}
 use Rattle.implib_link.proofs.Gnu.Fields.{alone_among}
 use Rattle.implib_link.proofs.Search.Lists.{contains_among, each_of}
-use Rattle.implib_link_instances.proofs.Worked.Lld.{lld_opened}
+use Rattle.implib_link_instances.proofs.Worked.LldPrograms.{lld_opened, disjoint, meet_test, takes_outside, i386_program as lld_i386_program, amd64_program as lld_amd64_program, arm64_program as lld_arm64_program}
 use Rattle.implib_link_instances.proofs.Worked.LinkedCode.{all_needed, both_equal, only_absolute, rebased_by, relocated_by, relocated_test}
-use Rattle.implib_link_instances.proofs.Worked.LldPrograms.{disjoint, meet_test, takes_outside}
 use Rattle.implib_link_instances.proofs.Worked.Programs.{instruction_by}
-use Rattle.implib_link_instances.proofs.Worked.LldPrograms.{i386_program as lld_i386_program}
-use Rattle.implib_link_instances.proofs.Worked.LldPrograms.{amd64_program as lld_amd64_program}
-use Rattle.implib_link_instances.proofs.Worked.LldPrograms.{arm64_program as lld_arm64_program}
 use Rattle.implib_link_instances.proofs.Worked.Lemmas.{number}
 
 -- Fields of further types, by computing.

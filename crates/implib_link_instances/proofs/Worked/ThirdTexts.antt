@@ -19,8 +19,7 @@ use Rattle.implib_link_instances.specs.Worked.Parts.{asking, table_at}
 use Rattle.implib_link_instances.specs.Worked.Programs.{symbol_of_class}
 use Rattle.implib_link_instances.specs.Worked.ThirdTexts.{PiecesAsk, WorkedThirdTexts, block_asking, third_code, third_codes, third_feed, third_image, third_linked, third_memory, third_section, third_tables, third_targets, third_thunk, third_written}
 use Rattle.implib_link_instances.proofs.Worked.LinkedCode.{relocated_by, relocated_test}
-use Rattle.implib_link_instances.proofs.Worked.Lld.{lld_opened}
-use Rattle.implib_link_instances.proofs.Worked.LldPrograms.{meet_test, meets_up, takes_outside}
+use Rattle.implib_link_instances.proofs.Worked.LldPrograms.{lld_opened, meet_test, meets_up, takes_outside}
 use Rattle.implib_link_instances.proofs.Worked.Parts.{all_apart, all_apart_test, is_apart}
 use Rattle.implib_link_instances.proofs.Worked.Programs.{instruction_by}
 

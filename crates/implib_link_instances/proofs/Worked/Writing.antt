@@ -15,7 +15,7 @@ use Rattle.implib.specs.Members.ImportTables.{thunk_width}
 use Rattle.implib.specs.Members.WeakExternal.{weak_object}
 use Rattle.implib_link.specs.Directory.{Imported, imported}
 use Rattle.implib_link.specs.Gnu.Program.{has_tables}
-use Rattle.implib_link.specs.Flavors.Program.{IsProgram}
+use Rattle.implib_link.specs.Flavors.Program.{IsProgram, OfLinker, gnu_input}
 use Rattle.implib_link.specs.Gnu.Writing.{WritesAsItGoes}
 use Rattle.implib_link_instances.specs.Worked.Calls.{given_on}
 use Rattle.implib_link_instances.specs.Worked.Loads.{gives_by_hand}
@@ -28,7 +28,6 @@ use Rattle.implib_link.proofs.Flavors.Writing.{program_beside, program_long, wri
 use Rattle.implib_link_instances.proofs.Worked.Calls.{wide}
 use Rattle.implib_link_instances.proofs.Worked.Loads.{amd64_given, i386_given}
 use Rattle.implib_link_instances.proofs.Worked.Programs.{opened, worked_programs}
-use Rattle.implib_link.specs.Flavors.Program.{OfLinker, gnu_input}
 
 keeps_itself : (image : List Range) → Keeps image image
 unfolding Keeps

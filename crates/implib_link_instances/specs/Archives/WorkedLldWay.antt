@@ -31,7 +31,7 @@ use Rattle.implib_link.specs.Search.MsvcArchives.{IsMsvcArchive}
 use Rattle.implib_link.specs.Tables.{AreSteady}
 use Rattle.implib_link_instances.specs.Worked.Calls.{given_on}
 use Rattle.implib_link_instances.specs.Worked.LldPrograms.{taken_address}
-use Rattle.implib_link_instances.specs.Worked.MsvcArchives.{msvc_library, short_named}
+use Rattle.implib_link_instances.specs.Worked.MsvcSearch.{msvc_library, short_named}
 use Rattle.implib_link_instances.specs.Worked.Programs.{symbol_of_class}
 
 abbrev pub lld_library : Library

@@ -17,7 +17,7 @@ use Rattle.implib_image.specs.Laws.{IsInDirectory}
 use Rattle.implib_link_instances.specs.Archives.Files.{libquit}
 use Rattle.implib_link_instances.specs.Refused.Links.{f_library, for_gnu, listing, own}
 use Rattle.implib_link_instances.specs.Refused.Tables.{range_at}
-use Rattle.implib_link_instances.specs.Worked.MsvcArchives.{short_named}
+use Rattle.implib_link_instances.specs.Worked.MsvcSearch.{short_named}
 use Rattle.implib_link_instances.specs.Worked.Programs.{program_objects, touching_8}
 use Rattle.implib_link_instances.specs.Worked.Search.{members_of, three, wanted}
 

@@ -9,7 +9,8 @@ use Rattle.implib.specs.Members.Gnu.{section}
 use Rattle.implib.specs.Members.ImportTables.{table_flags, zeros}
 use Rattle.implib_link.specs.Flavors.LldThunks.{BranchArrivesByThunk, ThunkArrives}
 use Rattle.implib_link.specs.Gnu.A32.{A32JumpReads}
-use Rattle.implib_link.specs.Gnu.Calls.{CallArrives, DirectCallArrives, PlacedCode, Resolves, StubAt}
+use Rattle.implib_link.specs.Gnu.Calls.{CallArrives, DirectCallArrives, PlacedCode, Resolves}
+use Rattle.implib_link.specs.Gnu.Calls.{StubAt}
 use Rattle.implib_link.specs.Gnu.Fields.{LinkedCode}
 use Rattle.implib_link.specs.Gnu.Operands.{AllLeadTo, AreKept, BranchArrives, BranchStays}
 use Rattle.implib_link.specs.Gnu.Operands.{InstructionArrives, OperandArrives, PairArrives}

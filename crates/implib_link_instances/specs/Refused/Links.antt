@@ -14,16 +14,17 @@ use Rattle.implib.specs.Members.MemberSpec.{MemberView}
 use Rattle.implib.specs.Worked.Members.{of_dll}
 use Rattle.implib.specs.Worked.Statements.{plain_export}
 use Rattle.implib_link.specs.Flavors.LldImports.{IsImportedBy, LldLinks}
-use Rattle.implib_link.specs.Flavors.Program.{FlavorInput, InputImports, IsTaken, OfLinker, OfMember}
-use Rattle.implib_link.specs.Flavors.Program.{ProgramLinks, gnu_input}
+use Rattle.implib_link.specs.Flavors.Program.{FlavorInput, InputImports, IsTaken, OfLinker}
+use Rattle.implib_link.specs.Flavors.Program.{OfMember, ProgramLinks, gnu_input}
 use Rattle.implib_link.specs.Flavors.Texts.{FlavorTextLinks, FlavorTextsLink}
 use Rattle.implib_link.specs.Gnu.OtherLibraries.{LinksBeside, Run, RunLinks}
 use Rattle.implib_link.specs.Search.Archives.{Library}
-use Rattle.implib_link.specs.Search.BothFlavors.{FlavorLibrary, IsImportedOfBoth, LinksClosedForBoth}
+use Rattle.implib_link.specs.Search.BothFlavors.{FlavorLibrary, IsImportedOfBoth}
+use Rattle.implib_link.specs.Search.BothFlavors.{LinksClosedForBoth}
 use Rattle.implib_link.specs.Search.Closed.{IsImported, LinksClosed}
 use Rattle.implib_link.specs.Stub.{JumpsThrough}
 use Rattle.implib_link_instances.specs.Refused.Tables.{asking, zero_image}
-use Rattle.implib_link_instances.specs.Worked.Archives.{library_of}
+use Rattle.implib_link_instances.specs.Worked.Search.{library_of}
 use Rattle.implib_link_instances.specs.Worked.Programs.{code_object, symbol_of_class, touching_8}
 use Rattle.implib_link_instances.specs.Worked.Sources.{source_in, zed_meant, zed_text}
 

@@ -16,11 +16,10 @@ use Rattle.implib_link.specs.Search.MsvcArchives.{IsWeakShort, IsWeakTaken}
 use Rattle.implib_link.specs.Search.Plainly.{IsWeakAmong}
 use Rattle.implib_link.specs.Search.Search.{ImportsWanted, IsLinkedOfWanted, TakesAs}
 use Rattle.implib_link_instances.specs.Refused.Links.{f_library, listing, own}
-use Rattle.implib_link_instances.specs.Worked.Archives.{library_of}
+use Rattle.implib_link_instances.specs.Worked.Search.{library_of, members_of, three, wanted}
+use Rattle.implib_link_instances.specs.Worked.Search.{by_name, searched_objects}
 use Rattle.implib_link_instances.specs.Worked.Closed.{foo_alias}
 use Rattle.implib_link_instances.specs.Worked.Programs.{touching_8}
-use Rattle.implib_link_instances.specs.Worked.Search.{members_of, three, wanted}
-use Rattle.implib_link_instances.specs.Worked.Searched.{by_name, searched_objects}
 
 pub record RefusedPullsIntoAs : Type 0 where
   pub named : PullsIntoAs object_in (listing ∷ []) [] [] (codes "f") listing → ⊥

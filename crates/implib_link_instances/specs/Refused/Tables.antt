@@ -19,8 +19,8 @@ use Rattle.implib_link.specs.Gnu.Program.{GetsAddress, null_descriptor}
 use Rattle.implib_link.specs.Gnu.Reading.{ReadsAndWrites}
 use Rattle.implib_link.specs.Gnu.Writing.{AreAlike, FillsBy, FillsTable, WritesAsItGoes}
 use Rattle.implib_link.specs.Search.Exists.{LieWithin}
-use Rattle.implib_link.specs.Tables.{AreSteady, AreTables, AreTablesLoaded, IsInTable, RiseFrom, Table}
-use Rattle.implib_link.specs.Tables.{Tables}
+use Rattle.implib_link.specs.Tables.{AreSteady, AreTables, AreTablesLoaded, IsInTable, RiseFrom}
+use Rattle.implib_link.specs.Tables.{Table, Tables}
 use Rattle.implib_link_instances.specs.Worked.Operands.{field}
 use Rattle.implib_link_instances.specs.Worked.Programs.{both_inputs, code_object, symbol_of_class}
 use Rattle.implib_link_instances.specs.Worked.Programs.{touching_8}

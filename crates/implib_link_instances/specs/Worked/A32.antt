@@ -13,12 +13,10 @@ use Rattle.implib_link.specs.Gnu.Calls.{PlacedCode}
 use Rattle.implib_link.specs.Gnu.Fields.{AreBeside, LinkedCode}
 use Rattle.implib_link.specs.Flavors.Program.{IsProgram}
 use Rattle.implib_link.specs.Gnu.Reading.{ReadsAndWrites}
-use Rattle.implib_link_instances.specs.Worked.Jumps.{far_4}
+use Rattle.implib_link_instances.specs.Worked.Calls.{far_4, placed_or_calling, as_placed}
 use Rattle.implib_link_instances.specs.Worked.Loads.{gives_by_hand}
 use Rattle.implib_link_instances.specs.Worked.Programs.{both_inputs, program_image, program_objects}
 use Rattle.implib_link_instances.specs.Worked.Programs.{program_placed, touching_4}
-use Rattle.implib_link_instances.specs.Worked.Rebased.{placed_or_calling}
-use Rattle.implib_link_instances.specs.Worked.Relocated.{as_placed}
 
 -- `ldr ip, [pc]` and `ldr pc, [ip]`
 abbrev pub two_loads : List ℕ

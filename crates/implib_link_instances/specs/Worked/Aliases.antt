@@ -16,14 +16,13 @@ use Rattle.implib_link.specs.Gnu.Calls.{HasCall, PlacedCode}
 use Rattle.implib_link.specs.Gnu.Pointers.{HasLoad}
 use Rattle.implib_link.specs.Gnu.Program.{null_descriptor}
 use Rattle.implib_link_instances.specs.Worked.Calls.{calling, calling_code, first_bytes, last_bytes}
+use Rattle.implib_link_instances.specs.Worked.Calls.{loading, loading_code, CodesBeside, as_placed}
+use Rattle.implib_link_instances.specs.Worked.Calls.{code_range, linked_codes}
 use Rattle.implib_link_instances.specs.Worked.Flavors.{both_inputs as flavor_inputs, flavor_bases_8}
 use Rattle.implib_link_instances.specs.Worked.Flavors.{members_with_null}
-use Rattle.implib_link_instances.specs.Worked.Pointers.{loading, loading_code}
 use Rattle.implib_link_instances.specs.Worked.Programs.{another, both_inputs, foo_input}
 use Rattle.implib_link_instances.specs.Worked.Programs.{input_objects, symbol_of_class, touching_8}
 use Rattle.implib_link_instances.specs.Worked.Programs.{zed_input}
-use Rattle.implib_link_instances.specs.Worked.Relocated.{CodesBeside, as_placed, code_range}
-use Rattle.implib_link_instances.specs.Worked.Relocated.{linked_codes}
 
 -- the alias and its target
 abbrev pub opened_name : List ℕ

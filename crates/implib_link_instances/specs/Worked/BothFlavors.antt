@@ -1,7 +1,7 @@
 -- A closed program by hand of an archive of both flavours: of foo.dll's members for GNU's linker,
 -- some of them of an alias, and of zed.dll's for Microsoft's; and near misses of it, each by the
 -- name of the field that refuses it.
-use Rattle.std.specs.Prelude.{◌≡◌, ◌<◌, List, [], ◌∷◌, ◌++◌, codes, length, map, Some}
+use Rattle.std.specs.Prelude.{List, Some, [], codes, length, map, ◌++◌, ◌<◌, ◌∷◌, ◌≡◌}
 use Rattle.implib.specs.declared.flavor.Flavor.TheVariants.{Gnu, Msvc}
 use Rattle.implib.specs.declared.machine.MachineType.TheVariants.{AMD64}
 use Rattle.implib.specs.Formats.Object.{Object}
@@ -12,20 +12,21 @@ use Rattle.implib.specs.Members.GnuMembers.{export_spec, head_spec, tail_spec}
 use Rattle.implib.specs.Members.MemberSpec.{MemberView, member_of}
 use Rattle.implib.specs.Worked.Statements.{plain_export}
 use Rattle.implib_link.specs.Flavors.Program.{FlavorInput, objects_taken}
-use Rattle.implib_link.specs.Gnu.Packed.{packed}
+use Rattle.implib_link.specs.Gnu.Packed.{packed, packed_end}
 use Rattle.implib_link.specs.Search.BothFlavors.{AreClosedForBoth, AreGivenForBoth, FlavorLibrary}
 use Rattle.implib_link.specs.Search.BothFlavors.{IsClosedForBoth, IsFlavorArchive}
 use Rattle.implib_link.specs.Search.BothFlavors.{LinksClosedForBoth, TakesOfBoth, archive_of_both}
 use Rattle.implib_link.specs.Search.BothFlavors.{inputs_of_both, kept_of_both, msvc_among}
 use Rattle.implib_link.specs.Search.Closed.{unresolved}
-use Rattle.implib_link.specs.Search.MsvcArchives.{short_inputs, PullsIntoFor, TakesIntoFor}
+use Rattle.implib_link.specs.Search.MsvcArchives.{PullsIntoFor, TakesIntoFor, short_inputs}
 use Rattle.implib_link.specs.Search.MsvcArchives.{wanted_for}
-use Rattle.implib_link_instances.specs.Worked.Archives.{library_of}
+use Rattle.implib_link_instances.specs.Worked.Search.{aliased, library_of}
 use Rattle.implib_link_instances.specs.Worked.Closed.{choosing, clashing, foo_alias, foo_linked}
-use Rattle.implib_link_instances.specs.Worked.MsvcArchives.{descriptor_named, msvc_zed, null_named}
-use Rattle.implib_link_instances.specs.Worked.MsvcArchives.{short_named, thunk_named}
-use Rattle.implib_link_instances.specs.Worked.MsvcClosed.{zed_members}
-use Rattle.implib_link_instances.specs.Worked.Search.{aliased}
+use Rattle.implib_link_instances.specs.Worked.MsvcSearch.{descriptor_named, msvc_zed, null_named}
+use Rattle.implib_link_instances.specs.Worked.MsvcSearch.{short_named, thunk_named, zed_members}
+use Rattle.implib.specs.Link.Image.{image_of}
+use Rattle.implib_link.specs.Search.BothExists.{HasClosedForBoth, tables_end_of_both}
+use Rattle.implib_link.specs.Search.Exists.{LieWithin}
 
 -- foo.dll with data `bar`, an alias of the function `baz`, and zed.dll with two functions
 abbrev pub gnu_foo : FlavorLibrary
@@ -113,3 +114,62 @@ pub record WorkedGivenForBoth : Type 0 where
   pub wants : 0 < length (short_inputs (msvc_among foo_and_zed) (unresolved (choosing ∷ [])))
   pub ends : (taken : List MemberView)
       × TakesIntoFor AMD64 (archive_of_both foo_and_zed) (choosing ∷ []) taken
+
+-- what is linked: the object, the alias, foo.dll's members, zed.dll's, and its null descriptor
+abbrev pub reversed_objects : List Object
+reversed_objects =
+    choosing
+    ∷ (objects_taken AMD64 (foo_alias ∷ [])
+    ++ objects_taken AMD64 (foo_linked ++ (zed_members ++ null_named (codes "zed.dll") ∷ [])))
+
+abbrev pub reversed_bases : Bases
+reversed_bases = packed 0x71000 reversed_objects
+
+abbrev pub reversed_inputs : List FlavorInput
+reversed_inputs = inputs_of_both AMD64 foo_and_zed (choosing ∷ []) mixed_taken
+
+-- A linker takes the same members, and they are a closed program. The pointer to `baz` is foo.dll's
+-- first entry, and that to `queue` zed.dll's.
+pub record WorkedReversed : Type 0 where
+  pub archive : IsFlavorArchive AMD64 zed_and_foo
+  pub takes : TakesIntoFor AMD64 (archive_of_both zed_and_foo) (choosing ∷ []) mixed_taken
+  pub just : TakesOfBoth AMD64 zed_and_foo (unresolved (choosing ∷ [])) mixed_taken
+  pub chosen : map (λ p. p.input.chosen) reversed_inputs ≡ (1 ∷ []) ∷ (0 ∷ []) ∷ []
+  pub closed : IsClosedForBoth AMD64 zed_and_foo (choosing ∷ []) mixed_taken foo_and_zed
+      reversed_bases reversed_objects
+  pub links : LinksClosedForBoth AMD64 zed_and_foo (choosing ∷ []) mixed_taken foo_and_zed
+      reversed_bases reversed_objects
+  pub left : unresolved reversed_objects ≡ codes "printf" ∷ []
+  pub baz : definitions_of (codes "__imp_baz") (placed_from reversed_bases reversed_objects)
+      ≡ record { name = codes "__imp_baz"; address = Some 0x71060 } ∷ []
+  pub queue : definitions_of (codes "__imp_queue") (placed_from reversed_bases reversed_objects)
+      ≡ record { name = codes "__imp_queue"; address = Some 0x71070 } ∷ []
+
+-- The tables of the two libraries that begin at 0x2000 end by 0x218E: of foo.dll, for GNU's linker,
+-- there are at most 64 bytes, 7 for its name, and 43 for each of `bar` and `baz`; of zed.dll, for
+-- Microsoft's, 72, 7, and 45 for each of `queue` and `stack`; 72 beside them. So there is a closed
+-- program; the one that was linked by hand lies there, and ends at 0x20A4.
+-- From address 0 on there is none, nor is the one by hand such a program right below 2^31, where
+-- there is no room. An object that holds a part of the import tables is in no such program.
+pub record WorkedBothExists : Type 0 where
+  pub room : tables_end_of_both 0x2000 foo_and_zed ≡ 0x218E
+  pub end : packed_end 0x2000 mixed_objects ≡ 0x20A4
+  pub objects_are : AreClosedForBoth AMD64 foo_and_zed (choosing ∷ []) mixed_taken zed_and_foo
+      mixed_objects
+  pub closed : IsClosedForBoth AMD64 foo_and_zed (choosing ∷ []) mixed_taken zed_and_foo mixed_bases
+      mixed_objects
+  pub within : LieWithin 0x2000 0x218E
+      (image_of AMD64 mixed_bases (placed_from mixed_bases mixed_objects))
+  pub exists : HasClosedForBoth AMD64 foo_and_zed (choosing ∷ []) 0x2000
+  pub at_zero : HasClosedForBoth AMD64 foo_and_zed (choosing ∷ []) 0 → ⊥
+
+-- With the libraries in the other order, and from 0x71000 on, they end by 0x7118E, and the tables
+-- by hand at 0x710A4. The last address from which there is room is 0x7FFF_FE71.
+pub record WorkedReversedExists : Type 0 where
+  pub room : tables_end_of_both 0x71000 zed_and_foo ≡ 0x7118E
+  pub end : packed_end 0x71000 reversed_objects ≡ 0x710A4
+  pub closed : IsClosedForBoth AMD64 zed_and_foo (choosing ∷ []) mixed_taken foo_and_zed
+      reversed_bases reversed_objects
+  pub within : LieWithin 0x71000 0x7118E
+      (image_of AMD64 reversed_bases (placed_from reversed_bases reversed_objects))
+  pub exists : HasClosedForBoth AMD64 zed_and_foo (choosing ∷ []) 0x71000

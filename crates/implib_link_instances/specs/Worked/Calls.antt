@@ -1,34 +1,100 @@
--- Calls that were relocated by hand: a program as in Worked/Programs, whose own code calls `open`
--- of foo.dll through its entry, on three machines; and a loader that reads the program's image.
-use Rattle.std.specs.Prelude.{◌≡◌, ℕ, ◌+◌, ◌*◌, List, [], ◌∷◌, ◌++◌, codes}
-use Rattle.std.specs.Prelude.{length, map, Option, None, Some}
-use Rattle.std.specs.List.{AllByRecursion}
+-- Linked bytes of worked code, computed by what a linker makes of the fields that calls, loads and
+-- stubs have: I386's DIR32 and REL32, AMD64's REL32, and ARM64's BRANCH26, PAGEBASE_REL21 and
+-- PAGEOFFSET_12L.
+use Rattle.std.specs.Prelude.{List, None, Option, Some, [], codes, if◌then◌else◌, length, map}
+use Rattle.std.specs.Prelude.{slice_get, ℕ, ◌%◌, ◌*◌, ◌++◌, ◌+◌, ◌-◌, ◌/◌, ◌==◌, ◌^◌, ◌∷◌, ◌≡◌}
+use Rattle.implib.specs.declared.coff.object.Relocation.{Relocation}
 use Rattle.implib.specs.declared.machine.MachineType.{MachineType}
-use Rattle.implib.specs.declared.machine.MachineType.TheVariants.{I386, ARMNT, AMD64, ARM64}
-use Rattle.implib.specs.Formats.Bytes.{u32_bytes}
-use Rattle.implib.specs.Formats.Constants.{align_16bytes, cnt_code, mem_execute_read}
-use Rattle.implib.specs.Formats.Constants.{class_external}
+use Rattle.implib.specs.declared.machine.MachineType.TheVariants.{AMD64, ARM64, ARMNT, I386}
 use Rattle.implib.specs.Formats.Object.{ASymbol, Object, ObjectSection}
-use Rattle.implib.specs.Import.{Ask, Name, Ordinal, imp_symbol}
 use Rattle.implib.specs.Link.Image.{Range, image_of}
+use Rattle.implib.specs.Link.Placement.{Bases, Placed, Unplaced, placed_from}
+use Rattle.implib_link.specs.Gnu.Calls.{HasCall, PlacedCode, arm64_branch26, call_bytes, call_reads}
+use Rattle.implib_link.specs.Gnu.Calls.{call_relocations, direct_bytes, direct_relocations}
+use Rattle.implib_link.specs.Gnu.Calls.{i386_rel32, moved_by}
+use Rattle.implib_link.specs.Gnu.Fields.{AreBeside, IsRelocated, LinkedCode, placed_code}
+use Rattle.implib_link.specs.Stub.{CanJump, bits_of, code_word, with_bits, with_word, word_at}
+use Rattle.std.specs.List.{AllByRecursion}
+use Rattle.implib.specs.Formats.Bytes.{u32_bytes}
+use Rattle.implib.specs.Formats.Constants.{align_16bytes, align_4bytes, class_external, cnt_code}
+use Rattle.implib.specs.Formats.Constants.{mem_execute_read}
+use Rattle.implib.specs.Import.{Ask, Name, Ordinal, imp_symbol}
 use Rattle.implib.specs.Link.LinkedMembers.{IsMade}
 use Rattle.implib.specs.Link.Load.{BytesAt}
-use Rattle.implib.specs.Link.Placement.{Bases, Placed, Unplaced, placed_from}
 use Rattle.implib.specs.Link.Resolution.{target_address}
-use Rattle.implib.specs.Members.Gnu.{section, text_name}
+use Rattle.implib.specs.Members.Gnu.{section, stub_bytes, stub_relocations, text_name}
 use Rattle.implib.specs.Members.ImportTables.{zeros}
 use Rattle.implib_link.specs.Flavors.Program.{IsProgram}
-use Rattle.implib_link.specs.Gnu.Calls.{HasCall, PlacedCode, call_bytes}
-use Rattle.implib_link.specs.Gnu.Calls.{call_reads, call_relocations, direct_bytes}
-use Rattle.implib_link.specs.Gnu.Calls.{direct_relocations, moved_by}
 use Rattle.implib_link.specs.Gnu.Program.{null_descriptor}
 use Rattle.implib_link.specs.Gnu.Reading.{ReadsAndWrites}
-use Rattle.implib_link.specs.Stub.{CanJump}
 use Rattle.implib_link_instances.specs.Worked.Programs.{another, both_inputs, foo_input}
 use Rattle.implib_link_instances.specs.Worked.Programs.{input_objects, program_image}
 use Rattle.implib_link_instances.specs.Worked.Programs.{symbol_of_class, symbol_on, touching_4}
 use Rattle.implib_link_instances.specs.Worked.Programs.{touching_8, zed_input}
-use Rattle.implib_link_instances.specs.Worked.Relocated.{CodesBeside, code_range, code_ranges}
+use Rattle.implib_link.specs.Gnu.Pointers.{HasLoad, load_bytes, load_reads, load_relocations}
+use Rattle.implib_link.specs.Gnu.Choices.{AreSections, DefineOnce}
+
+-- a word that a relocation changes in code: as in a stub's, on I386 relative to the byte after the
+-- field too, and on ARM64 in a branch
+abbrev pub word_in_code : MachineType → ℕ → ℕ → ℕ → ℕ → ℕ → ℕ
+word_in_code I386 type image_base position target word =
+    if type == i386_rel32 then (word + target + (2 ^ 32 - (position + 4) % 2 ^ 32)) % 2 ^ 32
+    else code_word I386 type image_base position target word
+word_in_code ARMNT type image_base position target word =
+    code_word ARMNT type image_base position target word
+word_in_code AMD64 type image_base position target word =
+    code_word AMD64 type image_base position target word
+word_in_code ARM64 type image_base position target word =
+    if type == arm64_branch26
+    then with_bits 0 26 (bits_of 0 26 word + (target + (2 ^ 28 - position % 2 ^ 28)) / 4) word
+    else code_word ARM64 type image_base position target word
+
+-- The bytes of code at an address, relocated by the addresses that a linker takes for the symbols
+-- of its object, by their indices (PE/COFF specification, "COFF Relocations").
+abbrev pub code_relocated_by : MachineType → ℕ → (ℕ → ℕ) → ℕ → List Relocation → List ℕ → List ℕ
+code_relocated_by machine image_base targets position [] bytes = bytes
+code_relocated_by machine image_base targets position (r ∷ relocations) bytes =
+    code_relocated_by machine image_base targets position relocations
+    (with_word bytes r.offset
+    (word_in_code machine r.kind image_base (position + r.offset) (targets r.symbol)
+    (word_at bytes r.offset)))
+
+-- the range of the code, relocated
+abbrev pub code_range : MachineType → ℕ → (PlacedCode → ℕ → ℕ) → PlacedCode → Range
+code_range machine image_base targets c = record {
+  start = c.position;
+  bytes = code_relocated_by machine image_base (targets c) c.position c.code.relocations
+      c.code.bytes;
+}
+
+-- the ranges of several codes
+abbrev pub code_ranges : MachineType → ℕ → (PlacedCode → ℕ → ℕ) → List PlacedCode → List Range
+code_ranges machine image_base targets codes = map (code_range machine image_base targets) codes
+
+-- placed code with its linked bytes
+abbrev pub linked_by : MachineType → ℕ → (PlacedCode → ℕ → ℕ) → PlacedCode → LinkedCode
+linked_by machine image_base targets c = record {
+  from = c.from;
+  number = c.number;
+  code = c.code;
+  position = c.position;
+  bytes = code_relocated_by machine image_base (targets c) c.position c.code.relocations
+      c.code.bytes;
+}
+
+abbrev pub linked_codes : MachineType → ℕ → (PlacedCode → ℕ → ℕ) → List PlacedCode → List LinkedCode
+linked_codes machine image_base targets codes = map (linked_by machine image_base targets) codes
+
+-- addresses of symbols, which do not depend on linked bytes
+abbrev pub as_placed : (PlacedCode → ℕ → ℕ) → LinkedCode → ℕ → ℕ
+as_placed targets c index = targets (placed_code c) index
+
+-- the code is linked beside the import tables
+abbrev pub CodesBeside : MachineType → ℕ → Bases → List Object → List PlacedCode →
+    (PlacedCode → ℕ → ℕ) → Type 0
+CodesBeside machine image_base bases objects codes targets =
+    AreBeside machine image_base bases objects (linked_codes machine image_base targets codes)
+    (as_placed targets)
 
 -- what a function of a machine begins with, 4 bytes: I386 four `nop`; AMD64 `sub rsp, 40`; ARM64
 -- `stp x29, x30, [sp, -16]!`
@@ -159,3 +225,131 @@ pub record WorkedReading : Type 0 where
       (n ≡ 2) × BytesAt (written ++ program_image I386 touching_4) 0x60 (0x40 ∷ 0 ∷ 0 ∷ 0x10 ∷ [])
   pub amd64_ends : (written : List Range)
       × ReadsAndWrites (program_image AMD64 touching_8) 8 (given_on AMD64) 2 4 written
+
+-- the stub of `open`, which is the fourth object's, at 0x1040
+abbrev pub placed_or_calling : MachineType → Option Placed → Placed
+placed_or_calling machine None = record { object = calling machine; section_addresses = [] }
+placed_or_calling machine (Some p) = p
+
+-- code that reads a pointer under the symbol of index 1, at offset 4
+abbrev pub loading_code : MachineType → ObjectSection
+loading_code machine = section text_name (cnt_code + align_16bytes + mem_execute_read)
+    (first_bytes machine ++ (load_bytes machine ++ last_bytes machine))
+    (map (moved_by 4) (load_relocations machine 1))
+
+-- an object with this code, whose symbol 1 is `__imp_stat`
+abbrev pub loading : MachineType → Object
+loading machine = record (calling machine) {
+  sections = loading_code machine ∷ [];
+  entries = ASymbol (symbol_of_class (codes "main") 1 class_external)
+      ∷ ASymbol (symbol_of_class (imp_symbol (symbol_on machine (codes "stat"))) 0 class_external)
+      ∷ [];
+}
+
+-- what is linked: this object, foo.dll's members, zed.dll's members, the null descriptor
+abbrev pub loading_objects : MachineType → List Object
+loading_objects machine =
+    loading machine
+    ∷ (input_objects machine (foo_input machine)
+    ++ (input_objects machine (zed_input machine) ++ null_descriptor ∷ []))
+
+abbrev pub loading_placed : MachineType → Bases → List Placed
+loading_placed machine bases = placed_from bases (loading_objects machine)
+
+-- its code at 0x1000
+abbrev pub loading_at : MachineType → PlacedCode
+loading_at machine = record {
+  from = record { object = loading machine; section_addresses = Unplaced ∷ [] };
+  number = 1;
+  code = loading_code machine;
+  position = 0x1000;
+}
+
+-- what the symbols of code are taken to be: their addresses in the tables
+abbrev pub tables_of : List Placed → PlacedCode → ℕ → ℕ
+tables_of linked c index = target_address linked c.from index
+
+-- The code reads a pointer as the law of instructions asks; it is relocated to these bytes, which
+-- read this entry.
+pub record WorkedPointer (machine : MachineType) (image_base : ℕ) (bases : Bases)
+    (relocated : List ℕ) (entry : ℕ) : Type 0 where
+  pub loads : HasLoad machine (loading_at machine) 4 (imp_symbol (symbol_on machine (codes "stat")))
+  pub bytes : (code_range machine image_base (tables_of (loading_placed machine bases))
+      (loading_at machine)).bytes
+      ≡ first_bytes machine ++ (relocated ++ last_bytes machine)
+  pub reads : load_reads machine (image_base + 0x1004) relocated ≡ Some (image_base + entry)
+
+-- the entry of `stat` is at 0x88 or 0x64
+pub record WorkedPointers : Type 0 where
+  -- mov rax, [rip - 0xF83]
+  pub amd64 : WorkedPointer AMD64 0x1_4000_0000 touching_8 (0x48 ∷ 0x8B ∷ 5 ∷ 0x7D ∷ 0xF0 ∷ 0xFF ∷ 0xFF ∷ []) 0x88
+  -- mov eax, [0x400064]
+  pub i386 : WorkedPointer I386 0x40_0000 touching_4 (0xA1 ∷ 0x64 ∷ 0 ∷ 0x40 ∷ 0 ∷ []) 0x64
+
+-- `stp x29, x30, [sp, -16]!`, `bl open`, `ldp x29, x30, [sp], 16`, `ret`
+abbrev pub branch_code : ObjectSection
+branch_code = section text_name (cnt_code + align_16bytes + mem_execute_read)
+    (first_bytes ARM64 ++ (direct_bytes ARM64 ++ last_bytes ARM64))
+    (map (moved_by 4) (direct_relocations ARM64 1))
+
+-- an object with this code, whose symbol 1 is `open`
+abbrev pub branching : Object
+branching = record (calling ARM64) {
+  sections = branch_code ∷ [];
+  entries = ASymbol (symbol_of_class (codes "main") 1 class_external)
+      ∷ ASymbol (symbol_of_class (codes "open") 0 class_external)
+      ∷ [];
+}
+
+-- what is linked: this object, foo.dll's members, zed.dll's members, the null descriptor
+abbrev pub branching_objects : List Object
+branching_objects =
+    branching
+    ∷ (input_objects ARM64 (foo_input ARM64)
+    ++ (input_objects ARM64 (zed_input ARM64) ++ null_descriptor ∷ []))
+
+abbrev pub branching_placed : List Placed
+branching_placed = placed_from touching_8 branching_objects
+
+-- the calling code at 0x1000
+abbrev pub branch_at : PlacedCode
+branch_at = record {
+  from = record { object = branching; section_addresses = Unplaced ∷ [] };
+  number = 1;
+  code = branch_code;
+  position = 0x1000;
+}
+
+-- the stub in the first section of what is placed at an index, at 0x1010
+abbrev pub stub_of : MachineType → List Placed → ℕ → PlacedCode
+stub_of machine linked index = record {
+  from = placed_or_empty (slice_get linked index);
+  number = 1;
+  code = section text_name (cnt_code + align_4bytes + mem_execute_read) (stub_bytes machine)
+      (stub_relocations machine 2);
+  position = 0x1010;
+}
+
+-- the codes: the call, and the fourth object's stub
+abbrev pub branch_codes : List PlacedCode
+branch_codes = branch_at ∷ stub_of ARM64 branching_placed 3 ∷ []
+
+pub record WorkedChoices : Type 0 where
+  -- the branching code at 0x1000 and the stub of `open` at 0x1010, for the image at two bases
+  pub sections : AreSections ARM64 touching_8 branching_objects branch_codes
+  pub once : DefineOnce branching_placed branch_codes
+  pub beside : (targets : PlacedCode → ℕ → ℕ)
+      × ((linked : List LinkedCode) → map placed_code linked ≡ branch_codes →
+      AllByRecursion (λ c. IsRelocated ARM64 0x1_4000_0000 (targets (placed_code c)) c.position
+      c.code c.bytes) linked →
+      AreBeside ARM64 0x1_4000_0000 touching_8 branching_objects linked (as_placed targets))
+
+abbrev pub far_4 : Bases
+far_4 = record {
+  descriptors = 0x5204;
+  directory_ends = 0x5240;
+  lookups = 0x5240;
+  addresses = 0x525C;
+  hint_names = 0x5278;
+  dll_names = 0x5298;
+}

@@ -15,12 +15,11 @@ use Rattle.implib.specs.Worked.Statements.{plain_export}
 use Rattle.implib_link.specs.Gnu.Packed.{packed}
 use Rattle.implib_link.specs.Gnu.Program.{null_descriptor}
 use Rattle.implib_link.specs.Search.Archives.{IsArchive, Library, archive_of}
-use Rattle.implib_link.specs.Search.Closed.{IsClosed, LinksClosed, TakesInto, inputs_in}
-use Rattle.implib_link.specs.Search.Closed.{unresolved, wanted_in}
+use Rattle.implib_link.specs.Search.Closed.{IsClosed, LinksClosed, TakesInto, inputs_in, unresolved}
+use Rattle.implib_link.specs.Search.Closed.{wanted_in}
 use Rattle.implib_link.specs.Search.Given.{AreGiven, symbols_kept}
-use Rattle.implib_link_instances.specs.Worked.Archives.{library_of, two_libraries}
+use Rattle.implib_link_instances.specs.Worked.Search.{library_of, two_libraries, aliased}
 use Rattle.implib_link_instances.specs.Worked.Programs.{code_object, symbol_of_class}
-use Rattle.implib_link_instances.specs.Worked.Search.{aliased}
 use Rattle.implib.specs.LibraryName.{own_names}
 
 -- an object that names data of foo.dll by its alias, a function of zed.dll by its pointer, and one

@@ -18,9 +18,8 @@ use Rattle.implib.specs.Worked.Statements.{plain_export}
 use Rattle.implib_link.specs.Gnu.Program.{HaveSame}
 use Rattle.implib_link.specs.Search.Archives.{IsArchive, Library}
 use Rattle.implib_link.specs.Search.Closed.{TakesIntoAs, listed_in}
-use Rattle.implib_link.specs.Search.CommandLines.{AnObject, Archives, AreListedWhole}
-use Rattle.implib_link.specs.Search.CommandLines.{Input, IsOrdered}
-use Rattle.implib_link.specs.Search.CommandLines.{LldSearches, SearchesCommandLine}
+use Rattle.implib_link.specs.Search.CommandLines.{AnObject, Archives, AreListedWhole, Input}
+use Rattle.implib_link.specs.Search.CommandLines.{IsOrdered, LldSearches, SearchesCommandLine}
 use Rattle.implib_link.specs.Search.CommandLines.{SearchesLibraries, given_with}
 use Rattle.implib_link.specs.Search.Given.{AreGiven}
 use Rattle.implib_link.specs.Search.Search.{objects_as}

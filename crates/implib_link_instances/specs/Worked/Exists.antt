@@ -6,7 +6,7 @@ use Rattle.implib.specs.Link.Placement.{placed_from}
 use Rattle.implib_link.specs.Gnu.Packed.{packed_end}
 use Rattle.implib_link.specs.Search.Closed.{IsClosed}
 use Rattle.implib_link.specs.Search.Exists.{AreChosenFor, HasClosed, LieWithin, tables_end}
-use Rattle.implib_link_instances.specs.Worked.Archives.{two_libraries}
+use Rattle.implib_link_instances.specs.Worked.Search.{two_libraries}
 use Rattle.implib_link_instances.specs.Worked.Closed.{choosing, closed_bases, closed_objects}
 use Rattle.implib_link_instances.specs.Worked.Closed.{closed_taken, zed_first}
 

@@ -1,11 +1,9 @@
--- Programs that lld-link 14.0.6 and 19.1.7 wrote for three machines, the same bytes by both: the
--- short imports of llvm-dlltool 19.1.7, the code of an object before and after the link, the thunk,
--- and the import tables.
-use Rattle.std.specs.Prelude.{ℕ, ◌+◌, List, [], ◌∷◌, codes}
-use Rattle.std.specs.Prelude.{Option, None, Some}
+-- The import tables that lld-link 19.1.7 wrote of three short imports of llvm-dlltool 19.1.7, for
+-- two DLLs, one of them by its ordinal: what the linker read and what it wrote, byte by byte.
+use Rattle.std.specs.Prelude.{List, None, Option, Some, [], codes, ℕ, ◌+◌, ◌∷◌}
 use Rattle.implib.specs.declared.coff.object.Relocation.{Relocation}
 use Rattle.implib.specs.declared.machine.MachineType.{MachineType}
-use Rattle.implib.specs.declared.machine.MachineType.TheVariants.{I386, ARMNT, AMD64, ARM64}
+use Rattle.implib.specs.declared.machine.MachineType.TheVariants.{AMD64, ARM64, ARMNT, I386}
 use Rattle.implib.specs.Formats.Constants.{align_16bytes, amd64_rel32, arm64_pagebase_rel21}
 use Rattle.implib.specs.Formats.Constants.{arm64_pageoffset_12l, class_external, cnt_code}
 use Rattle.implib.specs.Formats.Constants.{i386_dir32, mem_execute_read}
@@ -18,12 +16,23 @@ use Rattle.implib.specs.Link.Resolution.{symbol_address}
 use Rattle.implib.specs.Machine.{machine_number}
 use Rattle.implib.specs.Members.Gnu.{section, text_name}
 use Rattle.implib_link.specs.Flavors.LldImports.{placed_by_lld}
-use Rattle.implib_link.specs.Flavors.LldThunks.{placed_thunk}
-use Rattle.implib_link.specs.Flavors.LldThunks.{thunk_section}
+use Rattle.implib_link.specs.Flavors.LldThunks.{placed_thunk, thunk_section}
 use Rattle.implib_link.specs.Gnu.Calls.{arm64_branch26, i386_rel32}
 use Rattle.implib_link.specs.Gnu.Fields.{LinkedCode}
-use Rattle.implib_link_instances.specs.Worked.Lld.{written_by_lld}
 use Rattle.implib_link_instances.specs.Worked.Programs.{symbol_of_class, symbol_on}
+
+-- the section `.rdata`, from 0x2000 on
+abbrev pub written_by_lld : List ℕ
+written_by_lld =
+    0x40 ∷ 0x20 ∷ 0 ∷ 0 ∷ 0 ∷ 0 ∷ 0 ∷ 0 ∷ 0 ∷ 0 ∷ 0 ∷ 0 ∷ 0x9E ∷ 0x20 ∷ 0 ∷ 0 ∷ 0x68 ∷ 0x20 ∷ 0 ∷ 0 ∷
+    0x58 ∷ 0x20 ∷ 0 ∷ 0 ∷ 0 ∷ 0 ∷ 0 ∷ 0 ∷ 0 ∷ 0 ∷ 0 ∷ 0 ∷ 0xA7 ∷ 0x20 ∷ 0 ∷ 0 ∷ 0x80 ∷ 0x20 ∷ 0 ∷ 0 ∷ 0 ∷
+    0 ∷ 0 ∷ 0 ∷ 0 ∷ 0 ∷ 0 ∷ 0 ∷ 0 ∷ 0 ∷ 0 ∷ 0 ∷ 0 ∷ 0 ∷ 0 ∷ 0 ∷ 0 ∷ 0 ∷ 0 ∷ 0 ∷ 0 ∷ 0 ∷ 0 ∷ 0 ∷ 7 ∷ 0 ∷ 0 ∷
+    0 ∷ 0 ∷ 0 ∷ 0 ∷ 0x80 ∷ 0x90 ∷ 0x20 ∷ 0 ∷ 0 ∷ 0 ∷ 0 ∷ 0 ∷ 0 ∷ 0 ∷ 0 ∷ 0 ∷ 0 ∷ 0 ∷ 0 ∷ 0 ∷ 0 ∷ 0x98 ∷
+    0x20 ∷ 0 ∷ 0 ∷ 0 ∷ 0 ∷ 0 ∷ 0 ∷ 0 ∷ 0 ∷ 0 ∷ 0 ∷ 0 ∷ 0 ∷ 0 ∷ 0 ∷ 7 ∷ 0 ∷ 0 ∷ 0 ∷ 0 ∷ 0 ∷ 0 ∷ 0x80 ∷
+    0x90 ∷ 0x20 ∷ 0 ∷ 0 ∷ 0 ∷ 0 ∷ 0 ∷ 0 ∷ 0 ∷ 0 ∷ 0 ∷ 0 ∷ 0 ∷ 0 ∷ 0 ∷ 0 ∷ 0x98 ∷ 0x20 ∷ 0 ∷ 0 ∷ 0 ∷ 0 ∷ 0 ∷
+    0 ∷ 0 ∷ 0 ∷ 0 ∷ 0 ∷ 0 ∷ 0 ∷ 0 ∷ 0 ∷ 5 ∷ 0 ∷ 0x7A ∷ 0x65 ∷ 0x74 ∷ 0x61 ∷ 0 ∷ 0 ∷ 2 ∷ 1 ∷ 0x67 ∷ 0x65 ∷
+    0x65 ∷ 0 ∷ 0x62 ∷ 0x65 ∷ 0x74 ∷ 0x61 ∷ 0x2E ∷ 0x64 ∷ 0x6C ∷ 0x6C ∷ 0 ∷ 0x61 ∷ 0x6C ∷ 0x70 ∷ 0x68 ∷
+    0x61 ∷ 0x2E ∷ 0x64 ∷ 0x6C ∷ 0x6C ∷ 0 ∷ []
 
 -- on I386 a leading `_` is no part of the name that is asked for
 abbrev pub by_name : MachineType → ℕ

@@ -10,11 +10,11 @@ use Rattle.implib_link.specs.Search.BothFlavors.{gnu_among}
 use Rattle.implib_link.specs.Search.Closed.{LinksClosed}
 use Rattle.implib_link.specs.Search.MsvcArchives.{TakesIntoFor}
 use Rattle.implib_link.specs.Search.NoShorts.{WantsNoShort}
-use Rattle.implib_link_instances.specs.Worked.Archives.{library_of, two_libraries}
+use Rattle.implib_link_instances.specs.Worked.Search.{library_of, two_libraries}
 use Rattle.implib_link_instances.specs.Worked.BothFlavors.{gnu_foo}
 use Rattle.implib_link_instances.specs.Worked.Closed.{choosing, closed_bases, closed_objects}
 use Rattle.implib_link_instances.specs.Worked.Closed.{closed_taken, zed_first}
-use Rattle.implib_link_instances.specs.Worked.MsvcArchives.{msvc_library}
+use Rattle.implib_link_instances.specs.Worked.MsvcSearch.{msvc_library}
 
 -- foo.dll and zed.dll for GNU's linker, and between them far.dll for Microsoft's
 abbrev pub short_far : FlavorLibrary

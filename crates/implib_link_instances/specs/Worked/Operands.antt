@@ -21,8 +21,7 @@ use Rattle.implib_link.specs.Gnu.Calls.{arm64_branch26, i386_rel32, StubAt}
 use Rattle.implib_link.specs.Gnu.Fields.{LinkedCode, placed_code, ranges_of_codes}
 use Rattle.implib_link.specs.Gnu.Moves.{AreInMemory, CanBeMoved}
 use Rattle.implib_link.specs.Gnu.Operands.{HasBranch, HasInstruction, HasOffsetField, HasOperand}
-use Rattle.implib_link.specs.Gnu.Operands.{HasPageField, HasPointer, branch_leads}
-use Rattle.implib_link.specs.Gnu.Operands.{operand_leads}
+use Rattle.implib_link.specs.Gnu.Operands.{HasPageField, HasPointer, branch_leads, operand_leads}
 use Rattle.implib_link.specs.Gnu.Pages.{HasPage, HasPageOffset}
 use Rattle.implib_link.specs.Gnu.Program.{null_descriptor}
 use Rattle.implib_link.specs.Gnu.Rebased.{Place}

@@ -1,11 +1,12 @@
 -- Programs of libraries of GNU dlltool 2.40 and of ones made here, by the parts that they are of:
 -- the program of OtherLibraries, and one of kernel32.dll and zoo.dll that GNU ld 2.40 and ld.lld
 -- 19.1.7 linked on AMD64 and on I386, whose files are here byte by byte.
-use Rattle.std.specs.Prelude.{◌≡◌, ℕ, ◌-◌, List, [], ◌∷◌, ◌++◌, bytes_eq, codes, drop, length}
-use Rattle.std.specs.Prelude.{slice_get, take, Option, Some, None, if◌then◌else◌}
+use Rattle.std.specs.Prelude.{Bool, List, None, Option, Some, [], bytes_eq, codes, drop, false}
+use Rattle.std.specs.Prelude.{if◌then◌else◌, length, map, slice_get, take, true, ℕ, ◌++◌, ◌-◌, ◌∷◌}
+use Rattle.std.specs.Prelude.{◌≡◌}
 use Rattle.std.specs.List.{AllByRecursion}
 use Rattle.implib.specs.declared.machine.MachineType.{MachineType}
-use Rattle.implib.specs.declared.machine.MachineType.TheVariants.{I386, AMD64}
+use Rattle.implib.specs.declared.machine.MachineType.TheVariants.{AMD64, I386}
 use Rattle.implib.specs.Formats.Object.{Object, ObjectSection}
 use Rattle.implib.specs.Import.{Ask, Name}
 use Rattle.implib.specs.Link.Image.{Range, image_of}
@@ -19,11 +20,15 @@ use Rattle.implib_link.specs.Gnu.Moves.{AreInMemory}
 use Rattle.implib_link.specs.Gnu.Operands.{HasInstruction, InstructionArrives}
 use Rattle.implib_link.specs.Gnu.Program.{null_descriptor}
 use Rattle.implib_link.specs.Gnu.Reading.{ReadsAndWrites}
-use Rattle.implib_link.specs.Parts.{IsPart, IsProgramOfParts, Part, part_of}
+use Rattle.implib_link.specs.Parts.{IsPart, IsProgramOfParts, Part, older_part_of, part_of}
 use Rattle.implib_link.specs.Tables.{AreSteady, AreTables, Table, TableEntry}
 use Rattle.implib_link_instances.specs.Worked.LldPrograms.{taken_address}
 use Rattle.implib_link_instances.specs.Worked.OtherLibraries.{objects_of}
 use Rattle.implib_link_instances.specs.Worked.Programs.{chosen_input, input_objects}
+use Rattle.implib.specs.Definition.{DefinitionView, ExportView}
+use Rattle.implib.specs.Members.MemberSpec.{member_of}
+use Rattle.implib.specs.Members.OlderSymbols.{AreOlderMembersOf, older_specs}
+use Rattle.implib.specs.Renaming.{renamed}
 
 -- dlltool's files for kernel32.dll on AMD64, head, export and tail; and an object of GNU C, which
 -- calls through entries and by a bare name
@@ -470,3 +475,67 @@ pub record WorkedReach : Type 0 where
       (gives (codes "zoo.dll") (Name (codes "zoo_open") 0))
       × ArrivesAt (written ++ zoo_memory) 0x1022 (0xFF ∷ 0x25 ∷ []) (codes "__imp_ExitProcess")
       (gives (codes "kernel32.dll") (Name (codes "ExitProcess") 1)))
+
+-- the object's file with other names in the place of `zoo_open` and `__imp_zoo_open`, as long as
+-- these
+abbrev pub named_start : List ℕ → List ℕ → List ℕ
+named_start bare address =
+    take 488 start_bytes
+    ++ (bare ++ (take 14 (drop 496 start_bytes) ++ (address ++ drop 524 start_bytes)))
+
+-- zoo.dll with an export of a name, on a machine
+abbrev pub zoo_definition : List ℕ → DefinitionView
+zoo_definition name = of_dll (codes "zoo.dll") (plain_export name ∷ [])
+
+abbrev pub zoo_with_older : MachineType → List ℕ → LinkInput
+zoo_with_older machine name = record {
+  definition = zoo_definition name;
+  members = map member_of (older_specs (renamed (zoo_definition name)) machine);
+  chosen = 0 ∷ [];
+}
+
+abbrev pub older_zoo : LinkInput
+older_zoo = zoo_with_older AMD64 (codes "zoo_open")
+
+abbrev pub i386_older_zoo : LinkInput
+i386_older_zoo = zoo_with_older I386 (codes "_zoo_open")
+
+-- with the older symbol for the entry, or today's
+abbrev pub older_parts : (ExportView → Bool) → List Part
+older_parts older = kernel ∷ older_part_of AMD64 older older_zoo ∷ []
+
+abbrev pub i386_older_parts : List Part
+i386_older_parts = i386_kernel ∷ older_part_of I386 (λ e. true) i386_older_zoo ∷ []
+
+abbrev pub older_objects : List Object
+older_objects = objects_of (named_start (codes "zoo_open") (codes "___impzoo_open") ∷ [])
+    ++ (kernel.objects
+    ++ ((older_part_of AMD64 (λ e. true) older_zoo).objects ++ null_descriptor ∷ []))
+
+abbrev pub i386_older_start : List ℕ
+i386_older_start =
+    take 498 i386_start_bytes ++ (codes "___imp_zoo_open" ++ drop 513 i386_start_bytes)
+
+abbrev pub i386_older_objects : List Object
+i386_older_objects = objects_of (i386_older_start ∷ [])
+    ++ (i386_kernel.objects
+    ++ ((older_part_of I386 (λ e. true) i386_older_zoo).objects ++ null_descriptor ∷ []))
+
+abbrev pub IsWrittenWith : (ExportView → Bool) → List ℕ → Type 0
+IsWrittenWith older symbol = IsWritten AMD64 gnu_bases (older_parts older) older_objects gnu_image
+    (table_at (codes "kernel32.dll") 0x3060
+    (asking (codes "ExitProcess") 1 (codes "__imp_ExitProcess") ∷ [])
+    ∷ table_at (codes "zoo.dll") 0x3070 (asking (codes "zoo_open") 0 symbol ∷ [])
+    ∷ [])
+
+pub record WorkedOlder : Type 0 where
+  pub made : AreOlderMembersOf older_zoo.definition AMD64 older_zoo.members
+  pub older : IsWrittenWith (λ e. true) (codes "___impzoo_open")
+  pub today : IsWrittenWith (λ e. false) (codes "__imp_zoo_open")
+  pub i386_made : AreOlderMembersOf i386_older_zoo.definition I386 i386_older_zoo.members
+  pub i386_older : IsWritten I386 i386_gnu_bases i386_older_parts i386_older_objects i386_gnu_image
+      (table_at (codes "kernel32.dll") 0x304C
+      (asking (codes "ExitProcess") 1 (codes "__imp__ExitProcess@4") ∷ [])
+      ∷ table_at (codes "zoo.dll") 0x3054
+      (asking (codes "zoo_open") 0 (codes "___imp_zoo_open") ∷ [])
+      ∷ [])

@@ -1,28 +1,41 @@
--- What GNU ld takes of libraries with an alias, and what stays undefined, by hand. Objects name
--- `bar` plainly, which is weak for `baz` of foo.dll. An object of gcc 12 (`void start(void) {
--- quit(); }`) names `quit`, which a library of kernel32.dll for Microsoft's linker has as weak for
--- `ExitProcess`.
-use Rattle.std.specs.Prelude.{◌≡◌, ℕ, List, [], ◌∷◌, ◌++◌, codes}
-use Rattle.implib.specs.declared.flavor.Flavor.TheVariants.{Msvc}
+-- What the programs are made of, on each machine: foo.dll with data `bar`, an alias of its function
+-- `baz`; zed.dll with two functions; and an object.
+use Rattle.std.specs.Prelude.{List, [], codes, ℕ, ◌++◌, ◌∷◌, ◌≡◌}
 use Rattle.implib.specs.declared.machine.MachineType.{MachineType}
+use Rattle.implib.specs.LibraryName.{own_names}
+use Rattle.implib.specs.Members.MemberSpec.{MemberView, member_of}
+use Rattle.implib.specs.Members.MsvcMembers.{descriptor_spec, null_descriptor_spec, null_thunk_spec}
+use Rattle.implib.specs.Members.MsvcMembers.{short_import_spec}
+use Rattle.implib.specs.Worked.Statements.{plain_export}
+use Rattle.implib.specs.declared.flavor.Flavor.TheVariants.{Msvc}
 use Rattle.implib.specs.declared.machine.MachineType.TheVariants.{AMD64}
 use Rattle.implib.specs.Definition.{empty_export}
 use Rattle.implib.specs.Formats.Object.{Object}
-use Rattle.implib.specs.Members.MemberSpec.{MemberView, member_of}
 use Rattle.implib.specs.Members.WeakExternal.{weak_spec}
 use Rattle.implib.specs.Worked.Members.{of_dll}
-use Rattle.implib.specs.Worked.Statements.{plain_export}
 use Rattle.implib_link.specs.Flavors.Expansion.{expanded_in}
 use Rattle.implib_link.specs.Search.BothFlavors.{FlavorLibrary, archive_of_both}
 use Rattle.implib_link.specs.Search.Closed.{unresolved}
-use Rattle.implib_link.specs.Search.Plainly.{AreOnlyWeak, HaveNoWeak, TakesPlainly}
-use Rattle.implib_link.specs.Search.Plainly.{left_plainly}
+use Rattle.implib_link.specs.Search.Plainly.{AreOnlyWeak, HaveNoWeak, TakesPlainly, left_plainly}
 use Rattle.implib_link.specs.Search.Search.{objects_as}
-use Rattle.implib_link_instances.specs.Machines.Parts.{descriptor_on, null_on, short_on, thunk_on}
 use Rattle.implib_link_instances.specs.Worked.BothFlavors.{foo_and_zed, mixed_taken}
 use Rattle.implib_link_instances.specs.Worked.Closed.{choosing}
 use Rattle.implib_link_instances.specs.Worked.CommandLines.{read_or_none, wants_bytes}
-use Rattle.implib_link_instances.specs.Worked.MsvcArchives.{msvc_library}
+use Rattle.implib_link_instances.specs.Worked.MsvcSearch.{msvc_library}
+
+-- members for Microsoft's linker
+abbrev pub descriptor_on : MachineType → List ℕ → MemberView
+descriptor_on machine dll = member_of (descriptor_spec machine (own_names dll))
+
+abbrev pub null_on : MachineType → List ℕ → MemberView
+null_on machine dll = member_of (null_descriptor_spec machine dll)
+
+abbrev pub thunk_on : MachineType → List ℕ → MemberView
+thunk_on machine dll = member_of (null_thunk_spec machine dll)
+
+abbrev pub short_on : MachineType → List ℕ → List ℕ → MemberView
+short_on machine dll name =
+    member_of (short_import_spec machine (own_names dll) (plain_export name))
 
 -- Of libraries and objects on one machine:
 -- `none`: the objects have no weak externals;

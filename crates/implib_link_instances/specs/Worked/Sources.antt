@@ -15,14 +15,13 @@ use Rattle.implib.specs.Renaming.{renamed}
 use Rattle.implib.specs.Worked.Members.{of_dll}
 use Rattle.implib.specs.Worked.Statements.{plain_export}
 use Rattle.implib_link.specs.Flavors.Program.{OfMember, all_members, null_member, objects_taken}
-use Rattle.implib_link.specs.Flavors.Program.{IsProgramOf, IsProgram}
+use Rattle.implib_link.specs.Flavors.Program.{IsProgramOf, IsProgram, OfLinker}
 use Rattle.implib_link.specs.Flavors.Texts.{FlavorSource, FlavorTextsLink, IsFlavorSource}
 use Rattle.implib_link.specs.Flavors.Texts.{flavor_source, input_of}
 use Rattle.implib_link.specs.Gnu.Packed.{packed}
 use Rattle.implib_link.specs.Gnu.Program.{null_descriptor}
 use Rattle.implib_link.specs.Gnu.Texts.{link_input_of}
 use Rattle.implib_link_instances.specs.Worked.Programs.{symbol_on}
-use Rattle.implib_link.specs.Flavors.Program.{OfLinker}
 
 -- two texts: a function and data of foo.dll, and a function of zed.dll by its ordinal
 abbrev pub foo_text : List ℕ

@@ -2,8 +2,8 @@
 
 ghost use Rattle.implib_link_instances.specs.Worked.A32.{WorkedArmntStubs};
 ghost use Rattle.implib_link_instances.specs.Worked.Calls.{WorkedReading};
-ghost use Rattle.implib_link_instances.specs.Worked.Choices.{WorkedChoices};
-ghost use Rattle.implib_link_instances.specs.Worked.Pointers.{WorkedPointers};
+ghost use Rattle.implib_link_instances.specs.Worked.Calls.{WorkedChoices};
+ghost use Rattle.implib_link_instances.specs.Worked.Calls.{WorkedPointers};
 
 /// Calls and loads of pointers that were relocated by hand read their entries, on three machines; a
 /// loader that reads the image of a program that was linked by hand loads it, and one that reads an

@@ -2,7 +2,7 @@
 
 ghost use Rattle.implib_link_instances.specs.Worked.BothFlavors.{WorkedBoth};
 ghost use Rattle.implib_link_instances.specs.Worked.BothFlavors.{WorkedGivenForBoth};
-ghost use Rattle.implib_link_instances.specs.Worked.BothReversed.{WorkedReversed};
+ghost use Rattle.implib_link_instances.specs.Worked.BothFlavors.{WorkedReversed};
 ghost use Rattle.implib_link_instances.specs.Worked.Closed.{WorkedClosed, WorkedGiven};
 ghost use Rattle.implib_link_instances.specs.Worked.NoShorts.{WorkedNoShorts};
 

@@ -1,6 +1,6 @@
 //! Fields of code against imports, stored addresses, and the bounds of tables.
 
-ghost use Rattle.implib_link_instances.specs.Worked.Bounds.{WorkedBounds};
+ghost use Rattle.implib_link_instances.specs.Worked.Loads.{WorkedBounds};
 ghost use Rattle.implib_link_instances.specs.Worked.Operands.{AdjacentCalls, MovableCode};
 ghost use Rattle.implib_link_instances.specs.Worked.Operands.{PassingFields};
 ghost use Rattle.implib_link_instances.specs.Worked.Operands.{WorkedOperands};

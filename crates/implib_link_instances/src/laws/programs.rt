@@ -4,9 +4,9 @@ ghost use Rattle.implib_link_instances.specs.Worked.Expansion.{WorkedExpansion};
 ghost use Rattle.implib_link_instances.specs.Worked.Flavors.{WorkedFlavors};
 ghost use Rattle.implib_link_instances.specs.Worked.Loads.{WorkedCalls, WorkedLoads};
 ghost use Rattle.implib_link_instances.specs.Worked.MsvcSearch.{WorkedMsvcSearches};
-ghost use Rattle.implib_link_instances.specs.Worked.Packed.{WorkedPackings};
+ghost use Rattle.implib_link_instances.specs.Worked.Loads.{WorkedPackings};
 ghost use Rattle.implib_link_instances.specs.Worked.Programs.{WorkedPrograms};
-ghost use Rattle.implib_link_instances.specs.Worked.Searched.{WorkedLibraries, WorkedSearched};
+ghost use Rattle.implib_link_instances.specs.Worked.Search.{WorkedLibraries, WorkedSearched};
 ghost use Rattle.implib_link_instances.specs.Worked.Sources.{WorkedSources};
 
 /// Files with a section that has a name in the string table, or another, read by full names.

@@ -1,12 +1,12 @@
 //! Archive searches.
 
-ghost use Rattle.implib_link_instances.specs.Worked.Archives.{WorkedArchives};
-ghost use Rattle.implib_link_instances.specs.Worked.Found.{WorkedFound};
-ghost use Rattle.implib_link_instances.specs.Worked.MsvcArchives.{WorkedMsvcArchives};
-ghost use Rattle.implib_link_instances.specs.Worked.NamedApart.{WorkedNamedApart};
+ghost use Rattle.implib_link_instances.specs.Worked.Search.{WorkedArchives};
+ghost use Rattle.implib_link_instances.specs.Worked.Search.{WorkedFound};
+ghost use Rattle.implib_link_instances.specs.Worked.MsvcSearch.{WorkedMsvcArchives};
+ghost use Rattle.implib_link_instances.specs.Worked.Search.{WorkedNamedApart};
 ghost use Rattle.implib_link_instances.specs.Worked.Plainly.{WorkedPlainly};
 ghost use Rattle.implib_link_instances.specs.Worked.Search.{WorkedSearch};
-ghost use Rattle.implib_link_instances.specs.Worked.Sweeps.{WorkedSweeps};
+ghost use Rattle.implib_link_instances.specs.Worked.Search.{WorkedSweeps};
 
 /// Searches by hand: of the members of three exports, and of two libraries with an alias.
 ///

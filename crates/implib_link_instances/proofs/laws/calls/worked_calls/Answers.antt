@@ -1,7 +1,5 @@
 use Rattle.implib_link_instances.proofs.Worked.A32.{worked_armnt_stubs}
-use Rattle.implib_link_instances.proofs.Worked.Calls.{worked_reading}
-use Rattle.implib_link_instances.proofs.Worked.Choices.{worked_choices}
-use Rattle.implib_link_instances.proofs.Worked.Pointers.{worked_pointers}
+use Rattle.implib_link_instances.proofs.Worked.Calls.{worked_reading, worked_choices, worked_pointers}
 use Rattle.implib_link_instances.proofs.laws.calls.worked_calls.Goals as goal
 
 pub returns : goal.returns

@@ -1,7 +1,5 @@
-use Rattle.implib_link_instances.proofs.Worked.BothFlavors.{worked_both, worked_given_for_both}
-use Rattle.implib_link_instances.proofs.Worked.BothReversed.{worked_reversed}
-use Rattle.implib_link_instances.proofs.Worked.Closed.{worked_closed, worked_given}
-use Rattle.implib_link_instances.proofs.Worked.NoShorts.{worked_no_shorts}
+use Rattle.implib_link_instances.proofs.Worked.BothFlavors.{worked_both, worked_given_for_both, worked_reversed}
+use Rattle.implib_link_instances.proofs.Worked.Closed.{worked_closed, worked_given, worked_no_shorts}
 use Rattle.implib_link_instances.proofs.laws.closed.worked_closed_programs.Goals as goal
 
 pub returns : goal.returns

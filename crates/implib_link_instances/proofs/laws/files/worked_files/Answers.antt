@@ -1,5 +1,4 @@
-use Rattle.implib_link_instances.proofs.Worked.Files.{worked_files}
-use Rattle.implib_link_instances.proofs.Worked.NearFiles.{worked_headers}
+use Rattle.implib_link_instances.proofs.Worked.Files.{worked_files, worked_headers}
 use Rattle.implib_link_instances.proofs.laws.files.worked_files.Goals as goal
 
 pub returns : goal.returns

@@ -1,9 +1,7 @@
-use Rattle.implib_link_instances.proofs.Archives.FileLines.{worked_file_lines}
-use Rattle.implib_link_instances.proofs.Archives.Files.{worked_files}
+use Rattle.implib_link_instances.proofs.Archives.Files.{worked_file_lines, worked_files}
 use Rattle.implib_link_instances.proofs.Archives.WorkedBothWay.{worked_both_way as way}
-use Rattle.implib_link_instances.proofs.Archives.WorkedLibraries.{worked_libraries}
+use Rattle.implib_link_instances.proofs.Archives.Worked.{worked_libraries, worked_searches}
 use Rattle.implib_link_instances.proofs.Archives.WorkedLldWay.{worked_lld_way}
-use Rattle.implib_link_instances.proofs.Archives.WorkedSearches.{worked_searches}
 use Rattle.implib_link_instances.proofs.laws.in_bytes.worked_in_bytes.Goals as goal
 
 pub returns : goal.returns

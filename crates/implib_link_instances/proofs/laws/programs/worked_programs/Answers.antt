@@ -4,7 +4,7 @@ use Rattle.implib_link_instances.proofs.Worked.Loads.{worked_calls, worked_loads
 use Rattle.implib_link_instances.proofs.Worked.MsvcSearch.{worked_msvc_searches}
 use Rattle.implib_link_instances.proofs.Worked.Packed.{worked_packings}
 use Rattle.implib_link_instances.proofs.Worked.Programs.{worked_programs}
-use Rattle.implib_link_instances.proofs.Worked.Searched.{worked_libraries, worked_searched}
+use Rattle.implib_link_instances.proofs.Worked.Search.{worked_libraries, worked_searched}
 use Rattle.implib_link_instances.proofs.Worked.Sources.{worked_sources}
 use Rattle.implib_link_instances.proofs.laws.programs.worked_programs.Goals as goal
 

@@ -1,10 +1,6 @@
-use Rattle.implib_link_instances.proofs.Worked.Archives.{worked_archives}
-use Rattle.implib_link_instances.proofs.Worked.Found.{worked_found}
-use Rattle.implib_link_instances.proofs.Worked.MsvcArchives.{worked_msvc_archives}
-use Rattle.implib_link_instances.proofs.Worked.NamedApart.{worked_named_apart}
+use Rattle.implib_link_instances.proofs.Worked.Search.{worked_archives, worked_found, worked_named_apart, worked_search, worked_sweeps}
+use Rattle.implib_link_instances.proofs.Worked.MsvcSearch.{worked_msvc_archives}
 use Rattle.implib_link_instances.proofs.Worked.Plainly.{worked_plainly}
-use Rattle.implib_link_instances.proofs.Worked.Search.{worked_search}
-use Rattle.implib_link_instances.proofs.Worked.Sweeps.{worked_sweeps}
 use Rattle.implib_link_instances.proofs.laws.searches.worked_searches.Goals as goal
 
 pub returns : goal.returns

@@ -1,4 +1,4 @@
--- Near misses of archive searches and of closed programs, by computing.
+-- What the computing of searches has to open.
 use Rattle.implib.specs.Formats.Layout.{encoded_size}
 use Rattle.implib.specs.Formats.ShortImport.{short_import_in}
 use Rattle.implib.specs.Members.GnuMembers.{alias_specs}
@@ -12,7 +12,7 @@ use Rattle.implib_link.specs.Gnu.Program.{has_tables}
 use Rattle.implib_link.specs.Search.Archives.{archive_of, is_weak, symbols_of_library}
 use Rattle.implib_link.specs.Search.Closed.{claims_of, references_of}
 use Rattle.implib_link.specs.Search.MsvcArchives.{is_weak_in, symbols_of_shorts}
-use Rattle.implib_link.specs.Search.Search.{undefined_in, left_as, claimed_as}
+use Rattle.implib_link.specs.Search.Search.{claimed_as, left_as, undefined_in}
 use Rattle.implib_link_instances.proofs.Worked.Programs.{opened}
 
 -- what the computing has to open

@@ -1,2 +1,0 @@
--- Near misses of linked code and of where fields lead, by computing.
-

@@ -1,2 +1,0 @@
--- The images by hand, by computing.
-

@@ -1,2 +1,0 @@
--- Programs and ways worked by hand on further machines.
-pub mod Parts
