@@ -8,7 +8,7 @@ use Rattle.implib_archive.specs.declared.kind.Kind.TheVariants.{Coff}
 use Rattle.implib_link.specs.Search.BothFlavors.{FlavorLibrary, archive_of_both, msvc_among}
 use Rattle.implib_link_instances.specs.Archives.Files.{WorkedFileLine, WorkedFileLines, WorkedFiles, amd64_files, i386_files, i386_kernel_lib, i386_libquit, kernel_lib, libquit, lld_taken, shorts_first}
 use Rattle.implib_link_instances.specs.Worked.FlavorLines.{amd64_kernels, amd64_shorts, i386_kernels, i386_shorts, shorts_grouped, shorts_last, shorts_taken}
-use Rattle.implib_link_instances.proofs.Worked.Opened.{searched}
+use Rattle.implib_link_instances.proofs.Worked.Opened.{searched, archived}
 use Rattle.std.specs.Prelude.{bytes_eq, drop, slice_get}
 use Rattle.std.specs.List.{IsDistinct, flat_map}
 use Rattle.implib.specs.declared.machine.MachineType.TheVariants.{AMD64, I386}
@@ -19,7 +19,7 @@ use Rattle.implib.proofs.Link.Ranges.{Among}
 use Rattle.implib_archive_link.specs.LldFiles.{SearchesByLld, read_by_lld}
 use Rattle.implib_archive_link.specs.LldWay.{AreCalledAlike}
 use Rattle.implib_archive_link.proofs.LldFiles.{files_lead_to_lld}
-use Rattle.implib_link.specs.Search.Archives.{Library}
+use Rattle.implib_link.specs.Search.Archives.{Library, archive_of}
 use Rattle.implib_link.specs.Search.Closed.{listed_in}
 use Rattle.implib_link.specs.Search.CommandLines.{AreListedWhole, AreTakenBehind, AreUnclaimedBehind, HaveAll, LldSearches, LldSearchesFrom, SearchesFlavors, names_left}
 use Rattle.implib_link.specs.Search.MsvcArchives.{IsMsvcArchive, symbols_of_shorts}
@@ -29,6 +29,8 @@ use Rattle.implib_link_instances.specs.Worked.CommandLines.{i386_wants_bytes, is
 use Rattle.implib_link_instances.proofs.Worked.CommandLines.{ended_by, member_or_none, none_there, pulls_by, whole_at}
 use Rattle.implib_link_instances.proofs.Worked.FlavorLines.{worked_flavor_lines}
 use Rattle.implib_link_instances.proofs.Worked.Programs.{distinct_by}
+use Rattle.implib_archive_link.specs.Results.{HaveArchive}
+use Rattle.implib_archive_link.specs.InBytes.{Second}
 
 -- what the computing has to open
 unfoldable pub opened_files : Unit {0}
@@ -148,6 +150,10 @@ members_are =
     ap (λ ms. ms ++ (members_read libquit ++ [])) kernel.read
     ∙ ap (λ ms. archive_of_both amd64_kernels ++ (ms ++ [])) worked_files.amd64.read
 
+ready : HaveArchive Coff Second (archive_of (msvc_among amd64_kernels))
+unfolding searched archived
+ready = record { accepted = refl; has = tt }
+
 line : WorkedFileLine AMD64 amd64_kernels amd64_files amd64_shorts own (shorts_last own)
 unfolding searched
 line =
@@ -157,6 +163,7 @@ line =
     record {
       members_are = members_are;
       archive = archive;
+      ready = ready;
       alike = alike;
       lld = lld;
       arrives = files_lead_to_lld AMD64 (msvc_among amd64_kernels) amd64_files (shorts_first own) is_quit (lld_taken amd64_shorts) lld archive alike;
@@ -245,6 +252,10 @@ i386_members_are =
     ap (λ ms. ms ++ (members_read i386_libquit ++ [])) i386_kernel.read
     ∙ ap (λ ms. archive_of_both i386_kernels ++ (ms ++ [])) worked_files.i386.read
 
+i386_ready : HaveArchive Coff Second (archive_of (msvc_among i386_kernels))
+unfolding searched archived
+i386_ready = record { accepted = refl; has = tt }
+
 i386_line : WorkedFileLine I386 i386_kernels i386_files i386_shorts i386_own (shorts_grouped i386_own)
 unfolding searched
 i386_line =
@@ -254,6 +265,7 @@ i386_line =
     record {
       members_are = i386_members_are;
       archive = i386_archive;
+      ready = i386_ready;
       alike = alike;
       lld = lld;
       arrives = files_lead_to_lld I386 (msvc_among i386_kernels) i386_files (shorts_first i386_own) is_quit (lld_taken i386_shorts) lld i386_archive alike;

@@ -22,8 +22,6 @@ use Rattle.implib_link.proofs.Search.Lists.{any_among, contains_among}
 use Rattle.implib_link_instances.proofs.Worked.Search.{bar, opened as opened_of_search, opened as opened_gnu, qux, the_head, the_tail, three_takes, worked_archives}
 use Rattle.implib.specs.Formats.Layout.{encoded_size}
 use Rattle.implib.specs.Members.GnuMembers.{alias_specs}
-use Rattle.implib_archive.specs.Archive.{entries_from, entries_of, first_linker_size, first_place, front_size, is_long, long_names as archive_long_names, name_end, names_bytes, names_size, offset_of, places_from, second_linker_size, strings_of, with_first, with_name as archive_with_name}
-use Rattle.implib_archive.specs.Refusal.{has_short_places, has_too_many, member_refusal, members_refusal, name_refusal, places_refusal, refusal_of, symbol_refusal, symbols_refusal}
 use Rattle.implib.specs.declared.machine.MachineType.TheVariants.{AMD64}
 use Rattle.implib.specs.Members.WeakExternal.{weak_object}
 use Rattle.implib.specs.Members.MsvcMembers.{descriptor_spec, header_specs, null_descriptor_spec, null_thunk_spec, weak_specs}
@@ -36,6 +34,7 @@ use Rattle.implib_link.specs.Search.Archives.{archive_of as members_of_libraries
 use Rattle.implib_link_instances.specs.Worked.Closed.{choosing, closed_taken}
 use Rattle.implib_link_instances.proofs.Worked.Closed.{worked_closed}
 use Rattle.implib_link_instances.proofs.Worked.MsvcSearch.{worked_msvc_searches}
+use Rattle.implib_link_instances.proofs.Worked.Opened.{archived}
 
 -- whether a name leads nowhere, or to a header that is taken
 abbrev is_settled_at : List ℕ → Option ℕ → Bool
@@ -147,11 +146,11 @@ unfolding AreTakenAt
 is_unasked takes = led_first takes.in_turn.0.0 takes.in_turn.0.1
 
 pub three_gnu : HaveArchive Gnu First (members_of three)
-unfolding opened_of_search alias_specs encoded_size entries_from entries_of first_linker_size first_place front_size is_long archive_long_names name_end names_bytes names_size offset_of places_from second_linker_size strings_of with_first archive_with_name has_short_places has_too_many member_refusal members_refusal name_refusal places_refusal refusal_of symbol_refusal symbols_refusal
+unfolding opened_of_search alias_specs encoded_size archived
 three_gnu = record { accepted = refl; has = tt }
 
 three_coff : HaveArchive Coff Second (members_of three)
-unfolding opened_of_search alias_specs encoded_size entries_from entries_of first_linker_size first_place front_size is_long archive_long_names name_end names_bytes names_size offset_of places_from second_linker_size strings_of with_first archive_with_name has_short_places has_too_many member_refusal members_refusal name_refusal places_refusal refusal_of symbol_refusal symbols_refusal
+unfolding opened_of_search alias_specs encoded_size archived
 three_coff = record { accepted = refl; has = tt }
 
 pub worked_searches : WorkedSearches
@@ -173,11 +172,11 @@ worked_searches = record {
 }
 
 libraries : HaveArchive Gnu First (members_of_libraries two_libraries)
-unfolding opened_gnu alias_specs encoded_size weak_object members_of_libraries entries_from entries_of first_linker_size first_place front_size is_long archive_long_names name_end names_bytes names_size offset_of places_from second_linker_size strings_of with_first archive_with_name has_short_places has_too_many member_refusal members_refusal name_refusal places_refusal refusal_of symbol_refusal symbols_refusal
+unfolding opened_gnu alias_specs encoded_size weak_object members_of_libraries archived
 libraries = record { accepted = refl; has = tt }
 
 short : HaveArchive Coff Second (short_members AMD64)
-unfolding opened encoded_size with_section_symbols descriptor null_descriptor null_thunk descriptor_symbol null_descriptor_symbol null_thunk_symbol base_name descriptor_spec null_descriptor_spec null_thunk_spec header_specs weak_specs entries_from entries_of first_linker_size first_place front_size is_long archive_long_names name_end names_bytes names_size offset_of places_from second_linker_size strings_of with_first archive_with_name has_short_places has_too_many member_refusal members_refusal name_refusal places_refusal refusal_of symbol_refusal symbols_refusal
+unfolding opened encoded_size with_section_symbols descriptor null_descriptor null_thunk descriptor_symbol null_descriptor_symbol null_thunk_symbol base_name descriptor_spec null_descriptor_spec null_thunk_spec header_specs weak_specs archived
 short = record { accepted = refl; has = tt }
 
 pub worked_libraries : WorkedLibraries

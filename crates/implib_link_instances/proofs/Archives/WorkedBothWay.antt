@@ -8,8 +8,6 @@ use Rattle.implib.specs.Link.Image.{image_of}
 use Rattle.implib.specs.Worked.Statements.{plain_export}
 use Rattle.implib.proofs.Link.LinkedMembers.{among_contains}
 use Rattle.implib.proofs.Link.Ranges.{among_back, apart_as_they_rise}
-use Rattle.implib_archive.specs.Archive.{entries_from, entries_of, first_linker_size, first_place, front_size, is_long, long_names as archive_long_names, name_end, names_bytes, names_size, offset_of, places_from, second_linker_size, strings_of, with_first, with_name as archive_with_name}
-use Rattle.implib_archive.specs.Refusal.{has_short_places, has_too_many, member_refusal, members_refusal, name_refusal, places_refusal, refusal_of, symbol_refusal, symbols_refusal}
 use Rattle.implib_archive.specs.declared.kind.Kind.TheVariants.{Coff}
 use Rattle.implib_archive_link.specs.BothWay.{AreLinkedForBoth, BothArrive}
 use Rattle.implib_archive_link.specs.InBytes.{Second}
@@ -38,7 +36,7 @@ use Rattle.implib_link.proofs.Search.Closing.{claims_apart, takes_into}
 use Rattle.implib_link.proofs.Search.Lists.{among_at}
 use Rattle.implib_link_instances.proofs.Worked.BothFlavors.{archive_by}
 use Rattle.implib_link_instances.proofs.Worked.Calls.{once_by, wide}
-use Rattle.implib_link_instances.proofs.Worked.Opened.{searched}
+use Rattle.implib_link_instances.proofs.Worked.Opened.{searched, archived}
 use Rattle.implib_link_instances.proofs.Worked.Programs.{claims_none_by, instructions_at}
 use Rattle.implib_link.specs.Search.Search.{AreTakenInTurnAs, left_as}
 use Rattle.implib_link.specs.Flavors.Expansion.{expanded_in}
@@ -49,7 +47,7 @@ unfolding searched
 archive = archive_by (record { accepted = refl; made = refl; ordinals = refl }, tt) (record { accepted = refl; made = refl; ordinals = refl }, tt) (refl, tt) refl refl refl
 
 ready : HaveArchive Coff Second (archive_of_both both)
-unfolding searched entries_from entries_of first_linker_size first_place front_size is_long archive_long_names name_end names_bytes names_size offset_of places_from second_linker_size strings_of with_first archive_with_name has_short_places has_too_many member_refusal members_refusal name_refusal places_refusal refusal_of symbol_refusal symbols_refusal
+unfolding searched archived
 ready = record { accepted = refl; has = tt }
 
 given : AreGivenForBoth AMD64 both own

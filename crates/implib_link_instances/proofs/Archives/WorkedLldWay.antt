@@ -13,8 +13,6 @@ use Rattle.implib.specs.Members.MsvcObjects.{base_name, descriptor, descriptor_s
 use Rattle.implib.specs.Worked.Statements.{plain_export}
 use Rattle.implib.proofs.Link.LinkedMembers.{among_contains}
 use Rattle.implib.proofs.Link.Ranges.{Among}
-use Rattle.implib_archive.specs.Archive.{entries_from, entries_of, first_linker_size, first_place, front_size, is_long, long_names as archive_long_names, name_end, names_bytes, names_size, offset_of, places_from, second_linker_size, strings_of, with_first, with_name as archive_with_name}
-use Rattle.implib_archive.specs.Refusal.{has_short_places, has_too_many, member_refusal, members_refusal, name_refusal, places_refusal, refusal_of, symbol_refusal, symbols_refusal}
 use Rattle.implib_archive.specs.declared.kind.Kind.TheVariants.{Coff}
 use Rattle.implib_archive_link.specs.InBytes.{Second}
 use Rattle.implib_archive_link.specs.LldWay.{AreCalledAlike, IsBuiltByLld, IsWantedBy, LldArrives, asks_of_lld, shorts_in}
@@ -45,6 +43,7 @@ use Rattle.implib_link_instances.proofs.Worked.Calls.{wide}
 use Rattle.implib_link_instances.proofs.Worked.LinkedCode.{all_needed, only_absolute, rebased_by, relocated_by, relocated_test}
 use Rattle.implib_link_instances.proofs.Worked.LldPrograms.{lld_opened, disjoint, meet_test, takes_outside}
 use Rattle.implib_link_instances.proofs.Worked.Programs.{distinct_by, opened, instruction_by}
+use Rattle.implib_link_instances.proofs.Worked.Opened.{archived}
 
 -- what the computing has to open
 unfoldable way_opened : Unit {0}
@@ -69,7 +68,7 @@ alike l k first second same =
     only_library x (inr none) = absurd none
 
 ready : HaveArchive Coff Second (archive_of lld_libraries)
-unfolding way_opened entries_from entries_of first_linker_size first_place front_size is_long archive_long_names name_end names_bytes names_size offset_of places_from second_linker_size strings_of with_first archive_with_name has_short_places has_too_many member_refusal members_refusal name_refusal places_refusal refusal_of symbol_refusal symbols_refusal
+unfolding way_opened archived
 ready = record { accepted = refl; has = tt }
 
 settled : (name : List ℕ) → asks_of_lld AMD64 lld_own (map (λ (m : MemberView). m.bytes) lld_taken) name → ⊥

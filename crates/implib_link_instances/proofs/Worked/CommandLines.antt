@@ -23,6 +23,10 @@ use Rattle.implib_link.proofs.Search.Lists.{among_any, any_among, contains_among
 use Rattle.implib_link_instances.specs.Worked.CommandLines.{WorkedCommandLine, WorkedCommandLines, WorkedLibraries, all_taken, amd64_members, i386_members, i386_wants_bytes, in_group, is_quit, kernel_on, library_first, library_last, of_quit, read_or_none, wants_bytes}
 use Rattle.implib_link_instances.specs.Worked.Programs.{code_object}
 use Rattle.implib_link_instances.proofs.Worked.Programs.{claims_none_by, distinct_by, opened}
+use Rattle.implib_archive_link.specs.Results.{HaveArchive}
+use Rattle.implib_archive_link.specs.InBytes.{Second}
+use Rattle.implib_archive.specs.declared.kind.Kind.TheVariants.{Coff}
+use Rattle.implib_link_instances.proofs.Worked.Opened.{archived, searched}
 
 -- a member that claims what it is listed for, by computing
 pub whole_at : (reads : List ℕ → Option Object) (m : MemberView) → claimed_as reads (m ∷ []) ≡ m.symbols → HaveSame (claimed_as reads (m ∷ [])) m.symbols
@@ -167,10 +171,15 @@ given = record {
   names = (record { head = refl; name = refl }, tt);
 }
 
+ready : HaveArchive Coff Second (archive_of (kernel_on AMD64 (codes "ExitProcess") ∷ []))
+unfolding searched archived
+ready = record { accepted = refl; has = tt }
+
 libraries : WorkedLibraries AMD64 (kernel_on AMD64 (codes "ExitProcess")) amd64_members own
 unfolding opened alias_specs encoded_size refusal renamed_refusal is_weak symbols_of_library archive_of
 libraries = record {
   archive = record { made = (record { accepted = refl; made = refl; ordinals = refl }, tt); distinct = distinct_by (flat_map (symbols_of_library AMD64) ((kernel_on AMD64 (codes "ExitProcess")) ∷ [])) refl };
+  ready = ready;
   searches = record { libraries_are = refl; first = first_of_distinct amd64_members (names_left object_in own (members_at amd64_members all_taken)) all_taken distinct; unclaimed = unclaimed; ordered = inl ordered; whole = whole; searches = searched_last };
   given = given;
 }
@@ -276,10 +285,15 @@ complete : NoneIsLost object_in i386_members i386_own (members_at i386_members a
 unfolding opened alias_specs encoded_size references_of claims_of undefined_in
 complete = tt
 
+i386_ready : HaveArchive Coff Second (archive_of (kernel_on I386 (codes "_ExitProcess@4") ∷ []))
+unfolding searched archived
+i386_ready = record { accepted = refl; has = tt }
+
 i386_libraries : WorkedLibraries I386 (kernel_on I386 (codes "_ExitProcess@4")) i386_members i386_own
 unfolding opened alias_specs encoded_size refusal renamed_refusal is_weak symbols_of_library archive_of
 i386_libraries = record {
   archive = record { made = (record { accepted = refl; made = refl; ordinals = refl }, tt); distinct = distinct_by (flat_map (symbols_of_library I386) ((kernel_on I386 (codes "_ExitProcess@4")) ∷ [])) refl };
+  ready = i386_ready;
   searches = record { libraries_are = refl; first = first_of_distinct i386_members (names_left object_in i386_own (members_at i386_members all_taken)) all_taken i386_distinct; unclaimed = i386_unclaimed; ordered = inr complete; whole = i386_whole; searches = i386_searched_last };
   given = i386_given;
 }

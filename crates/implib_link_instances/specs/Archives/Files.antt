@@ -22,6 +22,9 @@ use Rattle.implib_link.specs.Search.CommandLines.{Archives, Input, SearchesFlavo
 use Rattle.implib_link.specs.Search.CommandLines.{others_of}
 use Rattle.implib_link.specs.Search.MsvcArchives.{IsMsvcArchive}
 use Rattle.implib_link.specs.Search.Sweeps.{members_at}
+use Rattle.implib_archive_link.specs.Results.{HaveArchive}
+use Rattle.implib_archive_link.specs.InBytes.{Second}
+use Rattle.implib_link.specs.Search.Archives.{archive_of}
 
 abbrev pub libquit : List ℕ
 libquit =
@@ -155,6 +158,7 @@ pub record WorkedFileLine (machine : MachineType) (libraries : List FlavorLibrar
     (members : List MemberView) (own : List Object) (inputs : List Input) : Type 0 where
   pub members_are : members_in_files files ≡ members
   pub archive : IsMsvcArchive machine (msvc_among libraries)
+  pub ready : HaveArchive Coff Second (archive_of (msvc_among libraries))
   pub alike : AreCalledAlike (msvc_among libraries)
   pub lld : SearchesByLld machine (msvc_among libraries) (members_in_files files) (shorts_first own)
       is_quit (lld_taken members)

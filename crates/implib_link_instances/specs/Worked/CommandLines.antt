@@ -16,7 +16,7 @@ use Rattle.implib.specs.Renaming.{renamed}
 use Rattle.implib.specs.Worked.Members.{of_dll}
 use Rattle.implib.specs.Worked.Statements.{plain_export}
 use Rattle.implib_link.specs.Gnu.Program.{HaveSame}
-use Rattle.implib_link.specs.Search.Archives.{IsArchive, Library}
+use Rattle.implib_link.specs.Search.Archives.{IsArchive, Library, archive_of}
 use Rattle.implib_link.specs.Search.Closed.{TakesIntoAs, listed_in}
 use Rattle.implib_link.specs.Search.CommandLines.{AnObject, Archives, AreListedWhole, Input}
 use Rattle.implib_link.specs.Search.CommandLines.{IsOrdered, LldSearches, SearchesCommandLine}
@@ -24,6 +24,9 @@ use Rattle.implib_link.specs.Search.CommandLines.{SearchesLibraries, given_with}
 use Rattle.implib_link.specs.Search.Given.{AreGiven}
 use Rattle.implib_link.specs.Search.Search.{objects_as}
 use Rattle.implib_link.specs.Search.Sweeps.{members_at}
+use Rattle.implib_archive_link.specs.Results.{HaveArchive}
+use Rattle.implib_archive_link.specs.InBytes.{Second}
+use Rattle.implib_archive.specs.declared.kind.Kind.TheVariants.{Coff}
 
 abbrev pub wants_bytes : List ℕ
 wants_bytes =
@@ -179,6 +182,7 @@ pub record WorkedCommandLine (members : List MemberView) (own : List Object)
 pub record WorkedLibraries (machine : MachineType) (l : Library) (members : List MemberView)
     (own : List Object) : Type 0 where
   pub archive : IsArchive machine (l ∷ [])
+  pub ready : HaveArchive Coff Second (archive_of (l ∷ []))
   pub searches : SearchesLibraries machine (l ∷ []) members (library_last own) is_quit all_taken
   pub given : AreGiven machine (l ∷ [])
       (given_with object_in is_quit own (members_at members all_taken))
