@@ -1,5 +1,5 @@
 -- The command lines, by computing and by the laws.
-use Rattle.std.proofs.Common.{◌≡◌, ℕ, zero, suc, true, false, List, [], ◌∷◌, ◌++◌, map, Option, None, Some, refl, sym, ◌∙◌, subst, inl, inr, codes}
+use Rattle.std.proofs.Common.{arith, ◌≡◌, ℕ, zero, suc, true, false, List, [], ◌∷◌, ◌++◌, map, Option, None, Some, refl, sym, ◌∙◌, subst, inl, inr, codes, ◌<◌, ◌^◌}
 use Rattle.std.specs.Prelude.{bytes_eq, drop, is_none, slice_get}
 use Rattle.std.specs.List.{Contains, IsDistinct, flat_map, list_all, list_any}
 use Rattle.std.proofs.lemmas.Bool.{and_parts, true≢false}
@@ -12,7 +12,7 @@ use Rattle.implib.specs.Members.Members.{refusal, renamed_refusal}
 use Rattle.implib.proofs.Link.LinkedMembers.{among_contains, among_map}
 use Rattle.implib.proofs.Link.Ranges.{Among}
 use Rattle.implib_link.specs.Gnu.Program.{HaveSame}
-use Rattle.implib_link.specs.Search.Archives.{archive_of, is_weak, symbols_of_library}
+use Rattle.implib_link.specs.Search.Archives.{archive_of, is_weak, symbols_of_library, IsArchive}
 use Rattle.implib_link.specs.Search.Closed.{PullsIntoAs, claims_of, listed_in, references_of, unresolved}
 use Rattle.implib_link.specs.Search.CommandLines.{AreListedWhole, AreRounds, AreSwept, AreTakenBehind, AreUnclaimedBehind, HaveAll, IsOrdered, LldSearches, LldSearchesFrom, NoneIsLost, SearchesCommandLine, SearchesFrom, given_with, names_left}
 use Rattle.implib_link.specs.Search.Given.{AreGiven, symbols_kept}
@@ -27,6 +27,8 @@ use Rattle.implib_archive_link.specs.Results.{HaveArchive}
 use Rattle.implib_archive_link.specs.InBytes.{Second}
 use Rattle.implib_archive.specs.declared.kind.Kind.TheVariants.{Coff}
 use Rattle.implib_link_instances.proofs.Worked.Opened.{archived, searched}
+use Rattle.implib_link.specs.Search.Exists.{HasClosed, tables_end}
+use Rattle.implib_link.proofs.Search.Exists.{closed_exists}
 
 -- a member that claims what it is listed for, by computing
 pub whole_at : (reads : List ℕ → Option Object) (m : MemberView) → claimed_as reads (m ∷ []) ≡ m.symbols → HaveSame (claimed_as reads (m ∷ [])) m.symbols
@@ -175,13 +177,26 @@ ready : HaveArchive Coff Second (archive_of (kernel_on AMD64 (codes "ExitProcess
 unfolding searched archived
 ready = record { accepted = refl; has = tt }
 
+archive : IsArchive AMD64 (kernel_on AMD64 (codes "ExitProcess") ∷ [])
+unfolding opened alias_specs encoded_size refusal renamed_refusal is_weak symbols_of_library archive_of
+archive = record { made = (record { accepted = refl; made = refl; ordinals = refl }, tt); distinct = distinct_by (flat_map (symbols_of_library AMD64) (kernel_on AMD64 (codes "ExitProcess") ∷ [])) refl }
+
+room : tables_end 0x2000 (kernel_on AMD64 (codes "ExitProcess") ∷ []) < 2 ^ 31
+unfolding opened
+room = omega arith
+
+exists : HasClosed AMD64 (kernel_on AMD64 (codes "ExitProcess") ∷ []) (given_with object_in is_quit own (members_at amd64_members all_taken)) 0x2000
+unfolding searched
+exists = closed_exists AMD64 (kernel_on AMD64 (codes "ExitProcess") ∷ []) (given_with object_in is_quit own (members_at amd64_members all_taken)) 0x2000 archive given (refl, (refl, tt)) (omega arith) room
+
 libraries : WorkedLibraries AMD64 (kernel_on AMD64 (codes "ExitProcess")) amd64_members own
 unfolding opened alias_specs encoded_size refusal renamed_refusal is_weak symbols_of_library archive_of
 libraries = record {
-  archive = record { made = (record { accepted = refl; made = refl; ordinals = refl }, tt); distinct = distinct_by (flat_map (symbols_of_library AMD64) ((kernel_on AMD64 (codes "ExitProcess")) ∷ [])) refl };
+  archive = archive;
   ready = ready;
   searches = record { libraries_are = refl; first = first_of_distinct amd64_members (names_left object_in own (members_at amd64_members all_taken)) all_taken distinct; unclaimed = unclaimed; ordered = inl ordered; whole = whole; searches = searched_last };
   given = given;
+  exists = exists;
 }
 
 -- I386
@@ -289,13 +304,26 @@ i386_ready : HaveArchive Coff Second (archive_of (kernel_on I386 (codes "_ExitPr
 unfolding searched archived
 i386_ready = record { accepted = refl; has = tt }
 
+i386_archive : IsArchive I386 (kernel_on I386 (codes "_ExitProcess@4") ∷ [])
+unfolding opened alias_specs encoded_size refusal renamed_refusal is_weak symbols_of_library archive_of
+i386_archive = record { made = (record { accepted = refl; made = refl; ordinals = refl }, tt); distinct = distinct_by (flat_map (symbols_of_library I386) (kernel_on I386 (codes "_ExitProcess@4") ∷ [])) refl }
+
+i386_room : tables_end 0x2000 (kernel_on I386 (codes "_ExitProcess@4") ∷ []) < 2 ^ 31
+unfolding opened
+i386_room = omega arith
+
+i386_exists : HasClosed I386 (kernel_on I386 (codes "_ExitProcess@4") ∷ []) (given_with object_in is_quit i386_own (members_at i386_members all_taken)) 0x2000
+unfolding searched
+i386_exists = closed_exists I386 (kernel_on I386 (codes "_ExitProcess@4") ∷ []) (given_with object_in is_quit i386_own (members_at i386_members all_taken)) 0x2000 i386_archive i386_given (refl, (refl, tt)) (omega arith) i386_room
+
 i386_libraries : WorkedLibraries I386 (kernel_on I386 (codes "_ExitProcess@4")) i386_members i386_own
 unfolding opened alias_specs encoded_size refusal renamed_refusal is_weak symbols_of_library archive_of
 i386_libraries = record {
-  archive = record { made = (record { accepted = refl; made = refl; ordinals = refl }, tt); distinct = distinct_by (flat_map (symbols_of_library I386) ((kernel_on I386 (codes "_ExitProcess@4")) ∷ [])) refl };
+  archive = i386_archive;
   ready = i386_ready;
   searches = record { libraries_are = refl; first = first_of_distinct i386_members (names_left object_in i386_own (members_at i386_members all_taken)) all_taken i386_distinct; unclaimed = i386_unclaimed; ordered = inr complete; whole = i386_whole; searches = i386_searched_last };
   given = i386_given;
+  exists = i386_exists;
 }
 
 pub worked_command_lines : WorkedCommandLines

@@ -27,6 +27,7 @@ use Rattle.implib_link.specs.Search.Sweeps.{members_at}
 use Rattle.implib_archive_link.specs.Results.{HaveArchive}
 use Rattle.implib_archive_link.specs.InBytes.{Second}
 use Rattle.implib_archive.specs.declared.kind.Kind.TheVariants.{Coff}
+use Rattle.implib_link.specs.Search.Exists.{HasClosed}
 
 abbrev pub wants_bytes : List ℕ
 wants_bytes =
@@ -186,6 +187,8 @@ pub record WorkedLibraries (machine : MachineType) (l : Library) (members : List
   pub searches : SearchesLibraries machine (l ∷ []) members (library_last own) is_quit all_taken
   pub given : AreGiven machine (l ∷ [])
       (given_with object_in is_quit own (members_at members all_taken))
+  pub exists : HasClosed machine (l ∷ [])
+      (given_with object_in is_quit own (members_at members all_taken)) 0x2000
 
 pub record WorkedCommandLines : Type 0 where
   pub amd64 : WorkedCommandLine amd64_members (read_or_none wants_bytes) (codes "ExitProcess")
