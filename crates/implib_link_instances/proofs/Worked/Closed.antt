@@ -32,10 +32,10 @@ use Rattle.implib_link.specs.Search.Exists.{AreChosenFor, HasClosed, objects_clo
 use Rattle.implib_link_instances.specs.Worked.Exists.{WorkedExists}
 use Rattle.implib_link.proofs.Search.Exists.{closed_exists, packed_closes, packed_within}
 use Rattle.implib.specs.Members.MsvcObjects.{null_descriptor_symbol}
-use Rattle.implib_link.specs.Search.BothFlavors.{IsFlavorArchive, archive_of_both, gnu_among, msvc_among}
+use Rattle.implib_link.specs.Search.BothFlavors.{FlavorLibrary, IsFlavorArchive, archive_of_both, gnu_among, msvc_among}
 use Rattle.implib_link.specs.Search.MsvcArchives.{IsMsvcArchive, TakesIntoFor, symbols_of_shorts}
 use Rattle.implib_link.specs.Search.NoShorts.{WantsNoShort}
-use Rattle.implib_link_instances.specs.Worked.NoShorts.{WorkedNoShorts, with_far}
+use Rattle.implib_link_instances.specs.Worked.NoShorts.{WorkedNoShort, WorkedNoShorts, far_first, with_far}
 use Rattle.implib_link.proofs.Search.NoShorts.{links_alone, takes_of_both}
 use Rattle.implib_link_instances.proofs.Worked.BothFlavors.{apart_by}
 use Rattle.implib_link_instances.proofs.Worked.Opened.{searched}
@@ -174,35 +174,40 @@ msvc_archive = record {
   found = (refl, tt);
 }
 
-archive : IsFlavorArchive AMD64 with_far
+-- libraries with far.dll among them, in any order
+archive : (libraries : List FlavorLibrary) → gnu_among libraries ≡ two_libraries → msvc_among libraries ≡ msvc_among with_far → IsFlavorArchive AMD64 libraries
 unfolding searched
-archive = record {
-  gnu = worked_archives.archive;
-  msvc = msvc_archive;
-  apart = apart_by (null_descriptor_symbol ∷ flat_map symbols_of_shorts (msvc_among with_far)) (flat_map (symbols_of_library AMD64) (gnu_among with_far)) refl;
+archive libraries gnu msvc = record {
+  gnu = rw gnu worked_archives.archive;
+  msvc = rw msvc msvc_archive;
+  apart = rw (gnu, msvc) (apart_by (null_descriptor_symbol ∷ flat_map symbols_of_shorts (msvc_among with_far)) (flat_map (symbols_of_library AMD64) two_libraries) refl);
 }
 
-none : WantsNoShort with_far (choosing ∷ [])
+none : (libraries : List FlavorLibrary) → gnu_among libraries ≡ two_libraries → msvc_among libraries ≡ msvc_among with_far → WantsNoShort libraries (choosing ∷ [])
 unfolding searched
-none = apart_by (wanted_at_most (gnu_among with_far) (choosing ∷ [])) (null_descriptor_symbol ∷ flat_map symbols_of_shorts (msvc_among with_far)) refl
+none libraries gnu msvc = rw (gnu, msvc) (apart_by (wanted_at_most two_libraries (choosing ∷ [])) (null_descriptor_symbol ∷ flat_map symbols_of_shorts (msvc_among with_far)) refl)
 
-no_shorts_takes : TakesIntoFor AMD64 (archive_of_both with_far) (choosing ∷ []) closed_taken
-no_shorts_takes = takes_of_both AMD64 with_far archive (choosing ∷ []) none closed_taken worked_closed.takes
+no_shorts : (libraries : List FlavorLibrary) → gnu_among libraries ≡ two_libraries → msvc_among libraries ≡ msvc_among with_far → WorkedNoShort libraries
+no_shorts libraries gnu msvc =
+    let is : IsFlavorArchive AMD64 libraries = archive libraries gnu msvc in
+    let wants : WantsNoShort libraries (choosing ∷ []) = none libraries gnu msvc in
+    let takes : TakesIntoFor AMD64 (archive_of_both libraries) (choosing ∷ []) closed_taken = takes_of_both AMD64 libraries is (choosing ∷ []) wants closed_taken (rw gnu worked_closed.takes) in
+    record {
+      archive = is;
+      others = gnu;
+      none = wants;
+      takes = takes;
+      links = links_alone AMD64 libraries is (choosing ∷ []) wants closed_taken zed_first closed_bases closed_objects (rw gnu worked_given.given) takes (rw gnu worked_closed.closed.linked);
+    }
 
 pub worked_no_shorts : WorkedNoShorts
-worked_no_shorts = record {
-  archive = archive;
-  others = refl;
-  none = none;
-  takes = no_shorts_takes;
-  links = links_alone AMD64 with_far archive (choosing ∷ []) none closed_taken zed_first closed_bases closed_objects worked_given.given no_shorts_takes worked_closed.closed.linked;
-}
+worked_no_shorts = record { between = no_shorts with_far refl refl; first = no_shorts far_first refl refl }
 
 wanting_claims : AllByRecursion (ClaimsNone (listed_in closed_taken ++ names_undefined closed_taken)) with_names
 unfolding opened alias_specs encoded_size weak_object left_as undefined_in
 wanting_claims = (claims_none_by (listed_in closed_taken ++ names_undefined closed_taken) (wanting listed_names) refl, (claims_none_by (listed_in closed_taken ++ names_undefined closed_taken) quiet refl, tt))
 
--- what the members that are taken leave, neither wanting_claims
+-- what the members that are taken leave, neither claims
 wanting_left_apart : (name : List ℕ) → Among name (flat_map undefined_in (objects_in closed_taken)) → Among name (flat_map claimed_names with_names) → ⊥
 unfolding left_as
 wanting_left_apart name left = claims_apart (listed_in closed_taken ++ names_undefined closed_taken) with_names wanting_claims name (among_back name (listed_in closed_taken) (names_undefined closed_taken) left)
