@@ -1,4 +1,4 @@
--- Programs, expansions and searches worked by hand, and images that are wrong.
+-- Programs, expansions and searches worked by hand.
 pub mod A32
 pub mod Aliases
 pub mod BothFlavors

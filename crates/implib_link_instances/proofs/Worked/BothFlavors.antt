@@ -1,4 +1,4 @@
--- The closed program of both flavours that was linked by hand, and near misses of it, by computing and by the laws.
+-- The closed program of both flavours that was linked by hand, by computing and by the laws.
 use Rattle.std.proofs.Common.{List, [], arith, codes, false, length, map, refl, subst, sym, true, ℕ, ◌++◌, ◌<◌, ◌^◌, ◌∙◌, ◌∷◌, ◌≡◌}
 use Rattle.std.specs.Prelude.{IsPermutation, bytes_eq, not}
 use Rattle.std.specs.List.{AllByRecursion, Contains, filter, flat_map, list_all, list_any}

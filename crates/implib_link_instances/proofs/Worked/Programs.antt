@@ -187,5 +187,5 @@ pub worked_programs : WorkedPrograms
 worked_programs = record {
   amd64 = amd64;
   i386 = i386;
-  armnt = armnt ;
+  armnt = armnt;
 }

@@ -1,5 +1,7 @@
--- The whole way by hand: a text of foo.dll, which exports `bar`, on AMD64; and a program whose code
--- calls `bar` through its entry. The library's bytes are those of its archive in GNU's kind.
+-- The whole way by hand for libraries of both flavours, on AMD64: foo.dll, which exports `bar`, for
+-- GNU's linker, and zed.dll, which exports `queue`, for Microsoft's; and a program of two objects,
+-- each of which calls one of them through its entry. The archive's bytes are of the COFF kind, and
+-- a linker looks names up in the second linker member.
 use Rattle.std.specs.Prelude.{List, Some, [], codes, length, map, ℕ, ◌++◌, ◌+◌, ◌<◌, ◌∷◌, ◌≡◌}
 use Rattle.implib.specs.declared.machine.MachineType.TheVariants.{AMD64}
 use Rattle.implib.specs.Formats.Constants.{align_16bytes, class_external, cnt_code}

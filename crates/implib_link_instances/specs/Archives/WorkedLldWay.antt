@@ -134,8 +134,7 @@ bar_address = 0x30 ∷ 0 ∷ 0 ∷ 0x10 ∷ 0 ∷ 0 ∷ 0 ∷ 0 ∷ []
 -- members; lld takes for the object, in the bytes, the short import of `bar` alone; and what it
 -- wrote of it is memory with its code. By the law a loader stops after one descriptor, the call at
 -- 0x1000 reads what foo.dll gives for `bar`, 0x1000_0030, and the call at 0x1006 arrives there by
--- the thunk. The object does not want `baz`; after the short import no descriptor is asked for; two
--- DLLs whose names differ by case alone are refused; and lld writes no tables of none that is live.
+-- the thunk.
 pub record WorkedLldWay : Type 0 where
   pub archive : IsMsvcArchive AMD64 lld_libraries
   pub alike : AreCalledAlike lld_libraries

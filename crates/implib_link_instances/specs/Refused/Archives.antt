@@ -1,5 +1,5 @@
--- What no search in bytes takes, and what does not arrive. A record `RefusedX` has for each field of
--- `X` what this field refuses.
+-- What no search in bytes takes, and what does not arrive. A record `RefusedX` has for each field
+-- of `X` what this field refuses.
 use Rattle.std.specs.Prelude.{List, [], codes, ℕ, ◌++◌, ◌∷◌}
 use Rattle.implib.specs.declared.machine.MachineType.TheVariants.{AMD64}
 use Rattle.implib.specs.Members.MemberSpec.{MemberView}

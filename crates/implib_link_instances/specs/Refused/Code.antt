@@ -1,5 +1,5 @@
--- What does not arrive, and what is no such stub. A record `RefusedX` has for each field of `X` what
--- this field refuses: mostly no memory, or memory of `nop`s.
+-- What does not arrive, and what is no such stub. A record `RefusedX` has for each field of `X`
+-- what this field refuses: mostly no memory, or memory of `nop`s.
 use Rattle.std.specs.Prelude.{List, [], codes, ℕ, ◌∷◌}
 use Rattle.implib.specs.declared.machine.MachineType.TheVariants.{AMD64, ARM64}
 use Rattle.implib.specs.Formats.Constants.{class_external}
@@ -150,11 +150,13 @@ pub record RefusedPointsTo : Type 0 where
 
 -- the fields of the worked code, where nothing is in memory
 pub record RefusedAllLeadTo : Type 0 where
-  pub operands : AllLeadTo AMD64 base [] (passing_at AMD64 ∷ []) [] (imp_open AMD64) (codes "f") [] → ⊥
+  pub operands : AllLeadTo AMD64 base [] (passing_at AMD64 ∷ []) [] (imp_open AMD64) (codes "f") []
+      → ⊥
   pub instructions : AllLeadTo AMD64 base [] (passing_at AMD64 ∷ []) [] (imp_open AMD64) (codes "f")
       [] → ⊥
   pub pairs : AllLeadTo ARM64 base [] (passing_at ARM64 ∷ []) [] (imp_open ARM64) (codes "f") [] → ⊥
-  pub pointers : AllLeadTo AMD64 base [] (passing_at AMD64 ∷ []) [] (imp_open AMD64) (codes "f") [] → ⊥
+  pub pointers : AllLeadTo AMD64 base [] (passing_at AMD64 ∷ []) [] (imp_open AMD64) (codes "f") []
+      → ⊥
 
 pub record RefusedHoldAddress : Type 0 where
   pub whole : HoldAddress AMD64 base (holding_codes AMD64) [] (mid_name AMD64) 0 → ⊥

@@ -1,5 +1,5 @@
--- ARMNT's stub by hand: the stub of `open` behind the import tables and in front of them, what its
--- jump reads, and code that is no such jump.
+-- ARMNT's stub by hand: the stub of `open` behind the import tables and in front of them, and what
+-- its jump reads.
 use Rattle.std.specs.Prelude.{ℕ, ◌+◌, List, [], ◌∷◌, ◌++◌, slice_get}
 use Rattle.implib.specs.declared.machine.MachineType.TheVariants.{ARMNT}
 use Rattle.implib.specs.Formats.Constants.{align_4bytes, cnt_code, mem_execute_read}
@@ -60,9 +60,7 @@ pub record WorkedArmntStub (image_base : ℕ) (bases : Bases) (position : ℕ) (
       × (A32JumpReads (written ++ armnt_memory bases position literal) position
       (image_base + entry) → ⊥)
 
--- The stubs at 0x1000 and at 0x200, whose entries are at 0x60 and at 0x5260; a literal that is the
--- entry's address is no distance; and where the literal is an address, right behind the loads or
--- further on, the jump reads there.
+-- the stubs at 0x1000 and at 0x200, whose entries are at 0x60 and at 0x5260
 pub record WorkedArmntStubs : Type 0 where
   -- 0x60 - 0x100C, and 0x5260 - 0x20C
   pub behind : WorkedArmntStub 0x40_0000 touching_4 0x1000 (0x54 ∷ 0xF0 ∷ 0xFF ∷ 0xFF ∷ []) 0xFFFF_F054 0x60

@@ -1,6 +1,5 @@
 -- A closed program by hand of an archive of both flavours: of foo.dll's members for GNU's linker,
--- some of them of an alias, and of zed.dll's for Microsoft's; and near misses of it, each by the
--- name of the field that refuses it.
+-- some of them of an alias, and of zed.dll's for Microsoft's.
 use Rattle.std.specs.Prelude.{List, Some, [], codes, length, map, ◌++◌, ◌<◌, ◌∷◌, ◌≡◌}
 use Rattle.implib.specs.declared.flavor.Flavor.TheVariants.{Gnu, Msvc}
 use Rattle.implib.specs.declared.machine.MachineType.TheVariants.{AMD64}
@@ -149,8 +148,7 @@ pub record WorkedReversed : Type 0 where
 -- there are at most 64 bytes, 7 for its name, and 43 for each of `bar` and `baz`; of zed.dll, for
 -- Microsoft's, 72, 7, and 45 for each of `queue` and `stack`; 72 beside them. So there is a closed
 -- program; the one that was linked by hand lies there, and ends at 0x20A4.
--- From address 0 on there is none, nor is the one by hand such a program right below 2^31, where
--- there is no room. An object that holds a part of the import tables is in no such program.
+-- From address 0 on there is none.
 pub record WorkedBothExists : Type 0 where
   pub room : tables_end_of_both 0x2000 foo_and_zed ≡ 0x218E
   pub end : packed_end 0x2000 mixed_objects ≡ 0x20A4
@@ -164,7 +162,7 @@ pub record WorkedBothExists : Type 0 where
   pub at_zero : HasClosedForBoth AMD64 foo_and_zed (choosing ∷ []) 0 → ⊥
 
 -- With the libraries in the other order, and from 0x71000 on, they end by 0x7118E, and the tables
--- by hand at 0x710A4. The last address from which there is room is 0x7FFF_FE71.
+-- by hand at 0x710A4.
 pub record WorkedReversedExists : Type 0 where
   pub room : tables_end_of_both 0x71000 zed_and_foo ≡ 0x7118E
   pub end : packed_end 0x71000 reversed_objects ≡ 0x710A4

@@ -1,6 +1,6 @@
--- Linked bytes of worked code, computed by what a linker makes of the fields that calls, loads and
--- stubs have: I386's DIR32 and REL32, AMD64's REL32, and ARM64's BRANCH26, PAGEBASE_REL21 and
--- PAGEOFFSET_12L.
+-- Calls, pointers and placed code, by hand: programs as in Worked/Programs, whose own code calls
+-- `open` of foo.dll or reads the address of its data `stat` through an entry; the bytes that the
+-- fields of such code get; and a loader that reads the program's image.
 use Rattle.std.specs.Prelude.{List, None, Option, Some, [], codes, if◌then◌else◌, length, map}
 use Rattle.std.specs.Prelude.{slice_get, ℕ, ◌%◌, ◌*◌, ◌++◌, ◌+◌, ◌-◌, ◌/◌, ◌==◌, ◌^◌, ◌∷◌, ◌≡◌}
 use Rattle.implib.specs.declared.coff.object.Relocation.{Relocation}
@@ -213,9 +213,8 @@ placed_or_empty None = record { object = direct_calling; section_addresses = [] 
 placed_or_empty (Some p) = p
 
 -- A loader that reads the worked program's image from 4 on goes on at two descriptors, and writes
--- what foo.dll gives for `open` to 0x80 (0x60 on I386, 0x88 in the program of both flavours, from 8
--- on); where the first descriptor has no name, a loader goes on at none and writes nothing. There
--- is a loader that goes on at two descriptors.
+-- what foo.dll gives for `open` to 0x80, and to 0x60 on I386. There is a loader that goes on at two
+-- descriptors.
 pub record WorkedReading : Type 0 where
   pub amd64 : (n : ℕ) (written : List Range) →
       ReadsAndWrites (program_image AMD64 touching_8) 8 (given_on AMD64) n 4 written →

@@ -93,9 +93,7 @@ closed_bases = packed 0x2000 closed_objects
 
 -- The object leaves three names unresolved, for which a linker takes seven members; with them it is
 -- a closed program, in which `printf` alone is left. The pointer to `queue` is zed.dll's first
--- entry, and that to `baz` foo.dll's. A search that stops before the last member is none; a name
--- that the object claims pulls in nothing;
--- and an object with a `queue` of its own is not closed by these members.
+-- entry, and that to `baz` foo.dll's.
 pub record WorkedClosed : Type 0 where
   pub archive : IsArchive AMD64 two_libraries
   pub leaves : unresolved (choosing ∷ []) ≡ codes "bar" ∷ codes "__imp_queue" ∷ codes "printf" ∷ []

@@ -144,7 +144,7 @@ of_quit = 3 ∷ []
 abbrev pub inputs_of : List Object → List Input
 inputs_of objects = map AnObject objects
 
--- the command lines, behind the object: the library first; last; in a group; and twice
+-- the command lines, behind the object: the library first; last; and in a group
 abbrev pub library_first : List Object → List Input
 library_first own = inputs_of own ++ Archives (of_kernel ∷ []) ∷ Archives (of_quit ∷ []) ∷ []
 
@@ -159,13 +159,10 @@ abbrev pub all_taken : List ℕ
 all_taken = 0 ∷ 1 ∷ 2 ∷ 3 ∷ []
 
 -- On one machine, where `own` is the object and `import` the name of the function:
--- `lost`, `left`: with the library first GNU ld takes the archive's member alone, and the function
--- is left unresolved;
--- `unordered`: which is no order of its;
--- `by_lld`: lld takes all;
+-- `by_lld`: with the library first lld takes all;
 -- `first`, `ordered`, `takes`: in the other order GNU ld takes all, and by the law as one search
 -- does;
--- `group`, `again`: so it does in a group, and with the library twice;
+-- `group`: so it does in a group;
 -- `alike`: by the law both linkers take the same of the group.
 pub record WorkedCommandLine (members : List MemberView) (own : List Object)
     (import : List ℕ) : Type 0 where
@@ -179,7 +176,7 @@ pub record WorkedCommandLine (members : List MemberView) (own : List Object)
   pub alike : (other : List MemberView) → LldSearches object_in members (in_group own) other →
       HaveSame (members_at members all_taken) other
 
--- as a search of libraries: the archive's member is as given
+-- as a search of libraries: the archive's member is as given; and there is a closed program
 pub record WorkedLibraries (machine : MachineType) (l : Library) (members : List MemberView)
     (own : List Object) : Type 0 where
   pub archive : IsArchive machine (l ∷ [])

@@ -1,4 +1,4 @@
--- The closed program by hand, as the law says that there is one; and places where there is none.
+-- The closed program by hand, as the law says that there is one; and a place where there is none.
 use Rattle.std.specs.Prelude.{◌≡◌, [], ◌∷◌}
 use Rattle.implib.specs.declared.machine.MachineType.TheVariants.{AMD64}
 use Rattle.implib.specs.Link.Image.{image_of}
@@ -13,9 +13,7 @@ use Rattle.implib_link_instances.specs.Worked.Closed.{closed_taken, zed_first}
 -- The tables of the two libraries that begin at 0x2000 end by 0x2186: of foo.dll there are at most
 -- 64 bytes, 7 for its name, and 43 for each of `bar` and `baz`; of zed.dll 64, 7, and 45 for each
 -- of `queue` and `stack`; 72 beside them. So there is a closed program; the one that was linked by
--- hand lies there, and ends at 0x20A8. From address 0 on there is none, nor is the one by hand such
--- a program right below 2^31, where there is no room. An object that holds a part of the import
--- tables, as the null descriptor does, is in no such program.
+-- hand lies there, and ends at 0x20A8. From address 0 on there is none.
 pub record WorkedExists : Type 0 where
   pub room : tables_end 0x2000 two_libraries ≡ 0x2186
   pub end : packed_end 0x2000 closed_objects ≡ 0x20A8

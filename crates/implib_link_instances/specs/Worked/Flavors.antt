@@ -1,6 +1,6 @@
 -- Programs of DLLs in both flavours, linked by hand: foo.dll by members for Microsoft's linker,
 -- with four exports chosen in an order of its own, and zed.dll by members for GNU's, with one,
--- between a caller and another object; and tables at addresses where no loader finds them.
+-- between a caller and another object.
 use Rattle.std.specs.Prelude.{◌≡◌, ℕ, ◌+◌, List, [], ◌∷◌, ◌++◌, codes, drop, map, take, true}
 use Rattle.std.specs.Prelude.{Option, Some}
 use Rattle.std.specs.List.{AllByRecursion}
@@ -166,8 +166,7 @@ pub record WorkedFlavorProgram (machine : MachineType) (count : ℕ) (bases : Ba
       (ASymbol (symbol_of_class (imp_symbol (symbol_on machine (codes "open"))) 0 class_external))
       ≡ expected.named
 
--- on all four machines: the null descriptor in front of all members, between those of foo.dll, and
--- after all
+-- the null descriptor in front of all members, and between those of foo.dll
 pub record WorkedFlavors : Type 0 where
   pub amd64 : WorkedFlavorProgram AMD64 0 flavor_bases_8 flavor_expected_8
   pub i386 : WorkedFlavorProgram I386 2 flavor_bases_4 flavor_expected_4

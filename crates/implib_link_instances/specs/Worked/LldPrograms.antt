@@ -1,5 +1,6 @@
--- The import tables that lld-link 19.1.7 wrote of three short imports of llvm-dlltool 19.1.7, for
--- two DLLs, one of them by its ordinal: what the linker read and what it wrote, byte by byte.
+-- Programs that lld-link 14.0.6 and 19.1.7 wrote for three machines, the same bytes by both: the
+-- short imports of llvm-dlltool 19.1.7, the code of an object before and after the link, the thunk,
+-- and the import tables.
 use Rattle.std.specs.Prelude.{List, None, Option, Some, [], codes, ℕ, ◌+◌, ◌∷◌}
 use Rattle.implib.specs.declared.coff.object.Relocation.{Relocation}
 use Rattle.implib.specs.declared.machine.MachineType.{MachineType}

@@ -79,8 +79,7 @@ pub record WorkedCall (machine : MachineType) (image_base : ℕ) (bases : Bases)
       (symbol_on machine (codes "queue"))
       queue_entry
 
--- on all machines that have such stubs; and where there are none: an image that does not end below
--- 2^32, an image or address tables at no multiple of 8, and ARMNT
+-- on two machines
 pub record WorkedLoads : Type 0 where
   pub amd64 : WorkedLoad AMD64 touching_8 (written_8 AMD64)
   pub i386 : WorkedLoad I386 touching_4 (written_4 I386)
@@ -125,8 +124,7 @@ pub record WorkedPacking (machine : MachineType) (bases : Bases) (end : ℕ) : T
   pub program : IsProgram machine (packed 0x1001 (alone machine)) (both_inputs machine)
       (alone machine)
 
--- On all four machines. Right below 2^31 there is no room: the end is above it, and the bases are
--- not admissible. Where ranges touch, the members link in any order, and with the null descriptor
+-- On two machines. Where ranges touch, the members link in any order, and with the null descriptor
 -- are a program.
 pub record WorkedPackings : Type 0 where
   pub amd64 : WorkedPacking AMD64 packed_8 0x10FC
@@ -148,7 +146,7 @@ pub record WorkedBound (machine : MachineType) (bases : Bases) (start size : ℕ
       (contributions machine (program_placed machine bases) HintNames
       (program_placed machine bases)) ≡ hints
 
--- on all four machines: seven thunks each, from where the bases say
+-- on two machines: seven thunks each, from where the bases say
 pub record WorkedBounds : Type 0 where
   pub amd64 : WorkedBound AMD64 touching_8 120 56 (176 ∷ 176 ∷ 184 ∷ 192 ∷ 200 ∷ [])
   pub i386 : WorkedBound I386 touching_4 92 28 (120 ∷ 120 ∷ 128 ∷ 136 ∷ 144 ∷ [])

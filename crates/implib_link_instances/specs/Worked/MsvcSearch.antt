@@ -1,4 +1,4 @@
--- A search of the members for Microsoft's linker that was done by hand, and what is no such search.
+-- Searches of the members for Microsoft's linker that were done by hand, also of two libraries.
 use Rattle.std.specs.Prelude.{List, [], bytes_eq, codes, length, map, ℕ, ◌∷◌, ◌≡◌, ◌≤◌}
 use Rattle.std.specs.List.{IsDistinct, flat_map}
 use Rattle.implib.specs.declared.flavor.Flavor.TheVariants.{Msvc}
@@ -72,8 +72,7 @@ pub record WorkedMsvcSearch (machine : MachineType) : Type 0 where
   pub unasked : TakesFor machine (short_members machine) (codes "printf" ∷ [])
       (baz_member machine ∷ []) → ⊥
 
--- on each machine; there is such a search, which takes at most the archive's six members; and names
--- by which only members name each other are left out
+-- on two machines; there is such a search, which takes at most the archive's six members
 pub record WorkedMsvcSearches : Type 0 where
   pub amd64 : WorkedMsvcSearch AMD64
   pub i386 : WorkedMsvcSearch I386

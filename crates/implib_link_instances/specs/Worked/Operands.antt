@@ -258,8 +258,7 @@ passing_places ARM64 = record { address = 0x1020; width = 8 } ∷ []
 abbrev pub imp_open : MachineType → List ℕ
 imp_open machine = imp_symbol (open_on machine)
 
--- its fields, and what is none: REL32 with 0 in the field where a byte follows, REL32_1 where none
--- does, the field relative to a section, and the offset of a load of 16 bytes
+-- its fields
 pub record PassingFields : Type 0 where
   pub amd64_call : HasInstruction AMD64 (passing_at AMD64) 11 (0xFF ∷ 0x15 ∷ []) [] (imp_open AMD64)
   pub amd64_operand : HasOperand AMD64 (passing_at AMD64) 19 1 (imp_open AMD64)

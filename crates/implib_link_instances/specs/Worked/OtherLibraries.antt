@@ -344,9 +344,8 @@ beside_image = image_of AMD64 linker_bases (placed_from linker_bases beside_obje
 
 -- The premises of the law hold of these files, and the image that the definitions make of them is
 -- what the linker wrote, byte for byte. By the law, the directory is this, and our entries are
--- those that the linker's map has.
--- With a library torn apart, the lookup table of aaa.dll goes on with the hint and name of `mone`.
--- The program of Worked/Programs is such a program without other libraries.
+-- those that the linker's map has. The program of Worked/Programs is such a program without other
+-- libraries.
 pub record WorkedBeside : Type 0 where
   pub made : AllByRecursion (λ r. AllByRecursion (IsMade AMD64) r.inputs) both_runs
   pub program : IsProgramBeside AMD64 linker_bases both_runs beside_objects

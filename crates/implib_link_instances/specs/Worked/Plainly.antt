@@ -1,5 +1,7 @@
--- What the programs are made of, on each machine: foo.dll with data `bar`, an alias of its function
--- `baz`; zed.dll with two functions; and an object.
+-- What GNU ld takes of libraries with an alias, and what stays undefined, by hand. Objects name
+-- `bar` plainly, which is weak for `baz` of foo.dll. An object of gcc 12 (`void start(void) {
+-- quit(); }`) names `quit`, which a library of kernel32.dll for Microsoft's linker has as weak for
+-- `ExitProcess`.
 use Rattle.std.specs.Prelude.{List, [], codes, ℕ, ◌++◌, ◌∷◌, ◌≡◌}
 use Rattle.implib.specs.declared.machine.MachineType.{MachineType}
 use Rattle.implib.specs.LibraryName.{own_names}

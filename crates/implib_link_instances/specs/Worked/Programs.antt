@@ -1,4 +1,4 @@
--- Programs that were linked by hand, on each machine: foo.dll with four exports, chosen in an order
+-- Programs that were linked by hand: foo.dll with four exports, chosen in an order
 -- of its own, and zed.dll with one, among a caller and another object, at bases from 4 on whose
 -- ranges touch.
 use Rattle.std.specs.Prelude.{◌≡◌, ℕ, ◌+◌, List, [], ◌∷◌, ◌++◌, codes, map, true, Option, Some}
@@ -194,7 +194,7 @@ pub record WorkedProgram (machine : MachineType) (bases : Bases)
       (ASymbol (symbol_of_class (imp_symbol (symbol_on machine (codes "open"))) 0 class_external))
       ≡ expected.named
 
--- on all four machines
+-- on three machines
 pub record WorkedPrograms : Type 0 where
   pub amd64 : WorkedProgram AMD64 touching_8 expected_8
   pub i386 : WorkedProgram I386 touching_4 expected_4

@@ -1,4 +1,4 @@
--- Data and code that name `open` by its bare name, by hand, on three machines, in the program of
+-- Data and code that name `open` by its bare name, by hand, on two machines, in the program of
 -- Worked/Operands with this object in the place of the passing one: at other places, in images at
 -- other bases, and moved to others. Here the name is that of a stub for GNU's linker.
 use Rattle.std.specs.Prelude.{ℕ, List, [], ◌∷◌, ◌++◌, codes, slice_get}
@@ -149,8 +149,7 @@ pub record WorkedRegistered (machine : MachineType) (image_base : ℕ) (bases : 
   pub pointer : HasPointer machine (registering_at machine) 0 (open_on machine)
   pub relative : HasRelative machine (registering_at machine) further (open_on machine)
 
--- the three programs, as they were linked and moved; I386's immediate operand, and ARM64's two
--- instructions
+-- the two programs, as they were moved; and ARM64's two instructions
 pub record WorkedRegistering : Type 0 where
   pub amd64 : WorkedRegistered AMD64 0x1_8000_0000 touching_8
       (registering_memory AMD64 touching_8) 0x80 16

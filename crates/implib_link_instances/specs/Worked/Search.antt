@@ -1,5 +1,5 @@
--- A search of the members for GNU's linker that was done by hand, and what it is without the law's
--- premises.
+-- Searches of the members for GNU's linker that were done by hand: of one library, of two, by
+-- sweeps; and what is taken by names.
 use Rattle.std.specs.Prelude.{List, None, Option, Some, [], bytes_eq, codes, if◌then◌else◌, length}
 use Rattle.std.specs.Prelude.{map, true, ℕ, ◌++◌, ◌==◌, ◌∷◌, ◌≡◌, ◌≤◌}
 use Rattle.std.specs.List.{Contains, IsDistinct, flat_map}
@@ -69,9 +69,8 @@ MayTake d names taken_names =
 -- The members of three exports are an archive that the law speaks of. For these names a linker may
 -- take the first function's member, then the head, for it the tail, and at last the variable's; not
 -- the other function's. A name of another library takes nothing. The descriptor's symbol takes the
--- head and the tail and no export, which the laws leave out; a variable's bare name takes its
--- alias, where it has one, which the law of one definition leaves out and that of libraries does
--- not.
+-- head and the tail and no export, which the laws leave out; a variable's bare name finds its
+-- alias, where it has one.
 pub record WorkedSearch : Type 0 where
   pub made : AreMembersOf three AMD64 Gnu (members_of three)
   pub distinct : IsDistinct bytes_eq (flat_map (λ m. m.symbols) (members_of three))
@@ -154,10 +153,9 @@ searched_objects =
     ∷ symbol_of_class (codes "bar") 0 class_external ∷ [])
     ∷ (objects_in by_name ++ null_descriptor ∷ [])
 
--- What was taken for the wanted names is exactly what the law says; by names it is in order, and in
--- no order where the tail is in front, or where the tail or an export's member lacks; a program of
--- it imports `bar` and `qux` alone. A search ends, and this one took no more members than there
--- are.
+-- What was taken for the wanted names is exactly what the law says; by names it is in order; a
+-- program of it imports `bar` and `qux` alone. A search ends, and this one took no more members
+-- than there are.
 pub record WorkedSearched : Type 0 where
   pub takes : Takes (members_of three) wanted as_taken
   pub just : HaveSame as_taken (linked_if_any three AMD64 (0 ∷ 2 ∷ []))
@@ -239,7 +237,7 @@ pub record WorkedFound : Type 0 where
   pub with_ending : IsFoundByName Msvc
       (names_for Msvc (of_library (codes "foo.drv") (codes "foo.drv") [])) → ⊥
 
--- The two libraries with an alias are named apart, and so are an archive. The others are not.
+-- The two libraries with an alias are named apart, and so are an archive.
 pub record WorkedNamedApart : Type 0 where
   pub stems : map stem two_libraries ≡ codes "foo_dll" ∷ codes "zed_dll" ∷ []
   pub names : names_in two_libraries

@@ -260,8 +260,8 @@ pub record WorkedHolding (machine : MachineType) (image_base : ℕ) (memory : Li
   pub thunk : IsThunk machine (mid_thunk_at machine) (mid_on machine)
   pub pointer : HasPointer machine (held_at machine) second (mid_name machine)
 
--- The three programs, at the bases that they were linked for and at others, and what else names
--- `mid`: I386's immediate operand, AMD64's `lea`, the handlers, and ARM64's two instructions.
+-- The three programs, at the bases that they were linked for, I386's at another, and what else
+-- names `mid`: I386's immediate operand, AMD64's `lea`, the handlers, and ARM64's two instructions.
 pub record WorkedHoldings : Type 0 where
   pub i386 : WorkedHolding I386 0x40_0000 (holding_memory I386) 4
   pub i386_moved : WorkedHolding I386 0x1000_0000 (holding_moved_memory I386) 4

@@ -1,5 +1,4 @@
--- A loader that writes as it goes, by hand: what it leaves of the programs that are linked by hand,
--- and images that it reads in another way than a loader that first reads all.
+-- A loader that writes as it goes, by hand: what it leaves of the programs that are linked by hand.
 use Rattle.std.specs.Prelude.{◌≡◌, List, [], ◌∷◌, ◌++◌, map}
 use Rattle.implib.specs.declared.machine.MachineType.{MachineType}
 use Rattle.implib.specs.declared.machine.MachineType.TheVariants.{I386, AMD64}

@@ -9,16 +9,11 @@ ghost use Rattle.implib_link_instances.specs.Worked.NoShorts.{WorkedNoShorts};
 /// A closed program by hand, of an object that names data by an alias, a function by its pointer
 /// and a function of another library, and has a function of its own that a library exports, too.
 ///
-/// A closed program by hand, of an object that names data by an alias, a function by its pointer
-/// and a function of another library, and has a function of its own that a library exports, too.
-///
 /// A closed program by hand, of an object that names data of one library by an alias and a function
 /// of another, of the other flavour, by its pointer; and with the libraries in the other order.
 ///
-/// What is no archive of both flavours, is not taken of it, and closes no program.
-///
 /// The closed program of two libraries for GNU's linker that was linked by hand, with one for
-/// Microsoft's between them of which nothing is wanted.
+/// Microsoft's between them and in front of them of which nothing is wanted.
 pub fn worked_closed_programs()
     ensures worked_closed { WorkedClosed }
     ensures worked_given { WorkedGiven }

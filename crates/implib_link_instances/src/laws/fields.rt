@@ -11,17 +11,11 @@ ghost use Rattle.implib_link_instances.specs.Worked.Stored.{WorkedHoldings};
 /// another without a gap, some of types of which nothing is said, are in memory at two bases, and
 /// lead to the entry.
 ///
-/// Near misses: bytes that no linker makes of the worked code, and memory in which no field leads
-/// to the entry, each with one thing wrong.
-///
 /// Programs that lld wrote for I386, AMD64 and ARM64 of an object that clang made: pointers, a
 /// handler and code that name an import by its bare name are in memory at two bases. So are those
 /// that name a stub for GNU's linker, by hand.
 ///
-/// Near misses: what is no such field, what no linker makes of it, and memory that does not hold
-/// the address, each with one thing wrong.
-///
-/// The programs that were linked by hand are bounded as the law says, on each machine.
+/// The programs that were linked by hand are bounded as the law says, on AMD64 and I386.
 pub fn worked_fields()
     ensures passing_fields { PassingFields }
     ensures adjacent_calls { AdjacentCalls }

@@ -8,7 +8,7 @@ ghost use Rattle.std.specs.Prelude.{List, ℕ};
 /// Files that lld wrote for I386, AMD64 and ARM64, byte for byte, are those of programs of the laws
 /// with their code; and a loader that begins with a file of GNU `ld` finds its import directory.
 ///
-/// Near misses: those files with single bytes changed, and what these say instead.
+/// Those files with single bytes changed, and what these say instead.
 pub fn worked_files()
     ensures worked_files { WorkedFiles }
     ensures worked_headers { (gives : List ℕ → Ask → List ℕ) → WorkedHeaders gives }

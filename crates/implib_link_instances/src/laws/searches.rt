@@ -17,7 +17,7 @@ ghost use Rattle.implib_link_instances.specs.Worked.Search.{WorkedSweeps};
 ///
 /// Libraries whose descriptors are found by the DLL's name, and others.
 ///
-/// Libraries that are named apart, and some that are not, by hand.
+/// Libraries that are named apart, by hand.
 ///
 /// Searches by hand of two libraries, one of which has an alias.
 pub fn worked_searches()
