@@ -2,7 +2,6 @@
 import argparse
 import functools
 import os
-import pathlib
 import re
 import shutil
 import subprocess
@@ -166,12 +165,3 @@ def run_by_wine(wine, folder, image):
     pipes = {"stdout": subprocess.PIPE, "stderr": subprocess.DEVNULL}
     ran = subprocess.run([wine, image], env=environment, **pipes)
     return ran.stdout.strip(), ran.returncode
-
-
-def mutants_in(path):
-    """The mutants of a file, each below a line `== NAME`: their names and texts, in order."""
-    found = []
-    for part in re.split(r"^== ", pathlib.Path(path).read_text(), flags=re.M)[1:]:
-        name, _, text = part.partition("\n")
-        found.append((name.strip(), text.strip("\n") + "\n"))
-    return found
