@@ -2,7 +2,7 @@
 use Rattle.std.proofs.Common.{List, [], ap, codes, inl, inr, refl, subst, sym, ◌++◌, ◌∙◌, ◌∷◌, ◌≡◌}
 use Rattle.implib_archive.specs.Leads.{headers_among, headers_in, with_header}
 use Rattle.implib_archive.specs.Reader.{data_at, first_in, linker_data, linker_in, long_name, long_name_at, long_names_in, long_names_or, member_at, name_in, number_in, numbers_in, paired, read_as, stored_at, stored_from, stored_in, texts_in, trimmed}
-use Rattle.implib_archive_link.specs.Files.{HasMembersAs, entries_by, entries_in, member_after, members_in_files, members_read, members_read_as, symbols_at}
+use Rattle.implib_link.specs.Archives.Files.{HasMembersAs, entries_by, entries_in, member_after, members_in_files, members_read, members_read_as, symbols_at}
 use Rattle.implib.specs.Worked.Digits.{bytes_of_digits}
 use Rattle.implib_archive.specs.declared.kind.Kind.TheVariants.{Coff}
 use Rattle.implib_link.specs.Search.BothFlavors.{FlavorLibrary, archive_of_both, msvc_among}
@@ -16,9 +16,9 @@ use Rattle.implib.specs.Definition.{empty_definition}
 use Rattle.implib.specs.Formats.Object.{Object}
 use Rattle.implib.specs.Members.MsvcObjects.{null_descriptor_symbol}
 use Rattle.implib.proofs.Link.Ranges.{Among}
-use Rattle.implib_archive_link.specs.LldFiles.{SearchesByLld, read_by_lld}
-use Rattle.implib_archive_link.specs.LldWay.{AreCalledAlike}
-use Rattle.implib_archive_link.proofs.LldFiles.{files_lead_to_lld}
+use Rattle.implib_link.specs.Archives.LldFiles.{SearchesByLld, read_by_lld}
+use Rattle.implib_link.specs.Archives.LldWay.{AreCalledAlike}
+use Rattle.implib_link.proofs.Archives.LldFiles.{files_lead_to_lld}
 use Rattle.implib_link.specs.Search.Archives.{Library, archive_of}
 use Rattle.implib_link.specs.Search.Closed.{listed_in}
 use Rattle.implib_link.specs.Search.CommandLines.{AreListedWhole, AreTakenBehind, AreUnclaimedBehind, HaveAll, LldSearches, LldSearchesFrom, SearchesFlavors, names_left}
@@ -29,8 +29,8 @@ use Rattle.implib_link_instances.specs.Worked.CommandLines.{i386_wants_bytes, is
 use Rattle.implib_link_instances.proofs.Worked.CommandLines.{ended_by, member_or_none, none_there, pulls_by, whole_at}
 use Rattle.implib_link_instances.proofs.Worked.FlavorLines.{worked_flavor_lines}
 use Rattle.implib_link_instances.proofs.Worked.Programs.{distinct_by}
-use Rattle.implib_archive_link.specs.Results.{HaveArchive}
-use Rattle.implib_archive_link.specs.InBytes.{Second}
+use Rattle.implib_link.specs.Archives.Results.{HaveArchive}
+use Rattle.implib_link.specs.Archives.InBytes.{Second}
 
 -- what the computing has to open
 unfoldable pub opened_files : Unit {0}

@@ -11,10 +11,10 @@ use Rattle.implib_archive.specs.Reader.{data_at, first_in, linker_data, linker_i
 use Rattle.implib_archive.specs.Worked.{worked_coff, worked_gnu}
 use Rattle.implib_archive.specs.declared.kind.Kind.{Kind}
 use Rattle.implib_archive.specs.declared.kind.Kind.TheVariants.{Coff, Gnu}
-use Rattle.implib_archive_link.specs.InBytes.{AreTakenAt, First, LinkerMember, PullsInAt, Second, TakesAt, asks_for, contents_at, header_by, objects_of}
-use Rattle.implib_archive_link.specs.Results.{HaveArchive}
+use Rattle.implib_link.specs.Archives.InBytes.{AreTakenAt, First, LinkerMember, PullsInAt, Second, TakesAt, asks_for, contents_at, header_by, objects_of}
+use Rattle.implib_link.specs.Archives.Results.{HaveArchive}
 use Rattle.implib_link_instances.specs.Archives.Worked.{WorkedLibraries, WorkedSearches, names_wanted}
-use Rattle.implib_archive_link.proofs.Corollaries.{found_given, found_wanted}
+use Rattle.implib_link.proofs.Archives.Corollaries.{found_given, found_wanted}
 use Rattle.implib_link.specs.Gnu.Program.{claimed_names}
 use Rattle.implib_link.specs.Search.Search.{undefined_in}
 use Rattle.implib_link_instances.specs.Worked.Search.{both_wanted, members_of, three, two_libraries, wanted}

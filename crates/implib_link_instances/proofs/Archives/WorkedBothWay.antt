@@ -9,12 +9,12 @@ use Rattle.implib.specs.Worked.Statements.{plain_export}
 use Rattle.implib.proofs.Link.LinkedMembers.{among_contains}
 use Rattle.implib.proofs.Link.Ranges.{among_back, apart_as_they_rise}
 use Rattle.implib_archive.specs.declared.kind.Kind.TheVariants.{Coff}
-use Rattle.implib_archive_link.specs.BothWay.{AreLinkedForBoth, BothArrive}
-use Rattle.implib_archive_link.specs.InBytes.{Second}
-use Rattle.implib_archive_link.specs.Results.{HaveArchive}
+use Rattle.implib_link.specs.Archives.BothWay.{AreLinkedForBoth, BothArrive}
+use Rattle.implib_link.specs.Archives.InBytes.{Second}
+use Rattle.implib_link.specs.Archives.Results.{HaveArchive}
 use Rattle.implib_link_instances.specs.Archives.WorkedBothWay.{WorkedBothWay, bar_for_gnu, bases, before_null, both, calls_bar, calls_queue, code, code_at, linked, objects, own, placed, queue_for_msvc, taken}
-use Rattle.implib_archive_link.proofs.BothWay.{both_arrive}
-use Rattle.implib_archive_link.proofs.Corollaries.{found_given}
+use Rattle.implib_link.proofs.Archives.BothWay.{both_arrive}
+use Rattle.implib_link.proofs.Archives.Corollaries.{found_given}
 use Rattle.implib_link.specs.Flavors.Program.{FlavorInput}
 use Rattle.implib_link.specs.Gnu.Calls.{CallArrives, HasCall, PlacedCode}
 use Rattle.implib_link.specs.Gnu.Choices.{AreSections, DefineOnce, plain_range}

@@ -14,12 +14,12 @@ use Rattle.implib.specs.Worked.Statements.{plain_export}
 use Rattle.implib.proofs.Link.LinkedMembers.{among_contains}
 use Rattle.implib.proofs.Link.Ranges.{Among}
 use Rattle.implib_archive.specs.declared.kind.Kind.TheVariants.{Coff}
-use Rattle.implib_archive_link.specs.InBytes.{Second}
-use Rattle.implib_archive_link.specs.LldWay.{AreCalledAlike, IsBuiltByLld, IsWantedBy, LldArrives, asks_of_lld, shorts_in}
-use Rattle.implib_archive_link.specs.Results.{HaveArchive}
+use Rattle.implib_link.specs.Archives.InBytes.{Second}
+use Rattle.implib_link.specs.Archives.LldWay.{AreCalledAlike, IsBuiltByLld, IsWantedBy, LldArrives, asks_of_lld, shorts_in}
+use Rattle.implib_link.specs.Archives.Results.{HaveArchive}
 use Rattle.implib_link_instances.specs.Archives.WorkedLldWay.{WorkedLldWay, bar_short, calls_linked, is_live, live_shorts, lld_codes, lld_image, lld_libraries, lld_library, lld_linked, lld_memory, lld_own, lld_tables, lld_taken, lld_targets, placed_calls, thunk_linked, two_calls}
-use Rattle.implib_archive_link.proofs.InBytes.{AreTakenBy, TakesBy, search_of}
-use Rattle.implib_archive_link.proofs.LldWay.{lld_arrives}
+use Rattle.implib_link.proofs.Archives.InBytes.{AreTakenBy, TakesBy, search_of}
+use Rattle.implib_link.proofs.Archives.LldWay.{lld_arrives}
 use Rattle.implib_link.specs.Flavors.Expansion.{descriptor_symbol_by_name, expanded_in, import_object}
 use Rattle.implib_link.specs.Flavors.LldImports.{imports_of_lld}
 use Rattle.implib_link.specs.Flavors.LldTables.{ArePiecesAt, built, built_bytes}

@@ -20,10 +20,10 @@ use Rattle.implib_archive.specs.Reader.{Read}
 use Rattle.implib_archive.specs.Worked.{worked_gnu, worked_members}
 use Rattle.implib_archive.specs.declared.kind.Kind.TheVariants.{Gnu}
 use Rattle.implib_archive.proofs.WorkedBytes.{worked_archives}
-use Rattle.implib_archive_link.specs.Files.{entries_by}
-use Rattle.implib_archive_link.specs.InBytes.{First, TakesAt, asks_for, header_by}
-use Rattle.implib_archive_link.specs.LldWay.{IsBuiltByLld, IsWantedBy, short_of_export, shorts_in}
-use Rattle.implib_archive_link.specs.Results.{AreHeadersOf}
+use Rattle.implib_link.specs.Archives.Files.{entries_by}
+use Rattle.implib_link.specs.Archives.InBytes.{First, TakesAt, asks_for, header_by}
+use Rattle.implib_link.specs.Archives.LldWay.{IsBuiltByLld, IsWantedBy, short_of_export, shorts_in}
+use Rattle.implib_link.specs.Archives.Results.{AreHeadersOf}
 use Rattle.implib_link.specs.Flavors.LldImports.{IsLldProgram, imports_of_lld, placed_by_lld}
 use Rattle.implib_link.specs.Flavors.LldTables.{addresses_at, built, hints_at, lookups_at, names_at}
 use Rattle.implib_link.proofs.Flavors.LldTables.{built_pieces}

@@ -23,8 +23,8 @@ use Rattle.implib_link.proofs.Search.Lists.{among_any, any_among, contains_among
 use Rattle.implib_link_instances.specs.Worked.CommandLines.{WorkedCommandLine, WorkedCommandLines, WorkedLibraries, all_taken, amd64_members, i386_members, i386_wants_bytes, in_group, is_quit, kernel_on, library_first, library_last, of_quit, read_or_none, wants_bytes}
 use Rattle.implib_link_instances.specs.Worked.Programs.{code_object}
 use Rattle.implib_link_instances.proofs.Worked.Programs.{claims_none_by, distinct_by, opened}
-use Rattle.implib_archive_link.specs.Results.{HaveArchive}
-use Rattle.implib_archive_link.specs.InBytes.{Second}
+use Rattle.implib_link.specs.Archives.Results.{HaveArchive}
+use Rattle.implib_link.specs.Archives.InBytes.{Second}
 use Rattle.implib_archive.specs.declared.kind.Kind.TheVariants.{Coff}
 use Rattle.implib_link_instances.proofs.Worked.Opened.{archived, searched}
 use Rattle.implib_link.specs.Search.Exists.{HasClosed, tables_end}

@@ -16,8 +16,8 @@ use Rattle.implib_link_instances.proofs.Worked.BothFlavors.{archive_by}
 use Rattle.implib_link_instances.proofs.Worked.CommandLines.{member_or_none, object_at, whole_at}
 use Rattle.implib_link_instances.proofs.Worked.Opened.{searched, archived}
 use Rattle.implib_link_instances.proofs.Worked.Programs.{claims_none_by, distinct_by}
-use Rattle.implib_archive_link.specs.Results.{HaveArchive}
-use Rattle.implib_archive_link.specs.InBytes.{Second}
+use Rattle.implib_link.specs.Archives.Results.{HaveArchive}
+use Rattle.implib_link.specs.Archives.InBytes.{Second}
 use Rattle.implib_archive.specs.declared.kind.Kind.TheVariants.{Coff}
 
 -- AMD64

@@ -3,7 +3,8 @@
 use Rattle.std.specs.Prelude.{List, [], codes, ℕ, ◌++◌, ◌∷◌, ◌≡◌}
 use Rattle.implib.specs.Worked.Digits.{hex}
 use Rattle.implib_archive.specs.declared.kind.Kind.TheVariants.{Coff, Gnu}
-use Rattle.implib_archive_link.specs.Files.{ArchiveFile, HasMembers, HasMembersAs, members_in_files}
+use Rattle.implib_link.specs.Archives.Files.{ArchiveFile, HasMembers, HasMembersAs}
+use Rattle.implib_link.specs.Archives.Files.{members_in_files}
 use Rattle.implib_link.specs.Search.BothFlavors.{FlavorLibrary, archive_of_both, msvc_among}
 use Rattle.implib_link_instances.specs.Worked.CommandLines.{i386_quit_bytes, i386_wants_bytes}
 use Rattle.implib_link_instances.specs.Worked.CommandLines.{inputs_of, is_quit, quit_bytes}
@@ -16,14 +17,14 @@ use Rattle.implib.specs.declared.machine.MachineType.{MachineType}
 use Rattle.implib.specs.declared.machine.MachineType.TheVariants.{AMD64, I386}
 use Rattle.implib.specs.Formats.Object.{Object}
 use Rattle.implib.specs.Members.MemberSpec.{MemberView}
-use Rattle.implib_archive_link.specs.LldFiles.{SearchesByLld, read_by_lld}
-use Rattle.implib_archive_link.specs.LldWay.{AreCalledAlike, LldArrives}
+use Rattle.implib_link.specs.Archives.LldFiles.{SearchesByLld, read_by_lld}
+use Rattle.implib_link.specs.Archives.LldWay.{AreCalledAlike, LldArrives}
 use Rattle.implib_link.specs.Search.CommandLines.{Archives, Input, SearchesFlavors, given_with}
 use Rattle.implib_link.specs.Search.CommandLines.{others_of}
 use Rattle.implib_link.specs.Search.MsvcArchives.{IsMsvcArchive}
 use Rattle.implib_link.specs.Search.Sweeps.{members_at}
-use Rattle.implib_archive_link.specs.Results.{HaveArchive}
-use Rattle.implib_archive_link.specs.InBytes.{Second}
+use Rattle.implib_link.specs.Archives.Results.{HaveArchive}
+use Rattle.implib_link.specs.Archives.InBytes.{Second}
 use Rattle.implib_link.specs.Search.Archives.{archive_of}
 
 abbrev pub libquit : List ℕ

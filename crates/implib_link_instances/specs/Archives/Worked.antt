@@ -4,14 +4,14 @@ use Rattle.implib.specs.Members.MemberSpec.{MemberView}
 use Rattle.implib_archive.specs.Worked.{worked_coff, worked_gnu}
 use Rattle.implib_archive.specs.declared.kind.Kind.TheVariants.{Coff, Gnu}
 use Rattle.implib.specs.declared.machine.MachineType.TheVariants.{AMD64}
-use Rattle.implib_archive_link.specs.InBytes.{First, Has, Second, TakesAt, asks_for, asks_on}
-use Rattle.implib_archive_link.specs.InBytes.{asks_with}
+use Rattle.implib_link.specs.Archives.InBytes.{First, Has, Second, TakesAt, asks_for, asks_on}
+use Rattle.implib_link.specs.Archives.InBytes.{asks_with}
 use Rattle.implib_link.specs.Search.Archives.{archive_of as members_of_libraries}
 use Rattle.implib_link_instances.specs.Worked.Search.{both_wanted, members_of, three, two_libraries}
 use Rattle.implib_link_instances.specs.Worked.Search.{wanted}
 use Rattle.implib_link_instances.specs.Worked.Closed.{choosing, closed_taken}
 use Rattle.implib_link_instances.specs.Worked.MsvcSearch.{four_taken, one_wanted, short_members}
-use Rattle.implib_archive_link.specs.Results.{HaveArchive, IsSearchOf}
+use Rattle.implib_link.specs.Archives.Results.{HaveArchive, IsSearchOf}
 
 -- a function, one of the second member, and one of another library
 abbrev pub names_wanted : List (List ℕ)

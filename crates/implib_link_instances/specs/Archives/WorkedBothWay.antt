@@ -24,9 +24,9 @@ use Rattle.implib.specs.LibraryName.{own_names}
 use Rattle.implib.specs.Members.GnuMembers.{export_spec, head_spec, tail_spec}
 use Rattle.implib.specs.Members.MemberSpec.{MemberView, member_of}
 use Rattle.implib_archive.specs.declared.kind.Kind.TheVariants.{Coff}
-use Rattle.implib_archive_link.specs.BothWay.{AreLinkedForBoth}
-use Rattle.implib_archive_link.specs.InBytes.{Second, asks_with_on}
-use Rattle.implib_archive_link.specs.Results.{HaveArchive, IsSearchOf}
+use Rattle.implib_link.specs.Archives.BothWay.{AreLinkedForBoth}
+use Rattle.implib_link.specs.Archives.InBytes.{Second, asks_with_on}
+use Rattle.implib_link.specs.Archives.Results.{HaveArchive, IsSearchOf}
 use Rattle.implib_link.specs.Flavors.Program.{objects_taken}
 use Rattle.implib_link.specs.Gnu.Choices.{AreSections}
 use Rattle.implib_link.specs.Gnu.Fields.{AreBeside, LinkedCode, placed_code, ranges_of_codes}

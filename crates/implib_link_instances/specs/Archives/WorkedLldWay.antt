@@ -15,10 +15,10 @@ use Rattle.implib.specs.Members.MemberSpec.{MemberView}
 use Rattle.implib.specs.Worked.Members.{of_dll}
 use Rattle.implib.specs.Worked.Statements.{plain_export}
 use Rattle.implib_archive.specs.declared.kind.Kind.TheVariants.{Coff}
-use Rattle.implib_archive_link.specs.InBytes.{Second}
-use Rattle.implib_archive_link.specs.LldWay.{AreCalledAlike, IsBuiltByLld, IsWantedBy, asks_of_lld}
-use Rattle.implib_archive_link.specs.LldWay.{short_of_export, shorts_in}
-use Rattle.implib_archive_link.specs.Results.{HaveArchive, IsSearchOf}
+use Rattle.implib_link.specs.Archives.InBytes.{Second}
+use Rattle.implib_link.specs.Archives.LldWay.{AreCalledAlike, IsBuiltByLld, IsWantedBy, asks_of_lld}
+use Rattle.implib_link.specs.Archives.LldWay.{short_of_export, shorts_in}
+use Rattle.implib_link.specs.Archives.Results.{HaveArchive, IsSearchOf}
 use Rattle.implib_link.specs.Flavors.LldImports.{placed_by_lld}
 use Rattle.implib_link.specs.Flavors.LldThunks.{BranchArrivesByThunk, IsThunk, placed_thunk}
 use Rattle.implib_link.specs.Flavors.LldThunks.{thunk_section}

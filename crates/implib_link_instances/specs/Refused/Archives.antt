@@ -5,15 +5,15 @@ use Rattle.implib.specs.declared.machine.MachineType.TheVariants.{AMD64}
 use Rattle.implib.specs.Members.MemberSpec.{MemberView}
 use Rattle.implib_archive.specs.Worked.{worked_members}
 use Rattle.implib_archive.specs.declared.kind.Kind.TheVariants.{Coff, Gnu}
-use Rattle.implib_archive_link.specs.BothWay.{BothArrive}
-use Rattle.implib_archive_link.specs.Files.{HasMembersAs}
-use Rattle.implib_archive_link.specs.InBytes.{First, Second, asks_for}
-use Rattle.implib_archive_link.specs.LldWay.{LldArrives}
-use Rattle.implib_archive_link.specs.Results.{AreHeadersOf, AreMembersAt, IsHeaderOf, IsSearchOf}
-use Rattle.implib_archive_link.specs.Results.{LeadsToFirst, TakesJust}
-use Rattle.implib_archive_link.specs.Way.{CallsArrive}
-use Rattle.implib_image.specs.Files.{DataDirectory}
-use Rattle.implib_image.specs.Laws.{IsInDirectory}
+use Rattle.implib_link.specs.Archives.BothWay.{BothArrive}
+use Rattle.implib_link.specs.Archives.Files.{HasMembersAs}
+use Rattle.implib_link.specs.Archives.InBytes.{First, Second, asks_for}
+use Rattle.implib_link.specs.Archives.LldWay.{LldArrives}
+use Rattle.implib_link.specs.Archives.Results.{AreHeadersOf, AreMembersAt, IsHeaderOf, IsSearchOf}
+use Rattle.implib_link.specs.Archives.Results.{LeadsToFirst, TakesJust}
+use Rattle.implib_link.specs.Archives.Way.{CallsArrive}
+use Rattle.implib_link.specs.Image.Files.{DataDirectory}
+use Rattle.implib_link.specs.Image.Laws.{IsInDirectory}
 use Rattle.implib_link_instances.specs.Archives.Files.{libquit}
 use Rattle.implib_link_instances.specs.Refused.Links.{f_library, for_gnu, listing, own}
 use Rattle.implib_link_instances.specs.Refused.Tables.{range_at}

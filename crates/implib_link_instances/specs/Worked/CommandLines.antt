@@ -24,8 +24,8 @@ use Rattle.implib_link.specs.Search.CommandLines.{SearchesLibraries, given_with}
 use Rattle.implib_link.specs.Search.Given.{AreGiven}
 use Rattle.implib_link.specs.Search.Search.{objects_as}
 use Rattle.implib_link.specs.Search.Sweeps.{members_at}
-use Rattle.implib_archive_link.specs.Results.{HaveArchive}
-use Rattle.implib_archive_link.specs.InBytes.{Second}
+use Rattle.implib_link.specs.Archives.Results.{HaveArchive}
+use Rattle.implib_link.specs.Archives.InBytes.{Second}
 use Rattle.implib_archive.specs.declared.kind.Kind.TheVariants.{Coff}
 use Rattle.implib_link.specs.Search.Exists.{HasClosed}
 

@@ -8,8 +8,8 @@ use Rattle.implib.specs.declared.machine.MachineType.{MachineType}
 use Rattle.implib.specs.declared.machine.MachineType.TheVariants.{AMD64, ARM64, ARMNT, I386}
 use Rattle.implib.specs.Members.ImportTables.{thunk_width, zeros}
 use Rattle.implib_dll.specs.Digits.{changed, hex}
-use Rattle.implib_image.specs.Files.{LoadsFile, MappedFile, mapped_file}
-use Rattle.implib_image.specs.Laws.{HasTable, IsFileOf, thunks_with_nulls}
+use Rattle.implib_link.specs.Image.Files.{LoadsFile, MappedFile, mapped_file}
+use Rattle.implib_link.specs.Image.Laws.{HasTable, IsFileOf, thunks_with_nulls}
 use Rattle.implib_link.specs.Flavors.LldImports.{grouped}
 use Rattle.implib_link.specs.Gnu.Fields.{AreLinkedBeside, ranges_of_codes}
 use Rattle.implib_link.specs.Gnu.Stored.{AreFurtherHeld}

@@ -22,8 +22,8 @@ use Rattle.implib_link.specs.Search.Sweeps.{members_at}
 use Rattle.implib_link_instances.specs.Worked.CommandLines.{i386_quit_bytes, i386_wants_bytes}
 use Rattle.implib_link_instances.specs.Worked.CommandLines.{inputs_of, is_quit, quit_bytes}
 use Rattle.implib_link_instances.specs.Worked.CommandLines.{quit_member, read_or_none, wants_bytes}
-use Rattle.implib_archive_link.specs.Results.{HaveArchive}
-use Rattle.implib_archive_link.specs.InBytes.{Second}
+use Rattle.implib_link.specs.Archives.Results.{HaveArchive}
+use Rattle.implib_link.specs.Archives.InBytes.{Second}
 use Rattle.implib_archive.specs.declared.kind.Kind.TheVariants.{Coff}
 
 -- the library of kernel32.dll for Microsoft's linker, with one function
