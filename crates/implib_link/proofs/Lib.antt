@@ -7,3 +7,5 @@ pub mod TablesOfPrograms
 pub mod TablesInMemory
 pub mod StoredInMemory
 pub mod Parts
+pub mod Archives
+pub mod Image

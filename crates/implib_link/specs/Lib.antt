@@ -7,3 +7,5 @@ pub mod Search
 pub mod Tables
 pub mod InMemory
 pub mod Parts
+pub mod Archives
+pub mod Image

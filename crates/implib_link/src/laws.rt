@@ -1,11 +1,13 @@
 //! Laws: what a caller may conclude from the definitions, each as the contract of an empty
 //! function.
 
+pub mod archives;
 pub mod both_flavors;
 pub mod bounds;
 pub mod choices;
 pub mod closed;
 pub mod command_lines;
+pub mod image;
 pub mod lld;
 pub mod msvc_search;
 pub mod no_shorts;

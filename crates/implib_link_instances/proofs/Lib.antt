@@ -1,3 +1,3 @@
-pub mod Worked
 pub mod Archives
-pub mod Machines
+pub mod Refused
+pub mod Worked

@@ -1,10 +1,5 @@
--- Searches in an archive's bytes and ways from these to calls, worked by hand, and near misses.
-pub mod Worked
-pub mod WorkedWay
-pub mod WorkedLldWay
-pub mod WorkedBothWay
-pub mod NearMisses
-pub mod NearBothWay
-pub mod Following
+-- Searches in an archive's bytes and ways from these to calls, worked by hand.
 pub mod Files
-pub mod FileLines
+pub mod Worked
+pub mod WorkedBothWay
+pub mod WorkedLldWay

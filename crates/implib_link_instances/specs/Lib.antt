@@ -1,4 +1,3 @@
-pub mod But
-pub mod Worked
 pub mod Archives
-pub mod Machines
+pub mod Refused
+pub mod Worked

@@ -1,7 +1,8 @@
-//! Instances of the laws of `implib_link` and `implib_archive_link`: links, loaded programs,
-//! searches and ways from bytes to calls that are worked by hand, and near misses of them.
+//! Instances of the laws of `implib_link`: links, loaded programs, searches and ways from bytes to
+//! calls that are worked by hand; and what the fields of their conclusions refuse.
 //!
-//! A module of [`laws`] has the instances of the laws in the module of that name in `implib_link`.
+//! A module of [`laws`] has instances of laws of `implib_link`; [`laws::refused`] has what they
+//! refuse.
 #![tactic(auto)]
 
 pub mod laws;

@@ -1,20 +1,39 @@
 -- The archives that were read by hand, by computing.
-use Rattle.std.proofs.Common.{◌≡◌, ℕ, List, [], ◌∷◌, Option, None, Some, refl, ap, sym, ◌∙◌, arith}
+use Rattle.std.proofs.Common.{List, [], ap, codes, inl, inr, refl, subst, sym, ◌++◌, ◌∙◌, ◌∷◌, ◌≡◌}
 use Rattle.implib_archive.specs.Leads.{headers_among, headers_in, with_header}
 use Rattle.implib_archive.specs.Reader.{data_at, first_in, linker_data, linker_in, long_name, long_name_at, long_names_in, long_names_or, member_at, name_in, number_in, numbers_in, paired, read_as, stored_at, stored_from, stored_in, texts_in, trimmed}
-use Rattle.implib_archive_link.specs.Files.{entries_by, entries_in, member_after, members_read_as, symbols_at}
-use Rattle.implib.specs.Members.MemberSpec.{MemberView}
+use Rattle.implib_link.specs.Archives.Files.{HasMembersAs, entries_by, entries_in, member_after, members_in_files, members_read, members_read_as, symbols_at}
 use Rattle.implib.specs.Worked.Digits.{bytes_of_digits}
 use Rattle.implib_archive.specs.declared.kind.Kind.TheVariants.{Coff}
-use Rattle.implib_archive_link.specs.Files.{HasMembersAs}
-use Rattle.implib_link.specs.Search.BothFlavors.{archive_of_both}
-use Rattle.implib_link_instances.specs.Archives.Files.{NearHasMembersAs, WorkedFiles, i386_kernel_lib, kernel_lib, two_members}
-use Rattle.implib_link_instances.specs.Worked.FlavorLines.{amd64_kernels, i386_kernels}
-use Rattle.implib_link_instances.proofs.Worked.NearSearches.{searched}
-use Rattle.implib_link_instances.proofs.Worked.RefusedLinks.{differ}
+use Rattle.implib_link.specs.Search.BothFlavors.{FlavorLibrary, archive_of_both, msvc_among}
+use Rattle.implib_link_instances.specs.Archives.Files.{WorkedFileLine, WorkedFileLines, WorkedFiles, amd64_files, i386_files, i386_kernel_lib, i386_libquit, kernel_lib, libquit, lld_taken, shorts_first}
+use Rattle.implib_link_instances.specs.Worked.FlavorLines.{amd64_kernels, amd64_shorts, i386_kernels, i386_shorts, shorts_grouped, shorts_last, shorts_taken}
+use Rattle.implib_link_instances.proofs.Worked.Opened.{searched, archived}
+use Rattle.std.specs.Prelude.{bytes_eq, drop, slice_get}
+use Rattle.std.specs.List.{IsDistinct, flat_map}
+use Rattle.implib.specs.declared.machine.MachineType.TheVariants.{AMD64, I386}
+use Rattle.implib.specs.Definition.{empty_definition}
+use Rattle.implib.specs.Formats.Object.{Object}
+use Rattle.implib.specs.Members.MsvcObjects.{null_descriptor_symbol}
+use Rattle.implib.proofs.Link.Ranges.{Among}
+use Rattle.implib_link.specs.Archives.LldFiles.{SearchesByLld, read_by_lld}
+use Rattle.implib_link.specs.Archives.LldWay.{AreCalledAlike}
+use Rattle.implib_link.proofs.Archives.LldFiles.{files_lead_to_lld}
+use Rattle.implib_link.specs.Search.Archives.{Library, archive_of}
+use Rattle.implib_link.specs.Search.Closed.{listed_in}
+use Rattle.implib_link.specs.Search.CommandLines.{AreListedWhole, AreTakenBehind, AreUnclaimedBehind, HaveAll, LldSearches, LldSearchesFrom, SearchesFlavors, names_left}
+use Rattle.implib_link.specs.Search.MsvcArchives.{IsMsvcArchive, symbols_of_shorts}
+use Rattle.implib_link.proofs.Search.CommandLines.{are_first_of_distinct, lld_members}
+use Rattle.implib_link.proofs.Search.Lists.{contains_among}
+use Rattle.implib_link_instances.specs.Worked.CommandLines.{i386_wants_bytes, is_quit, read_or_none, wants_bytes}
+use Rattle.implib_link_instances.proofs.Worked.CommandLines.{ended_by, member_or_none, none_there, pulls_by, whole_at}
+use Rattle.implib_link_instances.proofs.Worked.FlavorLines.{worked_flavor_lines}
+use Rattle.implib_link_instances.proofs.Worked.Programs.{distinct_by}
+use Rattle.implib_link.specs.Archives.Results.{HaveArchive}
+use Rattle.implib_link.specs.Archives.InBytes.{Second}
 
 -- what the computing has to open
-unfoldable opened_files : Unit {0}
+unfoldable pub opened_files : Unit {0}
 unfolding headers_among headers_in with_header data_at first_in linker_data linker_in long_name long_name_at long_names_in long_names_or member_at name_in number_in numbers_in paired read_as stored_at stored_from stored_in texts_in trimmed entries_by entries_in member_after members_read_as symbols_at
 opened_files = tt
 
@@ -35,33 +54,223 @@ worked_files = record {
   i386_coff = i386_kernel;
 }
 
-abbrev first_byte : List ℕ → ℕ
-first_byte [] = 0
-first_byte (byte ∷ bytes) = byte
+-- one library alone is called like itself
+alone : (l k : Library) → Among l (k ∷ []) → l ≡ k
+unfolding Among
+alone l k (inl is) = is
+alone l k (inr none) = absurd none
 
-abbrev first_of_names : List MemberView → ℕ
-first_of_names [] = 0
-first_of_names (m ∷ members) = first_byte m.name
+one_alike : (l : Library) → AreCalledAlike (l ∷ [])
+one_alike l first second held also same =
+    ap (λ (k : Library). k.definition.import_name) (alone first l (contains_among first (l ∷ []) held) ∙ sym (alone second l (contains_among second (l ∷ []) also)))
 
-abbrev first_byte_of : List (List ℕ × ℕ) → ℕ
-first_byte_of [] = 0
-first_byte_of (e ∷ entries) = first_byte e.0
+-- the library of kernel32.dll
+abbrev kernel_of : List FlavorLibrary → Library
+kernel_of [] = record { definition = empty_definition; members = [] }
+kernel_of (l ∷ libraries) = l.library
 
-pub near_has_members : NearHasMembersAs
-unfolding opened_files
-near_has_members = record {
-  located = (record { headers = []; located = tt; read = refl; ordered = refl }, λ has. nowhere has.headers has.located);
-  read = (record { headers = 82 ∷ []; located = refl; read = tt; ordered = refl }, λ has. differ 111 113 (sym (ap first_of_names has.read)) (omega arith));
-  ordered = (
-    record { headers = 84 ∷ 146 ∷ []; located = refl; read = refl; ordered = tt },
-    λ has.
-        let same : has.headers ≡ 84 ∷ 146 ∷ [] = sym (these (84 ∷ 146 ∷ []) has.headers has.located) in
-        differ 120 121 (sym (ap first_byte_of (has.ordered ∙ ap (λ headers. entries_by headers two_members) same))) (omega arith),
-  );
+-- AMD64
+abbrev own : List Object
+own = read_or_none wants_bytes
+
+lld_whole : AreListedWhole (read_by_lld AMD64) amd64_shorts
+unfolding searched read_by_lld
+lld_whole = (
+  whole_at (read_by_lld AMD64) (member_or_none (slice_get amd64_shorts 0)) refl,
+  (
+    whole_at (read_by_lld AMD64) (member_or_none (slice_get amd64_shorts 1)) refl,
+    (
+      whole_at (read_by_lld AMD64) (member_or_none (slice_get amd64_shorts 2)) refl,
+      (
+        whole_at (read_by_lld AMD64) (member_or_none (slice_get amd64_shorts 3)) refl,
+        (whole_at (read_by_lld AMD64) (member_or_none (slice_get amd64_shorts 4)) refl, tt),
+      ),
+    ),
+  ),
+)
+
+by_lld : LldSearches (read_by_lld AMD64) amd64_shorts (shorts_first own) (lld_taken amd64_shorts)
+unfolding searched read_by_lld AreTakenBehind LldSearchesFrom
+by_lld = (
+  [],
+  record { more = []; taken = refl; in_turn = tt; ended = ended_by (read_by_lld AMD64) [] own [] refl },
+  (
+    [],
+    record { more = []; taken = refl; in_turn = tt; ended = ended_by (read_by_lld AMD64) (archive_of_both amd64_kernels) own [] refl },
+    (
+      lld_taken amd64_shorts,
+      record {
+        more = lld_taken amd64_shorts;
+        taken = refl;
+        in_turn = (
+          (codes "ExitProcess", pulls_by (read_by_lld AMD64) amd64_shorts own (drop 1 (lld_taken amd64_shorts)) (codes "ExitProcess") (member_or_none (slice_get amd64_shorts 3)) refl refl refl),
+          ((codes "quit", pulls_by (read_by_lld AMD64) amd64_shorts own [] (codes "quit") (member_or_none (slice_get amd64_shorts 4)) refl refl refl), tt),
+        );
+        ended = ended_by (read_by_lld AMD64) amd64_shorts own (lld_taken amd64_shorts) refl;
+      },
+      refl,
+    ),
+  ),
+)
+
+lld_unclaimed : AreUnclaimedBehind amd64_shorts [] (shorts_first own)
+unfolding searched AreUnclaimedBehind
+lld_unclaimed = ((tt, tt), (tt, (tt, tt)))
+
+all : HaveAll amd64_shorts (shorts_first own)
+unfolding searched
+all m held = held
+
+archive : IsMsvcArchive AMD64 (msvc_among amd64_kernels)
+unfolding searched
+archive = record {
+  made = (record { accepted = refl; made = refl; ordinals = refl }, tt);
+  distinct = distinct_by (null_descriptor_symbol ∷ flat_map symbols_of_shorts (msvc_among amd64_kernels)) refl;
+  found = (refl, tt);
 }
-  where
-    nowhere : (headers : List ℕ) → ◌≡◌ {A = Option (List ℕ)} None (Some headers) → ⊥
-    nowhere headers is = cc
 
-    these : (xs ys : List ℕ) → ◌≡◌ {A = Option (List ℕ)} (Some xs) (Some ys) → xs ≡ ys
-    these xs ys is = cc
+lld_distinct : IsDistinct bytes_eq (listed_in amd64_shorts)
+unfolding searched
+lld_distinct = distinct_by (listed_in amd64_shorts) refl
+
+searches_by_lld : SearchesByLld AMD64 (msvc_among amd64_kernels) amd64_shorts (shorts_first own) is_quit (lld_taken amd64_shorts)
+unfolding searched
+searches_by_lld = record {
+  libraries_are = refl;
+  first = are_first_of_distinct amd64_shorts (names_left (read_by_lld AMD64) own (lld_taken amd64_shorts)) (lld_taken amd64_shorts) lld_distinct (lld_members (read_by_lld AMD64) amd64_shorts [] [] (shorts_first own) [] (lld_taken amd64_shorts) by_lld (none_there amd64_shorts));
+  unclaimed = lld_unclaimed;
+  all = all;
+  whole = lld_whole;
+  searches = by_lld;
+}
+
+members_are : members_in_files amd64_files ≡ amd64_shorts
+unfolding searched
+members_are =
+    ap (λ ms. ms ++ (members_read libquit ++ [])) kernel.read
+    ∙ ap (λ ms. archive_of_both amd64_kernels ++ (ms ++ [])) worked_files.amd64.read
+
+ready : HaveArchive Coff Second (archive_of (msvc_among amd64_kernels))
+unfolding searched archived
+ready = record { accepted = refl; has = tt }
+
+line : WorkedFileLine AMD64 amd64_kernels amd64_files amd64_shorts own (shorts_last own)
+unfolding searched
+line =
+    let alike : AreCalledAlike (msvc_among amd64_kernels) = one_alike (kernel_of amd64_kernels) in
+    let lld : SearchesByLld AMD64 (msvc_among amd64_kernels) (members_in_files amd64_files) (shorts_first own) is_quit (lld_taken amd64_shorts) =
+    subst (λ ms. SearchesByLld AMD64 (msvc_among amd64_kernels) ms (shorts_first own) is_quit (lld_taken amd64_shorts)) (sym members_are) searches_by_lld in
+    record {
+      members_are = members_are;
+      archive = archive;
+      ready = ready;
+      alike = alike;
+      lld = lld;
+      arrives = files_lead_to_lld AMD64 (msvc_among amd64_kernels) amd64_files (shorts_first own) is_quit (lld_taken amd64_shorts) lld archive alike;
+      flavors = subst (λ ms. SearchesFlavors AMD64 amd64_kernels ms (shorts_last own) is_quit shorts_taken) (sym members_are) worked_flavor_lines.amd64.searches;
+    }
+
+-- I386
+
+abbrev i386_own : List Object
+i386_own = read_or_none i386_wants_bytes
+
+i386_lld_whole : AreListedWhole (read_by_lld I386) i386_shorts
+unfolding searched read_by_lld
+i386_lld_whole = (
+  whole_at (read_by_lld I386) (member_or_none (slice_get i386_shorts 0)) refl,
+  (
+    whole_at (read_by_lld I386) (member_or_none (slice_get i386_shorts 1)) refl,
+    (
+      whole_at (read_by_lld I386) (member_or_none (slice_get i386_shorts 2)) refl,
+      (
+        whole_at (read_by_lld I386) (member_or_none (slice_get i386_shorts 3)) refl,
+        (whole_at (read_by_lld I386) (member_or_none (slice_get i386_shorts 4)) refl, tt),
+      ),
+    ),
+  ),
+)
+
+i386_by_lld : LldSearches (read_by_lld I386) i386_shorts (shorts_first i386_own) (lld_taken i386_shorts)
+unfolding searched read_by_lld AreTakenBehind LldSearchesFrom
+i386_by_lld = (
+  [],
+  record { more = []; taken = refl; in_turn = tt; ended = ended_by (read_by_lld I386) [] i386_own [] refl },
+  (
+    [],
+    record { more = []; taken = refl; in_turn = tt; ended = ended_by (read_by_lld I386) (archive_of_both i386_kernels) i386_own [] refl },
+    (
+      lld_taken i386_shorts,
+      record {
+        more = lld_taken i386_shorts;
+        taken = refl;
+        in_turn = (
+          (codes "_ExitProcess@4", pulls_by (read_by_lld I386) i386_shorts i386_own (drop 1 (lld_taken i386_shorts)) (codes "_ExitProcess@4") (member_or_none (slice_get i386_shorts 3)) refl refl refl),
+          ((codes "_quit", pulls_by (read_by_lld I386) i386_shorts i386_own [] (codes "_quit") (member_or_none (slice_get i386_shorts 4)) refl refl refl), tt),
+        );
+        ended = ended_by (read_by_lld I386) i386_shorts i386_own (lld_taken i386_shorts) refl;
+      },
+      refl,
+    ),
+  ),
+)
+
+i386_lld_unclaimed : AreUnclaimedBehind i386_shorts [] (shorts_first i386_own)
+unfolding searched AreUnclaimedBehind
+i386_lld_unclaimed = ((tt, tt), (tt, (tt, tt)))
+
+i386_all : HaveAll i386_shorts (shorts_first i386_own)
+unfolding searched
+i386_all m held = held
+
+i386_archive : IsMsvcArchive I386 (msvc_among i386_kernels)
+unfolding searched
+i386_archive = record {
+  made = (record { accepted = refl; made = refl; ordinals = refl }, tt);
+  distinct = distinct_by (null_descriptor_symbol ∷ flat_map symbols_of_shorts (msvc_among i386_kernels)) refl;
+  found = (refl, tt);
+}
+
+i386_lld_distinct : IsDistinct bytes_eq (listed_in i386_shorts)
+unfolding searched
+i386_lld_distinct = distinct_by (listed_in i386_shorts) refl
+
+i386_searches_by_lld : SearchesByLld I386 (msvc_among i386_kernels) i386_shorts (shorts_first i386_own) is_quit (lld_taken i386_shorts)
+unfolding searched
+i386_searches_by_lld = record {
+  libraries_are = refl;
+  first = are_first_of_distinct i386_shorts (names_left (read_by_lld I386) i386_own (lld_taken i386_shorts)) (lld_taken i386_shorts) i386_lld_distinct (lld_members (read_by_lld I386) i386_shorts [] [] (shorts_first i386_own) [] (lld_taken i386_shorts) i386_by_lld (none_there i386_shorts));
+  unclaimed = i386_lld_unclaimed;
+  all = i386_all;
+  whole = i386_lld_whole;
+  searches = i386_by_lld;
+}
+
+i386_members_are : members_in_files i386_files ≡ i386_shorts
+unfolding searched
+i386_members_are =
+    ap (λ ms. ms ++ (members_read i386_libquit ++ [])) i386_kernel.read
+    ∙ ap (λ ms. archive_of_both i386_kernels ++ (ms ++ [])) worked_files.i386.read
+
+i386_ready : HaveArchive Coff Second (archive_of (msvc_among i386_kernels))
+unfolding searched archived
+i386_ready = record { accepted = refl; has = tt }
+
+i386_line : WorkedFileLine I386 i386_kernels i386_files i386_shorts i386_own (shorts_grouped i386_own)
+unfolding searched
+i386_line =
+    let alike : AreCalledAlike (msvc_among i386_kernels) = one_alike (kernel_of i386_kernels) in
+    let lld : SearchesByLld I386 (msvc_among i386_kernels) (members_in_files i386_files) (shorts_first i386_own) is_quit (lld_taken i386_shorts) =
+    subst (λ ms. SearchesByLld I386 (msvc_among i386_kernels) ms (shorts_first i386_own) is_quit (lld_taken i386_shorts)) (sym i386_members_are) i386_searches_by_lld in
+    record {
+      members_are = i386_members_are;
+      archive = i386_archive;
+      ready = i386_ready;
+      alike = alike;
+      lld = lld;
+      arrives = files_lead_to_lld I386 (msvc_among i386_kernels) i386_files (shorts_first i386_own) is_quit (lld_taken i386_shorts) lld i386_archive alike;
+      flavors = subst (λ ms. SearchesFlavors I386 i386_kernels ms (shorts_grouped i386_own) is_quit shorts_taken) (sym i386_members_are) worked_flavor_lines.i386.searches;
+    }
+
+pub worked_file_lines : WorkedFileLines
+worked_file_lines = record { amd64 = line; i386 = i386_line }

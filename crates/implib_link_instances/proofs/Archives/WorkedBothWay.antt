@@ -1,5 +1,5 @@
 -- The whole way for libraries of both flavours by hand, by computing and by the laws.
-use Rattle.std.proofs.Common.{◌≡◌, ℕ, ◌^◌, ◌<◌, ◌+◌, List, [], ◌∷◌, ◌++◌, codes, map, refl, ap, sym, ◌∙◌, subst, Some, arith}
+use Rattle.std.proofs.Common.{List, Some, [], ap, arith, codes, map, refl, subst, sym, ℕ, ◌++◌, ◌+◌, ◌<◌, ◌^◌, ◌∙◌, ◌∷◌, ◌≡◌}
 use Rattle.std.specs.Prelude.{slice_get}
 use Rattle.std.specs.List.{AllByRecursion, Contains}
 use Rattle.implib.specs.declared.flavor.Flavor.TheVariants.{Gnu, Msvc}
@@ -8,16 +8,13 @@ use Rattle.implib.specs.Link.Image.{image_of}
 use Rattle.implib.specs.Worked.Statements.{plain_export}
 use Rattle.implib.proofs.Link.LinkedMembers.{among_contains}
 use Rattle.implib.proofs.Link.Ranges.{among_back, apart_as_they_rise}
-use Rattle.implib_archive.specs.Archive.{entries_from, entries_of, first_linker_size, first_place, front_size, is_long, long_names as archive_long_names, name_end, names_bytes, names_size, offset_of, places_from, second_linker_size, strings_of, with_first, with_name as archive_with_name}
-use Rattle.implib_archive.specs.Refusal.{has_short_places, has_too_many, member_refusal, members_refusal, name_refusal, places_refusal, refusal_of, symbol_refusal, symbols_refusal}
 use Rattle.implib_archive.specs.declared.kind.Kind.TheVariants.{Coff}
-use Rattle.implib_archive_link.specs.BothWay.{AreLinkedForBoth, BothArrive}
-use Rattle.implib_archive_link.specs.InBytes.{Second}
-use Rattle.implib_archive_link.specs.Results.{HaveArchive}
-use Rattle.implib_link_instances.specs.Archives.WorkedBothWay.{WorkedBothWay, bar_for_gnu, bases, before_null, both, calls_bar, calls_queue, code_at, linked, objects, own, placed, queue_for_msvc, taken}
-use Rattle.implib_link_instances.specs.Archives.WorkedWay.{code}
-use Rattle.implib_archive_link.proofs.BothWay.{both_arrive}
-use Rattle.implib_archive_link.proofs.Corollaries.{found_given}
+use Rattle.implib_link.specs.Archives.BothWay.{AreLinkedForBoth, BothArrive}
+use Rattle.implib_link.specs.Archives.InBytes.{Second}
+use Rattle.implib_link.specs.Archives.Results.{HaveArchive}
+use Rattle.implib_link_instances.specs.Archives.WorkedBothWay.{WorkedBothWay, bar_for_gnu, bases, before_null, both, calls_bar, calls_queue, code, code_at, linked, objects, own, placed, queue_for_msvc, taken}
+use Rattle.implib_link.proofs.Archives.BothWay.{both_arrive}
+use Rattle.implib_link.proofs.Archives.Corollaries.{found_given}
 use Rattle.implib_link.specs.Flavors.Program.{FlavorInput}
 use Rattle.implib_link.specs.Gnu.Calls.{CallArrives, HasCall, PlacedCode}
 use Rattle.implib_link.specs.Gnu.Choices.{AreSections, DefineOnce, plain_range}
@@ -29,30 +26,28 @@ use Rattle.implib_link.specs.Search.Closed.{listed_in, unresolved}
 use Rattle.implib_link.specs.Search.Msvc.{TakesFor, left_in}
 use Rattle.implib_link.specs.Search.MsvcArchives.{TakesIntoFor}
 use Rattle.implib_link_instances.specs.Worked.Calls.{first_bytes, given_on, last_bytes}
-use Rattle.implib_link_instances.specs.Worked.MsvcArchives.{thunk_named}
+use Rattle.implib_link_instances.specs.Worked.MsvcSearch.{thunk_named}
 use Rattle.implib_link.proofs.Gnu.Choices.{found, found_in}
 use Rattle.implib_link.proofs.Gnu.LinkedCodes.{codes_can_be_linked}
 use Rattle.implib_link.proofs.Gnu.Loaded.{mapped_at}
 use Rattle.implib_link.proofs.Search.BothClosed.{packed_both}
 use Rattle.implib_link.proofs.Search.BothGiven.{both_given_closes}
-use Rattle.implib_link.proofs.Search.Closing.{takes_into, claims_apart}
+use Rattle.implib_link.proofs.Search.Closing.{claims_apart, takes_into}
 use Rattle.implib_link.proofs.Search.Lists.{among_at}
 use Rattle.implib_link_instances.proofs.Worked.BothFlavors.{archive_by}
-use Rattle.implib_link_instances.proofs.Worked.Calls.{wide}
-use Rattle.implib_link_instances.proofs.Worked.Choices.{once_by}
-use Rattle.implib_link_instances.proofs.Worked.NearSearches.{searched}
+use Rattle.implib_link_instances.proofs.Worked.Calls.{once_by, wide}
+use Rattle.implib_link_instances.proofs.Worked.Opened.{searched, archived}
 use Rattle.implib_link_instances.proofs.Worked.Programs.{claims_none_by, instructions_at}
-use Rattle.implib_link.specs.Search.Search.{left_as, AreTakenInTurnAs}
+use Rattle.implib_link.specs.Search.Search.{AreTakenInTurnAs, left_as}
 use Rattle.implib_link.specs.Flavors.Expansion.{expanded_in}
-use Rattle.implib_link_instances.proofs.Worked.Search.{takes_by}
-use Rattle.implib_link_instances.proofs.Worked.Searched.{below_limit}
+use Rattle.implib_link_instances.proofs.Worked.Search.{below_limit, takes_by}
 
 archive : IsFlavorArchive AMD64 both
 unfolding searched
 archive = archive_by (record { accepted = refl; made = refl; ordinals = refl }, tt) (record { accepted = refl; made = refl; ordinals = refl }, tt) (refl, tt) refl refl refl
 
 ready : HaveArchive Coff Second (archive_of_both both)
-unfolding searched entries_from entries_of first_linker_size first_place front_size is_long archive_long_names name_end names_bytes names_size offset_of places_from second_linker_size strings_of with_first archive_with_name has_short_places has_too_many member_refusal members_refusal name_refusal places_refusal refusal_of symbol_refusal symbols_refusal
+unfolding searched archived
 ready = record { accepted = refl; has = tt }
 
 given : AreGivenForBoth AMD64 both own

@@ -1,12 +1,11 @@
 -- The way for lld by hand, by computing and by the law.
-use Rattle.std.proofs.Common.{◌≡◌, ℕ, true, false, List, [], ◌∷◌, codes, map, refl, ap, sym, ◌∙◌, subst, inl, inr, arith}
+use Rattle.std.proofs.Common.{◌≡◌, ℕ, true, List, [], ◌∷◌, codes, map, refl, ap, sym, ◌∙◌, subst, inl, inr, arith}
 use Rattle.std.specs.Prelude.{bytes_eq}
-use Rattle.std.specs.List.{Contains, list_any}
+use Rattle.std.specs.List.{list_any}
 use Rattle.std.proofs.lemmas.Bool.{true≢false}
 use Rattle.implib.specs.declared.machine.MachineType.TheVariants.{AMD64}
 use Rattle.implib.specs.Formats.Constants.{amd64_rel32, class_external}
 use Rattle.implib.specs.Formats.Layout.{encoded_size}
-use Rattle.implib.specs.Link.Load.{BytesAt}
 use Rattle.implib.specs.Members.MemberSpec.{MemberView}
 use Rattle.implib.specs.Members.Members.{refusal, renamed_refusal}
 use Rattle.implib.specs.Members.MsvcMembers.{descriptor_spec, header_specs, null_descriptor_spec, null_thunk_spec, weak_specs}
@@ -14,15 +13,13 @@ use Rattle.implib.specs.Members.MsvcObjects.{base_name, descriptor, descriptor_s
 use Rattle.implib.specs.Worked.Statements.{plain_export}
 use Rattle.implib.proofs.Link.LinkedMembers.{among_contains}
 use Rattle.implib.proofs.Link.Ranges.{Among}
-use Rattle.implib_archive.specs.Archive.{entries_from, entries_of, first_linker_size, first_place, front_size, is_long, long_names as archive_long_names, name_end, names_bytes, names_size, offset_of, places_from, second_linker_size, strings_of, with_first, with_name as archive_with_name}
-use Rattle.implib_archive.specs.Refusal.{has_short_places, has_too_many, member_refusal, members_refusal, name_refusal, places_refusal, refusal_of, symbol_refusal, symbols_refusal}
 use Rattle.implib_archive.specs.declared.kind.Kind.TheVariants.{Coff}
-use Rattle.implib_archive_link.specs.InBytes.{Second}
-use Rattle.implib_archive_link.specs.LldWay.{AreCalledAlike, IsBuiltByLld, IsWantedBy, LldArrives, asks_of_lld, shorts_in}
-use Rattle.implib_archive_link.specs.Results.{HaveArchive}
-use Rattle.implib_link_instances.specs.Archives.WorkedLldWay.{WorkedLldWay, bar_short, calls_linked, is_live, live_shorts, lld_codes, lld_image, lld_libraries, lld_library, lld_linked, lld_memory, lld_own, lld_tables, lld_taken, lld_targets, loud_library, placed_calls, thunk_linked, two_calls}
-use Rattle.implib_archive_link.proofs.InBytes.{AreTakenBy, TakesBy, search_of}
-use Rattle.implib_archive_link.proofs.LldWay.{lld_arrives}
+use Rattle.implib_link.specs.Archives.InBytes.{Second}
+use Rattle.implib_link.specs.Archives.LldWay.{AreCalledAlike, IsBuiltByLld, IsWantedBy, LldArrives, asks_of_lld, shorts_in}
+use Rattle.implib_link.specs.Archives.Results.{HaveArchive}
+use Rattle.implib_link_instances.specs.Archives.WorkedLldWay.{WorkedLldWay, bar_short, calls_linked, is_live, live_shorts, lld_codes, lld_image, lld_libraries, lld_library, lld_linked, lld_memory, lld_own, lld_tables, lld_taken, lld_targets, placed_calls, thunk_linked, two_calls}
+use Rattle.implib_link.proofs.Archives.InBytes.{AreTakenBy, TakesBy, search_of}
+use Rattle.implib_link.proofs.Archives.LldWay.{lld_arrives}
 use Rattle.implib_link.specs.Flavors.Expansion.{descriptor_symbol_by_name, expanded_in, import_object}
 use Rattle.implib_link.specs.Flavors.LldImports.{imports_of_lld}
 use Rattle.implib_link.specs.Flavors.LldTables.{ArePiecesAt, built, built_bytes}
@@ -33,22 +30,20 @@ use Rattle.implib_link.specs.Gnu.Moves.{AreInMemory, AreMoved}
 use Rattle.implib_link.specs.Gnu.Operands.{HasBranch, HasInstruction}
 use Rattle.implib_link.specs.Gnu.Rebased.{table_places}
 use Rattle.implib_link.specs.Search.Archives.{Library, archive_of}
-use Rattle.implib_link.specs.Search.Closed.{claims_of, references_of, unresolved}
+use Rattle.implib_link.specs.Search.Closed.{claims_of, references_of}
 use Rattle.implib_link.specs.Search.MsvcArchives.{IsMsvcArchive, symbols_of_shorts}
 use Rattle.implib_link.specs.Search.Search.{undefined_in}
 use Rattle.implib_link.specs.Tables.{AreSteady}
 use Rattle.implib_link_instances.specs.Worked.Calls.{given_on}
-use Rattle.implib_link_instances.specs.Worked.MsvcArchives.{short_named}
+use Rattle.implib_link_instances.specs.Worked.MsvcSearch.{short_named}
 use Rattle.implib_link_instances.specs.Worked.Programs.{symbol_of_class}
 use Rattle.implib_link.proofs.Flavors.LldTables.{built_pieces}
-use Rattle.implib_link.proofs.Search.Lists.{among_any, contains_among}
+use Rattle.implib_link.proofs.Search.Lists.{contains_among}
 use Rattle.implib_link_instances.proofs.Worked.Calls.{wide}
 use Rattle.implib_link_instances.proofs.Worked.LinkedCode.{all_needed, only_absolute, rebased_by, relocated_by, relocated_test}
-use Rattle.implib_link_instances.proofs.Worked.Lld.{lld_opened}
-use Rattle.implib_link_instances.proofs.Worked.LldPrograms.{disjoint, meet_test, takes_outside}
+use Rattle.implib_link_instances.proofs.Worked.LldPrograms.{lld_opened, disjoint, meet_test, takes_outside}
 use Rattle.implib_link_instances.proofs.Worked.Programs.{distinct_by, opened, instruction_by}
-use Rattle.implib_link_instances.proofs.Worked.RefusedFields.{value}
-use Rattle.implib_link_instances.proofs.Worked.RefusedLinks.{differ}
+use Rattle.implib_link_instances.proofs.Worked.Opened.{archived}
 
 -- what the computing has to open
 unfoldable way_opened : Unit {0}
@@ -72,14 +67,8 @@ alike l k first second same =
     only_library x (inl is) = ap (λ (y : Library). y.definition.import_name) is
     only_library x (inr none) = absurd none
 
-loud : AreCalledAlike (lld_library ∷ loud_library ∷ []) → ⊥
-unfolding way_opened
-loud same_names =
-    let same : codes "foo.dll" ≡ codes "FOO.dll" = same_names lld_library loud_library (0, omega arith, refl) (1, omega arith, refl) refl in
-    true≢false (ap (bytes_eq (codes "foo.dll")) same)
-
 ready : HaveArchive Coff Second (archive_of lld_libraries)
-unfolding way_opened entries_from entries_of first_linker_size first_place front_size is_long archive_long_names name_end names_bytes names_size offset_of places_from second_linker_size strings_of with_first archive_with_name has_short_places has_too_many member_refusal members_refusal name_refusal places_refusal refusal_of symbol_refusal symbols_refusal
+unfolding way_opened archived
 ready = record { accepted = refl; has = tt }
 
 settled : (name : List ℕ) → asks_of_lld AMD64 lld_own (map (λ (m : MemberView). m.bytes) lld_taken) name → ⊥
@@ -108,18 +97,6 @@ takes = record {
 wanted : IsWantedBy lld_libraries lld_own lld_library (plain_export (codes "bar"))
 unfolding way_opened
 wanted = record { library = (0, omega arith, refl); export = (0, omega arith, refl); plain = refl; name = codes "__imp_bar"; listed = (0, omega arith, refl); left = (0, omega arith, refl) }
-
-unwanted : IsWantedBy lld_libraries lld_own lld_library (plain_export (codes "baz")) → ⊥
-unfolding way_opened Among
-unwanted want = by (contains_among want.name (codes "__imp_baz" ∷ codes "baz" ∷ []) want.listed)
-  where
-    not_left : (name : List ℕ) → list_any (bytes_eq name) (codes "__imp_bar" ∷ codes "bar" ∷ []) ≡ false → Contains (unresolved lld_own) name → ⊥
-    not_left name none left = true≢false (sym (among_any name (codes "__imp_bar" ∷ codes "bar" ∷ []) (contains_among name (codes "__imp_bar" ∷ codes "bar" ∷ []) left)) ∙ none)
-
-    by : Among want.name (codes "__imp_baz" ∷ codes "baz" ∷ []) → ⊥
-    by (inl is) = not_left (codes "__imp_baz") refl (subst (Contains (unresolved lld_own)) is want.left)
-    by (inr (inl is)) = not_left (codes "baz") refl (subst (Contains (unresolved lld_own)) is want.left)
-    by (inr (inr none)) = none
 
 read : shorts_in AMD64 lld_taken ≡ bar_short ∷ []
 unfolding way_opened
@@ -207,11 +184,6 @@ branch = record {
 arrive : LldArrives AMD64 lld_libraries lld_own lld_taken
 arrive = lld_arrives AMD64 lld_libraries archive alike lld_own lld_taken takes
 
--- lld's tables of nothing are 20 zeros, and no image that begins with another byte
-dead : IsBuiltByLld AMD64 0x2000 0x2038 [] lld_image lld_linked → ⊥
-unfolding way_opened BytesAt
-dead built = differ 0 0x28 (value 0 0x28 (sym built.pieces.directory.0)) (omega arith)
-
 pub worked_lld_way : WorkedLldWay
 unfolding way_opened
 worked_lld_way = record {
@@ -237,10 +209,4 @@ worked_lld_way = record {
   calls = λ n written reads.
       arrive.calls is_live 0x2000 0x2038 lld_image lld_linked built_by_lld 0x1_4000_0000 lld_codes lld_targets lld_memory (given_on AMD64) steady at n written (wide AMD64) reads lld_library (plain_export (codes "bar")) wanted refl tt
       calls_linked thunk_linked 7 0 (0, omega arith, refl) (1, omega arith, refl) (record { from = refl; number = refl }) branch tt;
-  unwanted = unwanted;
-  asked = asked;
-  settled = settled (codes "bar");
-  no_descriptor = settled (codes "__IMPORT_DESCRIPTOR_foo");
-  loud = loud;
-  dead = dead;
 }

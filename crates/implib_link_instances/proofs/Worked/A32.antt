@@ -1,41 +1,32 @@
 -- ARMNT's stubs by hand, by computing and by the law.
-use Rattle.std.proofs.Common.{◌≡◌, ℕ, ◌+◌, ◌^◌, ◌<◌, true, List, [], ◌∷◌, ◌++◌, codes, length, Option, None, Some, refl, ap, sym, ◌∙◌, subst, inl, inr, arith, map}
+use Rattle.std.proofs.Common.{◌≡◌, ℕ, ◌+◌, ◌^◌, List, [], ◌∷◌, ◌++◌, codes, refl, ap, sym, ◌∙◌, subst, inl, inr, arith, map}
 use Rattle.implib.specs.declared.coff.object.Relocation.{Relocation}
 use Rattle.implib.specs.declared.machine.MachineType.TheVariants.{ARMNT}
 use Rattle.implib.specs.Formats.Constants.{arm_rel32, class_external}
 use Rattle.implib.specs.Formats.Layout.{encoded_size}
-use Rattle.implib.specs.Link.Image.{AllApart, Range, byte_at}
-use Rattle.implib.specs.Link.Load.{NumberAt, number_in}
+use Rattle.implib.specs.Link.Image.{AllApart, Range}
 use Rattle.implib.specs.Members.GnuMembers.{alias_specs}
-use Rattle.implib.specs.Members.ImportTables.{zeros}
 use Rattle.implib.specs.Members.Members.{refusal, renamed_refusal}
 use Rattle.implib.specs.Members.WeakExternal.{weak_object}
 use Rattle.implib.specs.Worked.Statements.{plain_export}
-use Rattle.implib.proofs.Link.Loading.{number_once}
 use Rattle.implib.proofs.Link.Ranges.{Among, apart_as_they_rise}
-use Rattle.implib_link.specs.Gnu.A32.{A32JumpReads, HoldDistances, OfArmStubs, distance_from}
+use Rattle.implib_link.specs.Gnu.A32.{HoldDistances, OfArmStubs, distance_from}
 use Rattle.implib_link.specs.Gnu.Fields.{AreBeside, DefinesIn, LinkedCode, field_at, placed_code}
 use Rattle.implib_link.specs.Gnu.Program.{has_tables}
-use Rattle.implib_link.specs.Flavors.Program.{IsProgram}
-use Rattle.implib_link.specs.Stub.{bits_of, with_bits}
-use Rattle.implib_link_instances.specs.But.Links.{MissesA32JumpReads}
-use Rattle.implib_link_instances.specs.Worked.A32.{NearA32JumpReads, WorkedArmntStub, WorkedArmntStubs, a32_code, armnt_memory, armnt_stub, armnt_targets, before_entry, entry_address, two_loads}
-use Rattle.implib_link_instances.specs.Worked.Jumps.{far_4}
+use Rattle.implib_link.specs.Flavors.Program.{IsProgram, FlavorInput, OfLinker, gnu_input}
+use Rattle.implib_link_instances.specs.Worked.A32.{WorkedArmntStub, WorkedArmntStubs, armnt_memory, armnt_stub, armnt_targets, two_loads}
+use Rattle.implib_link_instances.specs.Worked.Calls.{far_4, as_placed}
 use Rattle.implib_link_instances.specs.Worked.Loads.{gives_by_hand}
 use Rattle.implib_link_instances.specs.Worked.Programs.{both_inputs, foo_input, program_image, program_objects, program_placed, symbol_of_class, symbol_on, touching_4}
-use Rattle.implib_link_instances.specs.Worked.Relocated.{as_placed}
-use Rattle.implib_link.proofs.Gnu.A32.{armnt_misses, armnt_reads, jumps_once}
+use Rattle.implib_link.proofs.Gnu.A32.{armnt_misses, armnt_reads}
 use Rattle.implib_link.proofs.Gnu.Fields.{alone_among}
 use Rattle.implib_link.proofs.Gnu.LinkedCodes.{takes_from}
 use Rattle.implib_link.proofs.Search.Lists.{contains_among}
 use Rattle.implib_link_instances.proofs.Worked.LinkedCode.{relocated_by, relocated_test}
 use Rattle.implib_link_instances.proofs.Worked.Loads.{armnt_given}
 use Rattle.implib_link_instances.proofs.Worked.Programs.{opened, worked_programs, admissible_by, program_by}
-use Rattle.implib_link.proofs.Gnu.Memory.{byte_first}
-use Rattle.implib_link_instances.proofs.Worked.Instances.{put_last}
-use Rattle.implib_link_instances.proofs.Worked.Rebased.{resolves_by_tables}
-use Rattle.implib_link_instances.proofs.Worked.RefusedLinks.{are_located, differ, is_each_located, number}
-use Rattle.implib_link.specs.Flavors.Program.{FlavorInput, OfLinker, gnu_input}
+use Rattle.implib_link_instances.proofs.Worked.Lemmas.{put_last, are_located}
+use Rattle.implib_link_instances.proofs.Worked.Calls.{resolves_by_tables}
 use Rattle.implib_link.specs.Tables.{block_of_flavor, tables_at}
 use Rattle.implib_link.proofs.Flavors.Steady.{program_tables_none}
 use Rattle.implib_link.proofs.TablesInMemory.{tables_end_in_memory}
@@ -160,17 +151,6 @@ in_front =
       );
     }
 
-address_refused : HoldDistances (armnt_stub touching_4 0x1000 entry_address ∷ []) (as_placed (armnt_targets touching_4)) → ⊥
-unfolding opened alias_specs encoded_size weak_object has_tables
-address_refused holds =
-    let stub : LinkedCode = armnt_stub touching_4 0x1000 entry_address in
-    let is : 0x40_0060 ≡ 0xFFFF_F054 = holds stub (record { offset = 8; symbol = 2; kind = arm_rel32 }) (0, omega arith, refl) refl refl (omega arith) refl in
-    differ 0x40_0060 0xFFFF_F054 is (omega arith)
-
--- `ldr ip, [pc, 8]`, `ldr pc, [ip]`, and an address behind 8 bytes
-abbrev further : List Range
-further = a32_code (8 ∷ 0xC0 ∷ 0x9F ∷ 0xE5 ∷ 0 ∷ 0xF0 ∷ 0x9C ∷ 0xE5 ∷ (zeros 8 ++ entry_address))
-
 -- one of them that a loader has read
 loaded_stub : OfArmStubs (λ image_base memory d t entry. ⊥) → ⊥
 unfolding opened alias_specs encoded_size weak_object has_tables
@@ -190,95 +170,5 @@ pub worked_armnt_stubs : WorkedArmntStubs
 worked_armnt_stubs = record {
   behind = behind;
   in_front = in_front;
-  address = address_refused;
   holds_of_some = loaded_stub;
-  reads_address = record {
-    load = 0xE59F_C000;
-    load_there = number (a32_code (two_loads ++ entry_address)) 4 0x1000 0xE59F_C000 (0 ∷ 0xC0 ∷ 0x9F ∷ 0xE5 ∷ []) refl refl refl;
-    is_load = refl;
-    literal_there = number (a32_code (two_loads ++ entry_address)) 4 0x1008 0x40_0060 entry_address refl refl refl;
-    jump_there = number (a32_code (two_loads ++ entry_address)) 4 0x1004 0xE59C_F000 (0 ∷ 0xF0 ∷ 0x9C ∷ 0xE5 ∷ []) refl refl refl;
-  };
-  reads_further = record {
-    load = 0xE59F_C008;
-    load_there = number further 4 0x1000 0xE59F_C008 (8 ∷ 0xC0 ∷ 0x9F ∷ 0xE5 ∷ []) refl refl refl;
-    is_load = refl;
-    literal_there = number further 4 0x1010 0x40_0060 entry_address refl refl refl;
-    jump_there = number further 4 0x1004 0xE59C_F000 (0 ∷ 0xF0 ∷ 0x9C ∷ 0xE5 ∷ []) refl refl refl;
-  };
-}
-
--- Code that is no such jump.
-
--- `ldr ip, [pc]` and `ldr pc, [ip]`
-abbrev loading_ip : List ℕ
-loading_ip = 0 ∷ 0xC0 ∷ 0x9F ∷ 0xE5 ∷ []
-
-abbrev loading_pc : List ℕ
-loading_pc = 0 ∷ 0xF0 ∷ 0x9C ∷ 0xE5 ∷ []
-
--- the first instruction is another one
-not_load : (bytes : List ℕ) (word rest reads : ℕ) → NumberAt (a32_code bytes) 4 0x1000 word → with_bits 0 12 0 word ≡ rest → (rest ≡ 0xE59F_C000 → ⊥) → A32JumpReads (a32_code bytes) 0x1000 reads → ⊥
-not_load bytes word rest reads there is other x =
-    let same : word ≡ x.load = number_once (a32_code bytes) 4 0x1000 word x.load there x.load_there in
-    other (sym is ∙ ap (with_bits 0 12 0) same ∙ x.is_load)
-
--- one that reads behind the two instructions, too, is the only thing that is otherwise
-misses_load : (first : List ℕ) (word : ℕ) → is_each_located (before_entry (first ++ loading_pc)) 0x1000 first ≡ true → length first ≡ 4 → number_in first ≡ word → bits_of 0 12 word ≡ 0 → with_bits 0 12 0 word < 0xE59F_C000 →
-    is_each_located (before_entry (first ++ loading_pc)) 0x1004 loading_pc ≡ true → is_each_located (before_entry (first ++ loading_pc)) 0x1008 entry_address ≡ true → MissesA32JumpReads (codes "is_load") (before_entry (first ++ loading_pc)) 0x1000 0x40_0060
-misses_load first word located four value none other jump literal =
-    let memory : List Range = before_entry (first ++ loading_pc) in
-    let there : NumberAt memory 4 0x1000 word = number memory 4 0x1000 word first located four value in
-    let behind : 0x1008 ≡ 0x1000 + 8 + bits_of 0 12 word = omega arith in (
-      record { load = word; load_there = there; is_load = tt; literal_there = subst (λ a. NumberAt memory 4 a 0x40_0060) behind (number memory 4 0x1008 0x40_0060 entry_address literal refl refl); jump_there = number memory 4 0x1004 0xE59C_F000 loading_pc jump refl refl },
-      not_load ((first ++ loading_pc) ++ entry_address) word (with_bits 0 12 0 word) 0x40_0060 there refl (λ is. differ (with_bits 0 12 0 word) 0xE59F_C000 is other),
-    )
-
--- and the second one
-not_jump : (bytes : List ℕ) (word reads : ℕ) → NumberAt (a32_code bytes) 4 0x1004 word → (word ≡ 0xE59C_F000 → ⊥) → A32JumpReads (a32_code bytes) 0x1000 reads → ⊥
-not_jump bytes word reads there other x = other (number_once (a32_code bytes) 4 0x1004 word 0xE59C_F000 there x.jump_there)
-
-misses_jump : (second : List ℕ) (word : ℕ) → is_each_located (before_entry (loading_ip ++ second)) 0x1004 second ≡ true → length second ≡ 4 → number_in second ≡ word → (word ≡ 0xE59C_F000 → ⊥) →
-    is_each_located (before_entry (loading_ip ++ second)) 0x1000 loading_ip ≡ true → is_each_located (before_entry (loading_ip ++ second)) 0x1008 entry_address ≡ true → MissesA32JumpReads (codes "jump_there") (before_entry (loading_ip ++ second)) 0x1000 0x40_0060
-misses_jump second word located four value other load literal =
-    let memory : List Range = before_entry (loading_ip ++ second) in (
-      record { load = 0xE59F_C000; load_there = number memory 4 0x1000 0xE59F_C000 loading_ip load refl refl; is_load = refl; literal_there = number memory 4 0x1008 0x40_0060 entry_address literal refl refl; jump_there = tt },
-      not_jump ((loading_ip ++ second) ++ entry_address) word 0x40_0060 (number memory 4 0x1004 word second located four value) other,
-    )
-
-no_first : (o : Option ℕ) (b : ℕ) → o ≡ None → o ≡ Some b → ⊥
-no_first o b none some = let both : None ≡ Some b = sym none ∙ some in cc
-
-pub near_a32_jump_reads : NearA32JumpReads
-near_a32_jump_reads = record {
-  load_there = (
-    let memory : List Range = record { start = 0x1004; bytes = 0 ∷ 0xF0 ∷ 0x9C ∷ 0xE5 ∷ entry_address } ∷ [] in
-        record { load = 0xE59F_C000; load_there = tt; is_load = refl; literal_there = number memory 4 0x1008 0x40_0060 entry_address refl refl refl; jump_there = number memory 4 0x1004 0xE59C_F000 loading_pc refl refl refl },
-    λ x.
-        let count : length x.load_there.bytes ≡ 4 = x.load_there.count in
-        let memory : List Range = record { start = 0x1004; bytes = 0 ∷ 0xF0 ∷ 0x9C ∷ 0xE5 ∷ entry_address } ∷ [] in
-        let first = byte_first memory x.load_there.bytes 0x1000 x.load_there.located (omega arith) in
-        no_first (byte_at memory 0x1000) first.0 refl first.1,
-  );
-  is_load = misses_load (0 ∷ 0 ∷ 0x9F ∷ 0xE5 ∷ []) 0xE59F_0000 refl refl refl refl (omega arith) refl refl;
-  is_load_back = misses_load (0 ∷ 0xC0 ∷ 0x1F ∷ 0xE5 ∷ []) 0xE51F_C000 refl refl refl refl (omega arith) refl refl;
-  is_load_sometimes = misses_load (0 ∷ 0xC0 ∷ 0x9F ∷ 0x15 ∷ []) 0x159F_C000 refl refl refl refl (omega arith) refl refl;
-  is_load_of_ip = misses_load (0 ∷ 0xC0 ∷ 0x9C ∷ 0xE5 ∷ []) 0xE59C_C000 refl refl refl refl (omega arith) refl refl;
-  literal_there = (
-    let memory : List Range = a32_code (two_loads ++ (zeros 4 ++ entry_address)) in
-        record { load = 0xE59F_C000; load_there = number memory 4 0x1000 0xE59F_C000 loading_ip refl refl refl; is_load = refl; literal_there = tt; jump_there = number memory 4 0x1004 0xE59C_F000 loading_pc refl refl refl },
-    λ x.
-        let memory : List Range = a32_code (two_loads ++ (zeros 4 ++ entry_address)) in
-        let zero_read : A32JumpReads memory 0x1000 0 = record {
-          load = 0xE59F_C000;
-          load_there = number memory 4 0x1000 0xE59F_C000 loading_ip refl refl refl;
-          is_load = refl;
-          literal_there = number memory 4 0x1008 0 (0 ∷ 0 ∷ 0 ∷ 0 ∷ []) refl refl refl;
-          jump_there = number memory 4 0x1004 0xE59C_F000 loading_pc refl refl refl;
-        } in
-        differ 0 0x40_0060 (jumps_once memory 0x1000 0 0x40_0060 zero_read x) (omega arith),
-  );
-  jump_there = misses_jump (0x1C ∷ 0xFF ∷ 0x2F ∷ 0xE1 ∷ []) 0xE12F_FF1C refl refl refl (λ is. differ 0xE12F_FF1C 0xE59C_F000 is (omega arith)) refl refl;
-  jump_there_further = misses_jump (4 ∷ 0xF0 ∷ 0x9C ∷ 0xE5 ∷ []) 0xE59C_F004 refl refl refl (λ is. differ 0xE59C_F000 0xE59C_F004 (sym is) (omega arith)) refl refl;
-  jump_there_to_r0 = misses_jump (0 ∷ 0 ∷ 0x9C ∷ 0xE5 ∷ []) 0xE59C_0000 refl refl refl (λ is. differ 0xE59C_0000 0xE59C_F000 is (omega arith)) refl refl;
 }

@@ -1,20 +1,19 @@
 -- The calls and the pointer by an alias by hand, by computing and by the law.
 use Rattle.implib_link.specs.Gnu.Fields.{LinkedCode}
 use Rattle.std.proofs.Common.{◌≡◌, ℕ, ◌^◌, Bool, true, List, [], ◌∷◌, ◌++◌, codes, Option, None, Some, refl, ap, sym, ◌∙◌, subst, arith, true≢false}
-use Rattle.std.specs.Prelude.{drop, take, ◌==◌, if◌then◌else◌, slice_get}
+use Rattle.std.specs.Prelude.{drop, take, ◌==◌, if◌then◌else◌}
 use Rattle.std.specs.List.{list_all}
 use Rattle.std.specs.Option.{option_and_then}
 use Rattle.std.proofs.lemmas.Bool.{eqb-true}
 use Rattle.implib.specs.declared.machine.MachineType.TheVariants.{AMD64}
 use Rattle.implib.specs.Formats.Bytes.{u32_bytes}
-use Rattle.implib.specs.Formats.Constants.{class_external}
 use Rattle.implib.specs.Formats.Layout.{encoded_size, entries_of, name_text, object_of}
-use Rattle.implib.specs.Formats.Object.{ASymbol, Auxiliary, Entry, u32_at, ObjectSymbol}
+use Rattle.implib.specs.Formats.Object.{ASymbol, Auxiliary, Entry, u32_at}
 use Rattle.implib.specs.Formats.ShortImport.{short_import_in}
 use Rattle.implib.specs.Import.{imp_symbol}
 use Rattle.implib.specs.Link.Image.{image_of}
-use Rattle.implib.specs.Link.Placement.{Placed, placed_from}
-use Rattle.implib.specs.Link.Resolution.{definitions_of, first_address, is_undefined_external, symbol_address, SymbolDefinition}
+use Rattle.implib.specs.Link.Placement.{Placed}
+use Rattle.implib.specs.Link.Resolution.{definitions_of, first_address, is_undefined_external, symbol_address}
 use Rattle.implib.specs.Members.GnuMembers.{alias_specs}
 use Rattle.implib.specs.Members.Members.{refusal, renamed_refusal}
 use Rattle.implib.specs.Members.MsvcMembers.{descriptor_spec, header_specs, null_descriptor_spec, null_thunk_spec, weak_specs}
@@ -29,17 +28,14 @@ use Rattle.implib_link.specs.Gnu.Calls.{HasCall, PlacedCode, Resolves}
 use Rattle.implib_link.specs.Gnu.Packed.{group_end, sections_end}
 use Rattle.implib_link.specs.Gnu.Pointers.{HasLoad}
 use Rattle.implib_link.specs.Gnu.Program.{has_tables, linked_symbols}
-use Rattle.implib_link_instances.specs.Worked.Aliases.{WorkedAlias, WorkedFlavorAlias, alias_at, alias_calling, alias_codes, alias_flavors, alias_load_at, alias_loading, alias_objects, alias_placed, all_at, opened_flavors, opened_name, opened_placed, OverriddenAlias, overridden_code, overridden_placed}
-use Rattle.implib_link_instances.specs.Worked.Calls.{first_bytes, last_bytes}
+use Rattle.implib_link_instances.specs.Worked.Aliases.{WorkedAlias, WorkedFlavorAlias, alias_at, alias_calling, alias_codes, alias_load_at, alias_loading, alias_objects, alias_placed, all_at, opened_flavors, opened_name, opened_placed}
+use Rattle.implib_link_instances.specs.Worked.Calls.{first_bytes, last_bytes, CodesBeside, code_ranges, linked_codes, as_placed}
 use Rattle.implib_link_instances.specs.Worked.Flavors.{both_inputs as flavor_inputs, flavor_bases_8, foo_input as msvc_input}
-use Rattle.implib_link_instances.specs.Worked.Programs.{both_inputs, symbol_of_class, touching_8}
+use Rattle.implib_link_instances.specs.Worked.Programs.{both_inputs, touching_8}
 use Rattle.implib_link.proofs.Gnu.Aliases.{weak_is_weak}
 use Rattle.implib_link.proofs.Search.Lists.{among_at, contains_among, each_of}
-use Rattle.implib_link_instances.proofs.Worked.Calls.{is_none, one_of, second_at}
+use Rattle.implib_link_instances.proofs.Worked.Calls.{is_none, all_unwanted, none_wanted, beside_by, codes_tested}
 use Rattle.implib_link_instances.proofs.Worked.Programs.{claims_none_by, distinct_by, opened, admissible_by, instructions_at}
-use Rattle.implib_link_instances.proofs.Worked.Rebased.{all_unwanted, none_wanted}
-use Rattle.implib_link_instances.specs.Worked.Relocated.{CodesBeside, code_ranges, linked_codes, as_placed, linked_by}
-use Rattle.implib_link_instances.proofs.Worked.Relocated.{beside_by, codes_tested}
 use Rattle.implib_link_instances.proofs.Worked.Flavors.{flavor_objects_by}
 use Rattle.implib_link_instances.proofs.Worked.LinkedCode.{relocated_test}
 use Rattle.implib_link.proofs.Flavors.GnuPrograms.{gnu_objects}
@@ -139,8 +135,6 @@ worked_alias = record {
   resolves = resolves;
   undefined = undefined;
   weak = weak_is;
-  other = refl;
-  target = refl;
   calls = has;
   loads = loads;
   call_is = refl;
@@ -187,15 +181,6 @@ flavors_weak : weak_target opened_name opened_placed ≡ Some (imp_symbol (codes
 unfolding opened refusal renamed_refusal alias_specs encoded_size weak_object has_tables expanded_in short_import_in import_object descriptor_symbol_by_name with_section_symbols descriptor null_descriptor null_thunk descriptor_symbol null_descriptor_symbol null_thunk_symbol base_name descriptor_spec null_descriptor_spec null_thunk_spec header_specs weak_specs group_end sections_end object_of entries_of name_text u32_bytes u32_at
 flavors_weak = refl
 
-not_same : (n m : ℕ) → n ≡ 0x88 → m ≡ 0x90 → n ≡ m → ⊥
-not_same n m first second same = omega arith
-
-astray : ResolvesAliases (placed_from flavor_bases_8 (alias_flavors (imp_symbol (codes "stat")))) (linked_codes AMD64 0x1_4000_0000 (all_at 0x88) alias_codes) (as_placed (all_at 0x88)) → ⊥
-unfolding opened refusal renamed_refusal alias_specs encoded_size weak_object has_tables expanded_in short_import_in import_object descriptor_symbol_by_name with_section_symbols descriptor null_descriptor null_thunk descriptor_symbol null_descriptor_symbol null_thunk_symbol base_name descriptor_spec null_descriptor_spec null_thunk_spec header_specs weak_specs group_end sections_end object_of entries_of name_text u32_bytes u32_at
-astray resolves =
-    not_same 0x88 0x90 refl refl
-    (resolves (linked_by AMD64 0x1_4000_0000 (all_at 0x88) alias_at) 1 0x90 (symbol_of_class opened_name 0 class_external) (imp_symbol (codes "stat")) (0, omega arith, refl) refl refl refl refl refl)
-
 pub worked_flavor_alias : WorkedFlavorAlias
 unfolding opened refusal renamed_refusal alias_specs encoded_size weak_object has_tables expanded_in short_import_in import_object descriptor_symbol_by_name with_section_symbols descriptor null_descriptor null_thunk descriptor_symbol null_descriptor_symbol null_thunk_symbol base_name descriptor_spec null_descriptor_spec null_thunk_spec header_specs weak_specs group_end sections_end object_of entries_of name_text u32_bytes u32_at
 worked_flavor_alias = record {
@@ -207,34 +192,5 @@ worked_flavor_alias = record {
   calls = has;
   loads = loads;
   call_is = refl;
-  call_reads_it = refl;
   load_is = refl;
-  load_reads_it = refl;
-  astray = astray;
-}
-
--- A name that is weak, and defined.
-
-stat_defined : definitions_of (imp_symbol (codes "stat")) overridden_placed ≡ record { name = imp_symbol (codes "stat"); address = Some 0x88 } ∷ []
-unfolding opened alias_specs encoded_size weak_object has_tables object_of entries_of name_text u32_bytes
-stat_defined = refl
-
-not_nothing : (d : SymbolDefinition) → d ∷ [] ≡ [] → ⊥
-not_nothing d none = cc
-
-stat_resolves : ResolvesAliases overridden_placed (overridden_code ∷ []) (λ c index. 0x88)
-stat_resolves c index address s target held at undefined none weak there =
-    let c_is : c ≡ overridden_code = one_of c overridden_code (contains_among c (overridden_code ∷ []) held) in
-    let u : ObjectSymbol = symbol_of_class (imp_symbol (codes "stat")) 0 class_external in
-    let s_is : s ≡ u = second_at (symbol_of_class (codes "main") 1 class_external) u s index refl undefined (subst (λ (x : LinkedCode). slice_get x.from.object.entries index ≡ Some (ASymbol s)) c_is at) in
-    absurd (not_nothing (record { name = imp_symbol (codes "stat"); address = Some 0x88 }) (sym stat_defined ∙ subst (λ (x : ObjectSymbol). definitions_of x.name overridden_placed ≡ []) s_is none))
-
-pub overridden_alias : OverriddenAlias
-unfolding opened alias_specs encoded_size weak_object has_tables object_of entries_of name_text u32_bytes u32_at
-overridden_alias = record {
-  weak = refl;
-  defined = stat_defined;
-  target = refl;
-  resolves = stat_resolves;
-  taken = λ targets takes. takes.tables overridden_code 1 0x88 (ASymbol (symbol_of_class (imp_symbol (codes "stat")) 0 class_external)) (0, omega arith, refl) refl refl;
 }

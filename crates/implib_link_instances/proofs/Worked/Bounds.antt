@@ -1,12 +1,12 @@
 -- The bounds of the programs by hand, by the law and by computing.
-use Rattle.std.proofs.Common.{◌≡◌, ℕ, ◌%◌, [], ◌∷◌, refl, arith}
-use Rattle.implib.specs.declared.machine.MachineType.TheVariants.{I386, ARMNT, AMD64, ARM64}
+use Rattle.std.proofs.Common.{[], ◌∷◌, refl, arith}
+use Rattle.implib.specs.declared.machine.MachineType.TheVariants.{I386, AMD64}
 use Rattle.implib.specs.Formats.Layout.{encoded_size}
 use Rattle.implib.specs.Members.GnuMembers.{alias_specs}
 use Rattle.implib.specs.Members.WeakExternal.{weak_object}
 use Rattle.implib_link.specs.Gnu.Bounds.{AreBounded}
 use Rattle.implib_link.specs.Gnu.Program.{has_tables}
-use Rattle.implib_link_instances.specs.Worked.Bounds.{WorkedBound, WorkedBounds}
+use Rattle.implib_link_instances.specs.Worked.Loads.{WorkedBound, WorkedBounds}
 use Rattle.implib_link_instances.specs.Worked.Programs.{both_inputs, program_objects, touching_4, touching_8}
 use Rattle.implib_link.proofs.Gnu.Bounds.{even_hints, tables_are_bounded}
 use Rattle.implib_link_instances.proofs.Worked.Programs.{opened, worked_programs}
@@ -25,20 +25,6 @@ amd64 =
       hints_are = refl;
     }
 
-arm64 : WorkedBound ARM64 touching_8 120 56 (176 ∷ 176 ∷ 184 ∷ 192 ∷ 200 ∷ [])
-unfolding opened alias_specs encoded_size weak_object has_tables
-arm64 =
-    let bounds : AreBounded ARM64 touching_8 (both_inputs ARM64) (program_objects ARM64) =
-    tables_are_bounded ARM64 touching_8 (both_inputs ARM64) (program_objects ARM64) worked_programs.arm64.made worked_programs.arm64.program (omega arith) in
-    record {
-      bounds = bounds;
-      start_is = bounds.begins;
-      size_is = bounds.size;
-      directory_is = bounds.directory_size;
-      even = even_hints ARM64 touching_8 (both_inputs ARM64) (program_objects ARM64) worked_programs.arm64.made worked_programs.arm64.program;
-      hints_are = refl;
-    }
-
 i386 : WorkedBound I386 touching_4 92 28 (120 ∷ 120 ∷ 128 ∷ 136 ∷ 144 ∷ [])
 unfolding opened alias_specs encoded_size weak_object has_tables
 i386 =
@@ -53,22 +39,8 @@ i386 =
       hints_are = refl;
     }
 
-armnt : WorkedBound ARMNT touching_4 92 28 (120 ∷ 120 ∷ 128 ∷ 136 ∷ 144 ∷ [])
-unfolding opened alias_specs encoded_size weak_object has_tables
-armnt =
-    let bounds : AreBounded ARMNT touching_4 (both_inputs ARMNT) (program_objects ARMNT) =
-    tables_are_bounded ARMNT touching_4 (both_inputs ARMNT) (program_objects ARMNT) worked_programs.armnt.made worked_programs.armnt.program (omega arith) in
-    record {
-      bounds = bounds;
-      start_is = bounds.begins;
-      size_is = bounds.size;
-      directory_is = bounds.directory_size;
-      even = even_hints ARMNT touching_4 (both_inputs ARMNT) (program_objects ARMNT) worked_programs.armnt.made worked_programs.armnt.program;
-      hints_are = refl;
-    }
-
-not_even : (n : ℕ) → n ≡ 183 → n % 2 ≡ 0 → ⊥
-not_even n is even_number = omega arith
-
 pub worked_bounds : WorkedBounds
-worked_bounds = record { amd64 = amd64; arm64 = arm64; i386 = i386; armnt = armnt; refused = λ even_number. not_even 183 refl even_number }
+worked_bounds = record {
+  amd64 = amd64;
+  i386 = i386;
+}

@@ -1,43 +1,49 @@
 -- The closed program that was linked by hand, by computing and by the law.
-use Rattle.std.proofs.Common.{◌≡◌, ℕ, ◌^◌, ◌<◌, ◌⊎◌, true, false, List, [], ◌∷◌, ◌++◌, map, refl, sym, ◌∙◌, subst, inl, inr, arith, codes}
-use Rattle.std.specs.Prelude.{bytes_eq, nat_lt}
-use Rattle.std.specs.List.{AllByRecursion, Contains, flat_map, list_any}
-use Rattle.std.proofs.lemmas.Bool.{ltb-true, true≢false}
-use Rattle.std.proofs.lemmas.Grind.{flat_map-append}
-use Rattle.implib.specs.declared.machine.MachineType.TheVariants.{AMD64}
+use Rattle.std.proofs.Common.{List, [], arith, codes, inl, inr, map, refl, true, ℕ, ◌++◌, ◌<◌, ◌^◌, ◌∷◌, ◌≡◌}
+use Rattle.std.specs.Prelude.{nat_lt}
+use Rattle.std.specs.List.{AllByRecursion, flat_map}
+use Rattle.std.proofs.lemmas.Bool.{ltb-true}
+use Rattle.implib.specs.declared.machine.MachineType.TheVariants.{AMD64, I386}
 use Rattle.implib.specs.Formats.Layout.{encoded_size}
 use Rattle.implib.specs.Formats.Object.{Object, object_in}
 use Rattle.implib.specs.Members.GnuMembers.{alias_specs}
-use Rattle.implib.specs.Members.MemberSpec.{MemberView}
 use Rattle.implib.specs.Members.WeakExternal.{weak_object}
 use Rattle.implib.specs.Link.LinkedMembers.{LinkInput, objects_in}
-use Rattle.implib.specs.Link.Placement.{Bases}
-use Rattle.implib.proofs.Link.LinkedMembers.{among_contains, among_map}
-use Rattle.implib.proofs.Link.Ranges.{Among, all_among, among_back, among_front}
+use Rattle.implib.proofs.Link.LinkedMembers.{among_contains}
+use Rattle.implib.proofs.Link.Ranges.{Among, among_back}
 use Rattle.implib_link.specs.Gnu.Packed.{group_end, packed, packed_end, sections_end}
-use Rattle.implib_link.specs.Gnu.Program.{ClaimsNone, claimed_names, has_tables, HaveSame}
-use Rattle.implib_link.specs.Search.Archives.{Library, NamesNoHeadOrTailOf, archive_of, is_weak}
-use Rattle.implib_link.specs.Search.Closed.{IsClosed, PullsInto, TakesInto, claims_of, inputs_in, listed_in, references_of, unresolved, wanted_in}
-use Rattle.implib_link.specs.Search.Given.{AreGiven, symbols_kept}
-use Rattle.implib_link.specs.Search.Search.{names_undefined, undefined_in, left_as}
-use Rattle.implib.specs.Link.Placement.{placed_from}
-use Rattle.implib.specs.Worked.Statements.{plain_export}
-use Rattle.implib_link.specs.Flavors.Program.{IsProgram, LinksAmong, OfLinker, gnu_input}
-use Rattle.implib_link.specs.Search.Closed.{IsAliasTaken, IsImported, LinksClosed}
-use Rattle.implib_link.proofs.Flavors.GnuPrograms.{gnu_made}
-use Rattle.implib_link.proofs.Flavors.Program.{program_links}
-use Rattle.implib_link_instances.specs.But.Links.{IsClosedBut, LinksClosedBut}
-use Rattle.implib_link_instances.specs.Worked.Archives.{two_libraries}
-use Rattle.implib_link_instances.specs.Worked.NearResults.{asking_objects, clashing_objects}
-use Rattle.implib_link_instances.specs.Worked.Closed.{WorkedClosed, WorkedGiven, choosing, clashing, closed_bases, closed_objects, closed_taken, foo_alias, without_last, zed_first}
+use Rattle.implib_link.specs.Gnu.Program.{ClaimsNone, HaveSame, claimed_names, has_tables}
+use Rattle.implib_link.specs.Search.Archives.{NamesNoHeadOrTailOf, archive_of, is_weak, symbols_of_library}
+use Rattle.implib_link.specs.Search.Closed.{IsClosed, TakesInto, claims_of, inputs_in, listed_in, references_of, wanted_in}
+use Rattle.implib_link.specs.Search.Given.{AreGiven, symbols_kept, wanted_at_most}
+use Rattle.implib_link.specs.Search.Search.{left_as, names_undefined, undefined_in}
+use Rattle.implib_link_instances.specs.Worked.Search.{two_libraries}
+use Rattle.implib_link_instances.specs.Worked.Closed.{WorkedClosed, WorkedGiven, choosing, closed_bases, closed_objects, closed_taken, zed_first}
 use Rattle.implib_link_instances.proofs.Worked.GnuPacked.{packed_is_admissible}
 use Rattle.implib_link.proofs.Search.Arranged.{inputs_made}
 use Rattle.implib_link.proofs.Search.Closed.{closed_links}
-use Rattle.implib_link.proofs.Search.Closing.{takes_into, unresolved_parts, claims_apart}
+use Rattle.implib_link.proofs.Search.Closing.{claims_apart, takes_into}
 use Rattle.implib_link.proofs.Search.Given.{given_closes, given_ends}
-use Rattle.implib_link.proofs.Search.Lists.{among_any, any_among, contains_among}
-use Rattle.implib_link_instances.proofs.Worked.Archives.{both_takes, tail_named, worked_archives}
-use Rattle.implib_link_instances.proofs.Worked.Programs.{claims_none_by, opened, program_by}
+use Rattle.implib_link.proofs.Search.Lists.{contains_among}
+use Rattle.implib_link_instances.proofs.Worked.Search.{both_takes, worked_archives}
+use Rattle.implib_link_instances.proofs.Worked.Programs.{claims_none_by, distinct_by, opened, worked_programs}
+use Rattle.implib.specs.Link.Placement.{next_multiple}
+use Rattle.implib_link.specs.Search.Exists.{AreChosenFor, HasClosed, objects_closed, tables_end}
+use Rattle.implib_link_instances.specs.Worked.Exists.{WorkedExists}
+use Rattle.implib_link.proofs.Search.Exists.{closed_exists, packed_closes, packed_within}
+use Rattle.implib.specs.Members.MsvcObjects.{null_descriptor_symbol}
+use Rattle.implib_link.specs.Search.BothFlavors.{FlavorLibrary, IsFlavorArchive, archive_of_both, gnu_among, msvc_among}
+use Rattle.implib_link.specs.Search.MsvcArchives.{IsMsvcArchive, TakesIntoFor, symbols_of_shorts}
+use Rattle.implib_link.specs.Search.NoShorts.{WantsNoShort}
+use Rattle.implib_link_instances.specs.Worked.NoShorts.{WorkedNoShort, WorkedNoShorts, far_first, with_far}
+use Rattle.implib_link.proofs.Search.NoShorts.{links_alone, takes_of_both}
+use Rattle.implib_link_instances.proofs.Worked.BothFlavors.{apart_by}
+use Rattle.implib_link_instances.proofs.Worked.Opened.{searched}
+use Rattle.implib_link.specs.Flavors.Program.{OfLinker, gnu_input}
+use Rattle.implib_link.specs.Search.Wanting.{wanting}
+use Rattle.implib_link_instances.specs.Worked.Programs.{both_inputs, program_objects, touching_4, touching_8}
+use Rattle.implib_link_instances.specs.Worked.Wanting.{WorkedWanting, listed_names, quiet, with_names}
+use Rattle.implib_link.proofs.Search.Wanting.{program_with}
 
 abbrev own : List Object
 own = choosing ∷ []
@@ -53,10 +59,6 @@ swapped a b x = (
   λ has. among_contains x (b ∷ a ∷ []) (turn x a b (contains_among x (a ∷ b ∷ []) has)),
   λ has. among_contains x (a ∷ b ∷ []) (turn x b a (contains_among x (b ∷ a ∷ []) has)),
 )
-
--- a member of another name than those that are taken
-new_by : (taken : List MemberView) (m : MemberView) → list_any (bytes_eq m.name) (map (λ (x : MemberView). x.name) taken) ≡ false → Contains taken m → ⊥
-new_by taken m new has = true≢false (sym (among_any m.name (map (λ (x : MemberView). x.name) taken) (among_map (λ (x : MemberView). x.name) m taken (contains_among m taken has))) ∙ new)
 
 claims : AllByRecursion (ClaimsNone (listed_in closed_taken ++ names_undefined closed_taken)) own
 unfolding opened alias_specs encoded_size weak_object left_as undefined_in
@@ -97,31 +99,6 @@ is_closed = record {
   names = plain;
 }
 
-stopped : TakesInto (archive_of two_libraries) own without_last → ⊥
-unfolding opened alias_specs encoded_size weak_object undefined_in references_of claims_of archive_of
-stopped takes =
-    let name : List ℕ = codes "zed_dll_iname" in
-    takes.ended name (tail_named (codes "zed.dll")) (record {
-      named = among_contains name (unresolved (own ++ objects_in without_last)) (any_among name (unresolved (own ++ objects_in without_last)) refl);
-      listed = refl;
-      new = new_by without_last (tail_named (codes "zed.dll")) refl;
-    })
-
-claimed : (taken : List MemberView) (m : MemberView) → PullsInto (archive_of two_libraries) own taken (codes "stack") m → ⊥
-claimed taken m pulls =
-    let name : List ℕ = codes "stack" in
-    (unresolved_parts (own ++ objects_in taken) name (contains_among name (unresolved (own ++ objects_in taken)) pulls.named)).1
-    (subst (Among name) (sym (flat_map-append claimed_names own (objects_in taken)))
-    (among_front name (flat_map claimed_names own) (flat_map claimed_names (objects_in taken)) (any_among name (flat_map claimed_names own) refl)))
-
-pub clashes : (arranged : List Library) (bases : Bases) (objects : List Object) → IsClosed AMD64 two_libraries (clashing ∷ []) closed_taken arranged bases objects → ⊥
-unfolding opened alias_specs encoded_size weak_object left_as undefined_in
-clashes arranged bases objects is =
-    let none : list_any (bytes_eq (codes "queue")) (claimed_names clashing) ≡ false =
-    all_among (λ name. list_any (bytes_eq name) (claimed_names clashing) ≡ false) (codes "queue") (listed_in closed_taken ++ names_undefined closed_taken)
-    (any_among (codes "queue") (listed_in closed_taken ++ names_undefined closed_taken) refl) is.claims.0 in
-    true≢false none
-
 pub worked_closed : WorkedClosed
 unfolding opened alias_specs encoded_size weak_object is_weak left_as undefined_in references_of claims_of has_tables group_end sections_end
 worked_closed = record {
@@ -135,9 +112,6 @@ worked_closed = record {
   left = refl;
   queue = refl;
   baz = refl;
-  stopped = stopped;
-  claimed = claimed;
-  clashes = clashes;
 }
 
 given : AreGiven AMD64 two_libraries own
@@ -147,12 +121,6 @@ given = record {
   names = (record { head = refl; name = refl }, (record { head = refl; name = refl }, tt));
 }
 
-refused : AreGiven AMD64 two_libraries (clashing ∷ []) → ⊥
-unfolding opened alias_specs encoded_size references_of claims_of undefined_in
-refused is =
-    let names : List (List ℕ) = symbols_kept AMD64 two_libraries (clashing ∷ []) in
-    true≢false (all_among (λ name. list_any (bytes_eq name) (claimed_names clashing) ≡ false) (codes "queue") names (any_among (codes "queue") names refl) is.claims.0)
-
 pub worked_given : WorkedGiven
 unfolding opened alias_specs encoded_size references_of claims_of undefined_in
 worked_given = record {
@@ -160,78 +128,103 @@ worked_given = record {
   kept = refl;
   ends = given_ends AMD64 two_libraries own worked_archives.archive given;
   closed = given_closes AMD64 two_libraries own closed_taken zed_first closed_bases closed_objects worked_archives.archive given takes is_closed.linked;
-  refused = refused;
 }
 
--- Near misses: an object with a `queue` of its own, and the closed program beside another object.
+room : tables_end 0x2000 two_libraries ≡ 0x2186
+unfolding opened
+room = refl
 
-clashing_apart : (name : List ℕ) → Among name (flat_map undefined_in (objects_in closed_taken)) → Among name (flat_map claimed_names (clashing ∷ [])) → ⊥
+above_zero : 0 < 0x2000
+above_zero = omega arith
+
+room_below : tables_end 0x2000 two_libraries < 2 ^ 31
+room_below = (let is = room in omega arith)
+
+chosen : AreChosenFor AMD64 two_libraries (choosing ∷ []) closed_taken zed_first closed_objects
+chosen = record { order = worked_closed.closed.linked.order; others = worked_closed.closed.linked.others; tables = worked_closed.closed.linked.tables }
+
+end : packed_end 0x2000 closed_objects ≡ 0x20A8
+unfolding opened alias_specs encoded_size weak_object has_tables group_end sections_end
+end = refl
+
+none_below : (n : ℕ) → n ≡ 0 → 0 < n → ⊥
+none_below n is over = omega arith
+
+at_zero : HasClosed AMD64 two_libraries (choosing ∷ []) 0 → ⊥
+unfolding next_multiple
+at_zero has = none_below (packed 0 (objects_closed AMD64 two_libraries (choosing ∷ []) has.0)).descriptors refl has.1.linked.admissible.descriptors.0
+
+pub worked_exists : WorkedExists
+unfolding opened alias_specs encoded_size weak_object has_tables group_end sections_end
+worked_exists = record {
+  room = room;
+  end = end;
+  chosen = chosen;
+  closed = packed_closes AMD64 two_libraries (choosing ∷ []) closed_taken zed_first 0x2000 closed_objects worked_archives.archive worked_given.given worked_closed.takes chosen above_zero room_below;
+  within = packed_within AMD64 two_libraries (choosing ∷ []) closed_taken zed_first 0x2000 closed_objects worked_archives.archive chosen above_zero room_below;
+  exists = closed_exists AMD64 two_libraries (choosing ∷ []) 0x2000 worked_archives.archive worked_given.given (refl, tt) above_zero room_below;
+  at_zero = at_zero;
+}
+
+msvc_archive : IsMsvcArchive AMD64 (msvc_among with_far)
+unfolding searched
+msvc_archive = record {
+  made = (record { accepted = refl; made = refl; ordinals = refl }, tt);
+  distinct = distinct_by (null_descriptor_symbol ∷ flat_map symbols_of_shorts (msvc_among with_far)) refl;
+  found = (refl, tt);
+}
+
+-- libraries with far.dll among them, in any order
+archive : (libraries : List FlavorLibrary) → gnu_among libraries ≡ two_libraries → msvc_among libraries ≡ msvc_among with_far → IsFlavorArchive AMD64 libraries
+unfolding searched
+archive libraries gnu msvc = record {
+  gnu = rw gnu worked_archives.archive;
+  msvc = rw msvc msvc_archive;
+  apart = rw (gnu, msvc) (apart_by (null_descriptor_symbol ∷ flat_map symbols_of_shorts (msvc_among with_far)) (flat_map (symbols_of_library AMD64) two_libraries) refl);
+}
+
+none : (libraries : List FlavorLibrary) → gnu_among libraries ≡ two_libraries → msvc_among libraries ≡ msvc_among with_far → WantsNoShort libraries (choosing ∷ [])
+unfolding searched
+none libraries gnu msvc = rw (gnu, msvc) (apart_by (wanted_at_most two_libraries (choosing ∷ [])) (null_descriptor_symbol ∷ flat_map symbols_of_shorts (msvc_among with_far)) refl)
+
+no_shorts : (libraries : List FlavorLibrary) → gnu_among libraries ≡ two_libraries → msvc_among libraries ≡ msvc_among with_far → WorkedNoShort libraries
+no_shorts libraries gnu msvc =
+    let is : IsFlavorArchive AMD64 libraries = archive libraries gnu msvc in
+    let wants : WantsNoShort libraries (choosing ∷ []) = none libraries gnu msvc in
+    let takes : TakesIntoFor AMD64 (archive_of_both libraries) (choosing ∷ []) closed_taken = takes_of_both AMD64 libraries is (choosing ∷ []) wants closed_taken (rw gnu worked_closed.takes) in
+    record {
+      archive = is;
+      others = gnu;
+      none = wants;
+      takes = takes;
+      links = links_alone AMD64 libraries is (choosing ∷ []) wants closed_taken zed_first closed_bases closed_objects (rw gnu worked_given.given) takes (rw gnu worked_closed.closed.linked);
+    }
+
+pub worked_no_shorts : WorkedNoShorts
+worked_no_shorts = record { between = no_shorts with_far refl refl; first = no_shorts far_first refl refl }
+
+wanting_claims : AllByRecursion (ClaimsNone (listed_in closed_taken ++ names_undefined closed_taken)) with_names
 unfolding opened alias_specs encoded_size weak_object left_as undefined_in
-clashing_apart name left = claims_apart (names_undefined closed_taken) (clashing ∷ []) (claims_none_by (names_undefined closed_taken) clashing refl, tt) name left
+wanting_claims = (claims_none_by (listed_in closed_taken ++ names_undefined closed_taken) (wanting listed_names) refl, (claims_none_by (listed_in closed_taken ++ names_undefined closed_taken) quiet refl, tt))
 
-clashing_takes : TakesInto (archive_of two_libraries) (clashing ∷ []) closed_taken
+-- what the members that are taken leave, neither claims
+wanting_left_apart : (name : List ℕ) → Among name (flat_map undefined_in (objects_in closed_taken)) → Among name (flat_map claimed_names with_names) → ⊥
+unfolding left_as
+wanting_left_apart name left = claims_apart (listed_in closed_taken ++ names_undefined closed_taken) with_names wanting_claims name (among_back name (listed_in closed_taken) (names_undefined closed_taken) left)
+
+wanting_takes : TakesInto (archive_of two_libraries) with_names closed_taken
 unfolding references_of claims_of undefined_in
-clashing_takes = takes_into object_in (archive_of two_libraries) (clashing ∷ []) closed_taken clashing_apart both_takes
+wanting_takes = takes_into object_in (archive_of two_libraries) with_names closed_taken wanting_left_apart both_takes
 
-pub clashing_closed : IsClosedBut (codes "claims") AMD64 two_libraries (clashing ∷ []) closed_taken zed_first (packed 0x2000 clashing_objects) clashing_objects
-unfolding opened alias_specs encoded_size weak_object is_weak left_as undefined_in references_of claims_of has_tables group_end sections_end
-clashing_closed = record {
-  takes = clashing_takes;
-  linked = record {
-    order = record { moves = (0, 1) ∷ []; below = (omega arith, omega arith, tt); is = refl };
-    others = swapped _ clashing;
-    tables = refl;
-    admissible = packed_is_admissible AMD64 0x2000 inputs clashing_objects (inputs_made AMD64 zed_first (wanted_in own closed_taken) (worked_archives.archive.made.1.0, (worked_archives.archive.made.0, tt)))
-        refl (omega arith) (below_limit (packed_end 0x2000 clashing_objects) refl);
-  };
-  claims = tt;
-  names = (record { head = refl; name = refl }, (record { head = refl; name = refl }, tt));
+pub worked_wanting : WorkedWanting
+unfolding references_of claims_of undefined_in
+worked_wanting = record {
+  alone = refl;
+  wanted = refl;
+  had = refl;
+  none = refl;
+  common = refl;
+  takes = wanting_takes;
+  amd64 = program_with listed_names AMD64 touching_8 (program_objects AMD64) OfLinker (map gnu_input (both_inputs AMD64)) worked_programs.amd64.program;
+  i386 = program_with (codes "_open" ∷ []) I386 touching_4 (program_objects I386) OfLinker (map gnu_input (both_inputs I386)) worked_programs.i386.program;
 }
-
-abbrev asking_bases : Bases
-asking_bases = packed 0x2000 asking_objects
-
-asking_program : IsProgram AMD64 asking_bases (inputs_in zed_first own closed_taken) asking_objects
-unfolding opened alias_specs encoded_size weak_object is_weak left_as undefined_in references_of claims_of has_tables group_end sections_end
-asking_program = program_by (inputs_in zed_first own closed_taken) refl refl refl
-    (packed_is_admissible AMD64 0x2000 inputs asking_objects (inputs_made AMD64 zed_first (wanted_in own closed_taken) (worked_archives.archive.made.1.0, (worked_archives.archive.made.0, tt)))
-    refl (omega arith) (below_limit (packed_end 0x2000 asking_objects) refl))
-
-asking_links : LinksAmong AMD64 asking_bases (inputs_in zed_first own closed_taken) asking_objects
-asking_links =
-    program_links AMD64 OfLinker asking_bases (map gnu_input (inputs_in zed_first own closed_taken)) asking_objects
-    (gnu_made AMD64 (inputs_in zed_first own closed_taken) (inputs_made AMD64 zed_first (wanted_in own closed_taken) (worked_archives.archive.made.1.0, (worked_archives.archive.made.0, tt)))) asking_program
-
-abbrev IsResolved : List ℕ → Type 0
-IsResolved name =
-    IsImported AMD64 (placed_from asking_bases asking_objects) asking_bases (inputs_in zed_first own closed_taken) name ⊎ IsAliasTaken closed_taken name
-
--- each of the names that are wanted and listed
-each_resolved : (name : List ℕ) → Among name (codes "bar" ∷ codes "__imp_queue" ∷ codes "printf" ∷ codes "baz" ∷ []) → Among name (listed_in (archive_of two_libraries)) → IsResolved name
-unfolding opened alias_specs encoded_size weak_object is_weak left_as undefined_in references_of claims_of has_tables group_end sections_end Among archive_of
-each_resolved name (inl is) listed = subst IsResolved (sym is) (inr (foo_alias, (0, omega arith, refl), refl))
-each_resolved name (inr (inl is)) listed =
-    subst IsResolved (sym is) (inl (record { number = 0; input = _; input_is = refl; index = 0; export = plain_export (codes "queue"); export_is = refl; by = inl (refl, refl) }))
-each_resolved name (inr (inr (inl is))) listed =
-    absurd (true≢false (sym (among_any (codes "printf") (listed_in (archive_of two_libraries)) (subst (λ n. Among n (listed_in (archive_of two_libraries))) is listed))))
-each_resolved name (inr (inr (inr (inl is)))) listed =
-    subst IsResolved (sym is) (inl (record { number = 1; input = _; input_is = refl; index = 0; export = plain_export (codes "baz"); export_is = refl; by = inr (refl, refl, (_, refl)) }))
-each_resolved name (inr (inr (inr (inr none)))) listed = absurd none
-
-pub asking_closed : LinksClosedBut (codes "closed") AMD64 two_libraries own closed_taken zed_first asking_bases asking_objects
-unfolding opened alias_specs encoded_size weak_object is_weak left_as undefined_in references_of claims_of has_tables
-asking_closed = record {
-  taken_is = worked_closed.links.taken_is;
-  program = asking_program;
-  links = asking_links;
-  used = worked_closed.links.used;
-  resolved = λ name wanted listed. each_resolved name (contains_among name (codes "bar" ∷ codes "__imp_queue" ∷ codes "printf" ∷ codes "baz" ∷ []) wanted) (contains_among name (listed_in (archive_of two_libraries)) listed);
-  closed = tt;
-}
-
-pub asked : LinksClosed AMD64 two_libraries own closed_taken zed_first asking_bases asking_objects → ⊥
-unfolding opened alias_specs encoded_size weak_object is_weak left_as undefined_in references_of claims_of has_tables archive_of
-asked x =
-    let listed : List (List ℕ) = listed_in (archive_of two_libraries) in
-    let left : List (List ℕ) = unresolved asking_objects in
-    x.closed (codes "__imp_stack") (among_contains (codes "__imp_stack") left (any_among (codes "__imp_stack") left refl)) (among_contains (codes "__imp_stack") listed (any_among (codes "__imp_stack") listed refl))

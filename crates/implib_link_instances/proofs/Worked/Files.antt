@@ -1,8 +1,8 @@
 -- Files that linkers wrote, by computing.
-use Rattle.std.proofs.Common.{◌≡◌, Bool, true, List, [], ◌∷◌, ◌++◌, refl, arith}
+use Rattle.std.proofs.Common.{Bool, List, [], arith, refl, sym, true, ℕ, ◌++◌, ◌∷◌, ◌≡◌}
 use Rattle.std.specs.List.{AllByRecursion, list_all}
 use Rattle.std.proofs.lemmas.Bool.{and_parts}
-use Rattle.implib.specs.declared.machine.MachineType.TheVariants.{I386, AMD64, ARM64}
+use Rattle.implib.specs.declared.machine.MachineType.TheVariants.{AMD64, I386}
 use Rattle.implib.specs.Link.Image.{Range}
 use Rattle.implib.specs.Link.Load.{BytesAt}
 use Rattle.implib_dll.specs.Bytes.{bytes_at, u16_at, u32_at}
@@ -10,17 +10,19 @@ use Rattle.implib_dll.specs.Digits.{bytes_of_digits}
 use Rattle.implib_dll.specs.Headers.{entry_in, header_at, header_for, header_with, signature_in}
 use Rattle.implib_dll.specs.Outcome.{each_from}
 use Rattle.implib_dll.specs.Sections.{contents_at, section_at}
-use Rattle.implib_image.specs.Files.{mapped_file}
-use Rattle.implib_image.specs.Laws.{IsFileOf}
+use Rattle.implib_link.specs.Image.Files.{mapped_file}
+use Rattle.implib_link.specs.Image.Laws.{IsFileOf}
 use Rattle.implib_link.specs.Gnu.Fields.{ranges_of_codes}
 use Rattle.implib_link.specs.Tables.{AreTables}
-use Rattle.implib_link_instances.specs.Worked.Files.{WorkedFile, WorkedFiles, amd64_headers, arm64_headers, file_on, gnu_data, gnu_file, gnu_headers, gnu_idata, gnu_mapped, gnu_reloc, gnu_text, i386_headers, mapped_on, tables_in}
+use Rattle.implib_link_instances.specs.Worked.Files.{WorkedFile, WorkedFiles, WorkedHeaders, amd64_headers, arm64_headers, file_on, gnu_data, gnu_file, gnu_headers, gnu_idata, gnu_mapped, gnu_reloc, gnu_text, i386_headers, mapped_on, tables_in}
 use Rattle.implib_link_instances.specs.Worked.LldPrograms.{addresses_on, lld_image_on, shorts_on}
 use Rattle.implib_link_instances.specs.Worked.Stored.{holding_codes, holding_placed}
 use Rattle.implib_link.proofs.TablesOfPrograms.{lld_tables}
-use Rattle.implib_link_instances.proofs.Worked.Lld.{lld_opened}
-use Rattle.implib_link_instances.proofs.Worked.RefusedLinks.{are_located, is_each_located}
-use Rattle.implib_link_instances.proofs.Worked.Stored.{amd64_beside, amd64_further, amd64_program, arm64_beside, arm64_further, arm64_program, i386_beside, i386_further, i386_program}
+use Rattle.implib_link_instances.proofs.Worked.LldPrograms.{lld_opened}
+use Rattle.implib_link_instances.proofs.Worked.Stored.{amd64_beside, amd64_further, amd64_program, i386_beside, i386_further, i386_program}
+use Rattle.implib_link_instances.proofs.Worked.Lemmas.{are_located, differ, is_each_located}
+use Rattle.implib.specs.Import.{Ask}
+use Rattle.implib_dll.specs.WorkedFiles.{worked_pe32}
 
 -- what the computing has to open
 unfoldable pub file_opened : Unit {0}
@@ -59,22 +61,26 @@ amd64_file : WorkedFile AMD64 0x2068 0x28
 unfolding lld_opened file_opened
 amd64_file = record { is = amd64_is; beside = amd64_beside; further = amd64_further; tables = amd64_tables; addresses = refl; inside = ((omega arith, omega arith), ((omega arith, omega arith), tt)); exact = refl }
 
-pub arm64_is : IsFileOf ARM64 0x2000 (lld_image_on ARM64 ++ ranges_of_codes (holding_codes ARM64)) (file_on ARM64) (mapped_on ARM64)
-unfolding lld_opened file_opened
-arm64_is = record { mapped = refl; made_for = refl; width = refl; directory = refl; holds = holds_by (mapped_on ARM64).image (lld_image_on ARM64 ++ ranges_of_codes (holding_codes ARM64)) refl }
-
-arm64_tables : AreTables ARM64 (tables_in ARM64)
-arm64_tables = lld_tables ARM64 0x2000 (addresses_on ARM64) (shorts_on ARM64) (lld_image_on ARM64) (holding_placed ARM64) arm64_program
-
-arm64_file : WorkedFile ARM64 0x2068 0x28
-unfolding lld_opened file_opened
-arm64_file = record { is = arm64_is; beside = arm64_beside; further = arm64_further; tables = arm64_tables; addresses = refl; inside = ((omega arith, omega arith), ((omega arith, omega arith), tt)); exact = refl }
-
 pub worked_files : WorkedFiles
 unfolding file_opened
 worked_files = record {
   i386 = i386_file;
   amd64 = amd64_file;
-  arm64 = arm64_file;
   gnu = record { mapped = refl; made_for = refl; width = refl; directory = refl; holds = holds_by gnu_mapped.image (record { start = 0x3000; bytes = gnu_idata } ∷ []) refl };
+}
+
+-- the files have their tables in memory
+
+pub worked_headers : (gives : List ℕ → Ask → List ℕ) → WorkedHeaders gives
+unfolding lld_opened file_opened worked_pe32
+worked_headers gives = record {
+  thirteen = refl;
+  twelve = refl;
+  one = refl;
+  base = refl;
+  base_4 = refl;
+  bss = refl;
+  none = (refl, refl);
+  at_0 = (refl, refl);
+  none_more = λ x. differ 0 1 (sym x.0) (omega arith);
 }

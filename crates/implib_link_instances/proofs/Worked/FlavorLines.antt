@@ -14,8 +14,11 @@ use Rattle.implib_link_instances.specs.Worked.CommandLines.{i386_wants_bytes, is
 use Rattle.implib_link_instances.specs.Worked.FlavorLines.{WorkedFlavorLine, WorkedFlavorLines, amd64_kernels, amd64_shorts, i386_kernels, i386_shorts, shorts_grouped, shorts_last, shorts_taken, with_quit}
 use Rattle.implib_link_instances.proofs.Worked.BothFlavors.{archive_by}
 use Rattle.implib_link_instances.proofs.Worked.CommandLines.{member_or_none, object_at, whole_at}
-use Rattle.implib_link_instances.proofs.Worked.NearSearches.{searched}
+use Rattle.implib_link_instances.proofs.Worked.Opened.{searched, archived}
 use Rattle.implib_link_instances.proofs.Worked.Programs.{claims_none_by, distinct_by}
+use Rattle.implib_link.specs.Archives.Results.{HaveArchive}
+use Rattle.implib_link.specs.Archives.InBytes.{Second}
+use Rattle.implib_archive.specs.declared.kind.Kind.TheVariants.{Coff}
 
 -- AMD64
 
@@ -83,10 +86,15 @@ given = record {
   names = record { gnu = tt; msvc = (record { descriptor = refl; null_descriptor = refl; null_thunk = refl }, tt) };
 }
 
+ready : HaveArchive Coff Second (archive_of_both amd64_kernels)
+unfolding searched archived
+ready = record { accepted = refl; has = tt }
+
 amd64 : WorkedFlavorLine AMD64 amd64_kernels amd64_shorts own (shorts_last own)
 unfolding searched
 amd64 = record {
   archive = archive;
+  ready = ready;
   searches = searches;
   given = given;
   some = omega arith;
@@ -167,10 +175,15 @@ i386_given = record {
   names = record { gnu = tt; msvc = (record { descriptor = refl; null_descriptor = refl; null_thunk = refl }, tt) };
 }
 
+i386_ready : HaveArchive Coff Second (archive_of_both i386_kernels)
+unfolding searched archived
+i386_ready = record { accepted = refl; has = tt }
+
 i386 : WorkedFlavorLine I386 i386_kernels i386_shorts i386_own (shorts_grouped i386_own)
 unfolding searched
 i386 = record {
   archive = i386_archive;
+  ready = i386_ready;
   searches = i386_searches;
   given = i386_given;
   some = omega arith;

@@ -1,8 +1,8 @@
 -- Programs of DLLs in both flavours, by computing.
-use Rattle.std.proofs.Common.{◌≡◌, ℕ, ◌+◌, ◌^◌, List, [], ◌∷◌, refl, ◌∙◌, arith, subst, true, ◌++◌}
+use Rattle.std.proofs.Common.{◌≡◌, List, ◌∷◌, refl, arith, true, ◌++◌}
 use Rattle.std.specs.Prelude.{drop, take, not}
-use Rattle.implib.specs.declared.machine.MachineType.TheVariants.{I386, ARMNT, AMD64, ARM64}
-use Rattle.implib.specs.Link.Image.{Range, with_address}
+use Rattle.implib.specs.declared.machine.MachineType.TheVariants.{I386, AMD64}
+use Rattle.implib.specs.Link.Image.{with_address}
 use Rattle.std.specs.Fmt.{digits}
 use Rattle.implib.specs.Formats.Bytes.{u16_bytes, u32_bytes}
 use Rattle.implib.specs.Members.Gnu.{export_object, five_digits, head_name, head_object, head_symbol, hint_name, iname_symbol, numbered_name, relocations_of_stub, relocations_of_thunk, mangled_name, stub, tail_name, tail_object, thunk}
@@ -11,26 +11,24 @@ use Rattle.implib.specs.Formats.Object.{before_nul, bytes_at, data_at, each_at, 
 use Rattle.implib.specs.Formats.Layout.{auxiliary_bytes, auxiliary_count, contents, contents_offset, contents_size, header_bytes, encoded, encoded_size, name_field, offsets_from, pointer_or_zero, record_count, records, relocation_bytes, section_header, section_headers, string_bytes_of, string_offsets, string_size, string_table, strings_size, symbol_bytes, symbol_table_offset}
 use Rattle.implib.specs.Link.Placement.{next_multiple}
 use Rattle.implib.specs.Formats.Writer.{long_names, name_location, layout_of, symbol_written, with_long_name, with_name}
-use Rattle.implib.specs.Link.Load.{IsWhole, LoadsStrictly, NumberAt, WholeTableAt}
 use Rattle.implib.specs.Members.Members.{refusal, renamed_refusal}
 use Rattle.implib.specs.Members.MsvcMembers.{descriptor_spec, header_specs, null_descriptor_spec, null_thunk_spec, weak_specs}
 use Rattle.implib.specs.Members.MsvcObjects.{base_name, descriptor, descriptor_symbol, null_descriptor, null_descriptor_symbol, null_thunk, null_thunk_symbol}
 use Rattle.implib.specs.Formats.ShortImport.{short_import_in}
 use Rattle.implib.specs.Members.WeakExternal.{weak_object}
-use Rattle.implib.proofs.Link.Loading.{number_once}
 use Rattle.implib_link.specs.Flavors.Expansion.{import_object, descriptor_symbol_by_name, expanded_in}
 use Rattle.implib_link.specs.Flavors.Program.{OfMember, all_members, symbols_listed, FlavorInput, IsFoundByName, dll_names_in, null_member, objects_taken, AreProgramObjects}
 use Rattle.implib_link.specs.Gnu.Packed.{group_end, sections_end}
 use Rattle.implib_link.specs.Gnu.Program.{has_tables}
 use Rattle.implib_link.specs.Flavors.SectionSymbols.{with_section_symbols}
-use Rattle.implib_link_instances.specs.Worked.Flavors.{RefusedTables, WorkedFlavorProgram, WorkedFlavors, both_inputs, flavor_bases_4, flavor_bases_8, flavor_expected_4, flavor_expected_8, flavor_image, foo_asks, foo_input, shifted_bases}
-use Rattle.implib_link_instances.proofs.Worked.RefusedLinks.{differ, number}
+use Rattle.implib_link_instances.specs.Worked.Flavors.{WorkedFlavorProgram, WorkedFlavors, both_inputs, flavor_bases_4, flavor_bases_8, flavor_expected_4, flavor_expected_8, foo_input}
 use Rattle.implib.specs.LibraryName.{linked_dll}
 use Rattle.std.specs.List.{AllByRecursion, Contains, filter}
 use Rattle.implib.specs.Members.MemberSpec.{MemberView}
 use Rattle.implib.specs.declared.machine.MachineType.{MachineType}
 use Rattle.implib.specs.declared.flavor.Flavor.TheVariants.{Msvc}
 use Rattle.implib_link_instances.proofs.Worked.Programs.{distinct_by, admissible_by, all_differ, claim_none, all_claim_none}
+use Rattle.implib_link_instances.proofs.Worked.Lemmas.{differ}
 
 -- what the computing has to open
 unfoldable pub opened : Unit {0}
@@ -89,79 +87,8 @@ i386 = record {
   named = refl;
 }
 
-arm64 : WorkedFlavorProgram ARM64 9 flavor_bases_8 flavor_expected_8
-unfolding opened refusal renamed_refusal alias_specs encoded_size weak_object has_tables expanded_in short_import_in import_object descriptor_symbol_by_name with_section_symbols descriptor null_descriptor null_thunk descriptor_symbol null_descriptor_symbol null_thunk_symbol base_name descriptor_spec null_descriptor_spec null_thunk_spec header_specs weak_specs group_end sections_end
-arm64 = record {
-  made = (record { accepted = refl; made = refl; ordinals = refl }, (record { accepted = refl; made = refl; ordinals = refl }, tt));
-  program = record {
-    held = flavor_objects_by (foo_input ARM64) (take 9 (all_members ARM64 (both_inputs ARM64))) (drop 9 (all_members ARM64 (both_inputs ARM64))) (0, omega arith, refl) (refl, (tt, tt)) refl refl refl refl refl;
-    admissible = admissible_by refl refl;
-    lookups = refl;
-    addresses = refl;
-    follows = refl;
-  };
-  descriptors = refl;
-  lookups = refl;
-  addresses = refl;
-  hints = refl;
-  zed = refl;
-  entries = refl;
-  named = refl;
-}
-
-armnt : WorkedFlavorProgram ARMNT 2 flavor_bases_4 flavor_expected_4
-unfolding opened refusal renamed_refusal alias_specs encoded_size weak_object has_tables expanded_in short_import_in import_object descriptor_symbol_by_name with_section_symbols descriptor null_descriptor null_thunk descriptor_symbol null_descriptor_symbol null_thunk_symbol base_name descriptor_spec null_descriptor_spec null_thunk_spec header_specs weak_specs group_end sections_end
-armnt = record {
-  made = (record { accepted = refl; made = refl; ordinals = refl }, (record { accepted = refl; made = refl; ordinals = refl }, tt));
-  program = record {
-    held = flavor_objects_by (foo_input ARMNT) (take 2 (all_members ARMNT (both_inputs ARMNT))) (drop 2 (all_members ARMNT (both_inputs ARMNT))) (0, omega arith, refl) (refl, (tt, tt)) refl refl refl refl refl;
-    admissible = admissible_by refl refl;
-    lookups = refl;
-    addresses = refl;
-    follows = refl;
-  };
-  descriptors = refl;
-  lookups = refl;
-  addresses = refl;
-  hints = refl;
-  zed = refl;
-  entries = refl;
-  named = refl;
-}
-
 pub worked_flavors : WorkedFlavors
-worked_flavors = record { amd64 = amd64; i386 = i386; arm64 = arm64; armnt = armnt }
-
-abbrev shifted : List Range
-shifted = flavor_image AMD64 0 shifted_bases
-
-here : NumberAt (flavor_image AMD64 0 shifted_bases) 4 8 68
-unfolding opened refusal renamed_refusal alias_specs encoded_size weak_object has_tables expanded_in short_import_in import_object descriptor_symbol_by_name with_section_symbols descriptor null_descriptor null_thunk descriptor_symbol null_descriptor_symbol null_thunk_symbol base_name descriptor_spec null_descriptor_spec null_thunk_spec header_specs weak_specs group_end sections_end
-here = number shifted 4 8 68 (68 ∷ 0 ∷ 0 ∷ 0 ∷ []) refl refl refl
-
-there : NumberAt (flavor_image AMD64 0 shifted_bases) 8 68 0x9_0000_0000
-unfolding opened refusal renamed_refusal alias_specs encoded_size weak_object has_tables expanded_in short_import_in import_object descriptor_symbol_by_name with_section_symbols descriptor null_descriptor null_thunk descriptor_symbol null_descriptor_symbol null_thunk_symbol base_name descriptor_spec null_descriptor_spec null_thunk_spec header_specs weak_specs group_end sections_end
-there = number shifted 8 68 0x9_0000_0000 (0 ∷ 0 ∷ 0 ∷ 0 ∷ 9 ∷ 0 ∷ 0 ∷ 0 ∷ []) refl refl refl
-
--- the first thunk would have to ask for the ordinal 9
-not_nine : (image : List Range) (table thunk : ℕ) → NumberAt image 4 8 68 → NumberAt image 4 8 table → NumberAt image 8 68 0x9_0000_0000 → NumberAt image 8 table thunk →
-    thunk ≡ 2 ^ 63 + 9 → ⊥
-not_nine image table thunk field other number_there located whole =
-    let place : table ≡ 68 = number_once image 4 8 table 68 other field in
-    let same : 0x9_0000_0000 ≡ thunk = number_once image 8 68 0x9_0000_0000 thunk number_there (subst (λ n. NumberAt image 8 n thunk) place located) in
-    differ 0x9_0000_0000 (2 ^ 63 + 9) (same ∙ whole) (omega arith)
-
-nine_refused : (image : List Range) → NumberAt image 4 8 68 → NumberAt image 8 68 0x9_0000_0000 → (dll : List ℕ) → LoadsStrictly image 8 8 dll foo_asks → ⊥
-unfolding WholeTableAt IsWhole
-nine_refused image field number_there dll loads =
-    let first = loads.whole_lookups.0 in
-    not_nine image loads.plain.lookups first.thunk field loads.plain.lookups_field number_there first.located first.whole
-
-pub refused_tables : RefusedTables
-unfolding opened refusal renamed_refusal alias_specs encoded_size weak_object has_tables expanded_in short_import_in import_object descriptor_symbol_by_name with_section_symbols descriptor null_descriptor null_thunk descriptor_symbol null_descriptor_symbol null_thunk_symbol base_name descriptor_spec null_descriptor_spec null_thunk_spec header_specs weak_specs group_end sections_end
-refused_tables = record {
-  admissible = admissible_by refl refl;
-  field = refl;
-  thunk = refl;
-  refused = nine_refused shifted here there _;
+worked_flavors = record {
+  amd64 = amd64;
+  i386 = i386;
 }

@@ -5,8 +5,8 @@ use Rattle.implib.specs.Formats.Object.{Object}
 use Rattle.implib.specs.Link.LinkedMembers.{IsMade}
 use Rattle.implib.specs.Link.Placement.{Bases, placed_from}
 use Rattle.std.specs.List.{AllByRecursion}
-use Rattle.std.proofs.Common.{◌≡◌, ℕ, ◌+◌, ◌^◌, ◌≤◌, List, [], ◌∷◌, codes, length, map, refl, arith, subst, sym, ◌∙◌}
-use Rattle.implib.specs.declared.machine.MachineType.TheVariants.{I386, ARMNT, AMD64, ARM64}
+use Rattle.std.proofs.Common.{◌≡◌, ℕ, List, [], ◌∷◌, codes, length, map, refl, arith, subst, sym, ◌∙◌}
+use Rattle.implib.specs.declared.machine.MachineType.TheVariants.{I386, ARMNT, AMD64}
 use Rattle.implib.specs.Import.{Ask, Name, Ordinal}
 use Rattle.implib.specs.Members.GnuMembers.{alias_specs}
 use Rattle.implib.specs.Members.ImportTables.{thunk_width}
@@ -16,7 +16,7 @@ use Rattle.implib.specs.Worked.Statements.{plain_export}
 use Rattle.implib_link.specs.Directory.{imported}
 use Rattle.implib_link.specs.Gnu.Loaded.{Writes, entries_written}
 use Rattle.implib_link.specs.Gnu.Program.{has_tables}
-use Rattle.implib_link.specs.Flavors.Program.{IsProgram}
+use Rattle.implib_link.specs.Flavors.Program.{IsProgram, Ending, FlavorInput, IsMadeFor, IsProgramOf, OfLinker, gnu_input, imported_in}
 use Rattle.implib_link.specs.Stub.{CanJump}
 use Rattle.implib_link.proofs.PackedTables.{packed_imports}
 use Rattle.implib_link.proofs.Tables.{tables_load}
@@ -28,8 +28,7 @@ use Rattle.implib_link.proofs.Gnu.Directory.{directory_walk}
 use Rattle.implib_link.proofs.Flavors.Program.{program_links}
 use Rattle.implib_link.proofs.Flavors.Stubs.{stubs_jump}
 use Rattle.implib_link_instances.proofs.Worked.Programs.{opened, worked_programs}
-use Rattle.implib_link_instances.proofs.Worked.RefusedLinks.{number}
-use Rattle.implib_link.specs.Flavors.Program.{Ending, FlavorInput, IsMadeFor, IsProgramOf, OfLinker, gnu_input, imported_in}
+use Rattle.implib_link_instances.proofs.Worked.Lemmas.{number}
 
 -- a loader that is handed the imports loads the tables
 pub program_loaded : (machine : MachineType) (ending : Ending) (bases : Bases) (inputs : List FlavorInput) (objects : List Object) (gives : List ℕ → Ask → List ℕ) (written : List Range) →
@@ -79,30 +78,6 @@ amd64_call = record {
   queue_jumps = stubs_jump AMD64 OfLinker 0x1_4000_0000 touching_8 (map gnu_input (both_inputs AMD64)) (program_objects AMD64) 1 0 (gnu_input (zed_input AMD64)) (plain_export (symbol_on AMD64 (codes "queue"))) worked_programs.amd64.made worked_programs.amd64.program amd64_can refl refl refl;
 }
 
-pub arm64_given : (dll : List ℕ) (ask : Ask) → length (gives_by_hand ARM64 dll ask) ≡ thunk_width ARM64
-arm64_given dll (Ordinal n) = refl
-arm64_given dll (Name text hint) = refl
-
-arm64_writes : Writes (program_image ARM64 touching_8) (thunk_width ARM64) (gives_by_hand ARM64) touching_8.descriptors (map (imported ARM64) (both_inputs ARM64)) (written_8 ARM64)
-unfolding opened alias_specs encoded_size weak_object has_tables Writes entries_written
-arm64_writes = (
-  120,
-  (number (program_image ARM64 touching_8) 4 20 120 (120 ∷ 0 ∷ 0 ∷ 0 ∷ []) refl refl refl, (_, (refl, (160, (number (program_image ARM64 touching_8) 4 40 160 (160 ∷ 0 ∷ 0 ∷ 0 ∷ []) refl refl refl, ([], (refl, refl))))))),
-)
-
-arm64 : WorkedLoad ARM64 touching_8 (written_8 ARM64)
-arm64 = worked ARM64 touching_8 (written_8 ARM64) worked_programs.arm64.made worked_programs.arm64.program arm64_given arm64_writes
-
-arm64_can : CanJump ARM64 0x1_4000_0000 touching_8
-arm64_can = (refl, refl)
-
-arm64_call : WorkedCall ARM64 0x1_4000_0000 touching_8 128 160
-arm64_call = record {
-  can = arm64_can;
-  open_jumps = stubs_jump ARM64 OfLinker 0x1_4000_0000 touching_8 (map gnu_input (both_inputs ARM64)) (program_objects ARM64) 0 1 (gnu_input (foo_input ARM64)) (record (plain_export (symbol_on ARM64 (codes "open"))) { ordinal = 258 }) worked_programs.arm64.made worked_programs.arm64.program arm64_can refl refl refl;
-  queue_jumps = stubs_jump ARM64 OfLinker 0x1_4000_0000 touching_8 (map gnu_input (both_inputs ARM64)) (program_objects ARM64) 1 0 (gnu_input (zed_input ARM64)) (plain_export (symbol_on ARM64 (codes "queue"))) worked_programs.arm64.made worked_programs.arm64.program arm64_can refl refl refl;
-}
-
 pub i386_given : (dll : List ℕ) (ask : Ask) → length (gives_by_hand I386 dll ask) ≡ thunk_width I386
 i386_given dll (Ordinal n) = refl
 i386_given dll (Name text hint) = refl
@@ -131,30 +106,14 @@ pub armnt_given : (dll : List ℕ) (ask : Ask) → length (gives_by_hand ARMNT d
 armnt_given dll (Ordinal n) = refl
 armnt_given dll (Name text hint) = refl
 
-armnt_writes : Writes (program_image ARMNT touching_4) (thunk_width ARMNT) (gives_by_hand ARMNT) touching_4.descriptors (map (imported ARMNT) (both_inputs ARMNT)) (written_4 ARMNT)
-unfolding opened alias_specs encoded_size weak_object has_tables Writes entries_written
-armnt_writes = (
-  92,
-  (number (program_image ARMNT touching_4) 4 20 92 (92 ∷ 0 ∷ 0 ∷ 0 ∷ []) refl refl refl, (_, (refl, (112, (number (program_image ARMNT touching_4) 4 40 112 (112 ∷ 0 ∷ 0 ∷ 0 ∷ []) refl refl refl, ([], (refl, refl))))))),
-)
-
-armnt : WorkedLoad ARMNT touching_4 (written_4 ARMNT)
-armnt = worked ARMNT touching_4 (written_4 ARMNT) worked_programs.armnt.made worked_programs.armnt.program armnt_given armnt_writes
-
 pub worked_loads : WorkedLoads
-worked_loads = record { amd64 = amd64; arm64 = arm64; i386 = i386; armnt = armnt }
-
-not_four : (n : ℕ) → n ≡ 4 → n ≡ 0 → ⊥
-not_four n is none = omega arith
+worked_loads = record {
+  amd64 = amd64;
+  i386 = i386;
+}
 
 pub worked_calls : WorkedCalls
 worked_calls = record {
   amd64 = amd64_call;
-  arm64 = arm64_call;
   i386 = i386_call;
-  i386_at_most = omega arith;
-  i386_above = λ (can : 0x8000_0001 + 2 ^ 31 ≤ 2 ^ 32). omega arith;
-  arm64_image = λ can. not_four 4 refl can.0;
-  arm64_tables = λ can. not_four 4 refl can.1;
-  armnt = λ can. can;
 }

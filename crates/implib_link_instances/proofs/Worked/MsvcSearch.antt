@@ -1,9 +1,8 @@
 -- The search of members for Microsoft's linker, by computing.
-use Rattle.std.proofs.Common.{◌≡◌, ℕ, List, [], ◌∷◌, Option, None, Some, refl, sym, ◌∙◌, subst, inl, inr, codes}
+use Rattle.std.proofs.Common.{List, None, Option, Some, [], codes, inl, inr, refl, subst, sym, ℕ, ◌∙◌, ◌∷◌, ◌≡◌}
 use Rattle.std.specs.List.{flat_map}
-use Rattle.std.proofs.lemmas.Bool.{true≢false}
 use Rattle.implib.specs.declared.machine.MachineType.{MachineType}
-use Rattle.implib.specs.declared.machine.MachineType.TheVariants.{I386, ARMNT, AMD64, ARM64}
+use Rattle.implib.specs.declared.machine.MachineType.TheVariants.{AMD64, I386}
 use Rattle.implib.specs.Formats.ShortImport.{short_import_in}
 use Rattle.implib.specs.Formats.Layout.{encoded_size}
 use Rattle.implib.specs.Members.Members.{refusal, renamed_refusal}
@@ -11,18 +10,22 @@ use Rattle.implib.specs.Members.MemberSpec.{MemberView, member_of}
 use Rattle.implib.specs.Members.MsvcMembers.{descriptor_spec, header_specs, null_descriptor_spec, null_thunk_spec, weak_specs}
 use Rattle.implib.specs.Members.MsvcObjects.{base_name, descriptor, descriptor_symbol, null_descriptor, null_descriptor_symbol, null_thunk, null_thunk_symbol}
 use Rattle.implib.proofs.Link.Ranges.{Among}
-use Rattle.implib_link.specs.Flavors.Expansion.{import_object, descriptor_symbol_by_name, expanded_in}
+use Rattle.implib_link.specs.Flavors.Expansion.{descriptor_symbol_by_name, expanded_in, import_object}
 use Rattle.implib_link.specs.Flavors.SectionSymbols.{with_section_symbols}
 use Rattle.implib_link.specs.Search.Msvc.{TakesFor}
-use Rattle.implib_link.specs.Search.Search.{first_listed, undefined_in, left_as, claimed_as, AreTakenInTurnAs}
-use Rattle.implib_link_instances.specs.Worked.MsvcSearch.{WorkedMsvcSearch, WorkedMsvcSearches, baz_member, four_taken, one_wanted, short_members, three_on}
+use Rattle.implib_link.specs.Search.Search.{AreTakenInTurnAs, claimed_as, first_listed, left_as, undefined_in}
+use Rattle.implib_link_instances.specs.Worked.MsvcSearch.{WorkedMsvcArchives, WorkedMsvcSearch, WorkedMsvcSearches, baz_member, four_taken, one_wanted, short_members, shorts_of_both, three_on, two_msvc}
 use Rattle.implib_link_instances.specs.Worked.Programs.{symbol_on}
 use Rattle.implib_link.proofs.Search.Lists.{contains_among}
 use Rattle.implib_link.proofs.Search.MsvcOne.{search_takes}
-use Rattle.implib_link.proofs.Search.Ends.{search_ends, search_bounded}
+use Rattle.implib_link.proofs.Search.Ends.{search_bounded, search_ends}
 use Rattle.implib_link_instances.proofs.Worked.Programs.{distinct_by, opened}
 use Rattle.implib_link_instances.proofs.Worked.Search.{pulls_in_now, settled_ends, takes_by}
 use Rattle.implib.specs.LibraryName.{own_names}
+use Rattle.implib.specs.Members.WeakExternal.{weak_object}
+use Rattle.implib_link.specs.Search.Archives.{archive_of}
+use Rattle.implib_link.specs.Search.MsvcArchives.{IsMsvcArchive, NamesNoHeaderOf, is_weak_in, symbols_of_shorts, wanted_with_weak}
+use Rattle.implib_link_instances.specs.Worked.Search.{both_wanted}
 
 -- a name that no member is listed for takes none
 no_member : (m : MemberView) (found : Option MemberView) → found ≡ None → found ≡ Some m → ⊥
@@ -45,12 +48,6 @@ to_null = codes "__NULL_IMPORT_DESCRIPTOR"
 
 abbrev to_thunk : List ℕ
 to_thunk = 0x7F ∷ codes "foo_NULL_THUNK_DATA"
-
-abbrev the_null : MachineType → MemberView
-the_null machine = member_of (null_descriptor_spec machine (codes "foo.dll"))
-
-abbrev the_thunk : MachineType → MemberView
-the_thunk machine = member_of (null_thunk_spec machine (codes "foo.dll"))
 
 abbrev the_descriptor : MachineType → MemberView
 the_descriptor machine = member_of (descriptor_spec machine (own_names (codes "foo.dll")))
@@ -79,30 +76,6 @@ amd64 = record {
   unasked = takes_none AMD64 (short_members AMD64) (codes "printf") (baz_member AMD64) refl;
 }
 
-arm64_takes : TakesFor ARM64 (short_members ARM64) (one_wanted ARM64) (four_taken ARM64)
-unfolding opened refusal renamed_refusal encoded_size expanded_in short_import_in import_object descriptor_symbol_by_name with_section_symbols descriptor null_descriptor null_thunk descriptor_symbol null_descriptor_symbol null_thunk_symbol base_name descriptor_spec null_descriptor_spec null_thunk_spec header_specs weak_specs left_as claimed_as undefined_in AreTakenInTurnAs
-arm64_takes = takes_by (to_thunk ∷ to_null ∷ to_descriptor ∷ symbol_on ARM64 (codes "baz") ∷ []) refl refl refl
-
-arm64 : WorkedMsvcSearch ARM64
-unfolding opened refusal renamed_refusal encoded_size expanded_in short_import_in import_object descriptor_symbol_by_name with_section_symbols descriptor null_descriptor null_thunk descriptor_symbol null_descriptor_symbol null_thunk_symbol base_name descriptor_spec null_descriptor_spec null_thunk_spec header_specs weak_specs left_as claimed_as undefined_in AreTakenInTurnAs
-arm64 = record {
-  made = record { accepted = refl; made = refl; ordinals = refl };
-  distinct = distinct_by (flat_map (λ m. m.symbols) (short_members ARM64)) refl;
-  found = refl;
-  plain = record { descriptor = refl; null_descriptor = refl; null_thunk = refl };
-  numbers = refl;
-  takes = arm64_takes;
-  just = search_takes ARM64 (three_on ARM64) (short_members ARM64) (four_taken ARM64) (one_wanted ARM64)
-      (record { accepted = refl; made = refl; ordinals = refl })
-      (distinct_by (flat_map (λ m. m.symbols) (short_members ARM64)) refl)
-      refl
-      (record { descriptor = refl; null_descriptor = refl; null_thunk = refl })
-      arm64_takes;
-  nothing = record { in_turn = tt; ended = settled_ends (expanded_in ARM64) (short_members ARM64) (codes "printf" ∷ []) [] refl };
-  unfinished = λ takes. takes.ended to_descriptor (the_descriptor ARM64) (pulls_in_now (expanded_in ARM64) (short_members ARM64) (one_wanted ARM64) (baz_member ARM64 ∷ []) to_descriptor (the_descriptor ARM64) refl refl refl refl);
-  unasked = takes_none ARM64 (short_members ARM64) (codes "printf") (baz_member ARM64) refl;
-}
-
 i386_takes : TakesFor I386 (short_members I386) (one_wanted I386) (four_taken I386)
 unfolding opened refusal renamed_refusal encoded_size expanded_in short_import_in import_object descriptor_symbol_by_name with_section_symbols descriptor null_descriptor null_thunk descriptor_symbol null_descriptor_symbol null_thunk_symbol base_name descriptor_spec null_descriptor_spec null_thunk_spec header_specs weak_specs left_as claimed_as undefined_in AreTakenInTurnAs
 i386_takes = takes_by (to_thunk ∷ to_null ∷ to_descriptor ∷ symbol_on I386 (codes "baz") ∷ []) refl refl refl
@@ -127,41 +100,44 @@ i386 = record {
   unasked = takes_none I386 (short_members I386) (codes "printf") (baz_member I386) refl;
 }
 
-armnt_takes : TakesFor ARMNT (short_members ARMNT) (one_wanted ARMNT) (four_taken ARMNT)
-unfolding opened refusal renamed_refusal encoded_size expanded_in short_import_in import_object descriptor_symbol_by_name with_section_symbols descriptor null_descriptor null_thunk descriptor_symbol null_descriptor_symbol null_thunk_symbol base_name descriptor_spec null_descriptor_spec null_thunk_spec header_specs weak_specs left_as claimed_as undefined_in AreTakenInTurnAs
-armnt_takes = takes_by (to_thunk ∷ to_null ∷ to_descriptor ∷ symbol_on ARMNT (codes "baz") ∷ []) refl refl refl
-
-armnt : WorkedMsvcSearch ARMNT
-unfolding opened refusal renamed_refusal encoded_size expanded_in short_import_in import_object descriptor_symbol_by_name with_section_symbols descriptor null_descriptor null_thunk descriptor_symbol null_descriptor_symbol null_thunk_symbol base_name descriptor_spec null_descriptor_spec null_thunk_spec header_specs weak_specs left_as claimed_as undefined_in AreTakenInTurnAs
-armnt = record {
-  made = record { accepted = refl; made = refl; ordinals = refl };
-  distinct = distinct_by (flat_map (λ m. m.symbols) (short_members ARMNT)) refl;
-  found = refl;
-  plain = record { descriptor = refl; null_descriptor = refl; null_thunk = refl };
-  numbers = refl;
-  takes = armnt_takes;
-  just = search_takes ARMNT (three_on ARMNT) (short_members ARMNT) (four_taken ARMNT) (one_wanted ARMNT)
-      (record { accepted = refl; made = refl; ordinals = refl })
-      (distinct_by (flat_map (λ m. m.symbols) (short_members ARMNT)) refl)
-      refl
-      (record { descriptor = refl; null_descriptor = refl; null_thunk = refl })
-      armnt_takes;
-  nothing = record { in_turn = tt; ended = settled_ends (expanded_in ARMNT) (short_members ARMNT) (codes "printf" ∷ []) [] refl };
-  unfinished = λ takes. takes.ended to_descriptor (the_descriptor ARMNT) (pulls_in_now (expanded_in ARMNT) (short_members ARMNT) (one_wanted ARMNT) (baz_member ARMNT ∷ []) to_descriptor (the_descriptor ARMNT) refl refl refl refl);
-  unasked = takes_none ARMNT (short_members ARMNT) (codes "printf") (baz_member ARMNT) refl;
-}
-
 pub worked_msvc_searches : WorkedMsvcSearches
 unfolding descriptor_symbol null_descriptor_symbol null_thunk_symbol base_name header_specs weak_specs
 worked_msvc_searches = record {
   amd64 = amd64;
-  arm64 = arm64;
   i386 = i386;
-  armnt = armnt;
-  no_descriptor = (record { descriptor = tt; null_descriptor = refl; null_thunk = refl }, λ plain. true≢false plain.descriptor);
-  no_null_descriptor = (record { descriptor = refl; null_descriptor = tt; null_thunk = refl }, λ plain. true≢false plain.null_descriptor);
-  no_null_thunk = (record { descriptor = refl; null_descriptor = refl; null_thunk = tt }, λ plain. true≢false plain.null_thunk);
   ends = search_ends (expanded_in AMD64) (short_members AMD64) (one_wanted AMD64);
   bounded = search_bounded (expanded_in AMD64) (short_members AMD64) (four_taken AMD64) (one_wanted AMD64) amd64_takes.in_turn;
   members = refl;
+}
+
+abbrev archive : List MemberView
+archive = archive_of two_msvc
+
+abbrev archives_to_null : List ℕ
+archives_to_null = codes "__NULL_IMPORT_DESCRIPTOR"
+
+pub both_take : TakesFor AMD64 (archive_of two_msvc) both_wanted shorts_of_both
+unfolding opened refusal renamed_refusal encoded_size expanded_in short_import_in import_object descriptor_symbol_by_name with_section_symbols descriptor null_descriptor null_thunk descriptor_symbol null_descriptor_symbol null_thunk_symbol base_name descriptor_spec null_descriptor_spec null_thunk_spec header_specs weak_specs weak_object left_as claimed_as undefined_in AreTakenInTurnAs archive_of is_weak_in symbols_of_shorts
+both_take = takes_by ((0x7F ∷ codes "zed_NULL_THUNK_DATA") ∷ codes "__IMPORT_DESCRIPTOR_zed" ∷ codes "__imp_queue" ∷ (0x7F ∷ codes "foo_NULL_THUNK_DATA") ∷ archives_to_null ∷ codes "__IMPORT_DESCRIPTOR_foo" ∷ codes "baz" ∷ codes "bar" ∷ []) refl refl refl
+
+pub msvc_archive : IsMsvcArchive AMD64 two_msvc
+unfolding opened refusal renamed_refusal encoded_size expanded_in short_import_in import_object descriptor_symbol_by_name with_section_symbols descriptor null_descriptor null_thunk descriptor_symbol null_descriptor_symbol null_thunk_symbol base_name descriptor_spec null_descriptor_spec null_thunk_spec header_specs weak_specs weak_object left_as claimed_as undefined_in AreTakenInTurnAs archive_of is_weak_in symbols_of_shorts
+msvc_archive = record {
+  made = (record { accepted = refl; made = refl; ordinals = refl }, (record { accepted = refl; made = refl; ordinals = refl }, tt));
+  distinct = distinct_by (null_descriptor_symbol ∷ flat_map symbols_of_shorts two_msvc) refl;
+  found = (refl, (refl, tt));
+}
+
+pub both_plain : NamesNoHeaderOf two_msvc (wanted_with_weak AMD64 both_wanted shorts_of_both)
+unfolding opened refusal renamed_refusal encoded_size expanded_in short_import_in import_object descriptor_symbol_by_name with_section_symbols descriptor null_descriptor null_thunk descriptor_symbol null_descriptor_symbol null_thunk_symbol base_name descriptor_spec null_descriptor_spec null_thunk_spec header_specs weak_specs weak_object left_as claimed_as undefined_in AreTakenInTurnAs archive_of is_weak_in symbols_of_shorts
+both_plain = (record { descriptor = refl; null_descriptor = refl; null_thunk = refl }, (record { descriptor = refl; null_descriptor = refl; null_thunk = refl }, tt))
+
+pub worked_msvc_archives : WorkedMsvcArchives
+unfolding opened refusal renamed_refusal encoded_size expanded_in short_import_in import_object descriptor_symbol_by_name with_section_symbols descriptor null_descriptor null_thunk descriptor_symbol null_descriptor_symbol null_thunk_symbol base_name descriptor_spec null_descriptor_spec null_thunk_spec header_specs weak_specs weak_object left_as claimed_as undefined_in AreTakenInTurnAs archive_of is_weak_in symbols_of_shorts
+worked_msvc_archives = record {
+  archive = msvc_archive;
+  takes = both_take;
+  weak = refl;
+  wanted = refl;
+  plain = both_plain;
 }

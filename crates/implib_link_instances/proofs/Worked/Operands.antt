@@ -1,9 +1,8 @@
 -- Code as compilers write it, by computing and by the laws.
-use Rattle.std.proofs.Common.{◌≡◌, ℕ, ◌+◌, ◌^◌, ◌<◌, ◌≤◌, ◌⊎◌, true, List, [], ◌∷◌, codes, refl, ap, inl, inr, arith, map}
+use Rattle.std.proofs.Common.{◌≡◌, ℕ, ◌+◌, ◌^◌, ◌<◌, ◌≤◌, true, List, [], ◌∷◌, refl, inl, inr, arith, map}
 use Rattle.std.specs.Prelude.{Bool, drop, nat_le, take, ◌&&◌}
 use Rattle.std.specs.List.{AllByRecursion}
 use Rattle.std.proofs.lemmas.Bool.{and_parts, leb-true}
-use Rattle.implib.specs.declared.coff.object.Relocation.{Relocation}
 use Rattle.implib.specs.declared.machine.MachineType.TheVariants.{I386, AMD64, ARM64}
 use Rattle.implib.specs.Formats.Constants.{amd64_rel32, arm64_pagebase_rel21, arm64_pageoffset_12l, class_external, i386_dir32}
 use Rattle.implib.specs.Formats.Bytes.{u32_bytes}
@@ -13,25 +12,23 @@ use Rattle.implib.specs.Members.Members.{refusal, renamed_refusal}
 use Rattle.implib.specs.Members.WeakExternal.{weak_object}
 use Rattle.implib.specs.Formats.Layout.{encoded_size}
 use Rattle.implib.proofs.Link.Ranges.{apart_as_they_rise}
-use Rattle.implib_link.specs.Gnu.Calls.{HasCall, HasDirectCall, amd64_addr64, arm64_addr64, arm64_branch26, field_width, i386_rel32, StubAt}
+use Rattle.implib_link.specs.Gnu.Calls.{HasCall, HasDirectCall, amd64_addr64, arm64_addr64, arm64_branch26, i386_rel32, StubAt}
 use Rattle.implib_link.specs.Gnu.Fields.{AreLinkedBeside, placed_code}
 use Rattle.implib_link.specs.Gnu.Moves.{AreInMemory, AreMoved, CanBeMoved, places_of_code}
-use Rattle.implib_link.specs.Gnu.Operands.{HasBranch, HasInstruction, HasOffsetField, HasOperand, HasPageField, HasPointer, IsOperand, Names}
+use Rattle.implib_link.specs.Gnu.Operands.{HasBranch, HasInstruction, HasOffsetField, HasOperand, HasPageField, HasPointer, Names}
 use Rattle.implib_link.specs.Gnu.Pages.{HasPage, HasPageOffset}
 use Rattle.implib_link.specs.Gnu.Program.{has_tables}
-use Rattle.implib_link.specs.Flavors.Program.{IsProgram}
+use Rattle.implib_link.specs.Flavors.Program.{IsProgram, OfLinker, gnu_input}
 use Rattle.implib_link.specs.Gnu.Choices.{ArePlacesApart}
 use Rattle.implib_link.specs.Gnu.Rebased.{IsRebased, Place, covers, table_places}
 use Rattle.implib_link_instances.specs.Worked.Operands.{AdjacentCalls, MovableCode, PassingFields, WorkedFields, WorkedOperands, amd64_rel32_1, field, imp_open, arm64_pageoffset_12a, arm64_secrel, moved_memory, open_on, passing_at, passing_bytes, passing_codes, passing_image, passing_memory, passing_objects, passing_placed, passing_places, passing_targets, stub_of_open, x86_secrel}
 use Rattle.implib_link_instances.specs.Worked.Programs.{both_inputs, symbol_of_class, touching_4, touching_8}
 use Rattle.implib_link.proofs.Gnu.Moved.{covered_bounds}
 use Rattle.implib_link.proofs.Gnu.MovedPrograms.{moved_memory_exists}
-use Rattle.implib_link.proofs.Gnu.Operands.{operand_width}
 use Rattle.implib_link.proofs.Flavors.Steady.{program_tables_none}
 use Rattle.implib_link_instances.proofs.Worked.LinkedCode.{all_needed, only_absolute, rebased_by, relocated_by, relocated_test, takes_by}
 use Rattle.implib_link_instances.proofs.Worked.Programs.{opened, worked_programs, admissible_by, instructions_at, program_by, instruction_by}
-use Rattle.implib_link_instances.proofs.Worked.RefusedLinks.{differ, number}
-use Rattle.implib_link.specs.Flavors.Program.{OfLinker, gnu_input}
+use Rattle.implib_link_instances.proofs.Worked.Lemmas.{number}
 
 amd64_program : IsProgram AMD64 touching_8 (both_inputs AMD64) (passing_objects AMD64)
 unfolding opened refusal renamed_refusal alias_specs encoded_size weak_object has_tables relocated_test
@@ -88,25 +85,6 @@ arm64_beside = record {
 }
 
 -- Moved: base relocations where the code stores addresses whole.
-
-amd64_fronts : List Range
-amd64_fronts = record { start = 0x1034; bytes = 0x80 ∷ 0 ∷ 0x34 ∷ 0x12 ∷ 0xF6 ∷ 0x7F ∷ 0 ∷ 0 ∷ [] } ∷ []
-
-amd64_rebased : IsRebased 0x1_4000_0000 0x7FF6_1234_0000 (passing_places AMD64) (passing_memory AMD64 touching_8) (moved_memory AMD64 touching_8)
-unfolding opened refusal renamed_refusal alias_specs encoded_size weak_object has_tables relocated_test amd64_fronts
-amd64_rebased =
-    rebased_by 0x1_4000_0000 0x7FF6_1234_0000 amd64_fronts (passing_memory AMD64 touching_8) (apart_as_they_rise (2 ^ 31) amd64_fronts refl)
-    ((0x1_4000_0080, (number (passing_memory AMD64 touching_8) 8 0x1034 0x1_4000_0080 (0x80 ∷ 0 ∷ 0 ∷ 0x40 ∷ 1 ∷ 0 ∷ 0 ∷ 0 ∷ []) refl refl refl, refl)), tt)
-
-pub amd64_moved : AreMoved AMD64 0x1_4000_0000 0x7FF6_1234_0000 (passing_image AMD64 touching_8) (passing_placed AMD64 touching_8) (passing_codes AMD64 touching_8) (passing_targets AMD64 touching_8) (passing_places AMD64) (moved_memory AMD64 touching_8)
-unfolding opened refusal renamed_refusal alias_specs encoded_size weak_object has_tables relocated_test
-amd64_moved = record {
-  beside = amd64_beside;
-  within = ((omega arith, tt), (tt, tt));
-  needed = λ c r width address entry held m is symbol placed. all_needed AMD64 (passing_codes AMD64 touching_8) c r width held m is;
-  only = λ a byte is covered. only_absolute a (table_places AMD64 (passing_placed AMD64 touching_8)) (passing_places AMD64) covered;
-  rebased = amd64_rebased;
-}
 
 i386_fronts : List Range
 i386_fronts = record { start = 0x1005; bytes = 0x10 ∷ 0x20 ∷ 0 ∷ 0x10 ∷ [] } ∷ record { start = 0x100B; bytes = 0x60 ∷ 0 ∷ 0 ∷ 0x10 ∷ [] } ∷ record { start = 0x1011; bytes = 0x60 ∷ 0 ∷ 0 ∷ 0x10 ∷ [] } ∷ record { start = 0x1018; bytes = 0x60 ∷ 0 ∷ 0 ∷ 0x10 ∷ [] } ∷ record { start = 0x101C; bytes = 0x60 ∷ 0 ∷ 0 ∷ 0x10 ∷ [] } ∷ record { start = 0x1042; bytes = 0x60 ∷ 0 ∷ 0 ∷ 0x10 ∷ [] } ∷ []
@@ -169,23 +147,8 @@ arm64_names_3 = record { symbol = symbol_of_class (open_on ARM64) 0 class_extern
 amd64_call : HasInstruction AMD64 (passing_at AMD64) 11 (0xFF ∷ 0x15 ∷ []) ([]) (imp_open AMD64)
 amd64_call = instruction_by amd64_rel32 1 (0 ∷ 0 ∷ 0 ∷ 0 ∷ []) amd64_names_1 (0, (omega arith, (refl, refl))) refl refl refl
 
-amd64_compare : HasInstruction AMD64 (passing_at AMD64) 17 (0x83 ∷ 0x3D ∷ []) (1 ∷ []) (imp_open AMD64)
-amd64_compare = instruction_by amd64_rel32_1 1 (0 ∷ 0 ∷ 0 ∷ 0 ∷ []) amd64_names_1 (1, (omega arith, (refl, refl))) refl refl refl
-
-amd64_again : HasInstruction AMD64 (passing_at AMD64) 24 (0x83 ∷ 0x3D ∷ []) (1 ∷ []) (imp_open AMD64)
-amd64_again = instruction_by amd64_rel32 1 (0xFF ∷ 0xFF ∷ 0xFF ∷ 0xFF ∷ []) amd64_names_1 (0, (omega arith, (refl, refl))) refl refl refl
-
-amd64_move : HasInstruction AMD64 (passing_at AMD64) 31 (0x4C ∷ 0x8B ∷ 0x1D ∷ []) ([]) (imp_open AMD64)
-amd64_move = instruction_by amd64_rel32 1 (0 ∷ 0 ∷ 0 ∷ 0 ∷ []) amd64_names_1 (0, (omega arith, (refl, refl))) refl refl refl
-
 i386_call : HasInstruction I386 (passing_at I386) 9 (0xFF ∷ 0x15 ∷ []) ([]) (imp_open I386)
 i386_call = instruction_by i386_dir32 1 (0 ∷ 0 ∷ 0 ∷ 0 ∷ []) i386_names_1 (refl, refl) refl refl refl
-
-i386_compare : HasInstruction I386 (passing_at I386) 15 (0x83 ∷ 0x3D ∷ []) (1 ∷ []) (imp_open I386)
-i386_compare = instruction_by i386_dir32 1 (0 ∷ 0 ∷ 0 ∷ 0 ∷ []) i386_names_1 (refl, refl) refl refl refl
-
-i386_move : HasInstruction I386 (passing_at I386) 22 (0x8B ∷ 0x0D ∷ []) ([]) (imp_open I386)
-i386_move = instruction_by i386_dir32 1 (0 ∷ 0 ∷ 0 ∷ 0 ∷ []) i386_names_1 (refl, refl) refl refl refl
 
 amd64_operand : HasOperand AMD64 (passing_at AMD64) 19 1 (imp_open AMD64)
 amd64_operand = record {
@@ -259,39 +222,13 @@ arm64_offset = record { field = record { symbol = 1; alone = refl; inside = omeg
 
 -- What is no such field.
 
-first_type : (a b : Relocation) → a ∷ [] ≡ b ∷ [] → a.kind ≡ b.kind
-first_type a b is = let same : a ≡ b = cc in ap (λ (x : Relocation). x.kind) same
-
-byte_follows : IsOperand AMD64 amd64_rel32 1 0 → ⊥
-byte_follows (further, (small, (is, counts))) = let own : amd64_rel32 ≡ amd64_rel32 + further = is in let ends : 1 ≡ further = counts in omega arith
-
-none_follows : IsOperand AMD64 amd64_rel32_1 0 0 → ⊥
-none_follows (further, (small, (is, counts))) = let own : amd64_rel32_1 ≡ amd64_rel32 + further = is in let ends : 0 ≡ further = counts in omega arith
-
-of_a_section : HasOperand AMD64 (passing_at AMD64) 43 0 (codes "hello") → ⊥
-of_a_section has =
-    let wide : field_width AMD64 has.type ≡ 4 = operand_width AMD64 has.type 0 0 has.counts in
-    let own : x86_secrel ≡ has.type = first_type (field 43 2 x86_secrel) (record { offset = 43; symbol = has.field.symbol; kind = has.type }) (rw wide at has.field.alone) in
-    let counts = has.counts in
-    let small : counts.0 ≤ 5 = counts.1.0 in
-    let type : has.type ≡ amd64_rel32 + counts.0 = counts.1.1.0 in
-    omega arith
-
-of_16_bytes : HasOffsetField (passing_at ARM64) 24 (codes "hello") → ⊥
-of_16_bytes has = differ 0 3 has.eight (omega arith)
-
 pub passing_fields : PassingFields
 passing_fields = record {
   amd64_call = amd64_call;
-  amd64_compare = amd64_compare;
-  amd64_again = amd64_again;
-  amd64_move = amd64_move;
   amd64_operand = amd64_operand;
   amd64_branch = amd64_branch;
   amd64_pointer = amd64_pointer;
   i386_call = i386_call;
-  i386_compare = i386_compare;
-  i386_move = i386_move;
   i386_operand = i386_operand;
   i386_pointer = i386_pointer;
   i386_branch = i386_branch;
@@ -299,10 +236,6 @@ passing_fields = record {
   arm64_offset = arm64_offset;
   arm64_branch = arm64_branch;
   arm64_pointer = arm64_pointer;
-  byte_follows = byte_follows;
-  none_follows = none_follows;
-  of_a_section = of_a_section;
-  of_16_bytes = of_16_bytes;
 }
 
 -- The calls of the laws over placed code.
@@ -327,10 +260,6 @@ arm64_placed = instructions_at (take 16 (passing_bytes ARM64)) (drop 20 (passing
 arm64_direct : HasDirectCall ARM64 (placed_code (passing_at ARM64)) 28 (open_on ARM64)
 arm64_direct = instructions_at (take 28 (passing_bytes ARM64)) (drop 32 (passing_bytes ARM64)) 3 (field 4 2 arm64_pagebase_rel21 ∷ field 8 2 arm64_pageoffset_12a ∷ field 12 1 arm64_pagebase_rel21 ∷ field 16 1 arm64_pageoffset_12l ∷ field 24 2 arm64_pageoffset_12l ∷ []) (field 32 1 arm64_addr64 ∷ field 40 2 arm64_secrel ∷ []) (inl (omega arith), (inl (omega arith), (inl (omega arith), (inl (omega arith), (inl (omega arith), tt))))) (inr (omega arith), (inr (omega arith), tt)) refl refl refl refl
 
-neither : (a b : ℕ) → (a ≤ b → ⊥) → (c d : ℕ) → (c ≤ d → ⊥) → (a ≤ b) ⊎ (c ≤ d) → ⊥
-neither a b first c d second (inl is) = first is
-neither a b first c d second (inr is) = second is
-
 pub adjacent_calls : AdjacentCalls
 adjacent_calls = record {
   amd64_call = amd64_adjacent;
@@ -339,7 +268,6 @@ adjacent_calls = record {
   arm64_page = arm64_paged;
   arm64_offset = arm64_placed;
   arm64_direct = arm64_direct;
-  addr64 = neither 15 11 (λ is. omega arith) 17 7 (λ is. omega arith);
 }
 
 -- The programs, by the laws.
@@ -363,17 +291,6 @@ unfolding opened refusal renamed_refusal alias_specs encoded_size weak_object ha
 amd64_fields = record {
   program = amd64_program;
   at = amd64_at;
-  stub = amd64_stub;
-}
-
-amd64_moved_at : AreInMemory AMD64 0x7FF6_1234_0000 (passing_image AMD64 touching_8) (passing_placed AMD64 touching_8) (passing_codes AMD64 touching_8) (passing_targets AMD64 touching_8) (moved_memory AMD64 touching_8)
-amd64_moved_at = inr (0x1_4000_0000, (passing_places AMD64, (tt, amd64_moved)))
-
-amd64_moved_fields : WorkedFields AMD64 0x7FF6_1234_0000 touching_8 (moved_memory AMD64 touching_8) 0x80
-unfolding opened refusal renamed_refusal alias_specs encoded_size weak_object has_tables
-amd64_moved_fields = record {
-  program = amd64_program;
-  at = amd64_moved_at;
   stub = amd64_stub;
 }
 
@@ -446,15 +363,11 @@ arm64_moved_fields = record {
 pub worked_operands : WorkedOperands
 worked_operands = record {
   amd64 = amd64_fields;
-  amd64_moved = amd64_moved_fields;
   i386 = i386_fields;
   i386_moved = i386_moved_fields;
   arm64 = arm64_fields;
   arm64_moved = arm64_moved_fields;
   amd64_call = refl;
-  amd64_compare = refl;
-  amd64_again = refl;
-  amd64_move = refl;
   i386_call = refl;
   amd64_branch = refl;
   i386_branch = refl;

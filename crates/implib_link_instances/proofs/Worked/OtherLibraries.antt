@@ -6,11 +6,11 @@ use Rattle.std.proofs.lemmas.Bool.{and_parts, leb-true}
 use Rattle.implib.specs.declared.coff.object.Relocation.{Relocation}
 use Rattle.implib.specs.Formats.Object.{Object, ObjectSection}
 use Rattle.implib.specs.Link.Placement.{placed_from}
-use Rattle.implib.specs.Worked.Links.{addresses_of, numbers_from}
+use Rattle.implib.specs.Worked.Links.{addresses_of}
 use Rattle.implib.specs.declared.machine.MachineType.TheVariants.{AMD64}
 use Rattle.implib.specs.Formats.Layout.{encoded_size}
 use Rattle.implib.specs.Import.{Name}
-use Rattle.implib.specs.Link.Image.{Range, image_of}
+use Rattle.implib.specs.Link.Image.{Range}
 use Rattle.implib.specs.Link.LinkedMembers.{IsMade}
 use Rattle.implib.specs.Link.Load.{IsWhole, Loads, LoadsStrictly, NumberAt, TableAt, TextAt, ThunkAsksFor, ThunkAt, WholeTableAt, WholeThunkAt}
 use Rattle.implib.specs.Members.GnuMembers.{alias_specs}
@@ -19,11 +19,11 @@ use Rattle.implib.specs.Members.WeakExternal.{weak_object}
 use Rattle.implib_link.specs.Directory.{DirectoryAt}
 use Rattle.implib_link.specs.Gnu.OtherLibraries.{AllTaken, DescriptorsAt, HoldsFields, IsProgramBeside, imports_of_runs, inputs_of_runs}
 use Rattle.implib_link.specs.Gnu.Program.{ClaimsNone, claimed_names, has_tables, linked_symbols, null_descriptor}
-use Rattle.implib_link_instances.specs.Worked.OtherLibraries.{WorkedBeside, aaa, aaa_objects, beside_image, beside_objects, both_runs, caller_bytes, image_written, linker_bases, objects_of, torn_objects, zzz, zzz_objects}
+use Rattle.implib_link_instances.specs.Worked.OtherLibraries.{WorkedBeside, aaa, aaa_objects, beside_image, beside_objects, both_runs, caller_bytes, image_written, linker_bases, objects_of, zzz, zzz_objects}
 use Rattle.implib_link_instances.specs.Worked.Programs.{both_inputs, program_objects, touching_8}
 use Rattle.implib_link.proofs.Gnu.OtherLibraries.{links_beside, programs_beside_none}
 use Rattle.implib_link_instances.proofs.Worked.Programs.{claims_none_by, distinct_by, opened, worked_programs, admissible_by}
-use Rattle.implib_link_instances.proofs.Worked.RefusedLinks.{are_located, number}
+use Rattle.implib_link_instances.proofs.Worked.Lemmas.{are_located, number}
 
 -- by a computed answer
 pub all_claim_none : (names : List (List ℕ)) (objects : List Object) → list_all (λ o. list_all (λ name. not (list_any (bytes_eq name) (claimed_names o))) names) objects ≡ true →
@@ -204,10 +204,6 @@ mtwo : addresses_of (codes "__imp_mtwo") (placed_from linker_bases beside_object
 unfolding opened refusal renamed_refusal alias_specs encoded_size weak_object has_tables
 mtwo = refl
 
-torn : numbers_from (image_of AMD64 linker_bases (placed_from linker_bases torn_objects)) 8 3 0x2050 ≡ Some (0x20D0 ∷ 0x20D8 ∷ 0x20E0 ∷ [])
-unfolding opened refusal renamed_refusal alias_specs encoded_size weak_object has_tables
-torn = refl
-
 pub worked_beside : WorkedBeside
 worked_beside = record {
   made = made;
@@ -216,6 +212,5 @@ worked_beside = record {
   directory = subst (λ image. DirectoryAt image 8 0x2000 (imports_of_runs AMD64 both_runs)) image_is (links_beside AMD64 linker_bases both_runs beside_objects made program).directory;
   mone = mone;
   mtwo = mtwo;
-  torn = torn;
   none = programs_beside_none AMD64 touching_8 (both_inputs AMD64) (program_objects AMD64) worked_programs.amd64.program;
 }

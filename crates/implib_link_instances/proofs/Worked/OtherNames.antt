@@ -1,5 +1,5 @@
 -- Names that stand for others, by computing and by the law.
-use Rattle.std.proofs.Common.{◌≡◌, ℕ, ◌+◌, Bool, true, false, List, [], ◌∷◌, ◌++◌, codes, Option, None, Some, refl, ap, sym, ◌∙◌, subst, arith, inl, inr, if◌then◌else◌, true≢false}
+use Rattle.std.proofs.Common.{◌≡◌, ℕ, ◌+◌, Bool, true, List, [], ◌∷◌, ◌++◌, codes, Option, None, Some, refl, ap, sym, ◌∙◌, subst, arith, inl, inr, if◌then◌else◌}
 use Rattle.std.specs.Prelude.{◌&&◌, ◌==◌, bytes_eq, drop, slice_get, take}
 use Rattle.std.specs.List.{Contains, list_all}
 use Rattle.std.proofs.lemmas.Bool.{and_from, eq-eqb, eqb-true}
@@ -32,18 +32,15 @@ use Rattle.implib_link.proofs.Search.Lists.{contains_among, each_of}
 use Rattle.implib_link.proofs.TablesInMemory.{other_leads, stub_called_otherwise, tables_end_in_memory, thunk_called_otherwise}
 use Rattle.implib_link.proofs.TablesOfPrograms.{lld_tables}
 use Rattle.implib_link_instances.specs.Worked.LldPrograms.{code_of_thunk, lld_image_on, linked_code, linked_thunk, mid_on, object_section, shorts_on, taken_address}
-use Rattle.implib_link_instances.specs.Worked.Older.{named_start}
+use Rattle.implib_link_instances.specs.Worked.Parts.{named_start, asking, gnu_bases, gnu_image, start_code, stub_code, table_at, zoo_parts, zoo_tables}
 use Rattle.implib_link_instances.specs.Worked.OtherLibraries.{objects_of}
-use Rattle.implib_link_instances.specs.Worked.OtherNames.{HoldsOfSome, NearStandsFor, eight_zeros, other_tables, WorkedAlternateNames, WorkedOtherNames, lld_other_address, lld_other_code, lld_other_codes, lld_other_linked, lld_other_memory, lld_other_targets, other_address, other_codes, other_linked, other_memory, other_objects, other_placed, other_start, other_targets}
-use Rattle.implib_link_instances.specs.Worked.Parts.{asking, gnu_bases, gnu_image, start_code, stub_code, table_at, zoo_parts, zoo_tables}
+use Rattle.implib_link_instances.specs.Worked.OtherNames.{HoldsOfSome, eight_zeros, other_tables, WorkedAlternateNames, WorkedOtherNames, lld_other_address, lld_other_code, lld_other_codes, lld_other_linked, lld_other_memory, lld_other_targets, other_address, other_codes, other_linked, other_memory, other_objects, other_placed, other_start, other_targets}
 use Rattle.implib_link_instances.specs.Worked.Programs.{symbol_of_class}
 use Rattle.implib_link_instances.proofs.Worked.LinkedCode.{relocated_by, relocated_test}
-use Rattle.implib_link_instances.proofs.Worked.Lld.{alike, lld_opened}
-use Rattle.implib_link_instances.proofs.Worked.LldPrograms.{amd64_pieces, meet_test, meets_up, takes_outside}
+use Rattle.implib_link_instances.proofs.Worked.LldPrograms.{alike, lld_opened, amd64_pieces, meet_test, meets_up, takes_outside}
 use Rattle.implib_link_instances.proofs.Worked.OtherLibraries.{all_claim_none}
 use Rattle.implib_link_instances.proofs.Worked.Parts.{all_apart, all_apart_test, is_apart, zoo_are, zoo_stores}
 use Rattle.implib_link_instances.proofs.Worked.Programs.{admissible_by, distinct_by, instruction_by, opened}
-use Rattle.implib_link_instances.proofs.Worked.RefusedLinks.{differ}
 
 -- A name that nothing defines is taken to be at one address; it stands for another where that is there.
 
@@ -294,29 +291,4 @@ holds_of_some =
       of_thunks = λ holds.
           holds 0 0 (table_at (codes "beta.dll") 0x2068 (record { ask = Ordinal 7; symbol = Some (codes "__imp_mid") } ∷ asking (codes "zeta") 5 (codes "__imp_zeta") ∷ []))
           (record { ask = Ordinal 7; symbol = Some (codes "__imp_mid") }) refl refl tt (mid_on AMD64) (code_of_thunk AMD64) refl (1, omega arith, refl) thunk_is;
-      as_wide = λ wide. differ 0 8 (wide [] (Ordinal 0)) (omega arith);
     }
-
--- Near misses.
-
-other_number : (n m : ℕ) → (n == m) ≡ false → n ≡ m → ⊥
-other_number n m differ same = true≢false (sym (eq-eqb n m same) ∙ differ)
-
-pub near_stands_for : NearStandsFor
-unfolding opened refusal renamed_refusal alias_specs encoded_size weak_object found_at defined_at
-near_stands_for = record {
-  tables = (
-    record { tables = tt; code = λ c d index t held d_held names defines named. stands_in_code other_address other_linked other_codes (codes "__imp_zoo_oped") (codes "__imp_ExitProcess") refl refl c d index t d_held names defines named },
-    λ x.
-        other_number 0x3070 0x3060 refl
-        (x.tables other_start 11 0x3060 (0, omega arith, refl) (record { symbol = symbol_of_class (codes "__imp_zoo_oped") 0 class_external; target = refl; undefined = refl; named = refl }) refl),
-  );
-  code = (
-    record { tables = λ c index address held names found. stands_in_tables other_address other_linked other_codes (codes "zoo_oped") (codes "start") refl refl c index address names found; code = tt },
-    λ x.
-        other_number 0x1030 0x1000 refl
-        (x.code other_start other_start 13 (record { name = codes "start"; value = 0; section = 1; kind = 0x20; class = class_external }) (0, omega arith, refl) (0, omega arith, refl)
-        (record { symbol = record { name = codes "zoo_oped"; value = 0; section = 0; kind = 0x20; class = class_external }; target = refl; undefined = refl; named = refl })
-        (record { held = (2, omega arith, refl); external = refl; here = refl }) refl),
-  );
-}

@@ -1,20 +1,19 @@
 -- The programs by hand, packed, by computing and by the laws.
-use Rattle.std.proofs.Common.{◌≡◌, ℕ, ◌^◌, ◌<◌, refl, arith}
-use Rattle.implib.specs.declared.machine.MachineType.TheVariants.{I386, ARMNT, AMD64, ARM64}
+use Rattle.std.proofs.Common.{refl, arith}
+use Rattle.implib.specs.declared.machine.MachineType.TheVariants.{I386, AMD64}
 use Rattle.implib.specs.Formats.Layout.{encoded_size}
 use Rattle.implib.specs.Link.Image.{IsAdmissible}
 use Rattle.implib.specs.Link.LinkedMembers.{all_linked, objects_in}
 use Rattle.implib.specs.Members.GnuMembers.{alias_specs}
 use Rattle.implib.specs.Members.WeakExternal.{weak_object}
 use Rattle.implib.proofs.Link.LinkedInputs.{gnu_inputs_link}
-use Rattle.implib_link.specs.Gnu.Packed.{group_end, packed, packed_end, sections_end}
+use Rattle.implib_link.specs.Gnu.Packed.{group_end, packed_end, sections_end}
 use Rattle.implib_link.specs.Gnu.Program.{has_tables}
-use Rattle.implib_link_instances.specs.Worked.Packed.{WorkedPacking, WorkedPackings, alone, packed_4, packed_8}
+use Rattle.implib_link_instances.specs.Worked.Loads.{WorkedPacking, WorkedPackings, alone, packed_4, packed_8}
 use Rattle.implib_link_instances.specs.Worked.Programs.{both_inputs, program_objects, touching_8}
-use Rattle.implib_link_instances.proofs.Worked.GnuPacked.{members_are_program}
-use Rattle.implib_link_instances.proofs.Worked.GnuPacked.{packed_is_admissible, packed_is_program}
+use Rattle.implib_link_instances.proofs.Worked.GnuPacked.{members_are_program, packed_is_admissible, packed_is_program}
 use Rattle.implib_link_instances.proofs.Worked.Programs.{opened, worked_programs, admissible_by}
-use Rattle.implib_link_instances.proofs.Worked.Searched.{below_limit}
+use Rattle.implib_link_instances.proofs.Worked.Search.{below_limit}
 
 amd64 : WorkedPacking AMD64 packed_8 0x10FC
 unfolding opened alias_specs encoded_size weak_object has_tables group_end sections_end
@@ -24,16 +23,6 @@ amd64 = record {
   admissible = packed_is_admissible AMD64 0x1001 (both_inputs AMD64) (program_objects AMD64) worked_programs.amd64.made worked_programs.amd64.program.held.ended.tables (omega arith)
       (below_limit (packed_end 0x1001 (program_objects AMD64)) refl);
   program = packed_is_program AMD64 0x1001 (both_inputs AMD64) worked_programs.amd64.made worked_programs.amd64.program.held.distinct (omega arith) (below_limit (packed_end 0x1001 (alone AMD64)) refl);
-}
-
-arm64 : WorkedPacking ARM64 packed_8 0x10FC
-unfolding opened alias_specs encoded_size weak_object has_tables group_end sections_end
-arm64 = record {
-  bases_are = refl;
-  end_is = refl;
-  admissible = packed_is_admissible ARM64 0x1001 (both_inputs ARM64) (program_objects ARM64) worked_programs.arm64.made worked_programs.arm64.program.held.ended.tables (omega arith)
-      (below_limit (packed_end 0x1001 (program_objects ARM64)) refl);
-  program = packed_is_program ARM64 0x1001 (both_inputs ARM64) worked_programs.arm64.made worked_programs.arm64.program.held.distinct (omega arith) (below_limit (packed_end 0x1001 (alone ARM64)) refl);
 }
 
 i386 : WorkedPacking I386 packed_4 0x10CC
@@ -46,16 +35,6 @@ i386 = record {
   program = packed_is_program I386 0x1001 (both_inputs I386) worked_programs.i386.made worked_programs.i386.program.held.distinct (omega arith) (below_limit (packed_end 0x1001 (alone I386)) refl);
 }
 
-armnt : WorkedPacking ARMNT packed_4 0x10CC
-unfolding opened alias_specs encoded_size weak_object has_tables group_end sections_end
-armnt = record {
-  bases_are = refl;
-  end_is = refl;
-  admissible = packed_is_admissible ARMNT 0x1001 (both_inputs ARMNT) (program_objects ARMNT) worked_programs.armnt.made worked_programs.armnt.program.held.ended.tables (omega arith)
-      (below_limit (packed_end 0x1001 (program_objects ARMNT)) refl);
-  program = packed_is_program ARMNT 0x1001 (both_inputs ARMNT) worked_programs.armnt.made worked_programs.armnt.program.held.distinct (omega arith) (below_limit (packed_end 0x1001 (alone ARMNT)) refl);
-}
-
 members_admissible : IsAdmissible AMD64 touching_8 (objects_in (all_linked AMD64 (both_inputs AMD64)))
 unfolding opened alias_specs encoded_size weak_object has_tables group_end sections_end
 members_admissible = admissible_by refl refl
@@ -64,25 +43,10 @@ alone_admissible : IsAdmissible AMD64 touching_8 (alone AMD64)
 unfolding opened alias_specs encoded_size weak_object has_tables group_end sections_end
 alone_admissible = admissible_by refl refl
 
-above : (n m : ℕ) → n ≡ m → 2 ^ 31 < m → n < 2 ^ 31 → ⊥
-above n m same over below = omega arith
-
-far_end : packed_end 0x7FFF_FFF8 (program_objects AMD64) ≡ 0x8000_00EC
-unfolding opened alias_specs encoded_size weak_object has_tables group_end sections_end
-far_end = refl
-
-no_room : IsAdmissible AMD64 (packed 0x7FFF_FFF8 (program_objects AMD64)) (program_objects AMD64) → ⊥
-unfolding opened alias_specs encoded_size weak_object has_tables group_end sections_end
-no_room is = above 0x8000_0034 0x8000_0034 refl (omega arith) is.ends.0
-
 pub worked_packings : WorkedPackings
 worked_packings = record {
   amd64 = amd64;
-  arm64 = arm64;
   i386 = i386;
-  armnt = armnt;
-  too_far = above (packed_end 0x7FFF_FFF8 (program_objects AMD64)) 0x8000_00EC far_end (omega arith);
-  no_room = no_room;
   any_order = gnu_inputs_link AMD64 touching_8 (both_inputs AMD64) worked_programs.amd64.made worked_programs.amd64.program.held.distinct members_admissible;
   touching = members_are_program AMD64 touching_8 (both_inputs AMD64) worked_programs.amd64.made worked_programs.amd64.program.held.distinct alone_admissible;
 }

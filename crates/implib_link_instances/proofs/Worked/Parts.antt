@@ -1,11 +1,11 @@
 -- Programs of libraries of GNU dlltool and of ours, by computing.
-use Rattle.std.proofs.Common.{◌≡◌, Bool, List, [], ◌∷◌, ◌++◌, codes, inl, inr, map, refl, subst, true, arith}
-use Rattle.std.specs.Prelude.{◌&&◌, ◌||◌, bytes_eq, nat_le, if◌then◌else◌}
+use Rattle.std.proofs.Common.{Bool, List, [], arith, codes, false, inl, inr, map, refl, subst, true, ◌++◌, ◌∷◌, ◌≡◌}
+use Rattle.std.specs.Prelude.{bytes_eq, if◌then◌else◌, nat_le, ◌&&◌, ◌||◌}
 use Rattle.std.specs.List.{AllByRecursion, list_all}
 use Rattle.std.proofs.lemmas.Bool.{and_parts, cases_Bool, leb-true}
 use Rattle.implib.specs.Formats.Constants.{amd64_rel32, class_external}
 use Rattle.implib.specs.declared.machine.MachineType.{MachineType}
-use Rattle.implib.specs.declared.machine.MachineType.TheVariants.{I386, AMD64}
+use Rattle.implib.specs.declared.machine.MachineType.TheVariants.{AMD64, I386}
 use Rattle.implib.specs.Formats.Layout.{encoded_size}
 use Rattle.implib.specs.Formats.Object.{Object}
 use Rattle.implib.specs.Link.Image.{AllApart, AreApart, Range, image_of, range_end}
@@ -23,14 +23,17 @@ use Rattle.implib_link.specs.Parts.{AreEntries, BeginWithHead, IsPart, IsProgram
 use Rattle.implib_link.specs.Tables.{AreTables, Table, Tables, packed_tables}
 use Rattle.implib_link.proofs.Parts.Members.{members_are_part, members_store_none, parts_steady}
 use Rattle.implib_link.proofs.Parts.Programs.{parts_tables}
-use Rattle.implib_link_instances.specs.Worked.OtherLibraries.{aaa_objects, beside_objects, caller_bytes, linker_bases, mid_input, objects_of, zzz_objects}
-use Rattle.implib_link_instances.specs.Worked.Parts.{IsWritten, WorkedParts, WorkedReach, aaa_part, asking, beside_parts, gnu_bases, gnu_image, i386_gnu_bases, i386_gnu_image, i386_kernel, i386_lld_bases, i386_lld_image, i386_start_bytes, i386_zoo, i386_zoo_objects, i386_zoo_parts, kernel, lld_bases, lld_image, start_bytes, start_code, stub_code, table_at, zoo, zoo_codes, zoo_linked, zoo_memory, zoo_objects, zoo_parts, zoo_tables, zoo_targets, zzz_part}
+use Rattle.implib_link_instances.specs.Worked.OtherLibraries.{objects_of}
+use Rattle.implib_link_instances.specs.Worked.Parts.{IsWritten, WorkedOlder, WorkedParts, WorkedReach, asking, gnu_bases, gnu_image, i386_gnu_bases, i386_gnu_image, i386_kernel, i386_older_objects, i386_older_parts, i386_older_start, i386_older_zoo, i386_start_bytes, i386_zoo, i386_zoo_objects, i386_zoo_parts, kernel, named_start, older_objects, older_parts, older_zoo, start_bytes, start_code, stub_code, table_at, zoo, zoo_codes, zoo_linked, zoo_memory, zoo_objects, zoo_parts, zoo_tables, zoo_targets}
 use Rattle.implib_link_instances.specs.Worked.Programs.{symbol_of_class}
 use Rattle.implib_link.proofs.TablesInMemory.{tables_lead_in_memory, tables_load_in_memory}
 use Rattle.implib_link_instances.proofs.Worked.LinkedCode.{relocated_by, relocated_test}
 use Rattle.implib_link_instances.proofs.Worked.LldPrograms.{disjoint, meet_test, takes_outside}
-use Rattle.implib_link_instances.proofs.Worked.OtherLibraries.{all_claim_none, all_hold_fields, worked_beside}
+use Rattle.implib_link_instances.proofs.Worked.OtherLibraries.{all_claim_none, all_hold_fields}
 use Rattle.implib_link_instances.proofs.Worked.Programs.{admissible_by, distinct_by, instruction_by, opened}
+use Rattle.implib.specs.Definition.{ExportView}
+use Rattle.implib.specs.Members.OlderSymbols.{AreOlderMembersOf, older_object, older_refusal, older_renamed_refusal, older_spec}
+use Rattle.implib_link.proofs.Parts.Older.{older_part, older_stores_none}
 
 pub written_by : (machine : MachineType) (bases : Bases) (parts : List Part) (objects : List Object) (written : List Range) (tables : List Table) → AllByRecursion (IsPart machine) parts →
     IsProgramOfParts machine bases parts objects → AllByRecursion (λ (p : Part). list_all (stores_none machine) p.objects ≡ true) parts → image_of machine bases (placed_from bases objects) ≡ written →
@@ -51,10 +54,6 @@ written_by machine bases parts objects written tables are program stores image s
 
 -- The parts.
 
-mid_made : IsMade AMD64 mid_input
-unfolding opened refusal renamed_refusal alias_specs encoded_size weak_object
-mid_made = record { accepted = refl; made = refl; ordinals = refl }
-
 zoo_made : IsMade AMD64 zoo
 unfolding opened refusal renamed_refusal alias_specs encoded_size weak_object
 zoo_made = record { accepted = refl; made = refl; ordinals = refl }
@@ -62,29 +61,6 @@ zoo_made = record { accepted = refl; made = refl; ordinals = refl }
 i386_zoo_made : IsMade I386 i386_zoo
 unfolding opened refusal renamed_refusal alias_specs encoded_size weak_object
 i386_zoo_made = record { accepted = refl; made = refl; ordinals = refl }
-
-aaa_is : IsPart AMD64 aaa_part
-unfolding opened BeginWithHead AreEntries
-aaa_is = record {
-  objects = (
-    record { row = record { lookups = 12; name = 15; addresses = 13 }; fields = refl; lookups = refl; addresses = refl; name = refl },
-    (
-      record { descriptors = refl; lookup = refl; address = refl; symbol = refl },
-      (record { descriptors = refl; lookup = refl; address = refl; symbol = refl }, record { descriptors = refl; lookup = refl; address = refl }),
-    ),
-  );
-  sized = all_hold_fields aaa_objects refl;
-}
-
-zzz_is : IsPart AMD64 zzz_part
-unfolding opened BeginWithHead AreEntries
-zzz_is = record {
-  objects = (
-    record { row = record { lookups = 12; name = 15; addresses = 13 }; fields = refl; lookups = refl; addresses = refl; name = refl },
-    (record { descriptors = refl; lookup = refl; address = refl; symbol = refl }, record { descriptors = refl; lookup = refl; address = refl }),
-  );
-  sized = all_hold_fields zzz_objects refl;
-}
 
 pub kernel_is : IsPart AMD64 kernel
 unfolding opened BeginWithHead AreEntries
@@ -106,14 +82,6 @@ i386_kernel_is = record {
   sized = all_hold_fields i386_kernel.objects refl;
 }
 
-aaa_stores : list_all (stores_none AMD64) aaa_part.objects ≡ true
-unfolding opened
-aaa_stores = refl
-
-zzz_stores : list_all (stores_none AMD64) zzz_part.objects ≡ true
-unfolding opened
-zzz_stores = refl
-
 pub kernel_stores : list_all (stores_none AMD64) kernel.objects ≡ true
 unfolding opened
 kernel_stores = refl
@@ -124,15 +92,6 @@ i386_kernel_stores = refl
 
 -- The programs.
 
-beside : IsProgramOfParts AMD64 linker_bases beside_parts beside_objects
-unfolding opened refusal renamed_refusal alias_specs encoded_size weak_object has_tables
-beside = record {
-  tables = refl;
-  distinct = distinct_by (names_of_parts beside_parts) refl;
-  others = all_claim_none (names_of_parts beside_parts) (objects_of (caller_bytes ∷ [])) refl;
-  admissible = admissible_by refl refl;
-}
-
 gnu : IsProgramOfParts AMD64 gnu_bases zoo_parts zoo_objects
 unfolding opened refusal renamed_refusal alias_specs encoded_size weak_object has_tables
 gnu = record {
@@ -141,10 +100,6 @@ gnu = record {
   others = all_claim_none (names_of_parts zoo_parts) (objects_of (start_bytes ∷ [])) refl;
   admissible = admissible_by refl refl;
 }
-
-lld : IsProgramOfParts AMD64 lld_bases zoo_parts zoo_objects
-unfolding opened refusal renamed_refusal alias_specs encoded_size weak_object has_tables
-lld = record { tables = gnu.tables; distinct = gnu.distinct; others = gnu.others; admissible = admissible_by refl refl }
 
 i386_gnu : IsProgramOfParts I386 i386_gnu_bases i386_zoo_parts i386_zoo_objects
 unfolding opened refusal renamed_refusal alias_specs encoded_size weak_object has_tables
@@ -155,25 +110,13 @@ i386_gnu = record {
   admissible = admissible_by refl refl;
 }
 
-i386_lld : IsProgramOfParts I386 i386_lld_bases i386_zoo_parts i386_zoo_objects
-unfolding opened refusal renamed_refusal alias_specs encoded_size weak_object has_tables
-i386_lld = record { tables = i386_gnu.tables; distinct = i386_gnu.distinct; others = i386_gnu.others; admissible = admissible_by refl refl }
-
 gnu_image_is : image_of AMD64 gnu_bases (placed_from gnu_bases zoo_objects) ≡ gnu_image
 unfolding opened refusal renamed_refusal alias_specs encoded_size weak_object has_tables
 gnu_image_is = refl
 
-lld_image_is : image_of AMD64 lld_bases (placed_from lld_bases zoo_objects) ≡ lld_image
-unfolding opened refusal renamed_refusal alias_specs encoded_size weak_object has_tables
-lld_image_is = refl
-
 i386_gnu_image_is : image_of I386 i386_gnu_bases (placed_from i386_gnu_bases i386_zoo_objects) ≡ i386_gnu_image
 unfolding opened refusal renamed_refusal alias_specs encoded_size weak_object has_tables
 i386_gnu_image_is = refl
-
-i386_lld_image_is : image_of I386 i386_lld_bases (placed_from i386_lld_bases i386_zoo_objects) ≡ i386_lld_image
-unfolding opened refusal renamed_refusal alias_specs encoded_size weak_object has_tables
-i386_lld_image_is = refl
 
 pub zoo_are : AllByRecursion (IsPart AMD64) zoo_parts
 zoo_are = (kernel_is, (members_are_part AMD64 zoo zoo_made, tt))
@@ -189,12 +132,8 @@ i386_zoo_stores = (i386_kernel_stores, (members_store_none I386 i386_zoo i386_zo
 
 pub worked_parts : WorkedParts
 worked_parts = record {
-  beside = written_by AMD64 linker_bases beside_parts beside_objects _ _ (aaa_is, (members_are_part AMD64 mid_input mid_made, (zzz_is, tt))) beside
-      (aaa_stores, (members_store_none AMD64 mid_input mid_made, (zzz_stores, tt))) worked_beside.image refl;
   gnu = written_by AMD64 gnu_bases zoo_parts zoo_objects gnu_image _ zoo_are gnu zoo_stores gnu_image_is refl;
-  lld = written_by AMD64 lld_bases zoo_parts zoo_objects lld_image _ zoo_are lld zoo_stores lld_image_is refl;
   i386_gnu = written_by I386 i386_gnu_bases i386_zoo_parts i386_zoo_objects i386_gnu_image _ i386_zoo_are i386_gnu i386_zoo_stores i386_gnu_image_is refl;
-  i386_lld = written_by I386 i386_lld_bases i386_zoo_parts i386_zoo_objects i386_lld_image _ i386_zoo_are i386_lld i386_zoo_stores i386_lld_image_is refl;
 }
 
 -- The code.
@@ -268,4 +207,55 @@ worked_reach = record {
       let of_kernel = tables_lead_in_memory AMD64 0x1_4000_0000 tables zoo_codes zoo_targets zoo_memory gives worked_parts.gnu.tables_are worked_parts.gnu.steady code_in_memory n written wide reads
       0 0 (table_at (codes "kernel32.dll") 0x3060 (asking (codes "ExitProcess") 1 (codes "__imp_ExitProcess") ∷ [])) (asking (codes "ExitProcess") 1 (codes "__imp_ExitProcess")) (codes "__imp_ExitProcess") refl refl refl tt in
       (load.0, (of_zoo.instructions start_code 5 (0xFF ∷ 0x15 ∷ []) [] (0, omega arith, refl) call_is, of_kernel.instructions start_code 34 (0xFF ∷ 0x25 ∷ []) [] (0, omega arith, refl) jump_is));
+}
+
+made : AreOlderMembersOf older_zoo.definition AMD64 older_zoo.members
+unfolding opened older_refusal older_renamed_refusal older_spec older_object alias_specs encoded_size weak_object
+made = record { accepted = refl; made = refl; ordinals = refl }
+
+are_parts : (older : ExportView → Bool) → AllByRecursion (IsPart AMD64) (older_parts older)
+are_parts older = (kernel_is, (older_part AMD64 older_zoo made older, tt))
+
+store_none : (older : ExportView → Bool) → AllByRecursion (λ (p : Part). list_all (stores_none AMD64) p.objects ≡ true) (older_parts older)
+store_none older = (kernel_stores, (older_stores_none AMD64 older_zoo made older, tt))
+
+program : (older : ExportView → Bool) → IsProgramOfParts AMD64 gnu_bases (older_parts older) older_objects
+unfolding opened older_refusal older_renamed_refusal older_spec older_object alias_specs encoded_size weak_object has_tables
+program older = record {
+  tables = refl;
+  distinct = distinct_by (names_of_parts (older_parts older)) refl;
+  others = all_claim_none (names_of_parts (older_parts older)) (objects_of (named_start (codes "zoo_open") (codes "___impzoo_open") ∷ [])) refl;
+  admissible = admissible_by refl refl;
+}
+
+image_is : image_of AMD64 gnu_bases (placed_from gnu_bases older_objects) ≡ gnu_image
+unfolding opened older_refusal older_renamed_refusal older_spec older_object alias_specs encoded_size weak_object has_tables
+image_is = refl
+
+i386_made : AreOlderMembersOf i386_older_zoo.definition I386 i386_older_zoo.members
+unfolding opened older_refusal older_renamed_refusal older_spec older_object alias_specs encoded_size weak_object
+i386_made = record { accepted = refl; made = refl; ordinals = refl }
+
+i386_program : IsProgramOfParts I386 i386_gnu_bases i386_older_parts i386_older_objects
+unfolding opened older_refusal older_renamed_refusal older_spec older_object alias_specs encoded_size weak_object has_tables
+i386_program = record {
+  tables = refl;
+  distinct = distinct_by (names_of_parts i386_older_parts) refl;
+  others = all_claim_none (names_of_parts i386_older_parts) (objects_of (i386_older_start ∷ [])) refl;
+  admissible = admissible_by refl refl;
+}
+
+i386_image_is : image_of I386 i386_gnu_bases (placed_from i386_gnu_bases i386_older_objects) ≡ i386_gnu_image
+unfolding opened older_refusal older_renamed_refusal older_spec older_object alias_specs encoded_size weak_object has_tables
+i386_image_is = refl
+
+pub worked_older : WorkedOlder
+unfolding opened
+worked_older = record {
+  made = made;
+  older = written_by AMD64 gnu_bases (older_parts (λ e. true)) older_objects gnu_image _ (are_parts (λ e. true)) (program (λ e. true)) (store_none (λ e. true)) image_is refl;
+  today = written_by AMD64 gnu_bases (older_parts (λ e. false)) older_objects gnu_image _ (are_parts (λ e. false)) (program (λ e. false)) (store_none (λ e. false)) image_is refl;
+  i386_made = i386_made;
+  i386_older = written_by I386 i386_gnu_bases i386_older_parts i386_older_objects i386_gnu_image _ (i386_kernel_is, (older_part I386 i386_older_zoo i386_made (λ e. true), tt)) i386_program
+      (i386_kernel_stores, (older_stores_none I386 i386_older_zoo i386_made (λ e. true), tt)) i386_image_is refl;
 }

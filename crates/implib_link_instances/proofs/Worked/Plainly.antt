@@ -1,11 +1,9 @@
 -- What GNU ld takes, by the law, and what stays undefined, by computing.
-use Rattle.std.proofs.Common.{◌≡◌, ℕ, Bool, true, false, List, [], ◌∷◌, ◌++◌, Option, Some, None, drop, map, refl, ap, sym, subst, arith}
-use Rattle.std.specs.Prelude.{bytes_eq, codes, is_some, length, not, ◌==◌, ◌||◌}
-use Rattle.std.specs.List.{Contains, list_all, list_any}
-use Rattle.std.proofs.lemmas.Bool.{true≢false}
-use Rattle.std.proofs.lemmas.Option.{same_Some}
+use Rattle.std.proofs.Common.{Bool, List, None, Option, Some, [], drop, false, map, refl, subst, sym, true, ℕ, ◌++◌, ◌∷◌, ◌≡◌}
+use Rattle.std.specs.Prelude.{bytes_eq, codes, not, ◌||◌}
+use Rattle.std.specs.List.{list_all, list_any}
 use Rattle.implib.specs.Formats.Object.{Entry, Object}
-use Rattle.implib.specs.declared.machine.MachineType.TheVariants.{AMD64, ARM64, I386}
+use Rattle.implib.specs.declared.machine.MachineType.TheVariants.{AMD64}
 use Rattle.implib.specs.Members.MemberSpec.{MemberView, member_of}
 use Rattle.implib.specs.Members.WeakExternal.{weak_spec}
 use Rattle.implib.proofs.Link.LinkedMembers.{among_contains}
@@ -15,23 +13,17 @@ use Rattle.implib_link.specs.Search.Archives.{is_weak_entry}
 use Rattle.implib_link.specs.Search.BothFlavors.{FlavorLibrary, IsFlavorArchive, archive_of_both}
 use Rattle.implib_link.specs.Search.Closed.{AreTakenIntoAs, PullsIntoAs, unresolved}
 use Rattle.implib_link.specs.Search.MsvcArchives.{TakesIntoFor}
-use Rattle.implib_link.specs.Search.Plainly.{AreOnlyWeak, WeakAreFirst, weak_names, without_weak}
+use Rattle.implib_link.specs.Search.Plainly.{AreOnlyWeak, without_weak}
 use Rattle.implib_link.specs.Search.Search.{first_listed, objects_as}
 use Rattle.implib_link.proofs.Search.Lists.{any_among, contains_among, each_of}
 use Rattle.implib_link.proofs.Search.Plainly.{libraries_plain}
-use Rattle.implib_link.proofs.Search.Search.{only_one}
-use Rattle.implib_link_instances.specs.Machines.Closed.{mixed_libraries, own_on}
-use Rattle.implib_link_instances.specs.Machines.Closed.{mixed_taken as taken_on}
-use Rattle.implib_link_instances.specs.Machines.Parts.{descriptor_on, null_on, short_on, thunk_on}
+use Rattle.implib_link_instances.specs.Worked.Plainly.{WorkedPlainly, descriptor_on, kernel, kernel_library, kernel_taken, null_on, short_on, thunk_on}
 use Rattle.implib_link_instances.specs.Worked.BothFlavors.{foo_and_zed, mixed_taken}
-use Rattle.implib_link_instances.specs.Worked.Closed.{choosing, foo_alias}
+use Rattle.implib_link_instances.specs.Worked.Closed.{choosing}
 use Rattle.implib_link_instances.specs.Worked.CommandLines.{read_or_none, wants_bytes}
-use Rattle.implib_link_instances.specs.Worked.Plainly.{RefusedPlainly, WorkedPlainly, in_front, kernel, kernel_library, kernel_taken}
-use Rattle.implib_link_instances.proofs.Machines.Mixed.{mixed_arm64, mixed_i386}
 use Rattle.implib_link_instances.proofs.Worked.BothFlavors.{archive_by, first_symbol, new_by, worked_both}
 use Rattle.implib_link_instances.proofs.Worked.CommandLines.{ended_by}
-use Rattle.implib_link_instances.proofs.Worked.NearMisses.{none_passes}
-use Rattle.implib_link_instances.proofs.Worked.NearSearches.{searched}
+use Rattle.implib_link_instances.proofs.Worked.Opened.{searched}
 
 -- gcc's object and the library of kernel32.dll
 
@@ -101,18 +93,6 @@ worked_plainly = record {
     weak = refl;
     plain = refl;
   };
-  i386 = record {
-    none = (refl, tt);
-    takes = libraries_plain I386 (mixed_libraries I386) mixed_i386.archive (own_on I386) (taken_on I386) (refl, tt) mixed_i386.takes;
-    weak = refl;
-    plain = refl;
-  };
-  arm64 = record {
-    none = (refl, tt);
-    takes = libraries_plain ARM64 (mixed_libraries ARM64) mixed_arm64.archive (own_on ARM64) (taken_on ARM64) (refl, tt) mixed_arm64.takes;
-    weak = refl;
-    plain = refl;
-  };
   by_gcc = record {
     none = (refl, tt);
     takes = libraries_plain AMD64 library kernel_archive own kernel_taken (refl, tt) kernel_takes;
@@ -120,38 +100,4 @@ worked_plainly = record {
     plain = refl;
   };
   only = only_quit;
-}
-
--- the names of the weak externals of an object, if there is one
-names_of : Option Object → List (List ℕ)
-names_of None = []
-names_of (Some o) = weak_names o
-
-alias_names : names_of (expanded_in AMD64 foo_alias.bytes) ≡ codes "bar" ∷ []
-unfolding names_of searched weak_names
-alias_names = refl
-
-not_among : (o : Object) → expanded_in AMD64 foo_alias.bytes ≡ Some o → Contains (weak_names o) (codes "baz") → ⊥
-unfolding names_of
-not_among o read held =
-    let among : Contains (codes "bar" ∷ []) (codes "baz") = subst (λ names. Contains names (codes "baz")) alias_names (subst (λ x. Contains (names_of x) (codes "baz")) (sym read) held) in
-    none_passes (bytes_eq (codes "baz")) (codes "baz") (codes "bar" ∷ []) refl among refl
-
-not_first : (x : Option Object) → expanded_in AMD64 foo_alias.bytes ≡ x → WeakAreFirst (expanded_in AMD64) (in_front ∷ foo_alias ∷ []) (foo_alias ∷ []) → ⊥
-unfolding names_of searched
-not_first None none first = true≢false (ap is_some none)
-not_first (Some o) read first =
-    let named : Contains (weak_names o) (codes "bar") =
-    subst (λ x. Contains (names_of x) (codes "bar")) read (subst (λ names. Contains names (codes "bar")) (sym alias_names) (0, omega arith, refl)) in
-    true≢false (ap (λ (m : MemberView). length m.bytes == 1) (same_Some in_front foo_alias (first foo_alias o (codes "bar") (0, omega arith, refl) read named)))
-
-pub refused_plainly : RefusedPlainly
-unfolding searched
-refused_plainly = record {
-  none = λ has. true≢false has.0;
-  among = λ is.
-      let same : is.0 ≡ foo_alias = only_one is.0 foo_alias (contains_among is.0 (foo_alias ∷ []) is.2) in
-      not_among is.1 (subst (λ (m : MemberView). expanded_in AMD64 m.bytes ≡ Some is.1) same is.3) is.4;
-  first = not_first (expanded_in AMD64 foo_alias.bytes) refl;
-  only = λ only. true≢false (sym (only _ _ (0, omega arith, refl) (2, omega arith, refl) refl));
 }

@@ -10,7 +10,7 @@ use Rattle.std.specs.Prelude.{◌&&◌, bytes_eq, not, ◌%◌, slice_get, ◌==
 use Rattle.std.specs.Fmt.{digits}
 use Rattle.std.specs.List.{AllByRecursion, IsDistinct, list_all, list_any, filter}
 use Rattle.std.proofs.lemmas.Bool.{and_parts, not-true, eqb-true, ltb-true}
-use Rattle.implib.specs.declared.machine.MachineType.TheVariants.{I386, ARMNT, AMD64, ARM64}
+use Rattle.implib.specs.declared.machine.MachineType.TheVariants.{I386, ARMNT, AMD64}
 use Rattle.implib.specs.Formats.Bytes.{u16_bytes, u32_bytes}
 use Rattle.implib.specs.Members.Gnu.{export_object, five_digits, head_name, head_object, head_symbol, hint_name, iname_symbol, numbered_name, relocations_of_stub, relocations_of_thunk, mangled_name, stub, tail_name, tail_object, thunk}
 use Rattle.implib.specs.Link.Image.{with_address, IsBase, image_of, IsAdmissible, Range}
@@ -26,7 +26,7 @@ use Rattle.implib_link.specs.Gnu.Program.{ClaimsNone, claimed_names, has_tables,
 use Rattle.implib_link.specs.Flavors.Program.{IsProgram}
 use Rattle.implib_link.specs.Gnu.Operands.{HasInstruction, IsOperand, Names}
 use Rattle.implib_link.specs.Gnu.Fields.{LinkedCode, MeetsAlone}
-use Rattle.implib_link_instances.specs.Worked.Programs.{WorkedProgram, WorkedPrograms, WorkedStubs, expected_4, expected_8, touching_4, touching_8, symbol_of_class, both_inputs}
+use Rattle.implib_link_instances.specs.Worked.Programs.{WorkedProgram, WorkedPrograms, expected_4, expected_8, touching_4, touching_8, symbol_of_class, both_inputs}
 use Rattle.implib_link.proofs.Flavors.GnuPrograms.{gnu_objects}
 
 -- what the computing has to open
@@ -153,21 +153,6 @@ amd64 = record {
   named = refl;
 }
 
-arm64 : WorkedProgram ARM64 touching_8 expected_8
-unfolding opened refusal renamed_refusal alias_specs encoded_size weak_object has_tables
-arm64 = record {
-  made = (record { accepted = refl; made = refl; ordinals = refl }, (record { accepted = refl; made = refl; ordinals = refl }, tt));
-  program = program_by (both_inputs ARM64) refl refl refl (admissible_by refl refl);
-  descriptors = refl;
-  lookups = refl;
-  addresses = refl;
-  hints = refl;
-  foo = refl;
-  zed = refl;
-  entries = refl;
-  named = refl;
-}
-
 i386 : WorkedProgram I386 touching_4 expected_4
 unfolding opened refusal renamed_refusal alias_specs encoded_size weak_object has_tables
 i386 = record {
@@ -199,8 +184,8 @@ armnt = record {
 }
 
 pub worked_programs : WorkedPrograms
-worked_programs = record { amd64 = amd64; arm64 = arm64; i386 = i386; armnt = armnt }
-
-pub worked_stubs : WorkedStubs
-unfolding opened
-worked_stubs = record { amd64 = refl; amd64_reads = refl; i386 = refl; i386_reads = refl; arm64 = refl; arm64_reads = refl }
+worked_programs = record {
+  amd64 = amd64;
+  i386 = i386;
+  armnt = armnt;
+}

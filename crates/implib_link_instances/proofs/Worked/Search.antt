@@ -1,26 +1,49 @@
 -- The search that was done by hand, by computing.
-use Rattle.std.proofs.Common.{◌≡◌, ℕ, Bool, true, false, List, [], ◌∷◌, ◌++◌, map, Some, refl, sym, ◌∙◌, subst, inl, inr, codes, Option}
-use Rattle.std.specs.Prelude.{bytes_eq, ◌||◌, is_none, ◌&&◌, not}
+use Rattle.std.proofs.Common.{Bool, List, Option, Some, [], ap, arith, codes, false, inl, inr, map, refl, subst, sym, true, ℕ, ◌++◌, ◌<◌, ◌^◌, ◌∙◌, ◌∷◌, ◌≡◌}
+use Rattle.std.specs.Prelude.{bytes_eq, is_none, length, nat_lt, not, ◌&&◌, ◌||◌}
 use Rattle.std.specs.Fmt.{digits}
-use Rattle.std.specs.List.{IsDistinct, list_all, list_any}
-use Rattle.std.proofs.lemmas.Bool.{and_parts, true≢false, not-true}
+use Rattle.std.specs.List.{IsDistinct, flat_map, list_all, list_any}
+use Rattle.std.proofs.lemmas.Bool.{and_parts, ltb-true, not-true, true≢false}
 use Rattle.implib.specs.declared.machine.MachineType.TheVariants.{AMD64}
 use Rattle.implib.specs.Definition.{empty_export}
 use Rattle.implib.specs.Worked.Statements.{plain_export}
 use Rattle.implib.specs.Formats.Bytes.{u16_bytes, u32_bytes}
-use Rattle.implib.specs.Members.Gnu.{export_object, five_digits, head_name, head_object, head_symbol, hint_name, iname_symbol, numbered_name, relocations_of_stub, relocations_of_thunk, mangled_name, stub, tail_name, tail_object, thunk}
+use Rattle.implib.specs.Members.Gnu.{export_object, five_digits, head_name, head_object, head_symbol, hint_name, iname_symbol, mangled_name, numbered_name, relocations_of_stub, relocations_of_thunk, stub, tail_name, tail_object, thunk, weak_name}
 use Rattle.implib.specs.Members.MemberSpec.{MemberView, member_of}
 use Rattle.implib.specs.Members.GnuMembers.{alias_specs, export_spec, head_spec, tail_spec}
 use Rattle.implib.specs.Members.Members.{refusal, renamed_refusal}
-use Rattle.implib.specs.Formats.Object.{before_nul, bytes_at, data_at, each_at, entries_at, name_of, object_in, object_of_header, relocation_at, relocation_of, section_at, section_of, strings_at, symbol_of, u16_at, u32_at, up_to_nul, Object}
-use Rattle.implib.specs.Formats.Layout.{auxiliary_bytes, auxiliary_count, contents, contents_offset, contents_size, header_bytes, encoded, encoded_size, name_field, offsets_from, pointer_or_zero, record_count, records, relocation_bytes, section_header, section_headers, string_bytes_of, string_offsets, string_size, string_table, strings_size, symbol_bytes, symbol_table_offset}
-use Rattle.implib.specs.Formats.Writer.{long_names, name_location, layout_of, symbol_written, with_long_name, with_name}
+use Rattle.implib.specs.Formats.Object.{Object, before_nul, bytes_at, data_at, each_at, entries_at, name_of, object_in, object_of_header, relocation_at, relocation_of, section_at, section_of, strings_at, symbol_of, u16_at, u32_at, up_to_nul}
+use Rattle.implib.specs.Formats.Layout.{auxiliary_bytes, auxiliary_count, contents, contents_offset, contents_size, encoded, encoded_size, header_bytes, name_field, offsets_from, pointer_or_zero, record_count, records, relocation_bytes, section_header, section_headers, string_bytes_of, string_offsets, string_size, string_table, strings_size, symbol_bytes, symbol_table_offset}
+use Rattle.implib.specs.Formats.Writer.{layout_of, long_names, name_location, symbol_written, with_long_name, with_name}
 use Rattle.implib.proofs.Link.LinkedMembers.{among_contains, among_map}
 use Rattle.implib.proofs.Link.Ranges.{Among}
-use Rattle.implib_link.specs.Search.Search.{Takes, first_listed, undefined_in, left_as, claimed_as, AreTakenInTurnAs, PullsInAs, TakesAs}
-use Rattle.implib_link_instances.specs.Worked.Search.{MayTake, WorkedSearch, members_of, three, wanted}
+use Rattle.implib_link.specs.Search.Search.{AreTakenInTurnAs, IsArranged, IsLinkedWith, PullsInAs, Takes, TakesAs, claimed_as, first_listed, left_as, undefined_in}
+use Rattle.implib_link_instances.specs.Worked.Search.{MayTake, WorkedArchives, WorkedFound, WorkedLibraries, WorkedNamedApart, WorkedSearch, WorkedSearched, WorkedSweeps, as_taken, bar_member, both_wanted, by_name, first_x, given_f, head_member, libraries_objects, members_of, qux_member, reads_by_hand, searched_objects, second_x, tail_member, three, two_libraries, wanted, wants_x}
 use Rattle.implib_link.proofs.Search.Lists.{among_any, any_among, contains_among}
 use Rattle.implib.specs.LibraryName.{own_names}
+use Rattle.implib.specs.Members.WeakExternal.{weak_object, weak_spec}
+use Rattle.implib_link.specs.Search.Archives.{NamesNoHeadOrTailOf, archive_of, inputs_wanted, is_weak, symbols_of_library, wanted_with}
+use Rattle.implib.specs.Formats.Constants.{class_external}
+use Rattle.implib.specs.Link.LinkedMembers.{IsAscending, LinkInput}
+use Rattle.implib_link.specs.Gnu.Packed.{group_end, packed, packed_end, sections_end}
+use Rattle.implib_link.specs.Gnu.Program.{HaveSame, has_tables, linked_symbols}
+use Rattle.implib_link.specs.Flavors.Program.{IsProgram}
+use Rattle.implib_link_instances.specs.Worked.Programs.{chosen_input, code_object, symbol_of_class}
+use Rattle.implib_link_instances.proofs.Worked.GnuPacked.{packed_is_admissible, packed_is_program}
+use Rattle.implib_link.proofs.Search.Archives.{libraries_link, libraries_taken}
+use Rattle.implib_link.proofs.Search.Arranged.{inputs_made}
+use Rattle.implib_link.proofs.Search.Ends.{search_bounded, search_ends}
+use Rattle.implib_link.proofs.Search.One.{takes_wanted}
+use Rattle.implib_link.proofs.Search.Searched.{linked_in_order, searched_links}
+use Rattle.implib_link.proofs.Search.Sorted.{sorted_is_arranged}
+use Rattle.implib_link_instances.proofs.Worked.Programs.{claims_none_by, distinct_by, opened as opened_of_programs}
+use Rattle.implib_link.specs.Search.Closed.{AreTakenIntoAs, claims_of, references_of}
+use Rattle.implib_link.specs.Search.Sweeps.{SweepsTake, sweeps, swept}
+use Rattle.implib_link.proofs.Search.Sweeps.{sweeps_take}
+use Rattle.implib.specs.Members.MsvcObjects.{base_name, descriptor_symbol}
+use Rattle.implib_link.specs.Flavors.Expansion.{descriptor_symbol_by_name}
+use Rattle.implib_link.specs.Search.NamedApart.{AreNamedApart, names_in, stem}
+use Rattle.implib_link.proofs.Search.NamedApart.{named_apart}
 
 -- whether a name pulls in no member any more
 abbrev is_settled : (List ℕ → Option Object) → List MemberView → List MemberView → List ℕ → Bool
@@ -145,4 +168,182 @@ worked_search = record {
   nothing = takes_nothing;
   head_and_tail = takes_head_and_tail;
   alias_first = refl;
+}
+
+abbrev pub foo_weak : MemberView
+foo_weak = member_of (weak_spec AMD64 (weak_name (codes "foo.dll") 0) (codes "bar") (codes "baz"))
+
+abbrev pub foo_baz : MemberView
+foo_baz = member_of (export_spec AMD64 (codes "foo.dll") 1 (plain_export (codes "baz")))
+
+abbrev pub head_named : List ℕ → MemberView
+head_named dll = member_of (head_spec AMD64 dll)
+
+abbrev pub tail_named : List ℕ → MemberView
+tail_named dll = member_of (tail_spec AMD64 (own_names dll))
+
+abbrev pub zed_queue : MemberView
+zed_queue = member_of (export_spec AMD64 (codes "zed.dll") 0 (plain_export (codes "queue")))
+
+abbrev pub foo_taken : List MemberView
+foo_taken = tail_named (codes "foo.dll") ∷ head_named (codes "foo.dll") ∷ foo_baz ∷ foo_weak ∷ []
+
+abbrev pub both_taken : List MemberView
+both_taken = tail_named (codes "zed.dll") ∷ head_named (codes "zed.dll") ∷ zed_queue ∷ foo_taken
+
+abbrev archive : List MemberView
+archive = archive_of two_libraries
+
+pub both_takes : Takes (archive_of two_libraries) both_wanted both_taken
+unfolding opened alias_specs encoded_size left_as claimed_as undefined_in AreTakenInTurnAs weak_object archive_of
+both_takes = takes_by (codes "zed_dll_iname" ∷ codes "_head_zed_dll" ∷ codes "__imp_queue" ∷ codes "foo_dll_iname" ∷ codes "_head_foo_dll" ∷ codes "baz" ∷ codes "bar" ∷ []) refl refl refl
+
+pub worked_archives : WorkedArchives
+unfolding opened refusal renamed_refusal alias_specs encoded_size IsDistinct weak_object symbols_of_library is_weak left_as undefined_in
+worked_archives = record {
+  archive = record {
+    made = (record { accepted = refl; made = refl; ordinals = refl }, (record { accepted = refl; made = refl; ordinals = refl }, tt));
+    distinct = ((refl, (refl, (refl, (refl, (refl, (refl, (refl, (refl, (refl, (refl, (refl, tt))))))))))), ((refl, (refl, (refl, (refl, (refl, (refl, (refl, (refl, (refl, (refl, tt)))))))))), ((refl, (refl, (refl, (refl, (refl, (refl, (refl, (refl, (refl, tt))))))))), ((refl, (refl, (refl, (refl, (refl, (refl, (refl, (refl, tt)))))))), ((refl, (refl, (refl, (refl, (refl, (refl, (refl, tt))))))), ((refl, (refl, (refl, (refl, (refl, (refl, tt)))))), ((refl, (refl, (refl, (refl, (refl, tt))))), ((refl, (refl, (refl, (refl, tt)))), ((refl, (refl, (refl, tt))), ((refl, (refl, tt)), ((refl, tt), (tt, tt))))))))))));
+  };
+  taken = both_taken;
+  takes = both_takes;
+  names = refl;
+  weak = refl;
+  wanted = refl;
+  plain = (record { head = refl; name = refl }, (record { head = refl; name = refl }, tt));
+  chosen = refl;
+}
+
+-- Four members in two orders.
+
+to_order : {X : Type 0} (a b c d x : X) → Among x (c ∷ d ∷ a ∷ b ∷ []) → Among x (a ∷ b ∷ c ∷ d ∷ [])
+unfolding Among
+to_order a b c d x (inl e) = inr (inr (inl e))
+to_order a b c d x (inr (inl e)) = inr (inr (inr (inl e)))
+to_order a b c d x (inr (inr (inl e))) = inl e
+to_order a b c d x (inr (inr (inr (inl e)))) = inr (inl e)
+to_order a b c d x (inr (inr (inr (inr held)))) = absurd held
+
+turned : {X : Type 0} (a b c d : X) → HaveSame (c ∷ d ∷ a ∷ b ∷ []) (a ∷ b ∷ c ∷ d ∷ [])
+turned a b c d x = (
+  λ has. among_contains x (a ∷ b ∷ c ∷ d ∷ []) (to_order a b c d x (contains_among x (c ∷ d ∷ a ∷ b ∷ []) has)),
+  λ has. among_contains x (c ∷ d ∷ a ∷ b ∷ []) (to_order c d a b x (contains_among x (a ∷ b ∷ c ∷ d ∷ []) has)),
+)
+
+-- The three exports.
+
+takes : Takes (members_of three) wanted as_taken
+takes = three_takes
+
+ascending : IsAscending (map (λ (m : MemberView). m.name) by_name)
+unfolding opened_of_programs
+ascending = (refl, (refl, (refl, tt)))
+
+arranged : IsArranged AMD64 (own_names (codes "foo.dll")) as_taken by_name
+unfolding opened_of_programs alias_specs encoded_size
+arranged =
+    sorted_is_arranged AMD64 three (members_of three) as_taken by_name wanted 0 worked_search.made worked_search.distinct worked_search.plain takes
+    (0, omega arith, refl) (turned head_member bar_member qux_member tail_member) ascending
+
+-- a number below 2^31, by computing
+pub below_limit : (n : ℕ) → nat_lt n (2 ^ 31) ≡ true → n < 2 ^ 31
+below_limit n is = ltb-true n (2 ^ 31) is
+
+plain_names : NamesNoHeadOrTailOf AMD64 two_libraries (wanted_with both_wanted both_taken)
+unfolding opened_of_programs alias_specs encoded_size weak_object is_weak left_as undefined_in
+plain_names = (record { head = refl; name = refl }, (record { head = refl; name = refl }, tt))
+
+abbrev one_input : List LinkInput
+one_input = chosen_input AMD64 three (0 ∷ 2 ∷ []) ∷ []
+
+program : IsLinkedWith AMD64 (own_names (codes "foo.dll")) (packed 1 searched_objects) as_taken searched_objects
+unfolding opened_of_programs alias_specs encoded_size has_tables group_end sections_end
+program = record {
+  arranged = by_name;
+  is_arranged = arranged;
+  tables = refl;
+  others = (claims_none_by (flat_map (λ m. m.symbols) by_name) (code_object (symbol_of_class (codes "main") 1 class_external ∷ symbol_of_class (codes "bar") 0 class_external ∷ [])) refl, tt);
+  admissible = packed_is_admissible AMD64 1 one_input searched_objects (worked_search.made, tt) refl (omega arith) (below_limit (packed_end 1 searched_objects) refl);
+}
+
+pub worked_searched : WorkedSearched
+worked_searched = record {
+  takes = takes;
+  just = takes_wanted AMD64 three (members_of three) as_taken wanted worked_search.made worked_search.distinct worked_search.plain takes;
+  holds_of_some = λ holds. holds AMD64 three (members_of three) as_taken wanted worked_search.made worked_search.distinct worked_search.plain takes;
+  some = (0, omega arith, refl);
+  same = turned head_member bar_member qux_member tail_member;
+  ascending = ascending;
+  arranged = arranged;
+  of_wanted = linked_in_order AMD64 three (members_of three) as_taken by_name wanted worked_search.made worked_search.distinct worked_search.plain takes arranged;
+  program = program;
+  imports = searched_links AMD64 three (members_of three) as_taken wanted (packed 1 searched_objects) searched_objects worked_search.made worked_search.distinct worked_search.plain takes program;
+  ends = search_ends object_in (members_of three) wanted;
+  bounded = search_bounded object_in (members_of three) as_taken wanted takes.in_turn;
+}
+
+-- The two libraries.
+
+abbrev libraries_inputs : List LinkInput
+libraries_inputs = inputs_wanted two_libraries (wanted_with both_wanted both_taken)
+
+libraries_program : IsProgram AMD64 (packed 1 (libraries_objects both_taken)) libraries_inputs (libraries_objects both_taken)
+unfolding opened_of_programs alias_specs encoded_size weak_object is_weak left_as undefined_in has_tables group_end sections_end
+libraries_program =
+    packed_is_program AMD64 1 libraries_inputs (inputs_made AMD64 two_libraries (wanted_with both_wanted both_taken) worked_archives.archive.made)
+    (distinct_by (linked_symbols AMD64 libraries_inputs) refl) (omega arith) (below_limit (packed_end 1 (libraries_objects both_taken)) refl)
+
+pub worked_libraries : WorkedLibraries
+worked_libraries = record {
+  taken = both_taken;
+  takes = both_takes;
+  just = libraries_taken AMD64 two_libraries both_taken both_wanted worked_archives.archive plain_names both_takes;
+  program = libraries_program;
+  links = libraries_link AMD64 two_libraries (wanted_with both_wanted both_taken) (packed 1 (libraries_objects both_taken)) (libraries_objects both_taken) worked_archives.archive libraries_program;
+}
+
+twice : SweepsTake reads_by_hand (first_x ∷ wants_x ∷ []) given_f 2 (0 ∷ 1 ∷ [])
+unfolding swept sweeps references_of claims_of undefined_in
+twice = record { taken = refl; ended = refl }
+
+once : SweepsTake reads_by_hand (wants_x ∷ second_x ∷ []) given_f 1 (1 ∷ 0 ∷ [])
+unfolding swept sweeps references_of claims_of undefined_in
+once = record { taken = refl; ended = refl }
+
+pub worked_sweeps : WorkedSweeps
+unfolding IsDistinct AreTakenIntoAs
+worked_sweeps = record {
+  distinct = distinct_by (codes "x" ∷ codes "f" ∷ []) refl;
+  twice = twice;
+  once = once;
+  just = sweeps_take reads_by_hand (first_x ∷ wants_x ∷ []) given_f (distinct_by (codes "x" ∷ codes "f" ∷ []) refl) 2 (0 ∷ 1 ∷ []) twice;
+}
+
+pub worked_found : WorkedFound
+unfolding base_name descriptor_symbol descriptor_symbol_by_name
+worked_found = record {
+  plain = refl;
+  drv = refl;
+  capitals = refl;
+  no_ending = refl;
+  drv_nameless = λ found. let lengths : 23 ≡ 27 = ap length found in omega arith;
+  with_ending = λ found. let lengths : 23 ≡ 27 = ap length found in omega arith;
+}
+
+apart : AreNamedApart AMD64 two_libraries
+unfolding opened_of_programs
+apart = record {
+  stems = distinct_by (map stem two_libraries) refl;
+  begin = (refl, (refl, tt));
+  exports = distinct_by (names_in two_libraries) refl;
+  plain = (refl, (refl, (refl, (refl, tt))));
+}
+
+pub worked_named_apart : WorkedNamedApart
+unfolding opened_of_programs
+worked_named_apart = record {
+  stems = refl;
+  names = refl;
+  apart = apart;
+  archive = named_apart AMD64 two_libraries worked_archives.archive.made apart;
 }

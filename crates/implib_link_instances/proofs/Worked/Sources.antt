@@ -1,17 +1,7 @@
 -- Programs of texts by hand, by computing and by the laws.
-use Rattle.std.proofs.Common.{◌≡◌, ℕ, ◌+◌, ◌*◌, List, [], ◌∷◌, Some, ap, arith, map, refl, subst}
-use Rattle.std.specs.Prelude.{slice_get}
-use Rattle.std.specs.Char.{encode_utf8}
-use Rattle.std.specs.Str.{chars, is_utf8}
-use Rattle.std.proofs.lemmas.Str.{IsUtf8-from_is_utf8}
-use Rattle.implib.specs.Definition.{DefinitionView}
-use Rattle.implib.specs.Link.Image.{image_of}
-use Rattle.implib.specs.Link.Placement.{Bases, Placed, placed_from}
-use Rattle.implib.specs.Link.Resolution.{SymbolDefinition, definitions_of}
-use Rattle.implib.specs.Members.ImportTables.{thunk_width}
-use Rattle.implib.proofs.Text.OneReading.{one_definition}
+use Rattle.std.proofs.Common.{[], ◌∷◌, arith, map, refl}
 use Rattle.std.specs.List.{AllByRecursion}
-use Rattle.implib.specs.declared.flavor.Flavor.TheVariants.{Gnu, Msvc}
+use Rattle.implib.specs.declared.flavor.Flavor.TheVariants.{Msvc}
 use Rattle.implib.specs.declared.machine.MachineType.TheVariants.{I386, AMD64}
 use Rattle.implib.specs.Formats.Layout.{encoded_size}
 use Rattle.implib.specs.Formats.ShortImport.{short_import_in}
@@ -23,24 +13,19 @@ use Rattle.implib.specs.Members.WeakExternal.{weak_object}
 use Rattle.implib.specs.Text.Parses.{Parses}
 use Rattle.implib.proofs.Worked.Statements.{opened as text_opened, parses}
 use Rattle.implib_link.specs.Flavors.Expansion.{import_object, descriptor_symbol_by_name, expanded_in}
-use Rattle.implib_link.specs.Flavors.Program.{OfMember, all_members, IsProgramOf, AreProgramObjects, IsProgram}
+use Rattle.implib_link.specs.Flavors.Program.{OfMember, all_members, IsProgramOf, AreProgramObjects, IsProgram, OfLinker}
 use Rattle.implib_link.specs.Flavors.SectionSymbols.{with_section_symbols}
-use Rattle.implib_link.specs.Flavors.Texts.{FlavorSource, FlavorTextLinks, FlavorTextsLink, IsFlavorSource, input_of, input_parsed}
+use Rattle.implib_link.specs.Flavors.Texts.{FlavorSource, IsFlavorSource, input_of}
 use Rattle.implib_link.specs.Gnu.Packed.{group_end, packed, packed_end, sections_end}
 use Rattle.implib_link.specs.Gnu.Program.{has_tables, linked_symbols}
 use Rattle.implib_link.specs.Gnu.Texts.{link_input_of}
-use Rattle.implib_link_instances.specs.Worked.Sources.{WorkedSource, WorkedSources, both_sources, both_text_objects, foo_meant, foo_text, gnu_sources, gnu_text_objects, source_in, zed_meant, zed_text, NearFlavorTextLinks, NearFlavorTextsLink, NearIsFlavorSource, exchanged_sources}
+use Rattle.implib_link_instances.specs.Worked.Sources.{WorkedSource, WorkedSources, both_sources, both_text_objects, foo_meant, foo_text, gnu_sources, gnu_text_objects, source_in, zed_meant, zed_text}
 use Rattle.implib_link.proofs.Flavors.Packed.{packed_objects}
 use Rattle.implib_link.proofs.Flavors.Texts.{texts_link}
-use Rattle.implib_link.proofs.Gnu.Stubs.{same_address}
 use Rattle.implib_link_instances.proofs.Worked.GnuPacked.{packed_is_program}
 use Rattle.implib_link_instances.proofs.Worked.Flavors.{opened, flavor_objects_by}
-use Rattle.implib_link_instances.proofs.Worked.NearProgramLinks.{near_program_links}
 use Rattle.implib_link_instances.proofs.Worked.Programs.{distinct_by}
-use Rattle.implib_link_instances.proofs.Worked.Searched.{below_limit}
-use Rattle.implib_link.specs.Flavors.Program.{OfLinker, descriptor_in, dll_names_in, thunks_of}
-use Rattle.implib.specs.Members.MemberSpec.{MemberView}
-use Rattle.implib.specs.Library.{LibraryView}
+use Rattle.implib_link_instances.proofs.Worked.Search.{below_limit}
 
 amd64_foo : Parses foo_text AMD64 (foo_meant AMD64)
 unfolding text_opened
@@ -138,60 +123,3 @@ i386 = record {
 
 pub worked_sources : WorkedSources
 worked_sources = record { amd64 = amd64; i386 = i386 }
-
-other_machine : I386 ≡ AMD64 → ⊥
-other_machine is = cc
-
-none_made : {m : MemberView} {ms : List MemberView} → [] ≡ m ∷ ms → ⊥
-none_made is = cc
-
-pub near_is_flavor_source : NearIsFlavorSource
-unfolding opened refusal renamed_refusal alias_specs encoded_size weak_object
-near_is_flavor_source = record {
-  of_text = (record { of_text = tt; made = record { accepted = refl; made = refl; ordinals = refl } }, λ x. other_machine (ap (λ (l : LibraryView). l.machine) x.of_text.held));
-  made = (record { of_text = record { parsed = zed_meant AMD64; parses = amd64_zed; held = refl }; made = tt }, λ x. none_made x.made.made);
-}
-
-no_definition : (d : SymbolDefinition) → [] ≡ d ∷ [] → ⊥
-no_definition d is = cc
-
--- what links of zed.dll's text
-zed_links : FlavorTextLinks AMD64 (image_of AMD64 (packed 1 (gnu_text_objects AMD64)) (placed_from (packed 1 (gnu_text_objects AMD64)) (gnu_text_objects AMD64))) (placed_from (packed 1 (gnu_text_objects AMD64)) (gnu_text_objects AMD64))
-    ((packed 1 (gnu_text_objects AMD64)).descriptors + 20 * 1) ((packed 1 (gnu_text_objects AMD64)).addresses + thunk_width AMD64 * thunks_of 1 (map input_of (gnu_sources AMD64))) (source_in Gnu AMD64 zed_text (zed_meant AMD64) (0 ∷ []))
-zed_links = amd64.gnu_links.imports 1 (source_in Gnu AMD64 zed_text (zed_meant AMD64) (0 ∷ [])) refl
-
-pub near_flavor_text_links : NearFlavorTextLinks
-near_flavor_text_links = record {
-  imports = (record { parsed = zed_links.parsed; parses = zed_links.parses; imports = tt; statements = zed_links.statements; names = zed_links.names; asks = zed_links.asks }, λ x. no_definition _ x.imports.top);
-}
-
-no_source : (i : ℕ) (s : FlavorSource) → slice_get [] i ≡ Some s → ⊥
-no_source i s is = cc
-
-later_descriptor : (d : ℕ) → d + 20 * 0 ≡ d + 20 * 1 → ⊥
-later_descriptor d is = omega arith
-
--- a text means one definition
-zed_means : (d : DefinitionView) → Parses zed_text AMD64 d → d ≡ zed_meant AMD64
-unfolding chars is_utf8 encode_utf8
-zed_means d means = one_definition zed_text (IsUtf8-from_is_utf8 zed_text refl) AMD64 d (zed_meant AMD64) means amd64_zed
-
--- so that the first descriptor would be zed.dll's, which is the second
-not_first : FlavorTextsLink AMD64 OfLinker (packed 1 (gnu_text_objects AMD64)) exchanged_sources (gnu_text_objects AMD64) → ⊥
-not_first x =
-    let bases : Bases = packed 1 (gnu_text_objects AMD64) in
-    let linked : List Placed = placed_from bases (gnu_text_objects AMD64) in
-    let s : FlavorSource = source_in Gnu AMD64 zed_text (foo_meant AMD64) (1 ∷ 0 ∷ []) in
-    let first = x.imports 0 s refl in
-    let name : DefinitionView → List ℕ = λ d. descriptor_in Gnu AMD64 (dll_names_in (input_parsed d s)) in
-    let here : definitions_of (name (zed_meant AMD64)) linked ≡ record { name = name (zed_meant AMD64); address = Some (bases.descriptors + 20 * 0) } ∷ [] =
-    subst (λ d. definitions_of (name d) linked ≡ record { name = name d; address = Some (bases.descriptors + 20 * 0) } ∷ []) (zed_means first.parsed first.parses) first.imports.top in
-    let there : definitions_of (name (zed_meant AMD64)) linked ≡ record { name = name (zed_meant AMD64); address = Some (bases.descriptors + 20 * 1) } ∷ [] =
-    subst (λ d. definitions_of (name d) linked ≡ record { name = name d; address = Some (bases.descriptors + 20 * 1) } ∷ []) (zed_means zed_links.parsed zed_links.parses) zed_links.imports.top in
-    later_descriptor bases.descriptors (same_address (name (zed_meant AMD64)) (bases.descriptors + 20 * 0) (bases.descriptors + 20 * 1) (definitions_of (name (zed_meant AMD64)) linked) here there)
-
-pub near_flavor_texts_link : NearFlavorTextsLink
-near_flavor_texts_link = record {
-  among = (record { among = tt; imports = λ i s is. absurd (no_source i s is) }, λ x. near_program_links.directory.1 x.among);
-  imports = (record { among = amd64.gnu_links.among; imports = tt }, not_first);
-}

@@ -24,11 +24,10 @@ use Rattle.implib_link_instances.specs.Worked.Programs.{symbol_of_class}
 use Rattle.implib_link_instances.specs.Worked.Stored.{WorkedHolding, WorkedHoldings, held_at, held_linked, held_section, holding_codes, holding_memory, holding_moved_memory, holding_placed, holding_places, holding_targets, mid_name, mid_thunk, mid_thunk_at, picking_at, picking_linked, picking_section, placed_holding, unwind_at, unwind_linked, unwind_section}
 use Rattle.implib_link.proofs.Gnu.Fields.{alone_among}
 use Rattle.implib_link.proofs.Search.Lists.{contains_among, each_of}
-use Rattle.implib_link_instances.proofs.Worked.Lld.{lld_opened}
+use Rattle.implib_link_instances.proofs.Worked.LldPrograms.{lld_opened, disjoint, meet_test, takes_outside, i386_program as lld_i386_program, amd64_program as lld_amd64_program, arm64_program as lld_arm64_program}
 use Rattle.implib_link_instances.proofs.Worked.LinkedCode.{all_needed, both_equal, only_absolute, rebased_by, relocated_by, relocated_test}
-use Rattle.implib_link_instances.proofs.Worked.LldPrograms.{disjoint, meet_test, takes_outside, worked_lld_programs}
 use Rattle.implib_link_instances.proofs.Worked.Programs.{instruction_by}
-use Rattle.implib_link_instances.proofs.Worked.RefusedLinks.{number}
+use Rattle.implib_link_instances.proofs.Worked.Lemmas.{number}
 
 -- Fields of further types, by computing.
 
@@ -72,11 +71,6 @@ holds_further ARM64 type image_base target old new test = record {
       both_equal _ _ _ _ (rw (other, here) at test);
 }
 
--- what the computing has to open
-unfoldable pub further_opened : Unit {0}
-unfolding field_further is_relative is_added
-further_opened = tt
-
 abbrev each_further : MachineType → ℕ → (LinkedCode → ℕ → ℕ) → LinkedCode → Relocation → Bool
 unfolding field_further
 each_further machine image_base targets c r = field_further machine r.kind image_base (targets c r.symbol) (field_at c.code.bytes r.offset) (field_at c.bytes r.offset)
@@ -97,7 +91,7 @@ further_by machine image_base codes targets test c held r alone inside =
 pub i386_program : IsLldProgram I386 0x2000 (addresses_on I386) (shorts_on I386) (lld_image_on I386) (holding_placed I386)
 unfolding lld_opened
 i386_program =
-    let other = worked_lld_programs.i386.program in
+    let other = lld_i386_program in
     record {
       writable = other.writable;
       distinct = other.distinct;
@@ -193,7 +187,7 @@ i386_moved_worked = record { program = i386_program; steady = i386_steady; at = 
 pub amd64_program : IsLldProgram AMD64 0x2000 (addresses_on AMD64) (shorts_on AMD64) (lld_image_on AMD64) (holding_placed AMD64)
 unfolding lld_opened
 amd64_program =
-    let other = worked_lld_programs.amd64.program in
+    let other = lld_amd64_program in
     record {
       writable = other.writable;
       distinct = other.distinct;
@@ -242,28 +236,8 @@ pub amd64_further : AreFurtherHeld AMD64 0x1_4000_0000 (holding_codes AMD64) (ho
 unfolding lld_opened further_test
 amd64_further = further_by AMD64 0x1_4000_0000 (holding_codes AMD64) (holding_targets AMD64) refl
 
-amd64_fronts : List Range
-amd64_fronts = record { start = 0x3008; bytes = 0x20 ∷ 0x10 ∷ 0x34 ∷ 0x12 ∷ 0xF6 ∷ 0x7F ∷ 0 ∷ 0 ∷ [] } ∷ []
-
-amd64_rebased : IsRebased 0x1_4000_0000 0x7FF6_1234_0000 (holding_places AMD64) (holding_memory AMD64) (holding_moved_memory AMD64)
-unfolding lld_opened amd64_fronts
-amd64_rebased = rebased_by 0x1_4000_0000 0x7FF6_1234_0000 amd64_fronts (holding_memory AMD64) (apart_as_they_rise (2 ^ 31) amd64_fronts refl) ((0x140001020, (number (holding_memory AMD64) 8 0x3008 0x140001020 (0x20 ∷ 0x10 ∷ 0 ∷ 0x40 ∷ 1 ∷ 0 ∷ 0 ∷ 0 ∷ []) refl refl refl, refl)), tt)
-
-amd64_moved : AreMoved AMD64 0x1_4000_0000 0x7FF6_1234_0000 (lld_image_on AMD64) (holding_placed AMD64) (holding_codes AMD64) (holding_targets AMD64) (holding_places AMD64) (holding_moved_memory AMD64)
-unfolding lld_opened
-amd64_moved = record {
-  beside = amd64_beside;
-  within = (tt, (tt, ((omega arith, tt), (tt, tt))));
-  needed = λ c r width address entry held m is symbol placed. all_needed AMD64 (holding_codes AMD64) c r width held m is;
-  only = λ a byte is covered. only_absolute a (table_places AMD64 (holding_placed AMD64)) (holding_places AMD64) covered;
-  rebased = amd64_rebased;
-}
-
 amd64_at : AreStoredInMemory AMD64 0x1_4000_0000 (lld_image_on AMD64) (holding_placed AMD64) (holding_codes AMD64) (holding_targets AMD64) (holding_memory AMD64)
 amd64_at = inl (amd64_beside, (amd64_further, refl))
-
-amd64_moved_at : AreStoredInMemory AMD64 0x7FF6_1234_0000 (lld_image_on AMD64) (holding_placed AMD64) (holding_codes AMD64) (holding_targets AMD64) (holding_moved_memory AMD64)
-amd64_moved_at = inr (0x1_4000_0000, (holding_places AMD64, (tt, (amd64_moved, (amd64_further, λ c d r width s t held d_held m is at undefined defines named. all_needed AMD64 (holding_codes AMD64) c r width held m is)))))
 
 amd64_names : Names (placed_holding AMD64) 3 (mid_name AMD64)
 amd64_names = record { symbol = symbol_of_class (mid_name AMD64) 0 class_external; target = refl; undefined = refl; named = refl }
@@ -280,16 +254,12 @@ amd64_worked : WorkedHolding AMD64 0x1_4000_0000 (holding_memory AMD64) 8
 unfolding lld_opened
 amd64_worked = record { program = amd64_program; steady = amd64_steady; at = amd64_at; thunk = record { from = refl; number = refl }; pointer = amd64_pointer }
 
-amd64_moved_worked : WorkedHolding AMD64 0x7FF6_1234_0000 (holding_moved_memory AMD64) 8
-unfolding lld_opened
-amd64_moved_worked = record { program = amd64_program; steady = amd64_steady; at = amd64_moved_at; thunk = record { from = refl; number = refl }; pointer = amd64_pointer }
-
 -- ARM64.
 
 pub arm64_program : IsLldProgram ARM64 0x2000 (addresses_on ARM64) (shorts_on ARM64) (lld_image_on ARM64) (holding_placed ARM64)
 unfolding lld_opened
 arm64_program =
-    let other = worked_lld_programs.arm64.program in
+    let other = lld_arm64_program in
     record {
       writable = other.writable;
       distinct = other.distinct;
@@ -338,28 +308,8 @@ pub arm64_further : AreFurtherHeld ARM64 0x1_4000_0000 (holding_codes ARM64) (ho
 unfolding lld_opened further_test
 arm64_further = further_by ARM64 0x1_4000_0000 (holding_codes ARM64) (holding_targets ARM64) refl
 
-arm64_fronts : List Range
-arm64_fronts = record { start = 0x3008; bytes = 0x2C ∷ 0x10 ∷ 0 ∷ 0x40 ∷ 0 ∷ 0 ∷ 0 ∷ 0 ∷ [] } ∷ []
-
-arm64_rebased : IsRebased 0x1_4000_0000 0x4000_0000 (holding_places ARM64) (holding_memory ARM64) (holding_moved_memory ARM64)
-unfolding lld_opened arm64_fronts
-arm64_rebased = rebased_by 0x1_4000_0000 0x4000_0000 arm64_fronts (holding_memory ARM64) (apart_as_they_rise (2 ^ 31) arm64_fronts refl) ((0x14000102C, (number (holding_memory ARM64) 8 0x3008 0x14000102C (0x2C ∷ 0x10 ∷ 0 ∷ 0x40 ∷ 1 ∷ 0 ∷ 0 ∷ 0 ∷ []) refl refl refl, refl)), tt)
-
-arm64_moved : AreMoved ARM64 0x1_4000_0000 0x4000_0000 (lld_image_on ARM64) (holding_placed ARM64) (holding_codes ARM64) (holding_targets ARM64) (holding_places ARM64) (holding_moved_memory ARM64)
-unfolding lld_opened
-arm64_moved = record {
-  beside = arm64_beside;
-  within = (tt, (tt, ((omega arith, tt), (tt, tt))));
-  needed = λ c r width address entry held m is symbol placed. all_needed ARM64 (holding_codes ARM64) c r width held m is;
-  only = λ a byte is covered. only_absolute a (table_places ARM64 (holding_placed ARM64)) (holding_places ARM64) covered;
-  rebased = arm64_rebased;
-}
-
 arm64_at : AreStoredInMemory ARM64 0x1_4000_0000 (lld_image_on ARM64) (holding_placed ARM64) (holding_codes ARM64) (holding_targets ARM64) (holding_memory ARM64)
 arm64_at = inl (arm64_beside, (arm64_further, refl))
-
-arm64_moved_at : AreStoredInMemory ARM64 0x4000_0000 (lld_image_on ARM64) (holding_placed ARM64) (holding_codes ARM64) (holding_targets ARM64) (holding_moved_memory ARM64)
-arm64_moved_at = inr (0x1_4000_0000, (holding_places ARM64, (refl, (arm64_moved, (arm64_further, λ c d r width s t held d_held m is at undefined defines named. all_needed ARM64 (holding_codes ARM64) c r width held m is)))))
 
 arm64_names : Names (placed_holding ARM64) 3 (mid_name ARM64)
 arm64_names = record { symbol = symbol_of_class (mid_name ARM64) 0 class_external; target = refl; undefined = refl; named = refl }
@@ -376,10 +326,6 @@ arm64_worked : WorkedHolding ARM64 0x1_4000_0000 (holding_memory ARM64) 8
 unfolding lld_opened
 arm64_worked = record { program = arm64_program; steady = arm64_steady; at = arm64_at; thunk = record { from = refl; number = refl }; pointer = arm64_pointer }
 
-arm64_moved_worked : WorkedHolding ARM64 0x4000_0000 (holding_moved_memory ARM64) 8
-unfolding lld_opened
-arm64_moved_worked = record { program = arm64_program; steady = arm64_steady; at = arm64_moved_at; thunk = record { from = refl; number = refl }; pointer = arm64_pointer }
-
 amd64_zeta : Names (placed_holding AMD64) 1 (codes "__imp_zeta")
 amd64_zeta = record { symbol = symbol_of_class (codes "__imp_zeta") 0 class_external; target = refl; undefined = refl; named = refl }
 
@@ -389,10 +335,7 @@ worked_holdings = record {
   i386 = i386_worked;
   i386_moved = i386_moved_worked;
   amd64 = amd64_worked;
-  amd64_moved = amd64_moved_worked;
   arm64 = arm64_worked;
-  arm64_moved = arm64_moved_worked;
-  i386_immediate = record { type = i386_dir32; field = record { symbol = 3; alone = refl; inside = omega arith; names = i386_names }; stores = refl; empty = refl };
   amd64_lea = record {
     type = amd64_rel32;
     field = record { symbol = 3; alone = refl; inside = omega arith; names = amd64_names };
@@ -400,7 +343,6 @@ worked_holdings = record {
     within = omega arith;
   };
   amd64_handler = record { type = amd64_addr32nb; field = record { symbol = 3; alone = refl; inside = omega arith; names = amd64_names }; relative = refl; empty = refl };
-  arm64_handler = record { type = arm64_addr32nb; field = record { symbol = 3; alone = refl; inside = omega arith; names = arm64_names }; relative = refl; empty = refl };
   arm64_page = record { field = record { symbol = 3; alone = refl; inside = omega arith; names = arm64_names }; empty = refl };
   arm64_add = record { field = record { symbol = 3; alone = refl; inside = omega arith; names = arm64_names }; adds = refl; empty = refl };
   amd64_call = instruction_by amd64_rel32 1 (0 ∷ 0 ∷ 0 ∷ 0 ∷ []) amd64_zeta (0, (omega arith, (refl, refl))) refl refl refl;

@@ -4,7 +4,6 @@ use Rattle.std.specs.Prelude.{slice_get}
 use Rattle.std.specs.List.{AllByRecursion}
 use Rattle.implib.specs.declared.machine.MachineType.TheVariants.{AMD64}
 use Rattle.implib.specs.Formats.Constants.{amd64_rel32, class_external}
-use Rattle.implib.specs.Link.Load.{BytesAt}
 use Rattle.implib.specs.Link.Resolution.{definitions_of}
 use Rattle.implib.proofs.Link.LinkedMembers.{among_contains}
 use Rattle.implib.proofs.Link.Ranges.{Among}
@@ -20,8 +19,7 @@ use Rattle.implib_link_instances.specs.Worked.Parts.{asking, table_at}
 use Rattle.implib_link_instances.specs.Worked.Programs.{symbol_of_class}
 use Rattle.implib_link_instances.specs.Worked.ThirdTexts.{PiecesAsk, WorkedThirdTexts, block_asking, third_code, third_codes, third_feed, third_image, third_linked, third_memory, third_section, third_tables, third_targets, third_thunk, third_written}
 use Rattle.implib_link_instances.proofs.Worked.LinkedCode.{relocated_by, relocated_test}
-use Rattle.implib_link_instances.proofs.Worked.Lld.{lld_opened}
-use Rattle.implib_link_instances.proofs.Worked.LldPrograms.{meet_test, meets_up, takes_outside}
+use Rattle.implib_link_instances.proofs.Worked.LldPrograms.{lld_opened, meet_test, meets_up, takes_outside}
 use Rattle.implib_link_instances.proofs.Worked.Parts.{all_apart, all_apart_test, is_apart}
 use Rattle.implib_link_instances.proofs.Worked.Programs.{instruction_by}
 
@@ -115,11 +113,6 @@ call = record {
 thunk_is : IsThunk AMD64 third_thunk third_feed
 thunk_is = record { from = refl; number = refl }
 
--- the third byte of the hints is `h`
-not_feed : PiecesAsk (codes "feed") → ⊥
-unfolding lld_opened BytesAt
-not_feed x = (let byte = x.hint_names.1.1.0 in cc)
-
 pub worked_third_texts : WorkedThirdTexts
 unfolding lld_opened
 worked_third_texts = record {
@@ -136,5 +129,4 @@ worked_third_texts = record {
     thunk_called_in_memory AMD64 0x1_4000_0000 own third_codes third_targets third_memory gives tables steady (inl (beside, refl)) n written wide reads 0 0 zoo_table (asking (codes "hay") 0 (codes "__imp_feed")) refl refl tt
         third_feed third_thunk refl (1, omega arith, refl) thunk_is third_code 7 0 (0, omega arith, refl) call tt,
   );
-  by_symbol = not_feed;
 }

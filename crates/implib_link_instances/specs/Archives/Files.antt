@@ -1,15 +1,31 @@
 -- Archives of one object each, as GNU `ar` 2.40 wrote them (`ar rcsD`), and a library of
 -- llvm-dlltool 19, read by hand: the members in the bytes.
-use Rattle.std.specs.Prelude.{ℕ, List, [], ◌∷◌, ◌++◌, codes}
-use Rattle.implib.specs.Members.MemberSpec.{MemberView}
+use Rattle.std.specs.Prelude.{List, [], codes, ℕ, ◌++◌, ◌∷◌, ◌≡◌}
 use Rattle.implib.specs.Worked.Digits.{hex}
 use Rattle.implib_archive.specs.declared.kind.Kind.TheVariants.{Coff, Gnu}
-use Rattle.implib_archive_link.specs.Files.{HasMembers, HasMembersAs}
-use Rattle.implib_link.specs.Search.BothFlavors.{archive_of_both}
-use Rattle.implib_link_instances.specs.But.ArchiveLinks.{MissesHasMembersAs}
-use Rattle.implib_link_instances.specs.Worked.CommandLines.{i386_quit_bytes, quit_bytes}
-use Rattle.implib_link_instances.specs.Worked.CommandLines.{quit_member}
-use Rattle.implib_link_instances.specs.Worked.FlavorLines.{amd64_kernels, i386_kernels}
+use Rattle.implib_link.specs.Archives.Files.{ArchiveFile, HasMembers, HasMembersAs}
+use Rattle.implib_link.specs.Archives.Files.{members_in_files}
+use Rattle.implib_link.specs.Search.BothFlavors.{FlavorLibrary, archive_of_both, msvc_among}
+use Rattle.implib_link_instances.specs.Worked.CommandLines.{i386_quit_bytes, i386_wants_bytes}
+use Rattle.implib_link_instances.specs.Worked.CommandLines.{inputs_of, is_quit, quit_bytes}
+use Rattle.implib_link_instances.specs.Worked.CommandLines.{quit_member, read_or_none, wants_bytes}
+use Rattle.implib_link_instances.specs.Worked.FlavorLines.{amd64_kernels, amd64_shorts}
+use Rattle.implib_link_instances.specs.Worked.FlavorLines.{i386_kernels, i386_shorts}
+use Rattle.implib_link_instances.specs.Worked.FlavorLines.{shorts_grouped, shorts_last}
+use Rattle.implib_link_instances.specs.Worked.FlavorLines.{shorts_taken}
+use Rattle.implib.specs.declared.machine.MachineType.{MachineType}
+use Rattle.implib.specs.declared.machine.MachineType.TheVariants.{AMD64, I386}
+use Rattle.implib.specs.Formats.Object.{Object}
+use Rattle.implib.specs.Members.MemberSpec.{MemberView}
+use Rattle.implib_link.specs.Archives.LldFiles.{SearchesByLld, read_by_lld}
+use Rattle.implib_link.specs.Archives.LldWay.{AreCalledAlike, LldArrives}
+use Rattle.implib_link.specs.Search.CommandLines.{Archives, Input, SearchesFlavors, given_with}
+use Rattle.implib_link.specs.Search.CommandLines.{others_of}
+use Rattle.implib_link.specs.Search.MsvcArchives.{IsMsvcArchive}
+use Rattle.implib_link.specs.Search.Sweeps.{members_at}
+use Rattle.implib_link.specs.Archives.Results.{HaveArchive}
+use Rattle.implib_link.specs.Archives.InBytes.{Second}
+use Rattle.implib_link.specs.Search.Archives.{archive_of}
 
 abbrev pub libquit : List ℕ
 libquit =
@@ -119,25 +135,42 @@ pub record WorkedFiles : Type 0 where
   pub coff : HasMembersAs Coff kernel_lib (archive_of_both amd64_kernels)
   pub i386_coff : HasMembersAs Coff i386_kernel_lib (archive_of_both i386_kernels)
 
--- an archive of two members whose index has the second's symbol first, as no `ar` writes it
-abbrev pub reversed : List ℕ
-reversed =
-    codes "!<arch>\n/               0           0     0     0       16        `\n"
-    ++ (0 ∷ 0 ∷ 0 ∷ 2 ∷ 0 ∷ 0 ∷ 0 ∷ 146 ∷ 0 ∷ 0 ∷ 0 ∷ 84 ∷ [])
-    ++ codes "y" ++ (0 ∷ []) ++ codes "x" ++ (0 ∷ [])
-    ++ codes "a.o/            0           0     0     644     2         `\n" ++ (1 ∷ 2 ∷ [])
-    ++ codes "b.o/            0           0     0     644     2         `\n" ++ (3 ∷ 4 ∷ [])
+-- the library and the archive on each machine
+abbrev pub amd64_files : List ArchiveFile
+amd64_files =
+    record { kind = Coff; bytes = kernel_lib } ∷ record { kind = Gnu; bytes = libquit } ∷ []
 
-abbrev pub two_members : List MemberView
-two_members =
-    record { name = codes "a.o"; bytes = 1 ∷ 2 ∷ []; symbols = codes "x" ∷ [] }
-    ∷ record { name = codes "b.o"; bytes = 3 ∷ 4 ∷ []; symbols = codes "y" ∷ [] }
-    ∷ []
+abbrev pub i386_files : List ArchiveFile
+i386_files = record { kind = Coff; bytes = i386_kernel_lib }
+    ∷ record { kind = Gnu; bytes = i386_libquit } ∷ []
 
--- no archive; a member of another name; the members of the archive above, whose index is not in
--- their order: all other fields hold
-pub record NearHasMembersAs : Type 0 where
-  pub located : MissesHasMembersAs (codes "located") Gnu [] []
-  pub read : MissesHasMembersAs (codes "read") Gnu libquit
-      (record (quit_member (codes "quit") quit_bytes) { name = codes "other.o" } ∷ [])
-  pub ordered : MissesHasMembersAs (codes "ordered") Gnu reversed two_members
+-- the library in front of the archive
+abbrev pub shorts_first : List Object → List Input
+shorts_first own = inputs_of own ++ Archives ((0 ∷ 1 ∷ 2 ∷ 3 ∷ []) ∷ []) ∷ Archives ((4 ∷ []) ∷ []) ∷ []
+
+-- what lld takes, the last one first: the archive's member, and the short import that it wants
+abbrev pub lld_taken : List MemberView → List MemberView
+lld_taken members = members_at members (3 ∷ 4 ∷ [])
+
+-- On one machine, where these are the members and the object: the members are in the files; lld
+-- takes the short import, and so its program arrives; GNU `ld` takes it in an order of its.
+pub record WorkedFileLine (machine : MachineType) (libraries : List FlavorLibrary)
+    (files : List ArchiveFile)
+    (members : List MemberView) (own : List Object) (inputs : List Input) : Type 0 where
+  pub members_are : members_in_files files ≡ members
+  pub archive : IsMsvcArchive machine (msvc_among libraries)
+  pub ready : HaveArchive Coff Second (archive_of (msvc_among libraries))
+  pub alike : AreCalledAlike (msvc_among libraries)
+  pub lld : SearchesByLld machine (msvc_among libraries) (members_in_files files) (shorts_first own)
+      is_quit (lld_taken members)
+  pub arrives : LldArrives machine (msvc_among libraries)
+      (given_with (read_by_lld machine) is_quit own (lld_taken members))
+      (others_of is_quit (lld_taken members))
+  pub flavors : SearchesFlavors machine libraries (members_in_files files) inputs is_quit
+      shorts_taken
+
+pub record WorkedFileLines : Type 0 where
+  pub amd64 : WorkedFileLine AMD64 amd64_kernels amd64_files amd64_shorts (read_or_none wants_bytes)
+      (shorts_last (read_or_none wants_bytes))
+  pub i386 : WorkedFileLine I386 i386_kernels i386_files i386_shorts (read_or_none i386_wants_bytes)
+      (shorts_grouped (read_or_none i386_wants_bytes))

@@ -1,17 +1,17 @@
 -- Searches by hand in the bytes of archives, and what is no such search.
-use Rattle.std.specs.Prelude.{◌≡◌, ℕ, List, [], ◌∷◌, codes, map}
+use Rattle.std.specs.Prelude.{List, [], codes, map, ℕ, ◌∷◌, ◌≡◌}
 use Rattle.implib.specs.Members.MemberSpec.{MemberView}
 use Rattle.implib_archive.specs.Worked.{worked_coff, worked_gnu}
 use Rattle.implib_archive.specs.declared.kind.Kind.TheVariants.{Coff, Gnu}
 use Rattle.implib.specs.declared.machine.MachineType.TheVariants.{AMD64}
-use Rattle.implib_archive_link.specs.InBytes.{First, Has, Second, TakesAt, asks_for, asks_on}
-use Rattle.implib_archive_link.specs.InBytes.{asks_with}
+use Rattle.implib_link.specs.Archives.InBytes.{First, Has, Second, TakesAt, asks_for, asks_on}
+use Rattle.implib_link.specs.Archives.InBytes.{asks_with}
 use Rattle.implib_link.specs.Search.Archives.{archive_of as members_of_libraries}
-use Rattle.implib_link_instances.specs.Worked.Archives.{both_wanted, two_libraries}
+use Rattle.implib_link_instances.specs.Worked.Search.{both_wanted, members_of, three, two_libraries}
+use Rattle.implib_link_instances.specs.Worked.Search.{wanted}
 use Rattle.implib_link_instances.specs.Worked.Closed.{choosing, closed_taken}
 use Rattle.implib_link_instances.specs.Worked.MsvcSearch.{four_taken, one_wanted, short_members}
-use Rattle.implib_archive_link.specs.Results.{HaveArchive, IsSearchOf}
-use Rattle.implib_link_instances.specs.Worked.Search.{members_of, three, wanted}
+use Rattle.implib_link.specs.Archives.Results.{HaveArchive, IsSearchOf}
 
 -- a function, one of the second member, and one of another library
 abbrev pub names_wanted : List (List ℕ)

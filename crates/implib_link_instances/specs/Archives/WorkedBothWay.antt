@@ -2,26 +2,32 @@
 -- GNU's linker, and zed.dll, which exports `queue`, for Microsoft's; and a program of two objects,
 -- each of which calls one of them through its entry. The archive's bytes are of the COFF kind, and
 -- a linker looks names up in the second linker member.
-use Rattle.std.specs.Prelude.{◌≡◌, ◌<◌, ℕ, List, [], ◌∷◌, ◌++◌, codes, length, map, Some}
-use Rattle.implib.specs.declared.flavor.Flavor.TheVariants.{Gnu, Msvc}
+use Rattle.std.specs.Prelude.{List, Some, [], codes, length, map, ℕ, ◌++◌, ◌+◌, ◌<◌, ◌∷◌, ◌≡◌}
 use Rattle.implib.specs.declared.machine.MachineType.TheVariants.{AMD64}
-use Rattle.implib.specs.Formats.Constants.{class_external}
-use Rattle.implib.specs.Formats.Object.{ASymbol, Object}
+use Rattle.implib.specs.Formats.Constants.{align_16bytes, class_external, cnt_code}
+use Rattle.implib.specs.Formats.Constants.{mem_execute_read}
+use Rattle.implib.specs.Formats.Object.{ASymbol, Object, ObjectSection}
+use Rattle.implib.specs.Members.Gnu.{section, text_name}
+use Rattle.implib.specs.Definition.{DefinitionView}
+use Rattle.implib.specs.Worked.Members.{of_dll}
+use Rattle.implib.specs.Worked.Statements.{plain_export}
+use Rattle.implib_link.specs.Gnu.Calls.{CallArrives, HasCall, PlacedCode, call_bytes}
+use Rattle.implib_link.specs.Gnu.Calls.{call_relocations, moved_by}
+use Rattle.implib_link.specs.Search.Archives.{Library}
+use Rattle.implib_link_instances.specs.Worked.Search.{library_of}
+use Rattle.implib_link_instances.specs.Worked.Calls.{first_bytes, given_on, last_bytes}
+use Rattle.implib.specs.declared.flavor.Flavor.TheVariants.{Gnu, Msvc}
 use Rattle.implib.specs.Link.Image.{Range, image_of}
 use Rattle.implib.specs.Link.Placement.{Bases, Placed, Unplaced, placed_from}
 use Rattle.implib.specs.Link.Resolution.{definitions_of}
 use Rattle.implib.specs.LibraryName.{own_names}
 use Rattle.implib.specs.Members.GnuMembers.{export_spec, head_spec, tail_spec}
 use Rattle.implib.specs.Members.MemberSpec.{MemberView, member_of}
-use Rattle.implib.specs.Worked.Members.{of_dll}
-use Rattle.implib.specs.Worked.Statements.{plain_export}
 use Rattle.implib_archive.specs.declared.kind.Kind.TheVariants.{Coff}
-use Rattle.implib_archive_link.specs.BothWay.{AreLinkedForBoth}
-use Rattle.implib_archive_link.specs.InBytes.{Second, asks_with_on}
-use Rattle.implib_archive_link.specs.Results.{HaveArchive, IsSearchOf}
-use Rattle.implib_link_instances.specs.Archives.WorkedWay.{bar_library, code}
+use Rattle.implib_link.specs.Archives.BothWay.{AreLinkedForBoth}
+use Rattle.implib_link.specs.Archives.InBytes.{Second, asks_with_on}
+use Rattle.implib_link.specs.Archives.Results.{HaveArchive, IsSearchOf}
 use Rattle.implib_link.specs.Flavors.Program.{objects_taken}
-use Rattle.implib_link.specs.Gnu.Calls.{CallArrives, HasCall, PlacedCode}
 use Rattle.implib_link.specs.Gnu.Choices.{AreSections}
 use Rattle.implib_link.specs.Gnu.Fields.{AreBeside, LinkedCode, placed_code, ranges_of_codes}
 use Rattle.implib_link.specs.Gnu.Packed.{packed}
@@ -30,10 +36,22 @@ use Rattle.implib_link.specs.Search.BothFlavors.{AreGivenForBoth, FlavorLibrary,
 use Rattle.implib_link.specs.Search.BothFlavors.{archive_of_both, msvc_among}
 use Rattle.implib_link.specs.Search.Closed.{unresolved}
 use Rattle.implib_link.specs.Search.MsvcArchives.{short_inputs}
-use Rattle.implib_link_instances.specs.Worked.Calls.{given_on}
-use Rattle.implib_link_instances.specs.Worked.MsvcArchives.{descriptor_named, msvc_library}
-use Rattle.implib_link_instances.specs.Worked.MsvcArchives.{null_named, short_named, thunk_named}
+use Rattle.implib_link_instances.specs.Worked.MsvcSearch.{descriptor_named, msvc_library}
+use Rattle.implib_link_instances.specs.Worked.MsvcSearch.{null_named, short_named, thunk_named}
 use Rattle.implib_link_instances.specs.Worked.Programs.{symbol_of_class}
+
+-- what it means
+abbrev pub bar_definition : DefinitionView
+bar_definition = of_dll (codes "foo.dll") (plain_export (codes "bar") ∷ [])
+
+abbrev pub bar_library : Library
+bar_library = library_of bar_definition
+
+-- `sub rsp, 40`, `call [__imp_bar]`, `add rsp, 40`, `ret`
+abbrev pub code : ObjectSection
+code = section text_name (cnt_code + align_16bytes + mem_execute_read)
+    (first_bytes AMD64 ++ (call_bytes AMD64 ++ last_bytes AMD64))
+    (map (moved_by 4) (call_relocations AMD64 1))
 
 abbrev pub bar_for_gnu : FlavorLibrary
 bar_for_gnu = record { flavor = Gnu; library = bar_library }

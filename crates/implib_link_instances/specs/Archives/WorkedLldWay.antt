@@ -1,7 +1,7 @@
 -- The way for lld by hand: foo.dll, which exports `bar` and `baz`, on AMD64; and a program that
 -- lld-link 14.0.6 and 19.1.7 wrote, whose code calls `bar` through its entry and by its name. The
 -- library's bytes are those of the archive of its members for Microsoft's linker.
-use Rattle.std.specs.Prelude.{◌≡◌, ℕ, ◌+◌, Bool, true, List, [], ◌∷◌, ◌++◌, codes, map, slice_get}
+use Rattle.std.specs.Prelude.{◌≡◌, ℕ, ◌+◌, Bool, true, List, [], ◌∷◌, ◌++◌, codes, slice_get}
 use Rattle.std.specs.List.{filter}
 use Rattle.implib.specs.declared.machine.MachineType.TheVariants.{AMD64}
 use Rattle.implib.specs.Formats.Constants.{align_16bytes, amd64_rel32, class_external, cnt_code}
@@ -15,10 +15,10 @@ use Rattle.implib.specs.Members.MemberSpec.{MemberView}
 use Rattle.implib.specs.Worked.Members.{of_dll}
 use Rattle.implib.specs.Worked.Statements.{plain_export}
 use Rattle.implib_archive.specs.declared.kind.Kind.TheVariants.{Coff}
-use Rattle.implib_archive_link.specs.InBytes.{Second}
-use Rattle.implib_archive_link.specs.LldWay.{AreCalledAlike, IsBuiltByLld, IsWantedBy, asks_of_lld}
-use Rattle.implib_archive_link.specs.LldWay.{short_of_export, shorts_in}
-use Rattle.implib_archive_link.specs.Results.{HaveArchive, IsSearchOf}
+use Rattle.implib_link.specs.Archives.InBytes.{Second}
+use Rattle.implib_link.specs.Archives.LldWay.{AreCalledAlike, IsBuiltByLld, IsWantedBy, asks_of_lld}
+use Rattle.implib_link.specs.Archives.LldWay.{short_of_export, shorts_in}
+use Rattle.implib_link.specs.Archives.Results.{HaveArchive, IsSearchOf}
 use Rattle.implib_link.specs.Flavors.LldImports.{placed_by_lld}
 use Rattle.implib_link.specs.Flavors.LldThunks.{BranchArrivesByThunk, IsThunk, placed_thunk}
 use Rattle.implib_link.specs.Flavors.LldThunks.{thunk_section}
@@ -31,7 +31,7 @@ use Rattle.implib_link.specs.Search.MsvcArchives.{IsMsvcArchive}
 use Rattle.implib_link.specs.Tables.{AreSteady}
 use Rattle.implib_link_instances.specs.Worked.Calls.{given_on}
 use Rattle.implib_link_instances.specs.Worked.LldPrograms.{taken_address}
-use Rattle.implib_link_instances.specs.Worked.MsvcArchives.{msvc_library, short_named}
+use Rattle.implib_link_instances.specs.Worked.MsvcSearch.{msvc_library, short_named}
 use Rattle.implib_link_instances.specs.Worked.Programs.{symbol_of_class}
 
 abbrev pub lld_library : Library
@@ -41,10 +41,6 @@ lld_library =
 
 abbrev pub lld_libraries : List Library
 lld_libraries = lld_library ∷ []
-
--- the same DLL under another name
-abbrev pub loud_library : Library
-loud_library = msvc_library (of_dll (codes "FOO.dll") (plain_export (codes "qux") ∷ []))
 
 -- `call [rip + __imp_bar]`, `call bar`, `ret`
 abbrev pub two_calls : ObjectSection
@@ -138,8 +134,7 @@ bar_address = 0x30 ∷ 0 ∷ 0 ∷ 0x10 ∷ 0 ∷ 0 ∷ 0 ∷ 0 ∷ []
 -- members; lld takes for the object, in the bytes, the short import of `bar` alone; and what it
 -- wrote of it is memory with its code. By the law a loader stops after one descriptor, the call at
 -- 0x1000 reads what foo.dll gives for `bar`, 0x1000_0030, and the call at 0x1006 arrives there by
--- the thunk. The object does not want `baz`; after the short import no descriptor is asked for; two
--- DLLs whose names differ by case alone are refused; and lld writes no tables of none that is live.
+-- the thunk.
 pub record WorkedLldWay : Type 0 where
   pub archive : IsMsvcArchive AMD64 lld_libraries
   pub alike : AreCalledAlike lld_libraries
@@ -168,10 +163,3 @@ pub record WorkedLldWay : Type 0 where
   pub calls : (n : ℕ) (written : List Range) →
       ReadsAndWrites lld_memory 8 (given_on AMD64) n 0x2000 written →
       BranchArrivesByThunk AMD64 0x1_4000_0000 (written ++ lld_memory) 0x1007 0 bar_address
-  pub unwanted : IsWantedBy lld_libraries lld_own lld_library (plain_export (codes "baz")) → ⊥
-  pub asked : asks_of_lld AMD64 lld_own [] (codes "bar")
-  pub settled : asks_of_lld AMD64 lld_own (map (λ m. m.bytes) lld_taken) (codes "bar") → ⊥
-  pub no_descriptor : asks_of_lld AMD64 lld_own (map (λ m. m.bytes) lld_taken)
-      (codes "__IMPORT_DESCRIPTOR_foo") → ⊥
-  pub loud : AreCalledAlike (lld_library ∷ loud_library ∷ []) → ⊥
-  pub dead : IsBuiltByLld AMD64 0x2000 0x2038 [] lld_image lld_linked → ⊥

@@ -1,6 +1,6 @@
--- ARMNT's stub by hand: the stub of `open` behind the import tables and in front of them, what its
--- jump reads, and code that is no such jump.
-use Rattle.std.specs.Prelude.{ℕ, ◌+◌, List, [], ◌∷◌, ◌++◌, codes, slice_get}
+-- ARMNT's stub by hand: the stub of `open` behind the import tables and in front of them, and what
+-- its jump reads.
+use Rattle.std.specs.Prelude.{ℕ, ◌+◌, List, [], ◌∷◌, ◌++◌, slice_get}
 use Rattle.implib.specs.declared.machine.MachineType.TheVariants.{ARMNT}
 use Rattle.implib.specs.Formats.Constants.{align_4bytes, cnt_code, mem_execute_read}
 use Rattle.implib.specs.Link.Image.{Range}
@@ -8,19 +8,15 @@ use Rattle.implib.specs.Link.Load.{BytesAt}
 use Rattle.implib.specs.Link.Placement.{Bases}
 use Rattle.implib.specs.Link.Resolution.{target_address}
 use Rattle.implib.specs.Members.Gnu.{section, stub_bytes, stub_relocations, text_name}
-use Rattle.implib.specs.Members.ImportTables.{zeros}
 use Rattle.implib_link.specs.Gnu.A32.{A32JumpReads, HoldDistances, OfArmStubs}
 use Rattle.implib_link.specs.Gnu.Calls.{PlacedCode}
 use Rattle.implib_link.specs.Gnu.Fields.{AreBeside, LinkedCode}
 use Rattle.implib_link.specs.Flavors.Program.{IsProgram}
 use Rattle.implib_link.specs.Gnu.Reading.{ReadsAndWrites}
-use Rattle.implib_link_instances.specs.But.Links.{MissesA32JumpReads}
-use Rattle.implib_link_instances.specs.Worked.Jumps.{far_4}
+use Rattle.implib_link_instances.specs.Worked.Calls.{far_4, placed_or_calling, as_placed}
 use Rattle.implib_link_instances.specs.Worked.Loads.{gives_by_hand}
 use Rattle.implib_link_instances.specs.Worked.Programs.{both_inputs, program_image, program_objects}
 use Rattle.implib_link_instances.specs.Worked.Programs.{program_placed, touching_4}
-use Rattle.implib_link_instances.specs.Worked.Rebased.{placed_or_calling}
-use Rattle.implib_link_instances.specs.Worked.Relocated.{as_placed}
 
 -- `ldr ip, [pc]` and `ldr pc, [ip]`
 abbrev pub two_loads : List ℕ
@@ -64,55 +60,10 @@ pub record WorkedArmntStub (image_base : ℕ) (bases : Bases) (position : ℕ) (
       × (A32JumpReads (written ++ armnt_memory bases position literal) position
       (image_base + entry) → ⊥)
 
--- code at 0x1000, and nothing else
-abbrev pub a32_code : List ℕ → List Range
-a32_code bytes = record { start = 0x1000; bytes = bytes } ∷ []
-
--- 0x400060
-abbrev pub entry_address : List ℕ
-entry_address = 0x60 ∷ 0 ∷ 0x40 ∷ 0 ∷ []
-
--- The stubs at 0x1000 and at 0x200, whose entries are at 0x60 and at 0x5260; a literal that is the
--- entry's address is no distance; and where the literal is an address, right behind the loads or
--- further on, the jump reads there.
+-- the stubs at 0x1000 and at 0x200, whose entries are at 0x60 and at 0x5260
 pub record WorkedArmntStubs : Type 0 where
   -- 0x60 - 0x100C, and 0x5260 - 0x20C
   pub behind : WorkedArmntStub 0x40_0000 touching_4 0x1000 (0x54 ∷ 0xF0 ∷ 0xFF ∷ 0xFF ∷ []) 0xFFFF_F054 0x60
   pub in_front : WorkedArmntStub 0x1000_0000 far_4 0x200 (0x54 ∷ 0x50 ∷ 0 ∷ 0 ∷ []) 0x5054 0x5260
-  pub address : HoldDistances (armnt_stub touching_4 0x1000 entry_address ∷ [])
-      (as_placed (armnt_targets touching_4)) → ⊥
   -- what holds of each such stub holds of this
   pub holds_of_some : OfArmStubs (λ image_base memory d t entry. ⊥) → ⊥
-  pub reads_address : A32JumpReads (a32_code (two_loads ++ entry_address)) 0x1000 0x40_0060
-  -- ldr ip, [pc, 8]; ldr pc, [ip]
-  pub reads_further : A32JumpReads
-      (a32_code (8 ∷ 0xC0 ∷ 0x9F ∷ 0xE5 ∷ 0 ∷ 0xF0 ∷ 0x9C ∷ 0xE5 ∷ (zeros 8 ++ entry_address))) 0x1000 0x40_0060
-
--- code of two instructions and the address of an entry behind them
-abbrev pub before_entry : List ℕ → List Range
-before_entry code = a32_code (code ++ entry_address)
-
-pub record NearA32JumpReads : Type 0 where
-  -- no bytes where the code is to be
-  pub load_there : MissesA32JumpReads (codes "load_there")
-      (record { start = 0x1004; bytes = 0 ∷ 0xF0 ∷ 0x9C ∷ 0xE5 ∷ entry_address } ∷ [])
-      0x1000 0x40_0060
-  -- ldr r0, [pc]; ldr ip, [pc, -0]; ldrne ip, [pc]; ldr ip, [ip]
-  pub is_load : MissesA32JumpReads (codes "is_load")
-      (before_entry (0 ∷ 0 ∷ 0x9F ∷ 0xE5 ∷ 0 ∷ 0xF0 ∷ 0x9C ∷ 0xE5 ∷ [])) 0x1000 0x40_0060
-  pub is_load_back : MissesA32JumpReads (codes "is_load")
-      (before_entry (0 ∷ 0xC0 ∷ 0x1F ∷ 0xE5 ∷ 0 ∷ 0xF0 ∷ 0x9C ∷ 0xE5 ∷ [])) 0x1000 0x40_0060
-  pub is_load_sometimes : MissesA32JumpReads (codes "is_load")
-      (before_entry (0 ∷ 0xC0 ∷ 0x9F ∷ 0x15 ∷ 0 ∷ 0xF0 ∷ 0x9C ∷ 0xE5 ∷ [])) 0x1000 0x40_0060
-  pub is_load_of_ip : MissesA32JumpReads (codes "is_load")
-      (before_entry (0 ∷ 0xC0 ∷ 0x9C ∷ 0xE5 ∷ 0 ∷ 0xF0 ∷ 0x9C ∷ 0xE5 ∷ [])) 0x1000 0x40_0060
-  -- the address is 4 bytes further on than the load says
-  pub literal_there : MissesA32JumpReads (codes "literal_there")
-      (a32_code (two_loads ++ (zeros 4 ++ entry_address))) 0x1000 0x40_0060
-  -- bx ip; ldr pc, [ip, 4]; ldr r0, [ip]
-  pub jump_there : MissesA32JumpReads (codes "jump_there")
-      (before_entry (0 ∷ 0xC0 ∷ 0x9F ∷ 0xE5 ∷ 0x1C ∷ 0xFF ∷ 0x2F ∷ 0xE1 ∷ [])) 0x1000 0x40_0060
-  pub jump_there_further : MissesA32JumpReads (codes "jump_there")
-      (before_entry (0 ∷ 0xC0 ∷ 0x9F ∷ 0xE5 ∷ 4 ∷ 0xF0 ∷ 0x9C ∷ 0xE5 ∷ [])) 0x1000 0x40_0060
-  pub jump_there_to_r0 : MissesA32JumpReads (codes "jump_there")
-      (before_entry (0 ∷ 0xC0 ∷ 0x9F ∷ 0xE5 ∷ 0 ∷ 0 ∷ 0x9C ∷ 0xE5 ∷ [])) 0x1000 0x40_0060

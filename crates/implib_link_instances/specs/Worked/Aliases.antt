@@ -1,8 +1,7 @@
 -- Calls and pointers by an alias, by hand: a program as in Worked/Calls on AMD64, whose code calls
 -- through `__imp_opened` and reads a pointer through it, with the weak external that makes this an
 -- alias of `__imp_open`; and a program of both flavours with such code.
-use Rattle.implib_link.specs.Gnu.Fields.{LinkedCode, TakesSymbols}
-use Rattle.std.specs.Prelude.{◌≡◌, ℕ, List, [], ◌∷◌, ◌++◌, codes, Some, None}
+use Rattle.std.specs.Prelude.{◌≡◌, ℕ, List, [], ◌∷◌, ◌++◌, codes, Some}
 use Rattle.implib.specs.declared.machine.MachineType.TheVariants.{AMD64}
 use Rattle.implib.specs.Formats.Constants.{class_external}
 use Rattle.implib.specs.Formats.Layout.{object_of}
@@ -13,19 +12,17 @@ use Rattle.implib.specs.Link.Resolution.{definitions_of}
 use Rattle.implib.specs.Members.WeakExternal.{weak_object}
 use Rattle.implib_link.specs.Flavors.Program.{OfMember, objects_taken, IsProgramOf, IsProgram}
 use Rattle.implib_link.specs.Gnu.Aliases.{ResolvesAliases, weak_target}
-use Rattle.implib_link.specs.Gnu.Calls.{HasCall, PlacedCode, call_reads}
-use Rattle.implib_link.specs.Gnu.Pointers.{HasLoad, load_reads}
+use Rattle.implib_link.specs.Gnu.Calls.{HasCall, PlacedCode}
+use Rattle.implib_link.specs.Gnu.Pointers.{HasLoad}
 use Rattle.implib_link.specs.Gnu.Program.{null_descriptor}
 use Rattle.implib_link_instances.specs.Worked.Calls.{calling, calling_code, first_bytes, last_bytes}
+use Rattle.implib_link_instances.specs.Worked.Calls.{loading, loading_code, CodesBeside, as_placed}
+use Rattle.implib_link_instances.specs.Worked.Calls.{code_range, linked_codes}
 use Rattle.implib_link_instances.specs.Worked.Flavors.{both_inputs as flavor_inputs, flavor_bases_8}
 use Rattle.implib_link_instances.specs.Worked.Flavors.{members_with_null}
-use Rattle.implib_link_instances.specs.Worked.Pointers.{loading, loading_code, loading_at}
-use Rattle.implib_link_instances.specs.Worked.Pointers.{tables_of}
 use Rattle.implib_link_instances.specs.Worked.Programs.{another, both_inputs, foo_input}
 use Rattle.implib_link_instances.specs.Worked.Programs.{input_objects, symbol_of_class, touching_8}
 use Rattle.implib_link_instances.specs.Worked.Programs.{zed_input}
-use Rattle.implib_link_instances.specs.Worked.Relocated.{CodesBeside, as_placed, code_range}
-use Rattle.implib_link_instances.specs.Worked.Relocated.{linked_codes, linked_by}
 
 -- the alias and its target
 abbrev pub opened_name : List ℕ
@@ -94,9 +91,6 @@ pub record WorkedAlias : Type 0 where
       (as_placed (all_at 0x80))
   pub undefined : definitions_of opened_name alias_placed ≡ []
   pub weak : weak_target opened_name alias_placed ≡ Some (imp_symbol (codes "open"))
-  -- another name is weak for nothing, and the target itself is
-  pub other : weak_target (imp_symbol (codes "close")) alias_placed ≡ None
-  pub target : weak_target (imp_symbol (codes "open")) alias_placed ≡ None
   pub calls : HasCall AMD64 alias_at 4 opened_name
   pub loads : HasLoad AMD64 alias_load_at 4 opened_name
   -- call [rip - 0xF8A]
@@ -145,43 +139,6 @@ pub record WorkedFlavorAlias : Type 0 where
   -- call [rip - 0xF82]
   pub call_is : (code_range AMD64 0x1_4000_0000 (all_at 0x88) alias_at).bytes
       ≡ first_bytes AMD64 ++ (0xFF ∷ 0x15 ∷ 0x7E ∷ 0xF0 ∷ 0xFF ∷ 0xFF ∷ last_bytes AMD64)
-  pub call_reads_it : call_reads AMD64 0x1_4000_1004 (0xFF ∷ 0x15 ∷ 0x7E ∷ 0xF0 ∷ 0xFF ∷ 0xFF ∷ [])
-      ≡ Some 0x1_4000_0088
   -- mov rax, [rip - 0xF93]
   pub load_is : (code_range AMD64 0x1_4000_0000 (all_at 0x88) alias_load_at).bytes
       ≡ first_bytes AMD64 ++ (0x48 ∷ 0x8B ∷ 5 ∷ 0x6D ∷ 0xF0 ∷ 0xFF ∷ 0xFF ∷ last_bytes AMD64)
-  pub load_reads_it : load_reads AMD64 0x1_4000_1014 (0x48 ∷ 0x8B ∷ 5 ∷ 0x6D ∷ 0xF0 ∷ 0xFF ∷ 0xFF ∷ [])
-      ≡ Some 0x1_4000_0088
-  -- weak for `__imp_stat`, whose entry is at 0x90, it is not at 0x88
-  pub astray : ResolvesAliases
-      (placed_from flavor_bases_8 (alias_flavors (imp_symbol (codes "stat"))))
-      (linked_codes AMD64 0x1_4000_0000 (all_at 0x88) alias_codes) (as_placed (all_at 0x88)) → ⊥
-
--- A name that is weak for another and defined, too: what is linked is the code of Worked/Pointers,
--- which reads a pointer through `__imp_stat`, a weak external that would make this an alias of
--- `__imp_open`, and the members.
-abbrev pub overridden_objects : List Object
-overridden_objects =
-    loading AMD64
-    ∷ (object_of (weak_object AMD64 (imp_symbol (codes "stat")) (imp_symbol (codes "open")))
-    ∷ (input_objects AMD64 (foo_input AMD64)
-    ++ (input_objects AMD64 (zed_input AMD64) ++ null_descriptor ∷ [])))
-
-abbrev pub overridden_placed : List Placed
-overridden_placed = placed_from touching_8 overridden_objects
-
-abbrev pub overridden_code : LinkedCode
-overridden_code = linked_by AMD64 0x1_4000_0000 (tables_of overridden_placed) (loading_at AMD64)
-
--- The definition counts: `__imp_stat` is its own entry at 0x88, where its target is at 0x80.
-pub record OverriddenAlias : Type 0 where
-  pub weak : weak_target (imp_symbol (codes "stat")) overridden_placed
-      ≡ Some (imp_symbol (codes "open"))
-  pub defined : definitions_of (imp_symbol (codes "stat")) overridden_placed
-      ≡ record { name = imp_symbol (codes "stat"); address = Some 0x88 } ∷ []
-  pub target : definitions_of (imp_symbol (codes "open")) overridden_placed
-      ≡ record { name = imp_symbol (codes "open"); address = Some 0x80 } ∷ []
-  pub resolves : ResolvesAliases overridden_placed (overridden_code ∷ []) (λ c index. 0x88)
-  pub taken : (targets : LinkedCode → ℕ → ℕ) →
-      TakesSymbols overridden_placed (overridden_code ∷ []) targets →
-      targets overridden_code 1 ≡ 0x88

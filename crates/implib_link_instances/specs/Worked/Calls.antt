@@ -1,37 +1,100 @@
--- Calls that were relocated by hand: a program as in Worked/Programs, whose own code calls `open`
--- of foo.dll through its entry, on three machines; and a loader that reads the program's image.
-use Rattle.std.specs.Prelude.{◌≡◌, ℕ, ◌+◌, ◌*◌, Bool, false, List, [], ◌∷◌, ◌++◌, bytes_eq, codes}
-use Rattle.std.specs.Prelude.{length, map, slice_get, Option, None, Some, if◌then◌else◌}
-use Rattle.std.specs.List.{AllByRecursion}
+-- Calls, pointers and placed code, by hand: programs as in Worked/Programs, whose own code calls
+-- `open` of foo.dll or reads the address of its data `stat` through an entry; the bytes that the
+-- fields of such code get; and a loader that reads the program's image.
+use Rattle.std.specs.Prelude.{List, None, Option, Some, [], codes, if◌then◌else◌, length, map}
+use Rattle.std.specs.Prelude.{slice_get, ℕ, ◌%◌, ◌*◌, ◌++◌, ◌+◌, ◌-◌, ◌/◌, ◌==◌, ◌^◌, ◌∷◌, ◌≡◌}
+use Rattle.implib.specs.declared.coff.object.Relocation.{Relocation}
 use Rattle.implib.specs.declared.machine.MachineType.{MachineType}
-use Rattle.implib.specs.declared.machine.MachineType.TheVariants.{I386, ARMNT, AMD64, ARM64}
-use Rattle.implib.specs.Formats.Bytes.{u32_bytes}
-use Rattle.implib.specs.Formats.Constants.{align_16bytes, align_4bytes, cnt_code, mem_execute_read}
-use Rattle.implib.specs.Formats.Constants.{class_external}
-use Rattle.implib.specs.Formats.Object.{ASymbol, Auxiliary, Entry, Object, ObjectSection}
-use Rattle.implib.specs.Import.{Ask, Name, Ordinal, imp_symbol}
+use Rattle.implib.specs.declared.machine.MachineType.TheVariants.{AMD64, ARM64, ARMNT, I386}
+use Rattle.implib.specs.Formats.Object.{ASymbol, Object, ObjectSection}
 use Rattle.implib.specs.Link.Image.{Range, image_of}
+use Rattle.implib.specs.Link.Placement.{Bases, Placed, Unplaced, placed_from}
+use Rattle.implib_link.specs.Gnu.Calls.{HasCall, PlacedCode, arm64_branch26, call_bytes, call_reads}
+use Rattle.implib_link.specs.Gnu.Calls.{call_relocations, direct_bytes, direct_relocations}
+use Rattle.implib_link.specs.Gnu.Calls.{i386_rel32, moved_by}
+use Rattle.implib_link.specs.Gnu.Fields.{AreBeside, IsRelocated, LinkedCode, placed_code}
+use Rattle.implib_link.specs.Stub.{CanJump, bits_of, code_word, with_bits, with_word, word_at}
+use Rattle.std.specs.List.{AllByRecursion}
+use Rattle.implib.specs.Formats.Bytes.{u32_bytes}
+use Rattle.implib.specs.Formats.Constants.{align_16bytes, align_4bytes, class_external, cnt_code}
+use Rattle.implib.specs.Formats.Constants.{mem_execute_read}
+use Rattle.implib.specs.Import.{Ask, Name, Ordinal, imp_symbol}
 use Rattle.implib.specs.Link.LinkedMembers.{IsMade}
 use Rattle.implib.specs.Link.Load.{BytesAt}
-use Rattle.implib.specs.Link.Placement.{Bases, Placed, Unplaced, placed_from}
 use Rattle.implib.specs.Link.Resolution.{target_address}
 use Rattle.implib.specs.Members.Gnu.{section, stub_bytes, stub_relocations, text_name}
 use Rattle.implib.specs.Members.ImportTables.{zeros}
-use Rattle.implib_link.specs.Flavors.Program.{OfMember, IsMadeFor, objects_taken, IsProgramOf}
 use Rattle.implib_link.specs.Flavors.Program.{IsProgram}
-use Rattle.implib_link.specs.Gnu.Calls.{Defines, HasCall, HasDirectCall, PlacedCode, call_bytes}
-use Rattle.implib_link.specs.Gnu.Calls.{call_reads, call_relocations, direct_bytes, direct_leads}
-use Rattle.implib_link.specs.Gnu.Calls.{direct_relocations, moved_by}
 use Rattle.implib_link.specs.Gnu.Program.{null_descriptor}
 use Rattle.implib_link.specs.Gnu.Reading.{ReadsAndWrites}
-use Rattle.implib_link.specs.Stub.{CanJump, jump_reads}
-use Rattle.implib_link_instances.specs.Worked.Flavors.{both_inputs as flavor_inputs, flavor_bases_8}
-use Rattle.implib_link_instances.specs.Worked.Flavors.{flavor_image, members_with_null}
 use Rattle.implib_link_instances.specs.Worked.Programs.{another, both_inputs, foo_input}
 use Rattle.implib_link_instances.specs.Worked.Programs.{input_objects, program_image}
 use Rattle.implib_link_instances.specs.Worked.Programs.{symbol_of_class, symbol_on, touching_4}
 use Rattle.implib_link_instances.specs.Worked.Programs.{touching_8, zed_input}
-use Rattle.implib_link_instances.specs.Worked.Relocated.{CodesBeside, code_range, code_ranges}
+use Rattle.implib_link.specs.Gnu.Pointers.{HasLoad, load_bytes, load_reads, load_relocations}
+use Rattle.implib_link.specs.Gnu.Choices.{AreSections, DefineOnce}
+
+-- a word that a relocation changes in code: as in a stub's, on I386 relative to the byte after the
+-- field too, and on ARM64 in a branch
+abbrev pub word_in_code : MachineType → ℕ → ℕ → ℕ → ℕ → ℕ → ℕ
+word_in_code I386 type image_base position target word =
+    if type == i386_rel32 then (word + target + (2 ^ 32 - (position + 4) % 2 ^ 32)) % 2 ^ 32
+    else code_word I386 type image_base position target word
+word_in_code ARMNT type image_base position target word =
+    code_word ARMNT type image_base position target word
+word_in_code AMD64 type image_base position target word =
+    code_word AMD64 type image_base position target word
+word_in_code ARM64 type image_base position target word =
+    if type == arm64_branch26
+    then with_bits 0 26 (bits_of 0 26 word + (target + (2 ^ 28 - position % 2 ^ 28)) / 4) word
+    else code_word ARM64 type image_base position target word
+
+-- The bytes of code at an address, relocated by the addresses that a linker takes for the symbols
+-- of its object, by their indices (PE/COFF specification, "COFF Relocations").
+abbrev pub code_relocated_by : MachineType → ℕ → (ℕ → ℕ) → ℕ → List Relocation → List ℕ → List ℕ
+code_relocated_by machine image_base targets position [] bytes = bytes
+code_relocated_by machine image_base targets position (r ∷ relocations) bytes =
+    code_relocated_by machine image_base targets position relocations
+    (with_word bytes r.offset
+    (word_in_code machine r.kind image_base (position + r.offset) (targets r.symbol)
+    (word_at bytes r.offset)))
+
+-- the range of the code, relocated
+abbrev pub code_range : MachineType → ℕ → (PlacedCode → ℕ → ℕ) → PlacedCode → Range
+code_range machine image_base targets c = record {
+  start = c.position;
+  bytes = code_relocated_by machine image_base (targets c) c.position c.code.relocations
+      c.code.bytes;
+}
+
+-- the ranges of several codes
+abbrev pub code_ranges : MachineType → ℕ → (PlacedCode → ℕ → ℕ) → List PlacedCode → List Range
+code_ranges machine image_base targets codes = map (code_range machine image_base targets) codes
+
+-- placed code with its linked bytes
+abbrev pub linked_by : MachineType → ℕ → (PlacedCode → ℕ → ℕ) → PlacedCode → LinkedCode
+linked_by machine image_base targets c = record {
+  from = c.from;
+  number = c.number;
+  code = c.code;
+  position = c.position;
+  bytes = code_relocated_by machine image_base (targets c) c.position c.code.relocations
+      c.code.bytes;
+}
+
+abbrev pub linked_codes : MachineType → ℕ → (PlacedCode → ℕ → ℕ) → List PlacedCode → List LinkedCode
+linked_codes machine image_base targets codes = map (linked_by machine image_base targets) codes
+
+-- addresses of symbols, which do not depend on linked bytes
+abbrev pub as_placed : (PlacedCode → ℕ → ℕ) → LinkedCode → ℕ → ℕ
+as_placed targets c index = targets (placed_code c) index
+
+-- the code is linked beside the import tables
+abbrev pub CodesBeside : MachineType → ℕ → Bases → List Object → List PlacedCode →
+    (PlacedCode → ℕ → ℕ) → Type 0
+CodesBeside machine image_base bases objects codes targets =
+    AreBeside machine image_base bases objects (linked_codes machine image_base targets codes)
+    (as_placed targets)
 
 -- what a function of a machine begins with, 4 bytes: I386 four `nop`; AMD64 `sub rsp, 40`; ARM64
 -- `stp x29, x30, [sp, -16]!`
@@ -129,45 +192,6 @@ pub record WorkedCall (machine : MachineType) (image_base : ℕ) (bases : Bases)
       ≡ first_bytes machine ++ (relocated ++ last_bytes machine)
   pub reads : call_reads machine (image_base + 0x1004) relocated ≡ Some (image_base + entry)
 
--- the calls of `open`, whose entry is at 0x80 or 0x60
-pub record WorkedCalls : Type 0 where
-  -- call [rip - 0xF8A]
-  pub amd64 : WorkedCall AMD64 0x1_4000_0000 touching_8 (0xFF ∷ 0x15 ∷ 0x76 ∷ 0xF0 ∷ 0xFF ∷ 0xFF ∷ []) 0x80
-  -- call [0x400060]
-  pub i386 : WorkedCall I386 0x40_0000 touching_4 (0xFF ∷ 0x15 ∷ 0x60 ∷ 0 ∷ 0x40 ∷ 0 ∷ []) 0x60
-  -- adrp x16, -0x1000; ldr x16, [x16, 0x80]; blr x16
-  pub arm64 : WorkedCall ARM64 0x1_4000_0000 touching_8
-      (0xF0 ∷ 0xFF ∷ 0xFF ∷ 0xF0 ∷ 0x10 ∷ 0x42 ∷ 0x40 ∷ 0xF9 ∷ 0 ∷ 2 ∷ 0x3F ∷ 0xD6 ∷ []) 0x80
-  -- code at 0x78, over the address tables, is not beside them
-  pub refused : CodesBeside AMD64 0x1_4000_0000 touching_8 (calling_objects AMD64)
-      (calling_at AMD64 0x78 ∷ [])
-      (table_targets AMD64 touching_8) → ⊥
-
--- what is linked of both flavours: the calling object, what the members of foo.dll for Microsoft's
--- linker, its null descriptor, and those of zed.dll for GNU's are taken for, and another object
-abbrev pub calling_flavors : List Object
-calling_flavors =
-    calling AMD64 ∷ (objects_taken AMD64 (members_with_null AMD64 0) ++ another AMD64 ∷ [])
-
-abbrev pub flavors_placed : List Placed
-flavors_placed = placed_from flavor_bases_8 calling_flavors
-
--- what the symbols of code are taken to be: their addresses in the tables
-abbrev pub flavor_targets : PlacedCode → ℕ → ℕ
-flavor_targets c index = target_address flavors_placed c.from index
-
--- The program of both flavours and the code at 0x1000 meet all that the law of calls asks for; the
--- entry of `open` is at 0x88, and the call at 0x1004 reads it.
-pub record WorkedFlavorCall : Type 0 where
-  pub made : AllByRecursion (IsMadeFor AMD64) (flavor_inputs AMD64)
-  pub program : IsProgramOf AMD64 OfMember flavor_bases_8 (flavor_inputs AMD64) calling_flavors
-  pub beside : CodesBeside AMD64 0x1_4000_0000 flavor_bases_8 calling_flavors
-      (calling_at AMD64 0x1000 ∷ []) flavor_targets
-  -- call [rip - 0xF82]
-  pub bytes : (code_range AMD64 0x1_4000_0000 flavor_targets (calling_at AMD64 0x1000)).bytes
-      ≡ first_bytes AMD64 ++ (0xFF ∷ 0x15 ∷ 0x7E ∷ 0xF0 ∷ 0xFF ∷ 0xFF ∷ last_bytes AMD64)
-  pub reads : call_reads AMD64 0x1_4000_1004 (0xFF ∷ 0x15 ∷ 0x7E ∷ 0xF0 ∷ 0xFF ∷ 0xFF ∷ []) ≡ Some 0x1_4000_0088
-
 -- code that calls `open` by its name, at offset 4: `sub rsp, 40`, `call open`, `add rsp, 40`, `ret`
 abbrev pub direct_code : ObjectSection
 direct_code = section text_name (cnt_code + align_16bytes + mem_execute_read)
@@ -183,83 +207,14 @@ direct_calling = record (calling AMD64) {
       ∷ [];
 }
 
--- what is linked: this object, foo.dll's members, zed.dll's members, the null descriptor
-abbrev pub direct_objects : List Object
-direct_objects =
-    direct_calling
-    ∷ (input_objects AMD64 (foo_input AMD64)
-    ++ (input_objects AMD64 (zed_input AMD64) ++ null_descriptor ∷ []))
-
-abbrev pub direct_placed : List Placed
-direct_placed = placed_from touching_8 direct_objects
-
 -- what is placed at an index
 abbrev pub placed_or_empty : Option Placed → Placed
 placed_or_empty None = record { object = direct_calling; section_addresses = [] }
 placed_or_empty (Some p) = p
 
--- the calling code at 0x1000, and the stub of `open`, which is the fourth object's, at 0x1010
-abbrev pub direct_at : PlacedCode
-direct_at = record {
-  from = record { object = direct_calling; section_addresses = Unplaced ∷ [] };
-  number = 1;
-  code = direct_code;
-  position = 0x1000;
-}
-
-abbrev pub stub_at : PlacedCode
-stub_at = record {
-  from = placed_or_empty (slice_get direct_placed 3);
-  number = 1;
-  code = section text_name (cnt_code + align_4bytes + mem_execute_read) (stub_bytes AMD64)
-      (stub_relocations AMD64 2);
-  position = 0x1010;
-}
-
--- whether an entry is a symbol of the name `open`
-abbrev pub is_open : Entry → Bool
-is_open (Auxiliary bytes) = false
-is_open (ASymbol s) = bytes_eq s.name (codes "open")
-
--- the address of an entry in code: that of the stub for `open`, or else that in the tables
-abbrev pub open_or : Option Entry → ℕ → ℕ
-open_or None address = address
-open_or (Some x) address = if is_open x then 0x1010 else address
-
--- what the symbols of code are taken to be
-abbrev pub open_targets : List Placed → PlacedCode → ℕ → ℕ
-open_targets linked c index =
-    open_or (slice_get c.from.object.entries index) (target_address linked c.from index)
-
-abbrev pub direct_targets : PlacedCode → ℕ → ℕ
-direct_targets c index = open_targets direct_placed c index
-
--- The program, the code and the stub meet all that the law of direct calls asks for; they are
--- relocated to these bytes; the call leads to 0x1010, and the jump there reads 0x80.
-pub record WorkedDirectCall : Type 0 where
-  pub program : IsProgram AMD64 touching_8 (both_inputs AMD64) direct_objects
-  pub beside : CodesBeside AMD64 0x1_4000_0000 touching_8 direct_objects (direct_at ∷ stub_at ∷ [])
-      direct_targets
-  pub defines : Defines stub_at (symbol_of_class (codes "open") 1 class_external)
-  pub calls : HasDirectCall AMD64 direct_at 4 (codes "open")
-  -- call +7
-  pub bytes : (code_range AMD64 0x1_4000_0000 direct_targets direct_at).bytes
-      ≡ first_bytes AMD64 ++ (0xE8 ∷ 7 ∷ 0 ∷ 0 ∷ 0 ∷ last_bytes AMD64)
-  pub leads : direct_leads AMD64 0x1_4000_1004 (0xE8 ∷ 7 ∷ 0 ∷ 0 ∷ 0 ∷ []) ≡ Some 0x1_4000_1010
-  -- jmp [rip - 0xF96]
-  pub stub : (code_range AMD64 0x1_4000_0000 direct_targets stub_at).bytes
-      ≡ 0xFF ∷ 0x25 ∷ 0x6A ∷ 0xF0 ∷ 0xFF ∷ 0xFF ∷ 0x90 ∷ 0x90 ∷ []
-  pub reads : jump_reads AMD64 0x1_4000_1010 (0xFF ∷ 0x25 ∷ 0x6A ∷ 0xF0 ∷ 0xFF ∷ 0xFF ∷ 0x90 ∷ 0x90 ∷ []) ≡ Some 0x1_4000_0080
-
--- the image of the worked program with zeros where the first descriptor has the address of the
--- DLL's name
-abbrev pub nameless_image : List Range
-nameless_image = record { start = 16; bytes = zeros 4 } ∷ program_image AMD64 touching_8
-
 -- A loader that reads the worked program's image from 4 on goes on at two descriptors, and writes
--- what foo.dll gives for `open` to 0x80 (0x60 on I386, 0x88 in the program of both flavours, from 8
--- on); where the first descriptor has no name, a loader goes on at none and writes nothing. There
--- is a loader that goes on at two descriptors.
+-- what foo.dll gives for `open` to 0x80, and to 0x60 on I386. There is a loader that goes on at two
+-- descriptors.
 pub record WorkedReading : Type 0 where
   pub amd64 : (n : ℕ) (written : List Range) →
       ReadsAndWrites (program_image AMD64 touching_8) 8 (given_on AMD64) n 4 written →
@@ -267,14 +222,133 @@ pub record WorkedReading : Type 0 where
   pub i386 : (n : ℕ) (written : List Range) →
       ReadsAndWrites (program_image I386 touching_4) 4 (given_on I386) n 4 written →
       (n ≡ 2) × BytesAt (written ++ program_image I386 touching_4) 0x60 (0x40 ∷ 0 ∷ 0 ∷ 0x10 ∷ [])
-  pub flavors : (n : ℕ) (written : List Range) →
-      ReadsAndWrites (flavor_image AMD64 0 flavor_bases_8) 8 (given_on AMD64) n 8 written →
-      (n ≡ 2) × BytesAt (written ++ flavor_image AMD64 0 flavor_bases_8) 0x88
-      (0x40 ∷ 0 ∷ 0 ∷ 0x10 ∷ 0 ∷ 0 ∷ 0 ∷ 0 ∷ [])
-  pub refused : (n : ℕ) (written : List Range) →
-      ReadsAndWrites nameless_image 8 (given_on AMD64) n 4 written →
-      (n ≡ 0) × (written ≡ [])
   pub amd64_ends : (written : List Range)
       × ReadsAndWrites (program_image AMD64 touching_8) 8 (given_on AMD64) 2 4 written
-  pub flavors_ends : (written : List Range)
-      × ReadsAndWrites (flavor_image AMD64 0 flavor_bases_8) 8 (given_on AMD64) 2 8 written
+
+-- the stub of `open`, which is the fourth object's, at 0x1040
+abbrev pub placed_or_calling : MachineType → Option Placed → Placed
+placed_or_calling machine None = record { object = calling machine; section_addresses = [] }
+placed_or_calling machine (Some p) = p
+
+-- code that reads a pointer under the symbol of index 1, at offset 4
+abbrev pub loading_code : MachineType → ObjectSection
+loading_code machine = section text_name (cnt_code + align_16bytes + mem_execute_read)
+    (first_bytes machine ++ (load_bytes machine ++ last_bytes machine))
+    (map (moved_by 4) (load_relocations machine 1))
+
+-- an object with this code, whose symbol 1 is `__imp_stat`
+abbrev pub loading : MachineType → Object
+loading machine = record (calling machine) {
+  sections = loading_code machine ∷ [];
+  entries = ASymbol (symbol_of_class (codes "main") 1 class_external)
+      ∷ ASymbol (symbol_of_class (imp_symbol (symbol_on machine (codes "stat"))) 0 class_external)
+      ∷ [];
+}
+
+-- what is linked: this object, foo.dll's members, zed.dll's members, the null descriptor
+abbrev pub loading_objects : MachineType → List Object
+loading_objects machine =
+    loading machine
+    ∷ (input_objects machine (foo_input machine)
+    ++ (input_objects machine (zed_input machine) ++ null_descriptor ∷ []))
+
+abbrev pub loading_placed : MachineType → Bases → List Placed
+loading_placed machine bases = placed_from bases (loading_objects machine)
+
+-- its code at 0x1000
+abbrev pub loading_at : MachineType → PlacedCode
+loading_at machine = record {
+  from = record { object = loading machine; section_addresses = Unplaced ∷ [] };
+  number = 1;
+  code = loading_code machine;
+  position = 0x1000;
+}
+
+-- what the symbols of code are taken to be: their addresses in the tables
+abbrev pub tables_of : List Placed → PlacedCode → ℕ → ℕ
+tables_of linked c index = target_address linked c.from index
+
+-- The code reads a pointer as the law of instructions asks; it is relocated to these bytes, which
+-- read this entry.
+pub record WorkedPointer (machine : MachineType) (image_base : ℕ) (bases : Bases)
+    (relocated : List ℕ) (entry : ℕ) : Type 0 where
+  pub loads : HasLoad machine (loading_at machine) 4 (imp_symbol (symbol_on machine (codes "stat")))
+  pub bytes : (code_range machine image_base (tables_of (loading_placed machine bases))
+      (loading_at machine)).bytes
+      ≡ first_bytes machine ++ (relocated ++ last_bytes machine)
+  pub reads : load_reads machine (image_base + 0x1004) relocated ≡ Some (image_base + entry)
+
+-- the entry of `stat` is at 0x88 or 0x64
+pub record WorkedPointers : Type 0 where
+  -- mov rax, [rip - 0xF83]
+  pub amd64 : WorkedPointer AMD64 0x1_4000_0000 touching_8 (0x48 ∷ 0x8B ∷ 5 ∷ 0x7D ∷ 0xF0 ∷ 0xFF ∷ 0xFF ∷ []) 0x88
+  -- mov eax, [0x400064]
+  pub i386 : WorkedPointer I386 0x40_0000 touching_4 (0xA1 ∷ 0x64 ∷ 0 ∷ 0x40 ∷ 0 ∷ []) 0x64
+
+-- `stp x29, x30, [sp, -16]!`, `bl open`, `ldp x29, x30, [sp], 16`, `ret`
+abbrev pub branch_code : ObjectSection
+branch_code = section text_name (cnt_code + align_16bytes + mem_execute_read)
+    (first_bytes ARM64 ++ (direct_bytes ARM64 ++ last_bytes ARM64))
+    (map (moved_by 4) (direct_relocations ARM64 1))
+
+-- an object with this code, whose symbol 1 is `open`
+abbrev pub branching : Object
+branching = record (calling ARM64) {
+  sections = branch_code ∷ [];
+  entries = ASymbol (symbol_of_class (codes "main") 1 class_external)
+      ∷ ASymbol (symbol_of_class (codes "open") 0 class_external)
+      ∷ [];
+}
+
+-- what is linked: this object, foo.dll's members, zed.dll's members, the null descriptor
+abbrev pub branching_objects : List Object
+branching_objects =
+    branching
+    ∷ (input_objects ARM64 (foo_input ARM64)
+    ++ (input_objects ARM64 (zed_input ARM64) ++ null_descriptor ∷ []))
+
+abbrev pub branching_placed : List Placed
+branching_placed = placed_from touching_8 branching_objects
+
+-- the calling code at 0x1000
+abbrev pub branch_at : PlacedCode
+branch_at = record {
+  from = record { object = branching; section_addresses = Unplaced ∷ [] };
+  number = 1;
+  code = branch_code;
+  position = 0x1000;
+}
+
+-- the stub in the first section of what is placed at an index, at 0x1010
+abbrev pub stub_of : MachineType → List Placed → ℕ → PlacedCode
+stub_of machine linked index = record {
+  from = placed_or_empty (slice_get linked index);
+  number = 1;
+  code = section text_name (cnt_code + align_4bytes + mem_execute_read) (stub_bytes machine)
+      (stub_relocations machine 2);
+  position = 0x1010;
+}
+
+-- the codes: the call, and the fourth object's stub
+abbrev pub branch_codes : List PlacedCode
+branch_codes = branch_at ∷ stub_of ARM64 branching_placed 3 ∷ []
+
+pub record WorkedChoices : Type 0 where
+  -- the branching code at 0x1000 and the stub of `open` at 0x1010, for the image at two bases
+  pub sections : AreSections ARM64 touching_8 branching_objects branch_codes
+  pub once : DefineOnce branching_placed branch_codes
+  pub beside : (targets : PlacedCode → ℕ → ℕ)
+      × ((linked : List LinkedCode) → map placed_code linked ≡ branch_codes →
+      AllByRecursion (λ c. IsRelocated ARM64 0x1_4000_0000 (targets (placed_code c)) c.position
+      c.code c.bytes) linked →
+      AreBeside ARM64 0x1_4000_0000 touching_8 branching_objects linked (as_placed targets))
+
+abbrev pub far_4 : Bases
+far_4 = record {
+  descriptors = 0x5204;
+  directory_ends = 0x5240;
+  lookups = 0x5240;
+  addresses = 0x525C;
+  hint_names = 0x5278;
+  dll_names = 0x5298;
+}

@@ -15,12 +15,11 @@ use Rattle.implib.specs.Worked.Statements.{plain_export}
 use Rattle.implib_link.specs.Gnu.Packed.{packed}
 use Rattle.implib_link.specs.Gnu.Program.{null_descriptor}
 use Rattle.implib_link.specs.Search.Archives.{IsArchive, Library, archive_of}
-use Rattle.implib_link.specs.Search.Closed.{IsClosed, LinksClosed, PullsInto, TakesInto, inputs_in}
-use Rattle.implib_link.specs.Search.Closed.{unresolved, wanted_in}
+use Rattle.implib_link.specs.Search.Closed.{IsClosed, LinksClosed, TakesInto, inputs_in, unresolved}
+use Rattle.implib_link.specs.Search.Closed.{wanted_in}
 use Rattle.implib_link.specs.Search.Given.{AreGiven, symbols_kept}
-use Rattle.implib_link_instances.specs.Worked.Archives.{library_of, two_libraries}
+use Rattle.implib_link_instances.specs.Worked.Search.{library_of, two_libraries, aliased}
 use Rattle.implib_link_instances.specs.Worked.Programs.{code_object, symbol_of_class}
-use Rattle.implib_link_instances.specs.Worked.Search.{aliased}
 use Rattle.implib.specs.LibraryName.{own_names}
 
 -- an object that names data of foo.dll by its alias, a function of zed.dll by its pointer, and one
@@ -75,17 +74,6 @@ closed_taken =
     ∷ foo_alias
     ∷ []
 
--- all of them but the last one
-abbrev pub without_last : List MemberView
-without_last =
-    member_of (head_spec AMD64 (codes "zed.dll"))
-    ∷ member_of (export_spec AMD64 (codes "zed.dll") 0 (plain_export (codes "queue")))
-    ∷ member_of (tail_spec AMD64 (own_names (codes "foo.dll")))
-    ∷ member_of (head_spec AMD64 (codes "foo.dll"))
-    ∷ member_of (export_spec AMD64 (codes "foo.dll") 1 (plain_export (codes "baz")))
-    ∷ foo_alias
-    ∷ []
-
 -- the libraries as they are linked, zed.dll first
 abbrev pub zed_first : List Library
 zed_first =
@@ -105,9 +93,7 @@ closed_bases = packed 0x2000 closed_objects
 
 -- The object leaves three names unresolved, for which a linker takes seven members; with them it is
 -- a closed program, in which `printf` alone is left. The pointer to `queue` is zed.dll's first
--- entry, and that to `baz` foo.dll's. A search that stops before the last member is none; a name
--- that the object claims pulls in nothing;
--- and an object with a `queue` of its own is not closed by these members.
+-- entry, and that to `baz` foo.dll's.
 pub record WorkedClosed : Type 0 where
   pub archive : IsArchive AMD64 two_libraries
   pub leaves : unresolved (choosing ∷ []) ≡ codes "bar" ∷ codes "__imp_queue" ∷ codes "printf" ∷ []
@@ -125,11 +111,6 @@ pub record WorkedClosed : Type 0 where
       ≡ record { name = codes "__imp_queue"; address = Some 0x2060 } ∷ []
   pub baz : definitions_of (codes "__imp_baz") (placed_from closed_bases closed_objects)
       ≡ record { name = codes "__imp_baz"; address = Some 0x2070 } ∷ []
-  pub stopped : TakesInto (archive_of two_libraries) (choosing ∷ []) without_last → ⊥
-  pub claimed : (taken : List MemberView) (m : MemberView) →
-      PullsInto (archive_of two_libraries) (choosing ∷ []) taken (codes "stack") m → ⊥
-  pub clashes : (arranged : List Library) (bases : Bases) (objects : List Object) →
-      IsClosed AMD64 two_libraries (clashing ∷ []) closed_taken arranged bases objects → ⊥
 
 -- The first object may be given: so the search for it ends, and what was taken closes the program.
 -- What members alone may claim are these names, `queue` among them: so the object that has one of
@@ -143,4 +124,3 @@ pub record WorkedGiven : Type 0 where
   pub ends : (taken : List MemberView) × TakesInto (archive_of two_libraries) (choosing ∷ []) taken
   pub closed : IsClosed AMD64 two_libraries (choosing ∷ []) closed_taken zed_first closed_bases
       closed_objects
-  pub refused : AreGiven AMD64 two_libraries (clashing ∷ []) → ⊥

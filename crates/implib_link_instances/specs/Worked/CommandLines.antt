@@ -4,12 +4,11 @@
 -- GNU ld 2.40 says of the library in front of the archive "undefined reference to `ExitProcess'",
 -- and links them in the other order, in a group, and with the library a second time behind; ld.lld
 -- and lld-link 14.0.6 link them in any order.
-use Rattle.std.specs.Prelude.{◌≡◌, ℕ, Bool, true, List, [], ◌∷◌, ◌++◌, bytes_eq, codes, map}
-use Rattle.std.specs.List.{IsDistinct, list_any}
+use Rattle.std.specs.Prelude.{ℕ, Bool, List, [], ◌∷◌, ◌++◌, bytes_eq, codes, map}
+use Rattle.std.specs.List.{IsDistinct}
 use Rattle.implib.specs.declared.flavor.Flavor.TheVariants.{Gnu}
 use Rattle.implib.specs.declared.machine.MachineType.{MachineType}
 use Rattle.implib.specs.declared.machine.MachineType.TheVariants.{AMD64, I386}
-use Rattle.implib.specs.Formats.Constants.{class_external}
 use Rattle.implib.specs.Formats.Object.{Object, object_in}
 use Rattle.implib.specs.Members.MemberSpec.{MemberView, member_of}
 use Rattle.implib.specs.Members.Members.{member_specs}
@@ -18,17 +17,17 @@ use Rattle.implib.specs.Worked.Members.{of_dll}
 use Rattle.implib.specs.Worked.Statements.{plain_export}
 use Rattle.implib_link.specs.Gnu.Program.{HaveSame}
 use Rattle.implib_link.specs.Search.Archives.{IsArchive, Library, archive_of}
-use Rattle.implib_link.specs.Search.Closed.{TakesIntoAs, listed_in, unresolved}
-use Rattle.implib_link.specs.Search.CommandLines.{AnObject, Archives, AreFirst, AreListedWhole}
-use Rattle.implib_link.specs.Search.CommandLines.{AreUnclaimedBehind, HaveAll, Input, IsOrdered}
-use Rattle.implib_link.specs.Search.CommandLines.{LldSearches, SearchesCommandLine}
+use Rattle.implib_link.specs.Search.Closed.{TakesIntoAs, listed_in}
+use Rattle.implib_link.specs.Search.CommandLines.{AnObject, Archives, AreListedWhole, Input}
+use Rattle.implib_link.specs.Search.CommandLines.{IsOrdered, LldSearches, SearchesCommandLine}
 use Rattle.implib_link.specs.Search.CommandLines.{SearchesLibraries, given_with}
 use Rattle.implib_link.specs.Search.Given.{AreGiven}
 use Rattle.implib_link.specs.Search.Search.{objects_as}
 use Rattle.implib_link.specs.Search.Sweeps.{members_at}
-use Rattle.implib_link_instances.specs.But.Links.{MissesIsClosedOver, MissesIsGroupSearched}
-use Rattle.implib_link_instances.specs.But.Links.{MissesIsSwept, MissesSearchesFor}
-use Rattle.implib_link_instances.specs.Worked.Programs.{code_object, symbol_of_class}
+use Rattle.implib_link.specs.Archives.Results.{HaveArchive}
+use Rattle.implib_link.specs.Archives.InBytes.{Second}
+use Rattle.implib_archive.specs.declared.kind.Kind.TheVariants.{Coff}
+use Rattle.implib_link.specs.Search.Exists.{HasClosed}
 
 abbrev pub wants_bytes : List ℕ
 wants_bytes =
@@ -145,7 +144,7 @@ of_quit = 3 ∷ []
 abbrev pub inputs_of : List Object → List Input
 inputs_of objects = map AnObject objects
 
--- the command lines, behind the object: the library first; last; in a group; and twice
+-- the command lines, behind the object: the library first; last; and in a group
 abbrev pub library_first : List Object → List Input
 library_first own = inputs_of own ++ Archives (of_kernel ∷ []) ∷ Archives (of_quit ∷ []) ∷ []
 
@@ -155,47 +154,38 @@ library_last own = inputs_of own ++ Archives (of_quit ∷ []) ∷ Archives (of_k
 abbrev pub in_group : List Object → List Input
 in_group own = inputs_of own ++ Archives (of_kernel ∷ of_quit ∷ []) ∷ []
 
-abbrev pub library_twice : List Object → List Input
-library_twice own = inputs_of own ++ Archives (of_kernel ∷ []) ∷ Archives (of_quit ∷ [])
-    ∷ Archives (of_kernel ∷ []) ∷ []
-
 -- what is taken of all, the last one first
 abbrev pub all_taken : List ℕ
 all_taken = 0 ∷ 1 ∷ 2 ∷ 3 ∷ []
 
 -- On one machine, where `own` is the object and `import` the name of the function:
--- `lost`, `left`: with the library first GNU ld takes the archive's member alone, and the function
--- is left unresolved;
--- `unordered`: which is no order of its;
--- `by_lld`: lld takes all;
+-- `by_lld`: with the library first lld takes all;
 -- `first`, `ordered`, `takes`: in the other order GNU ld takes all, and by the law as one search
 -- does;
--- `group`, `again`: so it does in a group, and with the library twice;
+-- `group`: so it does in a group;
 -- `alike`: by the law both linkers take the same of the group.
 pub record WorkedCommandLine (members : List MemberView) (own : List Object)
     (import : List ℕ) : Type 0 where
   pub distinct : IsDistinct bytes_eq (listed_in members)
   pub whole : AreListedWhole object_in members
-  pub lost : SearchesCommandLine object_in members (library_first own) of_quit
-  pub left : list_any (bytes_eq import)
-      (unresolved (own ++ objects_as object_in (members_at members of_quit))) ≡ true
-  pub unordered : IsOrdered object_in members (library_first own) → ⊥
   pub by_lld : LldSearches object_in members (library_first own) members
   pub first : SearchesCommandLine object_in members (library_last own) all_taken
   pub ordered : IsOrdered object_in members (library_last own)
   pub takes : TakesIntoAs object_in members own (members_at members all_taken)
   pub group : SearchesCommandLine object_in members (in_group own) all_taken
-  pub again : SearchesCommandLine object_in members (library_twice own) all_taken
   pub alike : (other : List MemberView) → LldSearches object_in members (in_group own) other →
       HaveSame (members_at members all_taken) other
 
--- as a search of libraries: the archive's member is as given
+-- as a search of libraries: the archive's member is as given; and there is a closed program
 pub record WorkedLibraries (machine : MachineType) (l : Library) (members : List MemberView)
     (own : List Object) : Type 0 where
   pub archive : IsArchive machine (l ∷ [])
+  pub ready : HaveArchive Coff Second (archive_of (l ∷ []))
   pub searches : SearchesLibraries machine (l ∷ []) members (library_last own) is_quit all_taken
   pub given : AreGiven machine (l ∷ [])
       (given_with object_in is_quit own (members_at members all_taken))
+  pub exists : HasClosed machine (l ∷ [])
+      (given_with object_in is_quit own (members_at members all_taken)) 0x2000
 
 pub record WorkedCommandLines : Type 0 where
   pub amd64 : WorkedCommandLine amd64_members (read_or_none wants_bytes) (codes "ExitProcess")
@@ -204,97 +194,3 @@ pub record WorkedCommandLines : Type 0 where
       (read_or_none wants_bytes)
   pub i386_libraries : WorkedLibraries I386 (kernel_on I386 (codes "_ExitProcess@4")) i386_members
       (read_or_none i386_wants_bytes)
-
--- Near misses, on AMD64.
-
-abbrev pub wanting_own : List Object
-wanting_own = read_or_none wants_bytes
-
-abbrev pub kernel : Library
-kernel = kernel_on AMD64 (codes "ExitProcess")
-
--- nothing is due, and more is said to be taken; a sweep less than it takes
-pub record NearIsSwept : Type 0 where
-  pub taken : MissesIsSwept (codes "taken") object_in amd64_members wanting_own of_kernel []
-      all_taken
-  pub ended : MissesIsSwept (codes "ended") object_in amd64_members wanting_own of_kernel of_quit
-      (2 ∷ 3 ∷ [])
-
--- the same of a group; a round less
-pub record NearIsGroupSearched : Type 0 where
-  pub taken : MissesIsGroupSearched (codes "taken") object_in amd64_members wanting_own
-      (of_kernel ∷ []) [] all_taken
-  pub ended : MissesIsGroupSearched (codes "ended") object_in amd64_members wanting_own
-      (of_kernel ∷ of_quit ∷ []) [] of_quit
-
--- a member is lost again; members that no name pulls in; one that a name does
-pub record NearIsClosedOver : Type 0 where
-  pub taken : MissesIsClosedOver (codes "taken") object_in amd64_members [] amd64_members []
-  pub in_turn : MissesIsClosedOver (codes "in_turn") object_in kernel.members wanting_own []
-      kernel.members
-  pub ended : MissesIsClosedOver (codes "ended") object_in amd64_members wanting_own [] []
-
--- an object that claims `quit`
-abbrev pub quitting : Object
-quitting = code_object (symbol_of_class (codes "quit") 1 class_external ∷ [])
-
--- a command line of libraries, but for one thing: there are no libraries; the second of two members
--- that are listed for a name is taken; an object behind
--- the archive claims its name; the library is first; the member is listed for a name more; it is
--- not taken
-abbrev pub with_quit_twice : List MemberView
-with_quit_twice = amd64_members ++ quit_member (codes "quit") quit_bytes ∷ []
-
-abbrev pub second_quit : List Input
-second_quit = inputs_of wanting_own ++ Archives ((4 ∷ []) ∷ []) ∷ Archives (of_kernel ∷ []) ∷ []
-
-abbrev pub with_more : List MemberView
-with_more =
-    kernel.members
-    ++ record {
-      name = codes "quit.o";
-      bytes = quit_bytes;
-      symbols = codes "quit" ∷ codes "more" ∷ [];
-    }
-    ∷ []
-
-pub record NearSearchesFor : Type 0 where
-  pub libraries_are : MissesSearchesFor (codes "libraries_are") object_in (archive_of [])
-      amd64_members
-      (library_last wanting_own) is_quit all_taken
-  pub first : MissesSearchesFor (codes "first") object_in (archive_of (kernel ∷ [])) with_quit_twice
-      second_quit is_quit (0 ∷ 1 ∷ 2 ∷ 4 ∷ [])
-  pub unclaimed : MissesSearchesFor (codes "unclaimed") object_in (archive_of (kernel ∷ []))
-      amd64_members (library_last wanting_own ++ AnObject quitting ∷ []) is_quit all_taken
-  pub ordered : MissesSearchesFor (codes "ordered") object_in (archive_of (kernel ∷ []))
-      amd64_members
-      (library_first wanting_own) is_quit of_quit
-  pub whole : MissesSearchesFor (codes "whole") object_in (archive_of (kernel ∷ [])) with_more
-      (library_last wanting_own) is_quit all_taken
-  pub searches : MissesSearchesFor (codes "searches") object_in (archive_of (kernel ∷ []))
-      amd64_members (library_last wanting_own) is_quit []
-
--- two members that are listed for one name, and that of `quit`
-abbrev pub spare_member : MemberView
-spare_member = record { name = codes "spare.o"; bytes = []; symbols = codes "spare" ∷ [] }
-
-abbrev pub other_spare : MemberView
-other_spare = record { name = codes "other.o"; bytes = []; symbols = codes "spare" ∷ [] }
-
-abbrev pub with_spares : List MemberView
-with_spares = quit_member (codes "quit") quit_bytes ∷ spare_member ∷ other_spare ∷ []
-
--- Predicates: an object behind an archive that claims its name; an archive that no input has; a
--- member that is listed for a name less than it claims; of two members that are listed for one name
--- the first is taken, and not the second. That an order is
--- refused is in the worked rows.
-pub record RefusedCommandLines : Type 0 where
-  pub unclaimed : AreUnclaimedBehind amd64_members []
-      (Archives (of_quit ∷ []) ∷ AnObject quitting ∷ []) → ⊥
-  pub claimed_before : AreUnclaimedBehind amd64_members []
-      (AnObject quitting ∷ Archives (of_quit ∷ []) ∷ [])
-  pub all : HaveAll amd64_members (inputs_of wanting_own ++ Archives (of_kernel ∷ []) ∷ []) → ⊥
-  pub whole : AreListedWhole object_in (quit_member (codes "more") quit_bytes ∷ []) → ⊥
-  pub first : AreFirst with_spares (codes "quit" ∷ codes "spare" ∷ [])
-      (quit_member (codes "quit") quit_bytes ∷ spare_member ∷ [])
-  pub second : AreFirst with_spares (codes "quit" ∷ codes "spare" ∷ []) (other_spare ∷ []) → ⊥

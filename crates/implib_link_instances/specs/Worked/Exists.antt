@@ -1,22 +1,19 @@
--- The closed program by hand, as the law says that there is one; and places where there is none.
-use Rattle.std.specs.Prelude.{◌≡◌, ◌<◌, ◌^◌, [], ◌∷◌}
+-- The closed program by hand, as the law says that there is one; and a place where there is none.
+use Rattle.std.specs.Prelude.{◌≡◌, [], ◌∷◌}
 use Rattle.implib.specs.declared.machine.MachineType.TheVariants.{AMD64}
 use Rattle.implib.specs.Link.Image.{image_of}
 use Rattle.implib.specs.Link.Placement.{placed_from}
-use Rattle.implib_link.specs.Gnu.Packed.{packed, packed_end}
-use Rattle.implib_link.specs.Gnu.Program.{null_descriptor}
+use Rattle.implib_link.specs.Gnu.Packed.{packed_end}
 use Rattle.implib_link.specs.Search.Closed.{IsClosed}
 use Rattle.implib_link.specs.Search.Exists.{AreChosenFor, HasClosed, LieWithin, tables_end}
-use Rattle.implib_link_instances.specs.Worked.Archives.{two_libraries}
+use Rattle.implib_link_instances.specs.Worked.Search.{two_libraries}
 use Rattle.implib_link_instances.specs.Worked.Closed.{choosing, closed_bases, closed_objects}
 use Rattle.implib_link_instances.specs.Worked.Closed.{closed_taken, zed_first}
 
 -- The tables of the two libraries that begin at 0x2000 end by 0x2186: of foo.dll there are at most
 -- 64 bytes, 7 for its name, and 43 for each of `bar` and `baz`; of zed.dll 64, 7, and 45 for each
 -- of `queue` and `stack`; 72 beside them. So there is a closed program; the one that was linked by
--- hand lies there, and ends at 0x20A8. From address 0 on there is none, nor is the one by hand such
--- a program right below 2^31, where there is no room. An object that holds a part of the import
--- tables, as the null descriptor does, is in no such program.
+-- hand lies there, and ends at 0x20A8. From address 0 on there is none.
 pub record WorkedExists : Type 0 where
   pub room : tables_end 0x2000 two_libraries ≡ 0x2186
   pub end : packed_end 0x2000 closed_objects ≡ 0x20A8
@@ -28,7 +25,3 @@ pub record WorkedExists : Type 0 where
       (image_of AMD64 closed_bases (placed_from closed_bases closed_objects))
   pub exists : HasClosed AMD64 two_libraries (choosing ∷ []) 0x2000
   pub at_zero : HasClosed AMD64 two_libraries (choosing ∷ []) 0 → ⊥
-  pub no_room : tables_end 0x7FFF_FF00 two_libraries < 2 ^ 31 → ⊥
-  pub too_far : IsClosed AMD64 two_libraries (choosing ∷ []) closed_taken zed_first
-      (packed 0x7FFF_FFF8 closed_objects) closed_objects → ⊥
-  pub tables_given : HasClosed AMD64 two_libraries (null_descriptor ∷ []) 0x2000 → ⊥

@@ -1,14 +1,15 @@
 -- Files that linkers wrote, as a loader maps them: those of Worked/Stored by lld-link 14.0.6,
 -- whole, for three machines; and one by GNU ld 2.40 for AMD64, of an object by gcc 12 with a
 -- library of implib_dlltool and one of GNU dlltool, whole.
-use Rattle.std.specs.Prelude.{◌≡◌, ℕ, ◌-◌, ◌*◌, List, [], ◌∷◌, ◌++◌, length, map, None, Some}
+use Rattle.std.specs.Prelude.{List, None, Ok, Some, [], drop, length, map, ℕ, ◌*◌, ◌++◌, ◌-◌, ◌∷◌}
+use Rattle.std.specs.Prelude.{◌≡◌}
 use Rattle.std.specs.List.{AllByRecursion}
 use Rattle.implib.specs.declared.machine.MachineType.{MachineType}
-use Rattle.implib.specs.declared.machine.MachineType.TheVariants.{I386, ARMNT, AMD64, ARM64}
+use Rattle.implib.specs.declared.machine.MachineType.TheVariants.{AMD64, ARM64, ARMNT, I386}
 use Rattle.implib.specs.Members.ImportTables.{thunk_width, zeros}
-use Rattle.implib_dll.specs.Digits.{hex}
-use Rattle.implib_image.specs.Files.{MappedFile}
-use Rattle.implib_image.specs.Laws.{HasTable, IsFileOf, thunks_with_nulls}
+use Rattle.implib_dll.specs.Digits.{changed, hex}
+use Rattle.implib_link.specs.Image.Files.{LoadsFile, MappedFile, mapped_file}
+use Rattle.implib_link.specs.Image.Laws.{HasTable, IsFileOf, thunks_with_nulls}
 use Rattle.implib_link.specs.Flavors.LldImports.{grouped}
 use Rattle.implib_link.specs.Gnu.Fields.{AreLinkedBeside, ranges_of_codes}
 use Rattle.implib_link.specs.Gnu.Stored.{AreFurtherHeld}
@@ -18,6 +19,8 @@ use Rattle.implib_link_instances.specs.Worked.LldPrograms.{shorts_on, tables_on}
 use Rattle.implib_link_instances.specs.Worked.Stored.{held_linked, holding_codes, holding_placed}
 use Rattle.implib_link_instances.specs.Worked.Stored.{holding_targets, picking_linked}
 use Rattle.implib_link_instances.specs.Worked.Stored.{unwind_linked}
+use Rattle.implib.specs.Import.{Ask}
+use Rattle.implib_dll.specs.WorkedFiles.{worked_pe32}
 
 -- what is behind the headers, from 0x400 on: the sections, each filled with zeros to 512 bytes; of
 -- the last two, unwind information and base relocations, the bytes as they are in the file the
@@ -301,6 +304,40 @@ gnu_mapped = record {
 pub record WorkedFiles : Type 0 where
   pub i386 : WorkedFile I386 0x2050 0x14
   pub amd64 : WorkedFile AMD64 0x2068 0x28
-  pub arm64 : WorkedFile ARM64 0x2068 0x28
   pub gnu : IsFileOf AMD64 0x3000 (record { start = 0x3000; bytes = gnu_idata } ∷ []) gnu_file
       gnu_mapped
+
+-- a DLL with a `.bss` of 16 bytes and one data directory, mapped
+abbrev pub mapped_pe32 : MappedFile
+mapped_pe32 = record {
+  machine = 0x14C;
+  width = 4;
+  base = 0;
+  image = record { start = 0x1000; bytes = 0xC3 ∷ 0x90 ∷ 0x90 ∷ 0x90 ∷ [] }
+      ∷ record { start = 0x2000; bytes = zeros 16 }
+      ∷ record { start = 0x3000; bytes = drop 0x13C worked_pe32 }
+      ∷ [];
+  imports = None;
+  addresses = None;
+}
+
+-- What single bytes of headers say: 13, 12 and one data directories; the base's fifth byte, which
+-- PE32+ alone has, and the fourth one of PE32. A section without data is zeros in memory. A file
+-- without an import directory, or with one at 0, loads nothing, and with nothing else.
+pub record WorkedHeaders (gives : List ℕ → Ask → List ℕ) : Type 0 where
+  pub thirteen : mapped_file (changed 0xFC 13 (file_on AMD64)) ≡ Ok (mapped_on AMD64)
+  pub twelve : mapped_file (changed 0xFC 12 (file_on AMD64))
+      ≡ Ok (record (mapped_on AMD64) { addresses = None })
+  pub one : mapped_file (changed 0xFC 1 (file_on AMD64))
+      ≡ Ok (record (mapped_on AMD64) { imports = None; addresses = None })
+  pub base : mapped_file (changed 0xAC 2 (file_on AMD64))
+      ≡ Ok (record (mapped_on AMD64) { base = 0x2_4000_0000 })
+  pub base_4 : mapped_file (changed 0xAF 0x10 (file_on I386))
+      ≡ Ok (record (mapped_on I386) { base = 0x1040_0000 })
+  pub bss : mapped_file worked_pe32 ≡ Ok mapped_pe32
+  pub none : LoadsFile (record (mapped_on AMD64) { imports = None }) gives 0 []
+  pub at_0 : LoadsFile (record (mapped_on AMD64) {
+    imports = Some
+        (record { address = 0; size = 0x3C });
+  }) gives 0 []
+  pub none_more : LoadsFile (record (mapped_on AMD64) { imports = None }) gives 1 [] → ⊥

@@ -22,6 +22,9 @@ use Rattle.implib_link.specs.Search.Sweeps.{members_at}
 use Rattle.implib_link_instances.specs.Worked.CommandLines.{i386_quit_bytes, i386_wants_bytes}
 use Rattle.implib_link_instances.specs.Worked.CommandLines.{inputs_of, is_quit, quit_bytes}
 use Rattle.implib_link_instances.specs.Worked.CommandLines.{quit_member, read_or_none, wants_bytes}
+use Rattle.implib_link.specs.Archives.Results.{HaveArchive}
+use Rattle.implib_link.specs.Archives.InBytes.{Second}
+use Rattle.implib_archive.specs.declared.kind.Kind.TheVariants.{Coff}
 
 -- the library of kernel32.dll for Microsoft's linker, with one function
 abbrev pub kernels_on : MachineType → ExportView → List FlavorLibrary
@@ -73,6 +76,7 @@ with_quit machine members own =
 pub record WorkedFlavorLine (machine : MachineType) (libraries : List FlavorLibrary)
     (members : List MemberView) (own : List Object) (inputs : List Input) : Type 0 where
   pub archive : IsFlavorArchive machine libraries
+  pub ready : HaveArchive Coff Second (archive_of_both libraries)
   pub searches : SearchesFlavors machine libraries members inputs is_quit shorts_taken
   pub given : AreGivenForBoth machine libraries (with_quit machine members own)
   pub some : 0

@@ -1,18 +1,17 @@
 -- Programs of DLLs in both flavours, linked by hand: foo.dll by members for Microsoft's linker,
 -- with four exports chosen in an order of its own, and zed.dll by members for GNU's, with one,
--- between a caller and another object; and tables at addresses where no loader finds them.
+-- between a caller and another object.
 use Rattle.std.specs.Prelude.{◌≡◌, ℕ, ◌+◌, List, [], ◌∷◌, ◌++◌, codes, drop, map, take, true}
 use Rattle.std.specs.Prelude.{Option, Some}
 use Rattle.std.specs.List.{AllByRecursion}
 use Rattle.implib.specs.declared.flavor.Flavor.TheVariants.{Gnu, Msvc}
 use Rattle.implib.specs.declared.machine.MachineType.{MachineType}
-use Rattle.implib.specs.declared.machine.MachineType.TheVariants.{I386, ARMNT, AMD64, ARM64}
+use Rattle.implib.specs.declared.machine.MachineType.TheVariants.{I386, AMD64}
 use Rattle.implib.specs.Formats.Constants.{class_external}
 use Rattle.implib.specs.Definition.{DefinitionView, ExportView}
-use Rattle.implib.specs.Link.Image.{IsAdmissible, Range, image_of}
-use Rattle.implib.specs.Import.{Ask, Name, Ordinal, imp_symbol}
+use Rattle.implib.specs.Link.Image.{Range, image_of}
+use Rattle.implib.specs.Import.{imp_symbol}
 use Rattle.implib.specs.Members.ImportTables.{thunk_width}
-use Rattle.implib.specs.Link.Load.{LoadsStrictly}
 use Rattle.implib.specs.Members.MemberSpec.{MemberView, member_of}
 use Rattle.implib.specs.Members.Members.{member_specs}
 use Rattle.implib.specs.Formats.Object.{ASymbol, Object}
@@ -167,28 +166,7 @@ pub record WorkedFlavorProgram (machine : MachineType) (count : ℕ) (bases : Ba
       (ASymbol (symbol_of_class (imp_symbol (symbol_on machine (codes "open"))) 0 class_external))
       ≡ expected.named
 
--- on all four machines: the null descriptor in front of all members, between those of foo.dll, and
--- after all
+-- the null descriptor in front of all members, and between those of foo.dll
 pub record WorkedFlavors : Type 0 where
   pub amd64 : WorkedFlavorProgram AMD64 0 flavor_bases_8 flavor_expected_8
   pub i386 : WorkedFlavorProgram I386 2 flavor_bases_4 flavor_expected_4
-  pub arm64 : WorkedFlavorProgram ARM64 9 flavor_bases_8 flavor_expected_8
-  pub armnt : WorkedFlavorProgram ARMNT 2 flavor_bases_4 flavor_expected_4
-
--- what foo.dll is asked for
-abbrev pub foo_asks : List Ask
-foo_asks = Ordinal 9 ∷ Name (codes "open") 258 ∷ Name (codes "stat") 0 ∷ Name (codes "f") 0 ∷ []
-
--- the same bases, but for lookup tables from a multiple of 4 on that is none of 8
-abbrev pub shifted_bases : Bases
-shifted_bases = record flavor_bases_8 { lookups = 68 }
-
--- Such bases are admissible, and yet no program's: the import descriptor leads to 68, where zeros
--- fill the gap before the first thunk, and the eight bytes there are not the thunk. No strict
--- loader takes that.
-pub record RefusedTables : Type 0 where
-  pub admissible : IsAdmissible AMD64 shifted_bases (flavor_objects AMD64 0)
-  pub field : numbers_from (flavor_image AMD64 0 shifted_bases) 4 1 8 ≡ Some (68 ∷ [])
-  pub thunk : numbers_from (flavor_image AMD64 0 shifted_bases) 8 1 68 ≡ Some (0x9_0000_0000 ∷ [])
-  pub refused : LoadsStrictly (flavor_image AMD64 0 shifted_bases) 8 8 (codes "foo.dll") foo_asks →
-      ⊥

@@ -1,12 +1,10 @@
 -- Programs that lld-link 14.0.6 and 19.1.7 wrote for three machines, the same bytes by both: the
 -- short imports of llvm-dlltool 19.1.7, the code of an object before and after the link, the thunk,
 -- and the import tables.
-use Rattle.std.specs.Prelude.{◌≡◌, ℕ, ◌+◌, List, [], ◌∷◌, ◌++◌, codes, drop, slice_get, take}
-use Rattle.std.specs.Prelude.{Option, None, Some}
-use Rattle.std.specs.List.{filter_map}
+use Rattle.std.specs.Prelude.{List, None, Option, Some, [], codes, ℕ, ◌+◌, ◌∷◌}
 use Rattle.implib.specs.declared.coff.object.Relocation.{Relocation}
 use Rattle.implib.specs.declared.machine.MachineType.{MachineType}
-use Rattle.implib.specs.declared.machine.MachineType.TheVariants.{I386, ARMNT, AMD64, ARM64}
+use Rattle.implib.specs.declared.machine.MachineType.TheVariants.{AMD64, ARM64, ARMNT, I386}
 use Rattle.implib.specs.Formats.Constants.{align_16bytes, amd64_rel32, arm64_pagebase_rel21}
 use Rattle.implib.specs.Formats.Constants.{arm64_pageoffset_12l, class_external, cnt_code}
 use Rattle.implib.specs.Formats.Constants.{i386_dir32, mem_execute_read}
@@ -18,39 +16,24 @@ use Rattle.implib.specs.Link.Placement.{Placed, Unplaced}
 use Rattle.implib.specs.Link.Resolution.{symbol_address}
 use Rattle.implib.specs.Machine.{machine_number}
 use Rattle.implib.specs.Members.Gnu.{section, text_name}
-use Rattle.implib_link.specs.Flavors.LldImports.{IsLldProgram, imports_of_lld, placed_by_lld}
-use Rattle.implib_link.specs.Flavors.LldImports.{short_for}
-use Rattle.implib_link.specs.Flavors.LldTables.{built_bytes}
-use Rattle.implib_link.specs.Flavors.LldThunks.{BranchArrivesByThunk, IsThunk, placed_thunk}
-use Rattle.implib_link.specs.Flavors.LldThunks.{thunk_section}
+use Rattle.implib_link.specs.Flavors.LldImports.{placed_by_lld}
+use Rattle.implib_link.specs.Flavors.LldThunks.{placed_thunk, thunk_section}
 use Rattle.implib_link.specs.Gnu.Calls.{arm64_branch26, i386_rel32}
-use Rattle.implib_link.specs.Gnu.Fields.{IsRelocated, LinkedCode, ranges_of_codes}
-use Rattle.implib_link.specs.Gnu.Moves.{AreInMemory}
-use Rattle.implib_link.specs.Gnu.Operands.{HasBranch, HasInstruction, HasOffsetField, HasPageField}
-use Rattle.implib_link.specs.Gnu.Rebased.{Place}
-use Rattle.implib_link.specs.Tables.{AreSteady, AreTables, CanReadFrom, IsInTable, RiseFrom, Table}
-use Rattle.implib_link.specs.Tables.{Tables, tables_of_lld}
-use Rattle.implib_link_instances.specs.Worked.Lld.{gee_bytes, mid_bytes, written_by_lld, zeta_bytes}
+use Rattle.implib_link.specs.Gnu.Fields.{LinkedCode}
 use Rattle.implib_link_instances.specs.Worked.Programs.{symbol_of_class, symbol_on}
 
--- The short imports, as they were read: `mid` and `zeta` of beta.dll, the first by its ordinal,
--- `gee` of alpha.dll.
--- ARM64's differ from AMD64's in the machine alone.
-abbrev pub on_arm64 : List ℕ → List ℕ
-on_arm64 bytes = take 7 bytes ++ 0xAA ∷ drop 8 bytes
-
-abbrev pub short_files : MachineType → List (List ℕ)
-short_files I386 =
-    (0 ∷ 0 ∷ 0xFF ∷ 0xFF ∷ 0 ∷ 0 ∷ 0x4C ∷ 1 ∷ 0 ∷ 0 ∷ 0 ∷ 0 ∷ 0x0E ∷ 0 ∷ 0 ∷ 0 ∷ 7 ∷ 0 ∷ 0 ∷ 0 ∷ 0x5F ∷ 0x6D ∷
-    0x69 ∷ 0x64 ∷ 0 ∷ 0x62 ∷ 0x65 ∷ 0x74 ∷ 0x61 ∷ 0x2E ∷ 0x64 ∷ 0x6C ∷ 0x6C ∷ 0 ∷ [])
-    ∷ (0 ∷ 0 ∷ 0xFF ∷ 0xFF ∷ 0 ∷ 0 ∷ 0x4C ∷ 1 ∷ 0 ∷ 0 ∷ 0 ∷ 0 ∷ 0x0F ∷ 0 ∷ 0 ∷ 0 ∷ 2 ∷ 1 ∷ 8 ∷ 0 ∷ 0x5F ∷ 0x67 ∷
-    0x65 ∷ 0x65 ∷ 0 ∷ 0x61 ∷ 0x6C ∷ 0x70 ∷ 0x68 ∷ 0x61 ∷ 0x2E ∷ 0x64 ∷ 0x6C ∷ 0x6C ∷ 0 ∷ [])
-    ∷ (0 ∷ 0 ∷ 0xFF ∷ 0xFF ∷ 0 ∷ 0 ∷ 0x4C ∷ 1 ∷ 0 ∷ 0 ∷ 0 ∷ 0 ∷ 0x0F ∷ 0 ∷ 0 ∷ 0 ∷ 5 ∷ 0 ∷ 8 ∷ 0 ∷ 0x5F ∷ 0x7A ∷
-    0x65 ∷ 0x74 ∷ 0x61 ∷ 0 ∷ 0x62 ∷ 0x65 ∷ 0x74 ∷ 0x61 ∷ 0x2E ∷ 0x64 ∷ 0x6C ∷ 0x6C ∷ 0 ∷ [])
-    ∷ []
-short_files ARMNT = []
-short_files AMD64 = mid_bytes ∷ gee_bytes ∷ zeta_bytes ∷ []
-short_files ARM64 = on_arm64 mid_bytes ∷ on_arm64 gee_bytes ∷ on_arm64 zeta_bytes ∷ []
+-- the section `.rdata`, from 0x2000 on
+abbrev pub written_by_lld : List ℕ
+written_by_lld =
+    0x40 ∷ 0x20 ∷ 0 ∷ 0 ∷ 0 ∷ 0 ∷ 0 ∷ 0 ∷ 0 ∷ 0 ∷ 0 ∷ 0 ∷ 0x9E ∷ 0x20 ∷ 0 ∷ 0 ∷ 0x68 ∷ 0x20 ∷ 0 ∷ 0 ∷
+    0x58 ∷ 0x20 ∷ 0 ∷ 0 ∷ 0 ∷ 0 ∷ 0 ∷ 0 ∷ 0 ∷ 0 ∷ 0 ∷ 0 ∷ 0xA7 ∷ 0x20 ∷ 0 ∷ 0 ∷ 0x80 ∷ 0x20 ∷ 0 ∷ 0 ∷ 0 ∷
+    0 ∷ 0 ∷ 0 ∷ 0 ∷ 0 ∷ 0 ∷ 0 ∷ 0 ∷ 0 ∷ 0 ∷ 0 ∷ 0 ∷ 0 ∷ 0 ∷ 0 ∷ 0 ∷ 0 ∷ 0 ∷ 0 ∷ 0 ∷ 0 ∷ 0 ∷ 0 ∷ 7 ∷ 0 ∷ 0 ∷
+    0 ∷ 0 ∷ 0 ∷ 0 ∷ 0x80 ∷ 0x90 ∷ 0x20 ∷ 0 ∷ 0 ∷ 0 ∷ 0 ∷ 0 ∷ 0 ∷ 0 ∷ 0 ∷ 0 ∷ 0 ∷ 0 ∷ 0 ∷ 0 ∷ 0 ∷ 0x98 ∷
+    0x20 ∷ 0 ∷ 0 ∷ 0 ∷ 0 ∷ 0 ∷ 0 ∷ 0 ∷ 0 ∷ 0 ∷ 0 ∷ 0 ∷ 0 ∷ 0 ∷ 0 ∷ 7 ∷ 0 ∷ 0 ∷ 0 ∷ 0 ∷ 0 ∷ 0 ∷ 0x80 ∷
+    0x90 ∷ 0x20 ∷ 0 ∷ 0 ∷ 0 ∷ 0 ∷ 0 ∷ 0 ∷ 0 ∷ 0 ∷ 0 ∷ 0 ∷ 0 ∷ 0 ∷ 0 ∷ 0 ∷ 0x98 ∷ 0x20 ∷ 0 ∷ 0 ∷ 0 ∷ 0 ∷ 0 ∷
+    0 ∷ 0 ∷ 0 ∷ 0 ∷ 0 ∷ 0 ∷ 0 ∷ 0 ∷ 0 ∷ 5 ∷ 0 ∷ 0x7A ∷ 0x65 ∷ 0x74 ∷ 0x61 ∷ 0 ∷ 0 ∷ 2 ∷ 1 ∷ 0x67 ∷ 0x65 ∷
+    0x65 ∷ 0 ∷ 0x62 ∷ 0x65 ∷ 0x74 ∷ 0x61 ∷ 0x2E ∷ 0x64 ∷ 0x6C ∷ 0x6C ∷ 0 ∷ 0x61 ∷ 0x6C ∷ 0x70 ∷ 0x68 ∷
+    0x61 ∷ 0x2E ∷ 0x64 ∷ 0x6C ∷ 0x6C ∷ 0 ∷ []
 
 -- on I386 a leading `_` is no part of the name that is asked for
 abbrev pub by_name : MachineType → ℕ
@@ -214,9 +197,6 @@ code_of_thunk machine = record {
   bytes = linked_thunk machine;
 }
 
-abbrev pub lld_codes : MachineType → List LinkedCode
-lld_codes machine = code_of_object machine ∷ code_of_thunk machine ∷ []
-
 -- a symbol's address: in the tables of what is linked, or else, by its name, outside of them
 abbrev pub or_thunk : ℕ → Option ℕ → ℕ
 or_thunk thunk None = thunk
@@ -227,133 +207,3 @@ taken_address outside linked p None = 0
 taken_address outside linked p (Some (Auxiliary bytes)) = 0
 taken_address outside linked p (Some (ASymbol s)) =
     or_thunk (outside s.name) (symbol_address linked p (ASymbol s))
-
-abbrev pub lld_targets : MachineType → LinkedCode → ℕ → ℕ
-lld_targets machine c index =
-    taken_address (λ name. thunk_address machine) (lld_linked_on machine) c.from
-    (slice_get c.from.object.entries index)
-
-abbrev pub lld_memory : MachineType → List Range
-lld_memory machine = lld_image_on machine ++ ranges_of_codes (lld_codes machine)
-
--- With I386's base relocations applied, for 0x10000000: of the call, the load and the thunk, as in
--- lld's `.reloc`. The other two have none.
-abbrev pub lld_places : MachineType → List Place
-lld_places I386 =
-    record { address = 0x1002; width = 4 }
-    ∷ record { address = 0x1007; width = 4 }
-    ∷ record { address = 0x1013; width = 4 }
-    ∷ []
-lld_places ARMNT = []
-lld_places AMD64 = []
-lld_places ARM64 = []
-
-abbrev pub lld_moved_memory : MachineType → List Range
-lld_moved_memory I386 =
-    record { start = 0x1002; bytes = 0x54 ∷ 0x20 ∷ 0 ∷ 0x10 ∷ [] }
-    ∷ record { start = 0x1007; bytes = 0x5C ∷ 0x20 ∷ 0 ∷ 0x10 ∷ [] }
-    ∷ record { start = 0x1013; bytes = 0x50 ∷ 0x20 ∷ 0 ∷ 0x10 ∷ [] }
-    ∷ lld_memory I386
-lld_moved_memory ARMNT = []
-lld_moved_memory AMD64 = lld_memory AMD64
-lld_moved_memory ARM64 = lld_memory ARM64
-
--- The program is one of the laws, its code is linked beside its tables, and it is in memory at a
--- base; it has the thunk of `mid`, and a call of it, whose field is so far from the code's
--- beginning.
-pub record WorkedLldProgram (machine : MachineType) (image_base : ℕ) (memory : List Range)
-    (call : ℕ) : Type 0 where
-  pub program : IsLldProgram machine 0x2000 (addresses_on machine) (shorts_on machine)
-      (lld_image_on machine)
-      (lld_linked_on machine)
-  pub steady : AreSteady machine (lld_linked_on machine)
-  pub at : AreInMemory machine image_base (lld_image_on machine) (lld_linked_on machine)
-      (lld_codes machine)
-      (lld_targets machine) memory
-  pub thunk : IsThunk machine (code_of_thunk machine) (mid_on machine)
-  pub branch : HasBranch machine (code_of_object machine) call 0 (symbol_on machine (codes "mid"))
-
--- what the DLLs give, in entries of 4 and 8 bytes
-abbrev pub four_bytes : ℕ → List ℕ
-four_bytes low = low ∷ 0 ∷ 0 ∷ 0x10 ∷ []
-
-abbrev pub eight_bytes : ℕ → List ℕ
-eight_bytes low = low ∷ 0 ∷ 0 ∷ 0x10 ∷ 0 ∷ 0 ∷ 0 ∷ 0 ∷ []
-
--- The three programs, at the bases that they were linked for and at others; the fields of their
--- code; the short imports and the tables, byte for byte.
-pub record WorkedLldPrograms : Type 0 where
-  pub i386 : WorkedLldProgram I386 0x40_0000 (lld_memory I386) 12
-  pub i386_moved : WorkedLldProgram I386 0x1000_0000 (lld_moved_memory I386) 12
-  pub amd64 : WorkedLldProgram AMD64 0x1_4000_0000 (lld_memory AMD64) 14
-  pub amd64_moved : WorkedLldProgram AMD64 0x7FF6_1234_0000 (lld_moved_memory AMD64) 14
-  pub arm64 : WorkedLldProgram ARM64 0x1_4000_0000 (lld_memory ARM64) 20
-  pub arm64_moved : WorkedLldProgram ARM64 0x4000_0000 (lld_moved_memory ARM64) 20
-  pub i386_call : HasInstruction I386 (code_of_object I386) 0 (0xFF ∷ 0x15 ∷ []) []
-      (codes "__imp__zeta")
-  pub i386_load : HasInstruction I386 (code_of_object I386) 6 (0xA1 ∷ []) [] (codes "__imp__gee")
-  pub amd64_call : HasInstruction AMD64 (code_of_object AMD64) 0 (0xFF ∷ 0x15 ∷ []) []
-      (codes "__imp_zeta")
-  pub amd64_load : HasInstruction AMD64 (code_of_object AMD64) 6 (0x48 ∷ 0x8B ∷ 5 ∷ []) []
-      (codes "__imp_gee")
-  pub arm64_page : HasPageField (code_of_object ARM64) 12 (codes "__imp_gee")
-  pub arm64_offset : HasOffsetField (code_of_object ARM64) 16 (codes "__imp_gee")
-  pub i386_shorts : filter_map (short_for I386) (short_files I386) ≡ shorts_on I386
-  pub amd64_shorts : filter_map (short_for AMD64) (short_files AMD64) ≡ shorts_on AMD64
-  pub arm64_shorts : filter_map (short_for ARM64) (short_files ARM64) ≡ shorts_on ARM64
-  pub i386_written : built_bytes I386 0x2000 (imports_of_lld (shorts_on I386)) ≡ tables_on I386
-  pub amd64_written : built_bytes AMD64 0x2000 (imports_of_lld (shorts_on AMD64)) ≡ tables_on AMD64
-  pub arm64_written : built_bytes ARM64 0x2000 (imports_of_lld (shorts_on ARM64)) ≡ tables_on ARM64
-
--- Near misses.
-
--- AMD64's tables, with another directory, another first address or other tables
-abbrev pub tables_with : List Range → List Placed → ℕ → ℕ → Tables
-tables_with image linked directory addresses =
-    tables_of_lld AMD64 directory addresses (shorts_on AMD64) image linked
-
-abbrev pub own_tables : Tables
-own_tables = tables_with (lld_image_on AMD64) (lld_linked_on AMD64) 0x2000 0x2068
-
--- tables of which the second is in front of the first
-abbrev pub overlapping_tables : List Table
-overlapping_tables =
-    record { dll = codes "beta.dll"; address = 0x2068; entries = [] }
-    ∷ record { dll = codes "alpha.dll"; address = 0x2060; entries = [] }
-    ∷ []
-
-pub record RefusedTables : Type 0 where
-  pub stand : AreTables AMD64 own_tables
-  pub rise : RiseFrom 8 0 overlapping_tables → ⊥
-  pub in_table : IsInTable 8 own_tables.tables (record { start = 0x2070; bytes = eight_bytes 0 })
-  -- ARM64 loads at multiples of 8, I386 below 2^32, ARMNT's thunks are not claimed
-  pub arm64_table : CanReadFrom ARM64 0x1_4000_0000 0x206C → ⊥
-  pub arm64_base : CanReadFrom ARM64 0x1_4000_0004 0x2068 → ⊥
-  pub i386_base : CanReadFrom I386 0x8000_0001 0x2050 → ⊥
-  pub armnt : CanReadFrom ARMNT 0x40_0000 0x2050 → ⊥
-
--- no linker makes a thunk that leads to another entry
-pub record RefusedThunks : Type 0 where
-  pub linked : IsRelocated AMD64 0x1_4000_0000 (lld_targets AMD64 (code_of_thunk AMD64)) 0x1020
-      (thunk_section AMD64)
-      (0xFF ∷ 0x25 ∷ 0x4A ∷ 0x10 ∷ 0 ∷ 0 ∷ []) → ⊥
-
--- The call of `mid` on AMD64, by its field, the thunk's code at 0x1020, and what is at its entry.
-abbrev pub call_memory : ℕ → List ℕ → List ℕ → List Range
-call_memory address field code =
-    record { start = address; bytes = field }
-    ∷ record { start = 0x1020; bytes = code }
-    ∷ record { start = 0x2068; bytes = eight_bytes 0 }
-    ∷ []
-
-abbrev pub CallOfMid : ℕ → List ℕ → List ℕ → Type 0
-CallOfMid address field code =
-    BranchArrivesByThunk AMD64 0x1_4000_0000 (call_memory address field code) 0x100E 0
-    (eight_bytes 0)
-
--- The field a byte further on; a call that leads into the thunk; and code there that calls.
-pub record RefusedCalls : Type 0 where
-  pub arrives : CallOfMid 0x100E (0x0E ∷ 0 ∷ 0 ∷ 0 ∷ []) (linked_thunk AMD64)
-  pub there : CallOfMid 0x100F (0x0E ∷ 0 ∷ 0 ∷ 0 ∷ []) (linked_thunk AMD64) → ⊥
-  pub leads : CallOfMid 0x100E (0x0F ∷ 0 ∷ 0 ∷ 0 ∷ []) (linked_thunk AMD64) → ⊥
-  pub jumps : CallOfMid 0x100E (0x0E ∷ 0 ∷ 0 ∷ 0 ∷ []) (0xFF ∷ 0x15 ∷ 0x42 ∷ 0x10 ∷ 0 ∷ 0 ∷ []) → ⊥

@@ -1,21 +1,26 @@
 -- The programs by hand, loaded by hand and called: that they meet what the laws ask for, and what
 -- the laws say of them.
 use Rattle.implib_link.specs.Tables.{AreTablesLoaded, block_of_flavor, tables_at}
-use Rattle.std.specs.Prelude.{◌≡◌, ℕ, ◌-◌, List, [], ◌∷◌, codes, length, map, slice_index}
+use Rattle.std.specs.Prelude.{List, [], codes, length, map, slice_index, ℕ, ◌++◌, ◌-◌, ◌∷◌, ◌≡◌}
 use Rattle.implib.specs.declared.machine.MachineType.{MachineType}
-use Rattle.implib.specs.declared.machine.MachineType.TheVariants.{I386, ARMNT, AMD64, ARM64}
+use Rattle.implib.specs.declared.machine.MachineType.TheVariants.{AMD64, I386}
 use Rattle.implib.specs.Import.{Ask, Name, Ordinal}
-use Rattle.implib.specs.Link.Image.{Range}
-use Rattle.implib.specs.Link.Placement.{Bases}
+use Rattle.implib.specs.Link.Image.{IsAdmissible, Range, contributions}
+use Rattle.implib.specs.Link.Placement.{Bases, HintNames}
 use Rattle.implib.specs.Members.ImportTables.{thunk_width, zeros}
 use Rattle.implib_link.specs.Directory.{WalkFinds, imported}
 use Rattle.implib_link.specs.Gnu.Loaded.{Writes}
-use Rattle.implib_link.specs.Flavors.Program.{LinksAmong}
+use Rattle.implib_link.specs.Flavors.Program.{IsProgram, LinksAmong, gnu_input}
 use Rattle.implib_link.specs.Stub.{CanJump, JumpsThrough}
 use Rattle.implib_link_instances.specs.Worked.Programs.{both_inputs, program_image, program_objects}
 use Rattle.implib_link_instances.specs.Worked.Programs.{program_placed, symbol_on, touching_4}
 use Rattle.implib_link_instances.specs.Worked.Programs.{touching_8}
-use Rattle.implib_link.specs.Flavors.Program.{gnu_input}
+use Rattle.implib.specs.Formats.Object.{Object}
+use Rattle.implib.specs.Link.Linked.{AllLink}
+use Rattle.implib.specs.Link.LinkedMembers.{all_linked, objects_in}
+use Rattle.implib_link.specs.Gnu.Packed.{packed, packed_end}
+use Rattle.implib_link.specs.Gnu.Program.{null_descriptor}
+use Rattle.implib_link.specs.Gnu.Bounds.{AreBounded, HaveEvenHints}
 
 -- what DLLs give by hand: the ordinal or the name's first letter, the DLL's first letter, and zeros
 abbrev pub gives_by_hand : MachineType → List ℕ → Ask → List ℕ
@@ -74,20 +79,74 @@ pub record WorkedCall (machine : MachineType) (image_base : ℕ) (bases : Bases)
       (symbol_on machine (codes "queue"))
       queue_entry
 
--- on all machines that have such stubs; and where there are none: an image that does not end below
--- 2^32, an image or address tables at no multiple of 8, and ARMNT
+-- on two machines
 pub record WorkedLoads : Type 0 where
   pub amd64 : WorkedLoad AMD64 touching_8 (written_8 AMD64)
-  pub arm64 : WorkedLoad ARM64 touching_8 (written_8 ARM64)
   pub i386 : WorkedLoad I386 touching_4 (written_4 I386)
-  pub armnt : WorkedLoad ARMNT touching_4 (written_4 ARMNT)
 
 pub record WorkedCalls : Type 0 where
   pub amd64 : WorkedCall AMD64 0x1_4000_0000 touching_8 128 160
-  pub arm64 : WorkedCall ARM64 0x1_4000_0000 touching_8 128 160
   pub i386 : WorkedCall I386 0x40_0000 touching_4 96 112
-  pub i386_at_most : CanJump I386 0x8000_0000 touching_4
-  pub i386_above : CanJump I386 0x8000_0001 touching_4 → ⊥
-  pub arm64_image : CanJump ARM64 0x1_4000_0004 touching_8 → ⊥
-  pub arm64_tables : CanJump ARM64 0x1_4000_0000 touching_4 → ⊥
-  pub armnt : CanJump ARMNT 0x40_0000 touching_4 → ⊥
+
+-- the bases of the programs packed from 0x1001 on, for thunks of 8 and of 4 bytes: the descriptors
+-- from the first multiple of 8 on, the others after one another
+abbrev pub packed_8 : Bases
+packed_8 = record {
+  descriptors = 0x1008;
+  directory_ends = 0x1044;
+  lookups = 0x1048;
+  addresses = 0x1080;
+  hint_names = 0x10B8;
+  dll_names = 0x10D8;
+}
+
+abbrev pub packed_4 : Bases
+packed_4 = record {
+  descriptors = 0x1008;
+  directory_ends = 0x1044;
+  lookups = 0x1048;
+  addresses = 0x1068;
+  hint_names = 0x1088;
+  dll_names = 0x10A8;
+}
+
+-- the members of both DLLs and the null descriptor, and nothing else
+abbrev pub alone : MachineType → List Object
+alone machine = objects_in (all_linked machine (both_inputs machine)) ++ null_descriptor ∷ []
+
+-- The packed program of a machine has these bases and this end, and they are admissible; so are
+-- those of the members alone, which are a program.
+pub record WorkedPacking (machine : MachineType) (bases : Bases) (end : ℕ) : Type 0 where
+  pub bases_are : packed 0x1001 (program_objects machine) ≡ bases
+  pub end_is : packed_end 0x1001 (program_objects machine) ≡ end
+  pub admissible : IsAdmissible machine (packed 0x1001 (program_objects machine))
+      (program_objects machine)
+  pub program : IsProgram machine (packed 0x1001 (alone machine)) (both_inputs machine)
+      (alone machine)
+
+-- On two machines. Where ranges touch, the members link in any order, and with the null descriptor
+-- are a program.
+pub record WorkedPackings : Type 0 where
+  pub amd64 : WorkedPacking AMD64 packed_8 0x10FC
+  pub i386 : WorkedPacking I386 packed_4 0x10CC
+  pub any_order : AllLink AMD64 touching_8 (both_inputs AMD64)
+      (objects_in (all_linked AMD64 (both_inputs AMD64)))
+  pub touching : IsProgram AMD64 touching_8 (both_inputs AMD64) (alone AMD64)
+
+-- The program of a machine is bounded as the law says: by these addresses, with so many bytes of
+-- address tables, the directory's 60 bytes, and hints at these addresses.
+pub record WorkedBound (machine : MachineType) (bases : Bases) (start size : ℕ)
+    (hints : List ℕ) : Type 0 where
+  pub bounds : AreBounded machine bases (both_inputs machine) (program_objects machine)
+  pub start_is : bounds.table.start ≡ start
+  pub size_is : length bounds.table.bytes ≡ size
+  pub directory_is : length bounds.directory.bytes ≡ 60
+  pub even : HaveEvenHints machine bases (program_objects machine)
+  pub hints_are : map (λ c. c.address)
+      (contributions machine (program_placed machine bases) HintNames
+      (program_placed machine bases)) ≡ hints
+
+-- on two machines: seven thunks each, from where the bases say
+pub record WorkedBounds : Type 0 where
+  pub amd64 : WorkedBound AMD64 touching_8 120 56 (176 ∷ 176 ∷ 184 ∷ 192 ∷ 200 ∷ [])
+  pub i386 : WorkedBound I386 touching_4 92 28 (120 ∷ 120 ∷ 128 ∷ 136 ∷ 144 ∷ [])

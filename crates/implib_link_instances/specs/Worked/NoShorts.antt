@@ -10,11 +10,11 @@ use Rattle.implib_link.specs.Search.BothFlavors.{gnu_among}
 use Rattle.implib_link.specs.Search.Closed.{LinksClosed}
 use Rattle.implib_link.specs.Search.MsvcArchives.{TakesIntoFor}
 use Rattle.implib_link.specs.Search.NoShorts.{WantsNoShort}
-use Rattle.implib_link_instances.specs.Worked.Archives.{library_of, two_libraries}
-use Rattle.implib_link_instances.specs.Worked.BothFlavors.{foo_and_zed, gnu_foo}
+use Rattle.implib_link_instances.specs.Worked.Search.{library_of, two_libraries}
+use Rattle.implib_link_instances.specs.Worked.BothFlavors.{gnu_foo}
 use Rattle.implib_link_instances.specs.Worked.Closed.{choosing, closed_bases, closed_objects}
 use Rattle.implib_link_instances.specs.Worked.Closed.{closed_taken, zed_first}
-use Rattle.implib_link_instances.specs.Worked.MsvcArchives.{msvc_library}
+use Rattle.implib_link_instances.specs.Worked.MsvcSearch.{msvc_library}
 
 -- foo.dll and zed.dll for GNU's linker, and between them far.dll for Microsoft's
 abbrev pub short_far : FlavorLibrary
@@ -33,13 +33,20 @@ gnu_zed = record {
 abbrev pub with_far : List FlavorLibrary
 with_far = gnu_foo ∷ short_far ∷ gnu_zed ∷ []
 
+-- far.dll in front of them
+abbrev pub far_first : List FlavorLibrary
+far_first = short_far ∷ gnu_foo ∷ gnu_zed ∷ []
+
 -- The object wants nothing of far.dll, and a linker takes for it what it takes of the other two
--- alone; it links as it does with them. Of zed.dll for Microsoft's linker it wants `queue`.
-pub record WorkedNoShorts : Type 0 where
-  pub archive : IsFlavorArchive AMD64 with_far
-  pub others : gnu_among with_far ≡ two_libraries
-  pub none : WantsNoShort with_far (choosing ∷ [])
-  pub takes : TakesIntoFor AMD64 (archive_of_both with_far) (choosing ∷ []) closed_taken
-  pub links : LinksClosed AMD64 (gnu_among with_far) (choosing ∷ []) closed_taken zed_first
+-- alone; it links as it does with them.
+pub record WorkedNoShort (libraries : List FlavorLibrary) : Type 0 where
+  pub archive : IsFlavorArchive AMD64 libraries
+  pub others : gnu_among libraries ≡ two_libraries
+  pub none : WantsNoShort libraries (choosing ∷ [])
+  pub takes : TakesIntoFor AMD64 (archive_of_both libraries) (choosing ∷ []) closed_taken
+  pub links : LinksClosed AMD64 (gnu_among libraries) (choosing ∷ []) closed_taken zed_first
       closed_bases closed_objects
-  pub some : WantsNoShort foo_and_zed (choosing ∷ []) → ⊥
+
+pub record WorkedNoShorts : Type 0 where
+  pub between : WorkedNoShort with_far
+  pub first : WorkedNoShort far_first

@@ -15,20 +15,16 @@ use Rattle.implib.specs.Link.Image.{Range, image_of}
 use Rattle.implib.specs.Link.Placement.{Bases, Placed, SectionAddress, Unplaced, placed_from}
 use Rattle.implib.specs.Link.Resolution.{target_address}
 use Rattle.implib.specs.Members.Gnu.{section, stub_bytes, stub_relocations, text_name}
-use Rattle.implib_link.specs.Flavors.Program.{OfMember, IsProgramOf, IsProgram}
-use Rattle.implib_link.specs.Gnu.Calls.{HasCall, HasDirectCall, IsAside, amd64_addr64, arm64_addr64}
+use Rattle.implib_link.specs.Flavors.Program.{IsProgram}
+use Rattle.implib_link.specs.Gnu.Calls.{HasCall, HasDirectCall, amd64_addr64, arm64_addr64}
 use Rattle.implib_link.specs.Gnu.Calls.{arm64_branch26, i386_rel32, StubAt}
 use Rattle.implib_link.specs.Gnu.Fields.{LinkedCode, placed_code, ranges_of_codes}
 use Rattle.implib_link.specs.Gnu.Moves.{AreInMemory, CanBeMoved}
 use Rattle.implib_link.specs.Gnu.Operands.{HasBranch, HasInstruction, HasOffsetField, HasOperand}
-use Rattle.implib_link.specs.Gnu.Operands.{HasPageField, HasPointer, IsOperand, branch_leads}
-use Rattle.implib_link.specs.Gnu.Operands.{operand_leads}
+use Rattle.implib_link.specs.Gnu.Operands.{HasPageField, HasPointer, branch_leads, operand_leads}
 use Rattle.implib_link.specs.Gnu.Pages.{HasPage, HasPageOffset}
 use Rattle.implib_link.specs.Gnu.Program.{null_descriptor}
 use Rattle.implib_link.specs.Gnu.Rebased.{Place}
-use Rattle.implib_link_instances.specs.Worked.Calls.{calling, calling_code, calling_flavors}
-use Rattle.implib_link_instances.specs.Worked.Calls.{first_bytes, flavors_placed, last_bytes}
-use Rattle.implib_link_instances.specs.Worked.Flavors.{both_inputs as flavor_inputs, flavor_bases_8}
 use Rattle.implib_link_instances.specs.Worked.Programs.{another, both_inputs, foo_input}
 use Rattle.implib_link_instances.specs.Worked.Programs.{input_objects, symbol_of_class, symbol_on}
 use Rattle.implib_link_instances.specs.Worked.Programs.{touching_4, touching_8, zed_input}
@@ -262,23 +258,13 @@ passing_places ARM64 = record { address = 0x1020; width = 8 } ∷ []
 abbrev pub imp_open : MachineType → List ℕ
 imp_open machine = imp_symbol (open_on machine)
 
--- its fields, and what is none: REL32 with 0 in the field where a byte follows, REL32_1 where none
--- does, the field relative to a section, and the offset of a load of 16 bytes
+-- its fields
 pub record PassingFields : Type 0 where
   pub amd64_call : HasInstruction AMD64 (passing_at AMD64) 11 (0xFF ∷ 0x15 ∷ []) [] (imp_open AMD64)
-  pub amd64_compare : HasInstruction AMD64 (passing_at AMD64) 17 (0x83 ∷ 0x3D ∷ []) (1 ∷ [])
-      (imp_open AMD64)
-  pub amd64_again : HasInstruction AMD64 (passing_at AMD64) 24 (0x83 ∷ 0x3D ∷ []) (1 ∷ [])
-      (imp_open AMD64)
-  pub amd64_move : HasInstruction AMD64 (passing_at AMD64) 31 (0x4C ∷ 0x8B ∷ 0x1D ∷ []) []
-      (imp_open AMD64)
   pub amd64_operand : HasOperand AMD64 (passing_at AMD64) 19 1 (imp_open AMD64)
   pub amd64_branch : HasBranch AMD64 (passing_at AMD64) 39 0 (open_on AMD64)
   pub amd64_pointer : HasPointer AMD64 (passing_at AMD64) 52 (imp_open AMD64)
   pub i386_call : HasInstruction I386 (passing_at I386) 9 (0xFF ∷ 0x15 ∷ []) [] (imp_open I386)
-  pub i386_compare : HasInstruction I386 (passing_at I386) 15 (0x83 ∷ 0x3D ∷ []) (1 ∷ [])
-      (imp_open I386)
-  pub i386_move : HasInstruction I386 (passing_at I386) 22 (0x8B ∷ 0x0D ∷ []) [] (imp_open I386)
   pub i386_operand : HasOperand I386 (passing_at I386) 17 1 (imp_open I386)
   pub i386_pointer : HasPointer I386 (passing_at I386) 28 (imp_open I386)
   pub i386_branch : HasBranch I386 (passing_at I386) 37 0 (open_on I386)
@@ -286,10 +272,6 @@ pub record PassingFields : Type 0 where
   pub arm64_offset : HasOffsetField (passing_at ARM64) 16 (imp_open ARM64)
   pub arm64_branch : HasBranch ARM64 (passing_at ARM64) 28 0 (open_on ARM64)
   pub arm64_pointer : HasPointer ARM64 (passing_at ARM64) 32 (imp_open ARM64)
-  pub byte_follows : IsOperand AMD64 amd64_rel32 1 0 → ⊥
-  pub none_follows : IsOperand AMD64 amd64_rel32_1 0 0 → ⊥
-  pub of_a_section : HasOperand AMD64 (passing_at AMD64) 43 0 (codes "hello") → ⊥
-  pub of_16_bytes : HasOffsetField (passing_at ARM64) 24 (codes "hello") → ⊥
 
 -- The calls of the laws over placed code, right after a field of 4 bytes: through the pointer,
 -- after `lea` or `push`; by the name, after `mov` and after an address or the field relative to a
@@ -301,8 +283,6 @@ pub record AdjacentCalls : Type 0 where
   pub arm64_page : HasPage (placed_code (passing_at ARM64)) 12 8 (imp_open ARM64)
   pub arm64_offset : HasPageOffset (placed_code (passing_at ARM64)) 16 8 8 (imp_open ARM64)
   pub arm64_direct : HasDirectCall ARM64 (placed_code (passing_at ARM64)) 28 (open_on ARM64)
-  -- 8 bytes of an address before them would be changed
-  pub addr64 : IsAside AMD64 11 6 (field 7 2 amd64_addr64) → ⊥
 
 -- The program is in memory at a base, by these numbers of relocated fields; its second code is the
 -- stub of this entry.
@@ -319,29 +299,17 @@ pub record WorkedFields (machine : MachineType) (image_base : ℕ) (bases : Base
 -- the three programs, as they were linked and moved
 pub record WorkedOperands : Type 0 where
   pub amd64 : WorkedFields AMD64 0x1_4000_0000 touching_8 (passing_memory AMD64 touching_8) 0x80
-  pub amd64_moved : WorkedFields AMD64 0x7FF6_1234_0000 touching_8 (moved_memory AMD64 touching_8)
-      0x80
   pub i386 : WorkedFields I386 0x40_0000 touching_4 (passing_memory I386 touching_4) 0x60
   pub i386_moved : WorkedFields I386 0x1000_0000 touching_4 (moved_memory I386 touching_4) 0x60
   pub arm64 : WorkedFields ARM64 0x1_4000_0000 touching_8 (passing_memory ARM64 touching_8) 0x80
   pub arm64_moved : WorkedFields ARM64 0x4000_0000 touching_8 (moved_memory ARM64 touching_8) 0x80
   -- where the linked numbers lead: the call, the comparisons and the move, of AMD64 and of I386
   pub amd64_call : operand_leads AMD64 0x1_4000_100D 0 0xFFFF_F06F ≡ Some 0x1_4000_0080
-  pub amd64_compare : operand_leads AMD64 0x1_4000_1013 1 0xFFFF_F068 ≡ Some 0x1_4000_0080
-  pub amd64_again : operand_leads AMD64 0x1_4000_101A 1 0xFFFF_F061 ≡ Some 0x1_4000_0080
-  pub amd64_move : operand_leads AMD64 0x1_4000_1022 0 0xFFFF_F05A ≡ Some 0x1_4000_0080
   pub i386_call : operand_leads I386 0x40_100B 0 0x40_0060 ≡ Some 0x40_0060
   -- and the calls of `open`, at their ends and at the `bl`
   pub amd64_branch : branch_leads AMD64 0x1_4000_1027 0 0x15 ≡ Some 0x1_4000_1040
   pub i386_branch : branch_leads I386 0x40_1025 0 0x17 ≡ Some 0x40_1040
   pub arm64_branch : branch_leads ARM64 0x1_4000_101C 0 0x9400_0009 ≡ Some 0x1_4000_1040
-
--- I386's code with two fields for addresses that lie on one another
-abbrev pub overlapping_at : LinkedCode
-overlapping_at = record (passing_at I386) {
-  code = record (passing_code I386)
-      { relocations = field 5 2 i386_dir32 ∷ field 7 2 i386_dir32 ∷ [] };
-}
 
 -- the codes can be moved
 pub record MovableCode : Type 0 where
@@ -352,33 +320,3 @@ pub record MovableCode : Type 0 where
       × AreInMemory AMD64 0x2_0000_0000 (passing_image AMD64 touching_8)
       (passing_placed AMD64 touching_8) (passing_codes AMD64 touching_8)
       (passing_targets AMD64 touching_8) memory
-
--- In a program of both flavours: the code of Worked/Calls, whose call at 0x1004 leads to 0x88.
-abbrev pub calling_linked : LinkedCode
-calling_linked = record {
-  from = record { object = calling AMD64; section_addresses = Unplaced ∷ [] };
-  number = 1;
-  code = calling_code AMD64;
-  position = 0x1000;
-  bytes = first_bytes AMD64 ++ (0xFF ∷ 0x15 ∷ 0x7E ∷ 0xF0 ∷ 0xFF ∷ 0xFF ∷ last_bytes AMD64);
-}
-
-abbrev pub linked_targets : LinkedCode → ℕ → ℕ
-linked_targets c index =
-    named_or AMD64 (slice_get c.from.object.entries index)
-    (target_address flavors_placed c.from index)
-
-abbrev pub flavors_linked : List Range
-flavors_linked =
-    image_of AMD64 flavor_bases_8 flavors_placed ++ ranges_of_codes (calling_linked ∷ [])
-
--- It is in memory as it was linked for 0x140000000, and at 0x200000000, where nothing changes.
-pub record WorkedFlavorFields : Type 0 where
-  pub program : IsProgramOf AMD64 OfMember flavor_bases_8 (flavor_inputs AMD64) calling_flavors
-  pub linked : AreInMemory AMD64 0x1_4000_0000 (image_of AMD64 flavor_bases_8 flavors_placed)
-      flavors_placed
-      (calling_linked ∷ []) linked_targets flavors_linked
-  pub moved : AreInMemory AMD64 0x2_0000_0000 (image_of AMD64 flavor_bases_8 flavors_placed)
-      flavors_placed
-      (calling_linked ∷ []) linked_targets flavors_linked
-  pub call : HasInstruction AMD64 calling_linked 4 (0xFF ∷ 0x15 ∷ []) [] (imp_open AMD64)

@@ -10,7 +10,7 @@ use Rattle.implib.specs.Import.{Name}
 use Rattle.implib.specs.Link.Image.{Range, image_of}
 use Rattle.implib.specs.Link.LinkedMembers.{IsMade, LinkInput}
 use Rattle.implib.specs.Link.Placement.{Bases, placed_from}
-use Rattle.implib.specs.Worked.Links.{addresses_of, numbers_from}
+use Rattle.implib.specs.Worked.Links.{addresses_of}
 use Rattle.implib.specs.Worked.Members.{of_dll}
 use Rattle.implib.specs.Worked.Statements.{plain_export}
 use Rattle.implib_link.specs.Directory.{DirectoryAt, Imported}
@@ -342,17 +342,10 @@ image_written =
 abbrev pub beside_image : List Range
 beside_image = image_of AMD64 linker_bases (placed_from linker_bases beside_objects)
 
--- the same, but that the last member for aaa.dll, with the null thunks, is after ours
-abbrev pub torn_objects : List Object
-torn_objects = objects_of (caller_bytes ∷ aaa_head_bytes ∷ aone_bytes ∷ atwo_bytes ∷ [])
-    ++ (input_objects AMD64 mid_input
-    ++ (objects_of (aaa_tail_bytes ∷ []) ++ (zzz_objects ++ null_descriptor ∷ [])))
-
 -- The premises of the law hold of these files, and the image that the definitions make of them is
 -- what the linker wrote, byte for byte. By the law, the directory is this, and our entries are
--- those that the linker's map has.
--- With a library torn apart, the lookup table of aaa.dll goes on with the hint and name of `mone`.
--- The program of Worked/Programs is such a program without other libraries.
+-- those that the linker's map has. The program of Worked/Programs is such a program without other
+-- libraries.
 pub record WorkedBeside : Type 0 where
   pub made : AllByRecursion (λ r. AllByRecursion (IsMade AMD64) r.inputs) both_runs
   pub program : IsProgramBeside AMD64 linker_bases both_runs beside_objects
@@ -366,9 +359,6 @@ pub record WorkedBeside : Type 0 where
       ≡ Some 0x20A8 ∷ []
   pub mtwo : addresses_of (codes "__imp_mtwo") (placed_from linker_bases beside_objects)
       ≡ Some 0x20B0 ∷ []
-  pub torn : numbers_from (image_of AMD64 linker_bases (placed_from linker_bases torn_objects)) 8 3
-      0x2050
-      ≡ Some (0x20D0 ∷ 0x20D8 ∷ 0x20E0 ∷ [])
   pub none : IsProgramBeside AMD64 touching_8
       (record { objects = []; imports = []; inputs = both_inputs AMD64 } ∷ [])
       (program_objects AMD64)

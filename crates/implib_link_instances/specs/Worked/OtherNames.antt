@@ -23,18 +23,16 @@ use Rattle.implib_link.specs.Gnu.Operands.{AllLeadTo, HasBranch, HasInstruction}
 use Rattle.implib_link.specs.Gnu.Program.{null_descriptor}
 use Rattle.implib_link.specs.Gnu.Reading.{ReadsAndWrites}
 use Rattle.implib_link.specs.Parts.{IsProgramOfParts}
-use Rattle.implib_link.specs.InMemory.{AreAsWide, OfEntries, OfStubs, OfThunks, WhereLoaded}
+use Rattle.implib_link.specs.InMemory.{OfEntries, OfStubs, OfThunks, WhereLoaded}
 use Rattle.implib_link.specs.Tables.{AreSteady, Tables, tables_of_lld}
-use Rattle.implib_link_instances.specs.But.Links.{MissesStandsFor}
 use Rattle.implib_link_instances.specs.Worked.LldPrograms.{addresses_on, calling_object}
 use Rattle.implib_link_instances.specs.Worked.LldPrograms.{code_of_object, code_of_thunk}
 use Rattle.implib_link_instances.specs.Worked.LldPrograms.{lld_image_on, mid_on, shorts_on}
 use Rattle.implib_link_instances.specs.Worked.LldPrograms.{taken_address}
-use Rattle.implib_link_instances.specs.Worked.Older.{named_start}
+use Rattle.implib_link_instances.specs.Worked.Parts.{named_start, first_section, gnu_bases}
+use Rattle.implib_link_instances.specs.Worked.Parts.{gnu_image, kernel, placed_or_null, start_code}
+use Rattle.implib_link_instances.specs.Worked.Parts.{stub_code, zoo, zoo_parts, zoo_tables}
 use Rattle.implib_link_instances.specs.Worked.OtherLibraries.{objects_of}
-use Rattle.implib_link_instances.specs.Worked.Parts.{first_section, gnu_bases, gnu_image, kernel}
-use Rattle.implib_link_instances.specs.Worked.Parts.{placed_or_null, start_code, stub_code, zoo}
-use Rattle.implib_link_instances.specs.Worked.Parts.{zoo_parts, zoo_tables}
 use Rattle.implib_link_instances.specs.Worked.Programs.{input_objects, symbol_of_class}
 
 -- GNU ld's program: what is linked, and the code of the object and the stub, with the addresses of
@@ -177,11 +175,3 @@ pub record HoldsOfSome : Type 0 where
   pub of_thunks : OfThunks AMD64 0x1_4000_0000
       (tables_of_lld AMD64 0x2000 0x2068 (shorts_on AMD64) (lld_image_on AMD64) lld_other_linked)
       lld_other_codes eight_zeros (λ d r given. ⊥) → ⊥
-  pub as_wide : AreAsWide AMD64 (λ dll ask. []) → ⊥
-
--- a name that stands for another entry; and one that stands for other code
-pub record NearStandsFor : Type 0 where
-  pub tables : MissesStandsFor (codes "tables") other_linked other_codes other_targets
-      (codes "__imp_zoo_oped") (codes "__imp_ExitProcess")
-  pub code : MissesStandsFor (codes "code") other_linked other_codes other_targets
-      (codes "zoo_oped") (codes "start")

@@ -1,11 +1,12 @@
 -- Programs of libraries of GNU dlltool 2.40 and of ones made here, by the parts that they are of:
 -- the program of OtherLibraries, and one of kernel32.dll and zoo.dll that GNU ld 2.40 and ld.lld
 -- 19.1.7 linked on AMD64 and on I386, whose files are here byte by byte.
-use Rattle.std.specs.Prelude.{◌≡◌, ℕ, ◌-◌, List, [], ◌∷◌, ◌++◌, bytes_eq, codes, drop, length}
-use Rattle.std.specs.Prelude.{slice_get, take, Option, Some, None, if◌then◌else◌}
+use Rattle.std.specs.Prelude.{Bool, List, None, Option, Some, [], bytes_eq, codes, drop, false}
+use Rattle.std.specs.Prelude.{if◌then◌else◌, length, map, slice_get, take, true, ℕ, ◌++◌, ◌-◌, ◌∷◌}
+use Rattle.std.specs.Prelude.{◌≡◌}
 use Rattle.std.specs.List.{AllByRecursion}
 use Rattle.implib.specs.declared.machine.MachineType.{MachineType}
-use Rattle.implib.specs.declared.machine.MachineType.TheVariants.{I386, AMD64}
+use Rattle.implib.specs.declared.machine.MachineType.TheVariants.{AMD64, I386}
 use Rattle.implib.specs.Formats.Object.{Object, ObjectSection}
 use Rattle.implib.specs.Import.{Ask, Name}
 use Rattle.implib.specs.Link.Image.{Range, image_of}
@@ -19,13 +20,15 @@ use Rattle.implib_link.specs.Gnu.Moves.{AreInMemory}
 use Rattle.implib_link.specs.Gnu.Operands.{HasInstruction, InstructionArrives}
 use Rattle.implib_link.specs.Gnu.Program.{null_descriptor}
 use Rattle.implib_link.specs.Gnu.Reading.{ReadsAndWrites}
-use Rattle.implib_link.specs.Parts.{IsPart, IsProgramOfParts, Part, part_of}
+use Rattle.implib_link.specs.Parts.{IsPart, IsProgramOfParts, Part, older_part_of, part_of}
 use Rattle.implib_link.specs.Tables.{AreSteady, AreTables, Table, TableEntry}
 use Rattle.implib_link_instances.specs.Worked.LldPrograms.{taken_address}
-use Rattle.implib_link_instances.specs.Worked.OtherLibraries.{aaa_objects, beside_objects}
-use Rattle.implib_link_instances.specs.Worked.OtherLibraries.{image_written, linker_bases}
-use Rattle.implib_link_instances.specs.Worked.OtherLibraries.{mid_input, objects_of, zzz_objects}
+use Rattle.implib_link_instances.specs.Worked.OtherLibraries.{objects_of}
 use Rattle.implib_link_instances.specs.Worked.Programs.{chosen_input, input_objects}
+use Rattle.implib.specs.Definition.{DefinitionView, ExportView}
+use Rattle.implib.specs.Members.MemberSpec.{member_of}
+use Rattle.implib.specs.Members.OlderSymbols.{AreOlderMembersOf, older_specs}
+use Rattle.implib.specs.Renaming.{renamed}
 
 -- dlltool's files for kernel32.dll on AMD64, head, export and tail; and an object of GNU C, which
 -- calls through entries and by a bare name
@@ -278,18 +281,6 @@ gnu_written =
     0x65 ∷ 0x6C ∷ 0x33 ∷ 0x32 ∷ 0x2E ∷ 0x64 ∷ 0x6C ∷ 0x6C ∷ 0 ∷ 0 ∷ 0 ∷ 0 ∷ 0x14 ∷ 0x30 ∷ 0 ∷ 0 ∷ 0x7A ∷ 0x6F ∷ 0x6F ∷
     0x2E ∷ 0x64 ∷ 0x6C ∷ 0x6C ∷ 0 ∷ []
 
-abbrev pub lld_written : List ℕ
-lld_written =
-    0x5C ∷ 0x20 ∷ 0 ∷ 0 ∷ 0 ∷ 0 ∷ 0 ∷ 0 ∷ 0 ∷ 0 ∷ 0 ∷ 0 ∷ 0xBC ∷ 0x20 ∷ 0 ∷ 0 ∷ 0x7C ∷ 0x20 ∷ 0 ∷ 0 ∷ 0x6C ∷ 0x20 ∷
-    0 ∷ 0 ∷ 0 ∷ 0 ∷ 0 ∷ 0 ∷ 0 ∷ 0 ∷ 0 ∷ 0 ∷ 0xD0 ∷ 0x20 ∷ 0 ∷ 0 ∷ 0x8C ∷ 0x20 ∷ 0 ∷ 0 ∷ 0 ∷ 0 ∷ 0 ∷ 0 ∷ 0 ∷ 0 ∷ 0 ∷
-    0 ∷ 0 ∷ 0 ∷ 0 ∷ 0 ∷ 0 ∷ 0 ∷ 0 ∷ 0 ∷ 0 ∷ 0 ∷ 0 ∷ 0 ∷ 0x9C ∷ 0x20 ∷ 0 ∷ 0 ∷ 0 ∷ 0 ∷ 0 ∷ 0 ∷ 0 ∷ 0 ∷ 0 ∷ 0 ∷ 0 ∷ 0 ∷
-    0 ∷ 0 ∷ 0xAA ∷ 0x20 ∷ 0 ∷ 0 ∷ 0 ∷ 0 ∷ 0 ∷ 0 ∷ 0 ∷ 0 ∷ 0 ∷ 0 ∷ 0 ∷ 0 ∷ 0 ∷ 0 ∷ 0x9C ∷ 0x20 ∷ 0 ∷ 0 ∷ 0 ∷ 0 ∷ 0 ∷
-    0 ∷ 0 ∷ 0 ∷ 0 ∷ 0 ∷ 0 ∷ 0 ∷ 0 ∷ 0 ∷ 0xAA ∷ 0x20 ∷ 0 ∷ 0 ∷ 0 ∷ 0 ∷ 0 ∷ 0 ∷ 0 ∷ 0 ∷ 0 ∷ 0 ∷ 0 ∷ 0 ∷ 0 ∷ 0 ∷ 1 ∷ 0 ∷
-    0x45 ∷ 0x78 ∷ 0x69 ∷ 0x74 ∷ 0x50 ∷ 0x72 ∷ 0x6F ∷ 0x63 ∷ 0x65 ∷ 0x73 ∷ 0x73 ∷ 0 ∷ 0 ∷ 0 ∷ 0x7A ∷ 0x6F ∷ 0x6F ∷
-    0x5F ∷ 0x6F ∷ 0x70 ∷ 0x65 ∷ 0x6E ∷ 0 ∷ 0 ∷ 0 ∷ 0 ∷ 0x20 ∷ 0x20 ∷ 0 ∷ 0 ∷ 0x6B ∷ 0x65 ∷ 0x72 ∷ 0x6E ∷ 0x65 ∷ 0x6C ∷
-    0x33 ∷ 0x32 ∷ 0x2E ∷ 0x64 ∷ 0x6C ∷ 0x6C ∷ 0 ∷ 0 ∷ 0 ∷ 0 ∷ 0x34 ∷ 0x20 ∷ 0 ∷ 0 ∷ 0x7A ∷ 0x6F ∷ 0x6F ∷ 0x2E ∷ 0x64 ∷
-    0x6C ∷ 0x6C ∷ 0 ∷ []
-
 abbrev pub i386_gnu_written : List ℕ
 i386_gnu_written =
     0x3C ∷ 0x30 ∷ 0 ∷ 0 ∷ 0 ∷ 0 ∷ 0 ∷ 0 ∷ 0 ∷ 0 ∷ 0 ∷ 0 ∷ 0x7C ∷ 0x30 ∷ 0 ∷ 0 ∷ 0x4C ∷ 0x30 ∷ 0 ∷ 0 ∷ 0x44 ∷ 0x30 ∷
@@ -301,50 +292,12 @@ i386_gnu_written =
     0x2E ∷ 0x64 ∷ 0x6C ∷ 0x6C ∷ 0 ∷ 0 ∷ 0 ∷ 0 ∷ 0x14 ∷ 0x30 ∷ 0 ∷ 0 ∷ 0x7A ∷ 0x6F ∷ 0x6F ∷ 0x2E ∷ 0x64 ∷ 0x6C ∷ 0x6C ∷
     0 ∷ []
 
-abbrev pub i386_lld_written : List ℕ
-i386_lld_written =
-    0x4C ∷ 0x20 ∷ 0 ∷ 0 ∷ 0 ∷ 0 ∷ 0 ∷ 0 ∷ 0 ∷ 0 ∷ 0 ∷ 0 ∷ 0x8C ∷ 0x20 ∷ 0 ∷ 0 ∷ 0x5C ∷ 0x20 ∷ 0 ∷ 0 ∷ 0x54 ∷ 0x20 ∷
-    0 ∷ 0 ∷ 0 ∷ 0 ∷ 0 ∷ 0 ∷ 0 ∷ 0 ∷ 0 ∷ 0 ∷ 0xA0 ∷ 0x20 ∷ 0 ∷ 0 ∷ 0x64 ∷ 0x20 ∷ 0 ∷ 0 ∷ 0 ∷ 0 ∷ 0 ∷ 0 ∷ 0 ∷ 0 ∷ 0 ∷
-    0 ∷ 0 ∷ 0 ∷ 0 ∷ 0 ∷ 0 ∷ 0 ∷ 0 ∷ 0 ∷ 0 ∷ 0 ∷ 0 ∷ 0 ∷ 0x6C ∷ 0x20 ∷ 0 ∷ 0 ∷ 0 ∷ 0 ∷ 0 ∷ 0 ∷ 0x7A ∷ 0x20 ∷ 0 ∷ 0 ∷
-    0 ∷ 0 ∷ 0 ∷ 0 ∷ 0x6C ∷ 0x20 ∷ 0 ∷ 0 ∷ 0 ∷ 0 ∷ 0 ∷ 0 ∷ 0x7A ∷ 0x20 ∷ 0 ∷ 0 ∷ 0 ∷ 0 ∷ 0 ∷ 0 ∷ 1 ∷ 0 ∷ 0x45 ∷ 0x78 ∷
-    0x69 ∷ 0x74 ∷ 0x50 ∷ 0x72 ∷ 0x6F ∷ 0x63 ∷ 0x65 ∷ 0x73 ∷ 0x73 ∷ 0 ∷ 0 ∷ 0 ∷ 0x7A ∷ 0x6F ∷ 0x6F ∷ 0x5F ∷ 0x6F ∷
-    0x70 ∷ 0x65 ∷ 0x6E ∷ 0 ∷ 0 ∷ 0 ∷ 0 ∷ 0x10 ∷ 0x20 ∷ 0 ∷ 0 ∷ 0x6B ∷ 0x65 ∷ 0x72 ∷ 0x6E ∷ 0x65 ∷ 0x6C ∷ 0x33 ∷ 0x32 ∷
-    0x2E ∷ 0x64 ∷ 0x6C ∷ 0x6C ∷ 0 ∷ 0 ∷ 0 ∷ 0 ∷ 0x24 ∷ 0x20 ∷ 0 ∷ 0 ∷ 0x7A ∷ 0x6F ∷ 0x6F ∷ 0x2E ∷ 0x64 ∷ 0x6C ∷ 0x6C ∷
-    0 ∷ []
-
 -- an entry that asks by a name, and a table
 abbrev pub asking : List ℕ → ℕ → List ℕ → TableEntry
 asking name hint symbol = record { ask = Name name hint; symbol = Some symbol }
 
 abbrev pub table_at : List ℕ → ℕ → List TableEntry → Table
 table_at dll address entries = record { dll = dll; address = address; entries = entries }
-
--- aaa.dll and zzz.dll of dlltool, and mid.dll of ours between them
-abbrev pub aaa_entries : List TableEntry
-aaa_entries =
-    asking (codes "aone") 1 (codes "__imp_aone") ∷ asking (codes "atwo") 2 (codes "__imp_atwo") ∷ []
-
-abbrev pub mid_entries : List TableEntry
-mid_entries =
-    asking (codes "mone") 0 (codes "__imp_mone") ∷ asking (codes "mtwo") 0 (codes "__imp_mtwo") ∷ []
-
-abbrev pub zzz_entries : List TableEntry
-zzz_entries = asking (codes "zone") 1 (codes "__imp_zone") ∷ []
-
-abbrev pub aaa_part : Part
-aaa_part = record {
-  objects = aaa_objects;
-  table = record { dll = codes "aaa.dll"; entries = aaa_entries };
-}
-
-abbrev pub zzz_part : Part
-zzz_part = record {
-  objects = zzz_objects;
-  table = record { dll = codes "zzz.dll"; entries = zzz_entries };
-}
-
-abbrev pub beside_parts : List Part
-beside_parts = aaa_part ∷ part_of AMD64 mid_input ∷ zzz_part ∷ []
 
 -- kernel32.dll of dlltool, and zoo.dll of ours behind it
 abbrev pub kernel_part : List (List ℕ) → List ℕ → ℕ → Part
@@ -400,16 +353,6 @@ gnu_bases = record {
   dll_names = 0x309C;
 }
 
-abbrev pub lld_bases : Bases
-lld_bases = record {
-  descriptors = 0x2020;
-  directory_ends = 0x205C;
-  lookups = 0x205C;
-  addresses = 0x207C;
-  hint_names = 0x209C;
-  dll_names = 0x20B8;
-}
-
 abbrev pub i386_gnu_bases : Bases
 i386_gnu_bases = record {
   descriptors = 0x3000;
@@ -418,16 +361,6 @@ i386_gnu_bases = record {
   addresses = 0x304C;
   hint_names = 0x305C;
   dll_names = 0x3078;
-}
-
-abbrev pub i386_lld_bases : Bases
-i386_lld_bases = record {
-  descriptors = 0x2010;
-  directory_ends = 0x204C;
-  lookups = 0x204C;
-  addresses = 0x205C;
-  hint_names = 0x206C;
-  dll_names = 0x2088;
 }
 
 -- so many of the bytes that are written from an address on, at a later one
@@ -440,20 +373,10 @@ gnu_image = range_of gnu_written 0x3000 0x3000 60 ∷ range_of gnu_written 0x300
     ∷ range_of gnu_written 0x3000 0x3060 32
     ∷ range_of gnu_written 0x3000 0x3080 25 ∷ range_of gnu_written 0x3000 0x309C 32 ∷ []
 
-abbrev pub lld_image : List Range
-lld_image = range_of lld_written 0x2020 0x2020 60 ∷ range_of lld_written 0x2020 0x205C 32
-    ∷ range_of lld_written 0x2020 0x207C 32
-    ∷ range_of lld_written 0x2020 0x209C 25 ∷ range_of lld_written 0x2020 0x20B8 32 ∷ []
-
 abbrev pub i386_gnu_image : List Range
 i386_gnu_image = range_of i386_gnu_written 0x3000 0x3000 60
     ∷ range_of i386_gnu_written 0x3000 0x303C 16 ∷ range_of i386_gnu_written 0x3000 0x304C 16
     ∷ range_of i386_gnu_written 0x3000 0x305C 25 ∷ range_of i386_gnu_written 0x3000 0x3078 32 ∷ []
-
-abbrev pub i386_lld_image : List Range
-i386_lld_image = range_of i386_lld_written 0x2010 0x2010 60
-    ∷ range_of i386_lld_written 0x2010 0x204C 16 ∷ range_of i386_lld_written 0x2010 0x205C 16
-    ∷ range_of i386_lld_written 0x2010 0x206C 25 ∷ range_of i386_lld_written 0x2010 0x2088 32 ∷ []
 
 abbrev pub zoo_tables : ℕ → ℕ → List Table
 zoo_tables first second =
@@ -485,15 +408,9 @@ pub record IsWritten (machine : MachineType) (bases : Bases) (parts : List Part)
   pub steady : AreSteady machine (placed_from bases objects)
 
 pub record WorkedParts : Type 0 where
-  pub beside : IsWritten AMD64 linker_bases beside_parts beside_objects image_written
-      (table_at (codes "aaa.dll") 0x2090 aaa_entries ∷ table_at (codes "mid.dll") 0x20A8 mid_entries
-      ∷ table_at (codes "zzz.dll") 0x20C0 zzz_entries ∷ [])
   pub gnu : IsWritten AMD64 gnu_bases zoo_parts zoo_objects gnu_image (zoo_tables 0x3060 0x3070)
-  pub lld : IsWritten AMD64 lld_bases zoo_parts zoo_objects lld_image (zoo_tables 0x207C 0x208C)
   pub i386_gnu : IsWritten I386 i386_gnu_bases i386_zoo_parts i386_zoo_objects i386_gnu_image
       (i386_zoo_tables 0x304C 0x3054)
-  pub i386_lld : IsWritten I386 i386_lld_bases i386_zoo_parts i386_zoo_objects i386_lld_image
-      (i386_zoo_tables 0x205C 0x2064)
 
 -- On AMD64, as GNU ld linked it for 0x140000000: the object's code, which calls through the entry
 -- of `zoo_open`, by that name and by a pointer of its own at 0x2000, and jumps through the entry of
@@ -558,3 +475,67 @@ pub record WorkedReach : Type 0 where
       (gives (codes "zoo.dll") (Name (codes "zoo_open") 0))
       × ArrivesAt (written ++ zoo_memory) 0x1022 (0xFF ∷ 0x25 ∷ []) (codes "__imp_ExitProcess")
       (gives (codes "kernel32.dll") (Name (codes "ExitProcess") 1)))
+
+-- the object's file with other names in the place of `zoo_open` and `__imp_zoo_open`, as long as
+-- these
+abbrev pub named_start : List ℕ → List ℕ → List ℕ
+named_start bare address =
+    take 488 start_bytes
+    ++ (bare ++ (take 14 (drop 496 start_bytes) ++ (address ++ drop 524 start_bytes)))
+
+-- zoo.dll with an export of a name, on a machine
+abbrev pub zoo_definition : List ℕ → DefinitionView
+zoo_definition name = of_dll (codes "zoo.dll") (plain_export name ∷ [])
+
+abbrev pub zoo_with_older : MachineType → List ℕ → LinkInput
+zoo_with_older machine name = record {
+  definition = zoo_definition name;
+  members = map member_of (older_specs (renamed (zoo_definition name)) machine);
+  chosen = 0 ∷ [];
+}
+
+abbrev pub older_zoo : LinkInput
+older_zoo = zoo_with_older AMD64 (codes "zoo_open")
+
+abbrev pub i386_older_zoo : LinkInput
+i386_older_zoo = zoo_with_older I386 (codes "_zoo_open")
+
+-- with the older symbol for the entry, or today's
+abbrev pub older_parts : (ExportView → Bool) → List Part
+older_parts older = kernel ∷ older_part_of AMD64 older older_zoo ∷ []
+
+abbrev pub i386_older_parts : List Part
+i386_older_parts = i386_kernel ∷ older_part_of I386 (λ e. true) i386_older_zoo ∷ []
+
+abbrev pub older_objects : List Object
+older_objects = objects_of (named_start (codes "zoo_open") (codes "___impzoo_open") ∷ [])
+    ++ (kernel.objects
+    ++ ((older_part_of AMD64 (λ e. true) older_zoo).objects ++ null_descriptor ∷ []))
+
+abbrev pub i386_older_start : List ℕ
+i386_older_start =
+    take 498 i386_start_bytes ++ (codes "___imp_zoo_open" ++ drop 513 i386_start_bytes)
+
+abbrev pub i386_older_objects : List Object
+i386_older_objects = objects_of (i386_older_start ∷ [])
+    ++ (i386_kernel.objects
+    ++ ((older_part_of I386 (λ e. true) i386_older_zoo).objects ++ null_descriptor ∷ []))
+
+abbrev pub IsWrittenWith : (ExportView → Bool) → List ℕ → Type 0
+IsWrittenWith older symbol = IsWritten AMD64 gnu_bases (older_parts older) older_objects gnu_image
+    (table_at (codes "kernel32.dll") 0x3060
+    (asking (codes "ExitProcess") 1 (codes "__imp_ExitProcess") ∷ [])
+    ∷ table_at (codes "zoo.dll") 0x3070 (asking (codes "zoo_open") 0 symbol ∷ [])
+    ∷ [])
+
+pub record WorkedOlder : Type 0 where
+  pub made : AreOlderMembersOf older_zoo.definition AMD64 older_zoo.members
+  pub older : IsWrittenWith (λ e. true) (codes "___impzoo_open")
+  pub today : IsWrittenWith (λ e. false) (codes "__imp_zoo_open")
+  pub i386_made : AreOlderMembersOf i386_older_zoo.definition I386 i386_older_zoo.members
+  pub i386_older : IsWritten I386 i386_gnu_bases i386_older_parts i386_older_objects i386_gnu_image
+      (table_at (codes "kernel32.dll") 0x304C
+      (asking (codes "ExitProcess") 1 (codes "__imp__ExitProcess@4") ∷ [])
+      ∷ table_at (codes "zoo.dll") 0x3054
+      (asking (codes "zoo_open") 0 (codes "___imp_zoo_open") ∷ [])
+      ∷ [])

@@ -2,29 +2,42 @@
 -- `bar` plainly, which is weak for `baz` of foo.dll. An object of gcc 12 (`void start(void) {
 -- quit(); }`) names `quit`, which a library of kernel32.dll for Microsoft's linker has as weak for
 -- `ExitProcess`.
-use Rattle.std.specs.Prelude.{◌≡◌, ℕ, List, [], ◌∷◌, ◌++◌, codes}
-use Rattle.implib.specs.declared.flavor.Flavor.TheVariants.{Msvc}
+use Rattle.std.specs.Prelude.{List, [], codes, ℕ, ◌++◌, ◌∷◌, ◌≡◌}
 use Rattle.implib.specs.declared.machine.MachineType.{MachineType}
-use Rattle.implib.specs.declared.machine.MachineType.TheVariants.{AMD64, ARM64, I386}
+use Rattle.implib.specs.LibraryName.{own_names}
+use Rattle.implib.specs.Members.MemberSpec.{MemberView, member_of}
+use Rattle.implib.specs.Members.MsvcMembers.{descriptor_spec, null_descriptor_spec, null_thunk_spec}
+use Rattle.implib.specs.Members.MsvcMembers.{short_import_spec}
+use Rattle.implib.specs.Worked.Statements.{plain_export}
+use Rattle.implib.specs.declared.flavor.Flavor.TheVariants.{Msvc}
+use Rattle.implib.specs.declared.machine.MachineType.TheVariants.{AMD64}
 use Rattle.implib.specs.Definition.{empty_export}
 use Rattle.implib.specs.Formats.Object.{Object}
-use Rattle.implib.specs.Members.MemberSpec.{MemberView, member_of}
 use Rattle.implib.specs.Members.WeakExternal.{weak_spec}
 use Rattle.implib.specs.Worked.Members.{of_dll}
-use Rattle.implib.specs.Worked.Statements.{plain_export}
 use Rattle.implib_link.specs.Flavors.Expansion.{expanded_in}
 use Rattle.implib_link.specs.Search.BothFlavors.{FlavorLibrary, archive_of_both}
 use Rattle.implib_link.specs.Search.Closed.{unresolved}
-use Rattle.implib_link.specs.Search.Plainly.{AreOnlyWeak, HaveNoWeak, IsWeakAmong, TakesPlainly}
-use Rattle.implib_link.specs.Search.Plainly.{WeakAreFirst, left_plainly}
+use Rattle.implib_link.specs.Search.Plainly.{AreOnlyWeak, HaveNoWeak, TakesPlainly, left_plainly}
 use Rattle.implib_link.specs.Search.Search.{objects_as}
-use Rattle.implib_link_instances.specs.Machines.Closed.{mixed_libraries, own_on}
-use Rattle.implib_link_instances.specs.Machines.Closed.{mixed_taken as taken_on}
-use Rattle.implib_link_instances.specs.Machines.Parts.{descriptor_on, null_on, short_on, thunk_on}
 use Rattle.implib_link_instances.specs.Worked.BothFlavors.{foo_and_zed, mixed_taken}
-use Rattle.implib_link_instances.specs.Worked.Closed.{choosing, foo_alias}
+use Rattle.implib_link_instances.specs.Worked.Closed.{choosing}
 use Rattle.implib_link_instances.specs.Worked.CommandLines.{read_or_none, wants_bytes}
-use Rattle.implib_link_instances.specs.Worked.MsvcArchives.{msvc_library}
+use Rattle.implib_link_instances.specs.Worked.MsvcSearch.{msvc_library}
+
+-- members for Microsoft's linker
+abbrev pub descriptor_on : MachineType → List ℕ → MemberView
+descriptor_on machine dll = member_of (descriptor_spec machine (own_names dll))
+
+abbrev pub null_on : MachineType → List ℕ → MemberView
+null_on machine dll = member_of (null_descriptor_spec machine dll)
+
+abbrev pub thunk_on : MachineType → List ℕ → MemberView
+thunk_on machine dll = member_of (null_thunk_spec machine dll)
+
+abbrev pub short_on : MachineType → List ℕ → List ℕ → MemberView
+short_on machine dll name =
+    member_of (short_import_spec machine (own_names dll) (plain_export name))
 
 -- Of libraries and objects on one machine:
 -- `none`: the objects have no weak externals;
@@ -62,25 +75,8 @@ kernel_taken =
 pub record WorkedPlainly : Type 0 where
   pub amd64 : PlainlyTaken AMD64 foo_and_zed (choosing ∷ []) mixed_taken (codes "printf" ∷ [])
       (codes "bar" ∷ codes "printf" ∷ [])
-  pub i386 : PlainlyTaken I386 (mixed_libraries I386) (own_on I386) (taken_on I386)
-      (codes "_printf" ∷ []) (codes "_bar" ∷ codes "_printf" ∷ [])
-  pub arm64 : PlainlyTaken ARM64 (mixed_libraries ARM64) (own_on ARM64) (taken_on ARM64)
-      (codes "printf" ∷ []) (codes "bar" ∷ codes "printf" ∷ [])
   -- of gcc's object
   pub by_gcc : PlainlyTaken AMD64 (kernel_library ∷ []) (read_or_none wants_bytes) kernel_taken []
       (codes "quit" ∷ [])
   pub only : AreOnlyWeak (read_or_none wants_bytes ++ objects_as (expanded_in AMD64) kernel_taken)
       (codes "quit")
-
--- a member that is listed for the alias's name, in front of it
-abbrev pub in_front : MemberView
-in_front = record { name = codes "front.o"; bytes = 1 ∷ []; symbols = codes "bar" ∷ [] }
-
--- An alias's object is one of weak externals; `baz` is the name of none; an alias is not the first
--- of its name behind another member that is listed for it; and what gcc's object gives is no weak
--- external.
-pub record RefusedPlainly : Type 0 where
-  pub none : HaveNoWeak (objects_as (expanded_in AMD64) (foo_alias ∷ [])) → ⊥
-  pub among : IsWeakAmong (expanded_in AMD64) (foo_alias ∷ []) (codes "baz") → ⊥
-  pub first : WeakAreFirst (expanded_in AMD64) (in_front ∷ foo_alias ∷ []) (foo_alias ∷ []) → ⊥
-  pub only : AreOnlyWeak (read_or_none wants_bytes) (codes "start") → ⊥

@@ -1,13 +1,12 @@
--- Programs that were linked by hand, on each machine: foo.dll with four exports, chosen in an order
+-- Programs that were linked by hand: foo.dll with four exports, chosen in an order
 -- of its own, and zed.dll with one, among a caller and another object, at bases from 4 on whose
 -- ranges touch.
-use Rattle.std.specs.Prelude.{◌≡◌, ℕ, ◌+◌, List, [], ◌∷◌, ◌++◌, codes, map, slice_get, true, Option}
-use Rattle.std.specs.Prelude.{Some, if◌then◌else◌}
+use Rattle.std.specs.Prelude.{◌≡◌, ℕ, ◌+◌, List, [], ◌∷◌, ◌++◌, codes, map, true, Option, Some}
+use Rattle.std.specs.Prelude.{if◌then◌else◌}
 use Rattle.std.specs.List.{AllByRecursion}
-use Rattle.std.specs.Option.{option_and_then, option_map}
 use Rattle.implib.specs.declared.flavor.Flavor.TheVariants.{Gnu}
 use Rattle.implib.specs.declared.machine.MachineType.{MachineType}
-use Rattle.implib.specs.declared.machine.MachineType.TheVariants.{I386, ARMNT, AMD64, ARM64}
+use Rattle.implib.specs.declared.machine.MachineType.TheVariants.{I386, ARMNT, AMD64}
 use Rattle.implib.specs.Formats.Constants.{align_16bytes, cnt_code, mem_execute_read}
 use Rattle.implib.specs.Formats.Constants.{class_external, class_static}
 use Rattle.implib.specs.Definition.{DefinitionView, ExportView}
@@ -28,7 +27,6 @@ use Rattle.implib.specs.Worked.Members.{of_dll}
 use Rattle.implib.specs.Worked.Statements.{plain_export}
 use Rattle.implib_link.specs.Gnu.Program.{null_descriptor}
 use Rattle.implib_link.specs.Flavors.Program.{IsProgram}
-use Rattle.implib_link.specs.Stub.{code_relocated, jump_reads}
 
 -- a name as its symbol has it: on I386 with an underscore in front
 abbrev pub symbol_on : MachineType → List ℕ → List ℕ
@@ -196,40 +194,8 @@ pub record WorkedProgram (machine : MachineType) (bases : Bases)
       (ASymbol (symbol_of_class (imp_symbol (symbol_on machine (codes "open"))) 0 class_external))
       ≡ expected.named
 
--- on all four machines
+-- on three machines
 pub record WorkedPrograms : Type 0 where
   pub amd64 : WorkedProgram AMD64 touching_8 expected_8
-  pub arm64 : WorkedProgram ARM64 touching_8 expected_8
   pub i386 : WorkedProgram I386 touching_4 expected_4
   pub armnt : WorkedProgram ARMNT touching_4 expected_4
-
--- the code of `open`, which is the fourth object's, at an address of an image at a base, relocated
-abbrev pub open_code : MachineType → Bases → ℕ → ℕ → Option (List ℕ)
-open_code machine bases image_base position =
-    option_and_then
-    (λ p. option_map
-    (λ s. code_relocated machine image_base (program_placed machine bases) p position s.relocations
-    s.bytes)
-    (slice_get p.object.sections 0))
-    (slice_get (program_placed machine bases) 3)
-
--- what its jump reads
-abbrev pub open_reads : MachineType → Bases → ℕ → ℕ → Option ℕ
-open_reads machine bases image_base position =
-    option_and_then (jump_reads machine (image_base + position))
-    (open_code machine bases image_base position)
-
--- the stubs of `open` in code at 0x1000, its entry being at 0x80 or 0x60
-pub record WorkedStubs : Type 0 where
-  -- jmp [rip - 0xF86]
-  pub amd64 : open_code AMD64 touching_8 0x1_4000_0000 0x1000
-      ≡ Some (0xFF ∷ 0x25 ∷ 0x7A ∷ 0xF0 ∷ 0xFF ∷ 0xFF ∷ 0x90 ∷ 0x90 ∷ [])
-  pub amd64_reads : open_reads AMD64 touching_8 0x1_4000_0000 0x1000 ≡ Some 0x1_4000_0080
-  -- jmp [0x400060]
-  pub i386 : open_code I386 touching_4 0x40_0000 0x1000
-      ≡ Some (0xFF ∷ 0x25 ∷ 0x60 ∷ 0 ∷ 0x40 ∷ 0 ∷ 0x90 ∷ 0x90 ∷ [])
-  pub i386_reads : open_reads I386 touching_4 0x40_0000 0x1000 ≡ Some 0x40_0060
-  -- adrp x16, -0x1000; ldr x16, [x16, 0x80]; br x16
-  pub arm64 : open_code ARM64 touching_8 0x1_4000_0000 0x1000
-      ≡ Some (0xF0 ∷ 0xFF ∷ 0xFF ∷ 0xF0 ∷ 0x10 ∷ 0x42 ∷ 0x40 ∷ 0xF9 ∷ 0 ∷ 2 ∷ 0x1F ∷ 0xD6 ∷ [])
-  pub arm64_reads : open_reads ARM64 touching_8 0x1_4000_0000 0x1000 ≡ Some 0x1_4000_0080

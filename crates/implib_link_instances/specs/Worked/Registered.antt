@@ -1,7 +1,7 @@
--- Data and code that name `open` by its bare name, by hand, on three machines, in the program of
+-- Data and code that name `open` by its bare name, by hand, on two machines, in the program of
 -- Worked/Operands with this object in the place of the passing one: at other places, in images at
 -- other bases, and moved to others. Here the name is that of a stub for GNU's linker.
-use Rattle.std.specs.Prelude.{◌≡◌, ℕ, ◌+◌, ◌*◌, List, [], ◌∷◌, ◌++◌, codes, slice_get}
+use Rattle.std.specs.Prelude.{ℕ, List, [], ◌∷◌, ◌++◌, codes, slice_get}
 use Rattle.implib.specs.declared.coff.object.Relocation.{Relocation}
 use Rattle.implib.specs.declared.machine.MachineType.{MachineType}
 use Rattle.implib.specs.declared.machine.MachineType.TheVariants.{I386, ARMNT, AMD64, ARM64}
@@ -17,16 +17,14 @@ use Rattle.implib_link.specs.Gnu.Calls.{StubAt, amd64_addr64, arm64_addr64}
 use Rattle.implib_link.specs.Gnu.Fields.{DefinesIn, LinkedCode, placed_code, ranges_of_codes}
 use Rattle.implib_link.specs.Gnu.Operands.{HasPageField, HasPointer}
 use Rattle.implib_link.specs.Gnu.Program.{null_descriptor}
-use Rattle.implib_link.specs.Gnu.Rebased.{Place}
 use Rattle.implib_link.specs.Gnu.Stored.{AreStoredInMemory, HasAddField, HasRelative}
 use Rattle.implib_link.specs.Gnu.Stored.{amd64_addr32nb, arm64_addr32nb, arm64_pageoffset_12a}
 use Rattle.implib_link.specs.Gnu.Stored.{i386_dir32nb}
-use Rattle.implib_link.specs.Stub.{adrp_immediate, bits_of, page, plus_signed}
 use Rattle.implib_link_instances.specs.Worked.Operands.{field, named_or, open_on, placed_or_passing}
 use Rattle.implib_link_instances.specs.Worked.Operands.{stub_linked, stub_section}
 use Rattle.implib_link_instances.specs.Worked.Programs.{another, both_inputs, foo_input}
-use Rattle.implib_link_instances.specs.Worked.Programs.{input_objects, symbol_of_class, touching_4}
-use Rattle.implib_link_instances.specs.Worked.Programs.{touching_8, zed_input}
+use Rattle.implib_link_instances.specs.Worked.Programs.{input_objects, symbol_of_class, touching_8}
+use Rattle.implib_link_instances.specs.Worked.Programs.{zed_input}
 
 -- The section. I386: a pointer; `push offset _open`; three `nop`; an address from the image's base.
 -- AMD64: a pointer, as `.rdata$.refptr.open` has it, with eight bytes behind; an address from the
@@ -134,32 +132,6 @@ abbrev pub registering_memory : MachineType → Bases → List Range
 registering_memory machine bases =
     registering_image machine bases ++ ranges_of_codes (registering_codes machine bases)
 
--- with its base relocations applied, for 0x20000000 on I386, 0x7FF700000000 on AMD64 and 0x30000000
--- on ARM64
-abbrev pub registering_places : MachineType → List Place
-registering_places I386 =
-    record { address = 0x1042; width = 4 }
-    ∷ record { address = 0x2010; width = 4 }
-    ∷ record { address = 0x2015; width = 4 }
-    ∷ []
-registering_places ARMNT = []
-registering_places AMD64 = record { address = 0x2010; width = 8 } ∷ []
-registering_places ARM64 = record { address = 0x2010; width = 8 } ∷ []
-
-abbrev pub registering_moved_memory : MachineType → Bases → List Range
-registering_moved_memory I386 bases =
-    record { start = 0x1042; bytes = 0x60 ∷ 0 ∷ 0 ∷ 0x20 ∷ [] }
-    ∷ record { start = 0x2010; bytes = 0x40 ∷ 0x10 ∷ 0 ∷ 0x20 ∷ [] }
-    ∷ record { start = 0x2015; bytes = 0x40 ∷ 0x10 ∷ 0 ∷ 0x20 ∷ [] }
-    ∷ registering_memory I386 bases
-registering_moved_memory ARMNT bases = []
-registering_moved_memory AMD64 bases =
-    record { start = 0x2010; bytes = 0x40 ∷ 0x10 ∷ 0 ∷ 0 ∷ 0xF7 ∷ 0x7F ∷ 0 ∷ 0 ∷ [] }
-    ∷ registering_memory AMD64 bases
-registering_moved_memory ARM64 bases =
-    record { start = 0x2010; bytes = 0x40 ∷ 0x10 ∷ 0 ∷ 0x30 ∷ 0 ∷ 0 ∷ 0 ∷ 0 ∷ [] }
-    ∷ registering_memory ARM64 bases
-
 -- The program is one of the laws and in memory at a base with the addresses that its code holds;
 -- the stub of the entry at an address defines `open`; and the pointer and the address from the
 -- image's base, so far on, are for `open`.
@@ -177,26 +149,11 @@ pub record WorkedRegistered (machine : MachineType) (image_base : ℕ) (bases : 
   pub pointer : HasPointer machine (registering_at machine) 0 (open_on machine)
   pub relative : HasRelative machine (registering_at machine) further (open_on machine)
 
--- the three programs, as they were linked and moved; I386's immediate operand, and ARM64's two
--- instructions
+-- the two programs, as they were moved; and ARM64's two instructions
 pub record WorkedRegistering : Type 0 where
-  pub i386 : WorkedRegistered I386 0x50_0000 touching_4 (registering_memory I386 touching_4) 0x60 12
-  pub i386_moved : WorkedRegistered I386 0x2000_0000 touching_4
-      (registering_moved_memory I386 touching_4) 0x60 12
   pub amd64 : WorkedRegistered AMD64 0x1_8000_0000 touching_8
       (registering_memory AMD64 touching_8) 0x80 16
-  pub amd64_moved : WorkedRegistered AMD64 0x7FF7_0000_0000 touching_8
-      (registering_moved_memory AMD64 touching_8) 0x80 16
   pub arm64 : WorkedRegistered ARM64 0x1_8000_0000 touching_8
       (registering_memory ARM64 touching_8) 0x80 16
-  pub arm64_moved : WorkedRegistered ARM64 0x3000_0000 touching_8
-      (registering_moved_memory ARM64 touching_8) 0x80 16
-  pub i386_immediate : HasPointer I386 (registering_at I386) 5 (open_on I386)
   pub arm64_page : HasPageField (registering_at ARM64) 8 (open_on ARM64)
   pub arm64_add : HasAddField (registering_at ARM64) 12 (open_on ARM64)
-  -- where the linked `adrp` and `add` lead, at both bases, by the specification of the instructions
-  pub arm64_sum : plus_signed 21 4096 (adrp_immediate 0xF0FF_FFE1) (page 0x1_8000_2018 * 4096)
-      + bits_of 10 12 0x9101_0022
-      ≡ 0x1_8000_1040
-  pub arm64_moved_sum : plus_signed 21 4096 (adrp_immediate 0xF0FF_FFE1) (page 0x3000_2018 * 4096)
-      + bits_of 10 12 0x9101_0022 ≡ 0x3000_1040

@@ -1,17 +1,36 @@
--- A search of the members for GNU's linker that was done by hand, and what it is without the law's
--- premises.
-use Rattle.std.specs.Prelude.{◌≡◌, ℕ, true, List, [], ◌∷◌, bytes_eq, codes, map, Option, Some, None}
-use Rattle.std.specs.List.{IsDistinct, flat_map}
+-- Searches of the members for GNU's linker that were done by hand: of one library, of two, by
+-- sweeps; and what is taken by names.
+use Rattle.std.specs.Prelude.{List, None, Option, Some, [], bytes_eq, codes, if◌then◌else◌, length}
+use Rattle.std.specs.Prelude.{map, true, ℕ, ◌++◌, ◌==◌, ◌∷◌, ◌≡◌, ◌≤◌}
+use Rattle.std.specs.List.{Contains, IsDistinct, flat_map}
 use Rattle.std.specs.Option.{option_map}
-use Rattle.implib.specs.declared.flavor.Flavor.TheVariants.{Gnu}
+use Rattle.implib.specs.declared.flavor.Flavor.TheVariants.{Gnu, Msvc}
 use Rattle.implib.specs.declared.machine.MachineType.TheVariants.{AMD64}
-use Rattle.implib.specs.Definition.{DefinitionView, empty_export}
+use Rattle.implib.specs.Definition.{DefinitionView, ExportView, empty_export}
 use Rattle.implib.specs.Members.Members.{AreMembersOf, member_specs}
 use Rattle.implib.specs.Members.MemberSpec.{MemberView, member_of}
 use Rattle.implib.specs.Renaming.{renamed}
 use Rattle.implib.specs.Worked.Members.{of_dll}
 use Rattle.implib.specs.Worked.Statements.{plain_export}
-use Rattle.implib_link.specs.Search.Search.{NamesNoHeadOrTail, Takes, exports_wanted, first_listed}
+use Rattle.implib_link.specs.Search.Search.{ImportsWanted, IsArranged, IsLinkedOfWanted}
+use Rattle.implib_link.specs.Search.Search.{IsLinkedWith, NamesNoHeadOrTail, OfTaken, Takes}
+use Rattle.implib_link.specs.Search.Search.{exports_wanted, first_listed, linked_if_any}
+use Rattle.implib_link.specs.Search.Archives.{IsArchive, Library, NamesNoHeadOrTailOf}
+use Rattle.implib_link.specs.Search.Archives.{TakesOfLibraries, archive_of, inputs_wanted}
+use Rattle.implib_link.specs.Search.Archives.{wanted_with, weak_among}
+use Rattle.implib.specs.Formats.Constants.{class_external}
+use Rattle.implib.specs.Formats.Object.{Object}
+use Rattle.implib.specs.Link.LinkedMembers.{IsAscending, all_linked, objects_in}
+use Rattle.implib.specs.Members.GnuMembers.{export_spec, head_spec, tail_spec}
+use Rattle.implib_link.specs.Gnu.Packed.{packed}
+use Rattle.implib_link.specs.Gnu.Program.{HaveSame, null_descriptor}
+use Rattle.implib_link.specs.Flavors.Program.{IsFoundByName, IsProgram, LinksAmong}
+use Rattle.implib_link_instances.specs.Worked.Programs.{code_object, symbol_of_class}
+use Rattle.implib.specs.LibraryName.{names_for, own_names}
+use Rattle.implib_link.specs.Search.Closed.{TakesIntoAs}
+use Rattle.implib_link.specs.Search.Sweeps.{SweepsTake}
+use Rattle.implib.specs.Worked.LibraryNames.{of_library}
+use Rattle.implib_link.specs.Search.NamedApart.{AreNamedApart, names_in, stem}
 
 -- the members of a definition on AMD64
 abbrev pub members_of : DefinitionView → List MemberView
@@ -50,9 +69,8 @@ MayTake d names taken_names =
 -- The members of three exports are an archive that the law speaks of. For these names a linker may
 -- take the first function's member, then the head, for it the tail, and at last the variable's; not
 -- the other function's. A name of another library takes nothing. The descriptor's symbol takes the
--- head and the tail and no export, which the laws leave out; a variable's bare name takes its
--- alias, where it has one, which the law of one definition leaves out and that of libraries does
--- not.
+-- head and the tail and no export, which the laws leave out; a variable's bare name finds its
+-- alias, where it has one.
 pub record WorkedSearch : Type 0 where
   pub made : AreMembersOf three AMD64 Gnu (members_of three)
   pub distinct : IsDistinct bytes_eq (flat_map (λ m. m.symbols) (members_of three))
@@ -70,3 +88,159 @@ pub record WorkedSearch : Type 0 where
   pub head_and_tail : MayTake three (codes "_head_foo_dll" ∷ [])
       (codes "foo_dll_a_t.o" ∷ codes "foo_dll_a_h.o" ∷ [])
   pub alias_first : found aliased (codes "bar") ≡ Some (codes "foo_dll_a_w00000.o")
+
+abbrev pub library_of : DefinitionView → Library
+library_of d = record { definition = d; members = members_of d }
+
+-- foo.dll with data `bar`, an alias of the function `baz`; zed.dll with the function `queue`
+abbrev pub two_libraries : List Library
+two_libraries =
+    library_of aliased
+    ∷ library_of
+    (of_dll (codes "zed.dll") (plain_export (codes "queue") ∷ plain_export (codes "stack") ∷ []))
+    ∷ []
+
+-- what a program wants: the data by its bare name, a function of zed.dll, and a name of another
+-- library
+abbrev pub both_wanted : List (List ℕ)
+both_wanted = codes "bar" ∷ codes "__imp_queue" ∷ codes "printf" ∷ []
+
+-- The two are an archive that the law speaks of. For `bar` a linker takes its weak external, for
+-- which `baz` is wanted, and `baz` brings the head and the tail of foo.dll; for `__imp_queue` it
+-- takes the members of zed.dll that belong to it.
+pub record WorkedArchives : Type 0 where
+  pub archive : IsArchive AMD64 two_libraries
+  pub taken : List MemberView
+  pub takes : Takes (archive_of two_libraries) both_wanted taken
+  pub names : map (λ m. m.name) taken
+      ≡ codes "zed_dll_a_t.o" ∷ codes "zed_dll_a_h.o" ∷ codes "zed_dll_a_s00000.o"
+      ∷ codes "foo_dll_a_t.o" ∷ codes "foo_dll_a_h.o" ∷ codes "foo_dll_a_s00001.o"
+      ∷ codes "foo_dll_a_w00000.o" ∷ []
+  pub weak : map (λ m. m.name) (weak_among taken) ≡ codes "foo_dll_a_w00000.o" ∷ []
+  pub wanted : wanted_with both_wanted taken
+      ≡ codes "bar" ∷ codes "__imp_queue" ∷ codes "printf" ∷ codes "baz" ∷ []
+  pub plain : NamesNoHeadOrTailOf AMD64 two_libraries (wanted_with both_wanted taken)
+  pub chosen : map (λ p. p.chosen) (inputs_wanted two_libraries (wanted_with both_wanted taken))
+      ≡ (1 ∷ []) ∷ (0 ∷ []) ∷ []
+
+-- the members that are taken of the three exports' archive: the head, `bar`, `qux` and the tail
+abbrev pub head_member : MemberView
+head_member = member_of (head_spec AMD64 (codes "foo.dll"))
+
+abbrev pub bar_member : MemberView
+bar_member = member_of (export_spec AMD64 (codes "foo.dll") 0 (plain_export (codes "bar")))
+
+abbrev pub qux_export : ExportView
+qux_export = record empty_export { name = codes "qux"; is_data = true }
+
+abbrev pub qux_member : MemberView
+qux_member = member_of (export_spec AMD64 (codes "foo.dll") 2 qux_export)
+
+abbrev pub tail_member : MemberView
+tail_member = member_of (tail_spec AMD64 (own_names (codes "foo.dll")))
+
+-- as a linker took them, the last one first, and in the order of their names
+abbrev pub as_taken : List MemberView
+as_taken = qux_member ∷ tail_member ∷ head_member ∷ bar_member ∷ []
+
+abbrev pub by_name : List MemberView
+by_name = head_member ∷ bar_member ∷ qux_member ∷ tail_member ∷ []
+
+-- what is linked: a program's own code, these, and the null descriptor
+abbrev pub searched_objects : List Object
+searched_objects =
+    code_object (symbol_of_class (codes "main") 1 class_external
+    ∷ symbol_of_class (codes "bar") 0 class_external ∷ [])
+    ∷ (objects_in by_name ++ null_descriptor ∷ [])
+
+-- What was taken for the wanted names is exactly what the law says; by names it is in order; a
+-- program of it imports `bar` and `qux` alone. A search ends, and this one took no more members
+-- than there are.
+pub record WorkedSearched : Type 0 where
+  pub takes : Takes (members_of three) wanted as_taken
+  pub just : HaveSame as_taken (linked_if_any three AMD64 (0 ∷ 2 ∷ []))
+  pub holds_of_some : OfTaken (λ machine d members taken wanted. ⊥) → ⊥
+  pub some : Contains (exports_wanted three wanted) 0
+  pub same : HaveSame as_taken by_name
+  pub ascending : IsAscending (map (λ m. m.name) by_name)
+  pub arranged : IsArranged AMD64 (own_names (codes "foo.dll")) as_taken by_name
+  pub of_wanted : IsLinkedOfWanted AMD64 three wanted by_name
+  pub program : IsLinkedWith AMD64 (own_names (codes "foo.dll")) (packed 1 searched_objects)
+      as_taken searched_objects
+  pub imports : ImportsWanted AMD64 three (members_of three) wanted (packed 1 searched_objects)
+      searched_objects
+  pub ends : (taken : List MemberView) × Takes (members_of three) wanted taken
+  pub bounded : length as_taken ≤ length (members_of three)
+
+-- what is linked of the two libraries: of foo.dll `baz`, of zed.dll `queue`, with the null
+-- descriptor
+abbrev pub libraries_objects : List MemberView → List Object
+libraries_objects taken =
+    objects_in (all_linked AMD64 (inputs_wanted two_libraries (wanted_with both_wanted taken)))
+    ++ null_descriptor ∷ []
+
+-- What was taken of the two libraries is exactly what the law says, and a program of it imports
+-- exactly the wanted exports.
+pub record WorkedLibraries : Type 0 where
+  pub taken : List MemberView
+  pub takes : Takes (archive_of two_libraries) both_wanted taken
+  pub just : TakesOfLibraries AMD64 two_libraries both_wanted taken
+  pub program : IsProgram AMD64 (packed 1 (libraries_objects taken))
+      (inputs_wanted two_libraries (wanted_with both_wanted taken)) (libraries_objects taken)
+  pub links : LinksAmong AMD64 (packed 1 (libraries_objects taken))
+      (inputs_wanted two_libraries (wanted_with both_wanted taken)) (libraries_objects taken)
+
+-- an object that defines `x`, and one that defines `f` and leaves `x` to others
+abbrev pub of_x : Object
+of_x = code_object (symbol_of_class (codes "x") 1 class_external ∷ [])
+
+abbrev pub of_f : Object
+of_f = code_object (symbol_of_class (codes "f") 1 class_external
+    ∷ symbol_of_class (codes "x") 0 class_external ∷ [])
+
+-- members by their first byte: 2 is the object of `f`, any other that of `x`
+abbrev pub reads_by_hand : List ℕ → Option Object
+reads_by_hand [] = None
+reads_by_hand (byte ∷ bytes) = if byte == 2 then Some of_f else Some of_x
+
+abbrev pub first_x : MemberView
+first_x = record { name = codes "a.o"; bytes = 1 ∷ []; symbols = codes "x" ∷ [] }
+
+abbrev pub wants_x : MemberView
+wants_x = record { name = codes "b.o"; bytes = 2 ∷ []; symbols = codes "f" ∷ [] }
+
+abbrev pub second_x : MemberView
+second_x = record { name = codes "c.o"; bytes = 3 ∷ 0 ∷ []; symbols = codes "x" ∷ [] }
+
+-- the given object, which leaves `f` to others
+abbrev pub given_f : List Object
+given_f = code_object (symbol_of_class (codes "main") 1 class_external
+    ∷ symbol_of_class (codes "f") 0 class_external ∷ []) ∷ []
+
+-- `x` in front of `f` takes a second sweep, and behind it none; where `x` is listed in front and
+-- behind, a sweep takes the one behind, and a search that goes by the first member takes the one in
+-- front.
+pub record WorkedSweeps : Type 0 where
+  pub distinct : IsDistinct bytes_eq (flat_map (λ m. m.symbols) (first_x ∷ wants_x ∷ []))
+  pub twice : SweepsTake reads_by_hand (first_x ∷ wants_x ∷ []) given_f 2 (0 ∷ 1 ∷ [])
+  pub once : SweepsTake reads_by_hand (wants_x ∷ second_x ∷ []) given_f 1 (1 ∷ 0 ∷ [])
+  pub just : TakesIntoAs reads_by_hand (first_x ∷ wants_x ∷ []) given_f (first_x ∷ wants_x ∷ [])
+
+-- what is found, and what is not: without a name of its own, and by another name
+pub record WorkedFound : Type 0 where
+  pub plain : IsFoundByName Msvc (names_for Msvc (of_dll (codes "foo.dll") []))
+  pub drv : IsFoundByName Msvc (names_for Msvc (of_library (codes "foo") (codes "foo.drv") []))
+  pub capitals : IsFoundByName Msvc
+      (names_for Msvc (of_library (codes "KERNEL32") (codes "KERNEL32.DLL") []))
+  pub no_ending : IsFoundByName Msvc (names_for Msvc (of_library (codes "zoo") (codes "zoo") []))
+  pub drv_nameless : IsFoundByName Msvc (names_for Msvc (of_dll (codes "foo.drv") [])) → ⊥
+  pub with_ending : IsFoundByName Msvc
+      (names_for Msvc (of_library (codes "foo.drv") (codes "foo.drv") [])) → ⊥
+
+-- The two libraries with an alias are named apart, and so are an archive.
+pub record WorkedNamedApart : Type 0 where
+  pub stems : map stem two_libraries ≡ codes "foo_dll" ∷ codes "zed_dll" ∷ []
+  pub names : names_in two_libraries
+      ≡ codes "bar" ∷ codes "baz" ∷ codes "queue" ∷ codes "stack" ∷ []
+  pub apart : AreNamedApart AMD64 two_libraries
+  pub archive : IsArchive AMD64 two_libraries

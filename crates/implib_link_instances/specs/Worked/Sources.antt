@@ -15,16 +15,13 @@ use Rattle.implib.specs.Renaming.{renamed}
 use Rattle.implib.specs.Worked.Members.{of_dll}
 use Rattle.implib.specs.Worked.Statements.{plain_export}
 use Rattle.implib_link.specs.Flavors.Program.{OfMember, all_members, null_member, objects_taken}
-use Rattle.implib_link.specs.Flavors.Program.{IsProgramOf, IsProgram}
+use Rattle.implib_link.specs.Flavors.Program.{IsProgramOf, IsProgram, OfLinker}
 use Rattle.implib_link.specs.Flavors.Texts.{FlavorSource, FlavorTextsLink, IsFlavorSource}
 use Rattle.implib_link.specs.Flavors.Texts.{flavor_source, input_of}
 use Rattle.implib_link.specs.Gnu.Packed.{packed}
 use Rattle.implib_link.specs.Gnu.Program.{null_descriptor}
 use Rattle.implib_link.specs.Gnu.Texts.{link_input_of}
-use Rattle.implib_link_instances.specs.But.Links.{MissesFlavorTextLinks, MissesFlavorTextsLink}
-use Rattle.implib_link_instances.specs.But.Links.{MissesIsFlavorSource}
-use Rattle.implib_link_instances.specs.Worked.Programs.{symbol_on, touching_8}
-use Rattle.implib_link.specs.Flavors.Program.{OfLinker}
+use Rattle.implib_link_instances.specs.Worked.Programs.{symbol_on}
 
 -- two texts: a function and data of foo.dll, and a function of zed.dll by its ordinal
 abbrev pub foo_text : List ℕ
@@ -97,30 +94,3 @@ pub record WorkedSource (machine : MachineType) : Type 0 where
 pub record WorkedSources : Type 0 where
   pub amd64 : WorkedSource AMD64
   pub i386 : WorkedSource I386
-
--- Near misses: the library of another machine; and the members of none.
-pub record NearIsFlavorSource : Type 0 where
-  pub of_text : MissesIsFlavorSource (codes "of_text") AMD64
-      (source_in Gnu I386 zed_text (zed_meant I386) (0 ∷ []))
-  pub made : MissesIsFlavorSource (codes "made") AMD64
-      (flavor_source Gnu zed_text
-      (record { definition = renamed (zed_meant AMD64); machine = AMD64; flavor = Gnu }) []
-      (0 ∷ []))
-
--- zed.dll's text, of which nothing is linked
-pub record NearFlavorTextLinks : Type 0 where
-  pub imports : MissesFlavorTextLinks (codes "imports") AMD64 [] [] 0 0
-      (source_in Gnu AMD64 zed_text (zed_meant AMD64) (0 ∷ []))
-
--- the two sources for GNU's linker, where zed.dll's text is that of foo.dll's library, too
-abbrev pub exchanged_sources : List FlavorSource
-exchanged_sources =
-    source_in Gnu AMD64 zed_text (foo_meant AMD64) (1 ∷ 0 ∷ [])
-    ∷ source_in Gnu AMD64 zed_text (zed_meant AMD64) (0 ∷ [])
-    ∷ []
-
--- no texts, and no zeros at the directory's end; and those two
-pub record NearFlavorTextsLink : Type 0 where
-  pub among : MissesFlavorTextsLink (codes "among") AMD64 OfLinker touching_8 [] []
-  pub imports : MissesFlavorTextsLink (codes "imports") AMD64 OfLinker
-      (packed 1 (gnu_text_objects AMD64)) exchanged_sources (gnu_text_objects AMD64)

@@ -260,19 +260,15 @@ pub record WorkedHolding (machine : MachineType) (image_base : ℕ) (memory : Li
   pub thunk : IsThunk machine (mid_thunk_at machine) (mid_on machine)
   pub pointer : HasPointer machine (held_at machine) second (mid_name machine)
 
--- The three programs, at the bases that they were linked for and at others, and what else names
--- `mid`: I386's immediate operand, AMD64's `lea`, the handlers, and ARM64's two instructions.
+-- The three programs, at the bases that they were linked for, I386's at another, and what else
+-- names `mid`: I386's immediate operand, AMD64's `lea`, the handlers, and ARM64's two instructions.
 pub record WorkedHoldings : Type 0 where
   pub i386 : WorkedHolding I386 0x40_0000 (holding_memory I386) 4
   pub i386_moved : WorkedHolding I386 0x1000_0000 (holding_moved_memory I386) 4
   pub amd64 : WorkedHolding AMD64 0x1_4000_0000 (holding_memory AMD64) 8
-  pub amd64_moved : WorkedHolding AMD64 0x7FF6_1234_0000 (holding_moved_memory AMD64) 8
   pub arm64 : WorkedHolding ARM64 0x1_4000_0000 (holding_memory ARM64) 8
-  pub arm64_moved : WorkedHolding ARM64 0x4000_0000 (holding_moved_memory ARM64) 8
-  pub i386_immediate : HasPointer I386 (picking_at I386) 13 (mid_name I386)
   pub amd64_lea : HasBranch AMD64 (picking_at AMD64) 19 0 (mid_name AMD64)
   pub amd64_handler : HasRelative AMD64 (unwind_at AMD64) 8 (mid_name AMD64)
-  pub arm64_handler : HasRelative ARM64 (unwind_at ARM64) 8 (mid_name ARM64)
   pub arm64_page : HasPageField (picking_at ARM64) 28 (mid_name ARM64)
   pub arm64_add : HasAddField (picking_at ARM64) 32 (mid_name ARM64)
   pub amd64_call : HasInstruction AMD64 (picking_at AMD64) 4 (0xFF ∷ 0x15 ∷ []) []

@@ -140,5 +140,3 @@ pub record WorkedThirdTexts : Type 0 where
       (gives (codes "zoo.dll") (Name (codes "hay") 0))
       × BranchArrivesByThunk AMD64 0x1_4000_0000 (written ++ third_memory) 0x1007 0
       (gives (codes "zoo.dll") (Name (codes "hay") 0))
-  -- they do not ask for the symbol
-  pub by_symbol : PiecesAsk (codes "feed") → ⊥

@@ -10,7 +10,7 @@ use Rattle.implib_link.specs.Gnu.Program.{claimed_names}
 use Rattle.implib_link.specs.Search.Archives.{archive_of}
 use Rattle.implib_link.specs.Search.Closed.{TakesInto, unresolved}
 use Rattle.implib_link.specs.Search.Wanting.{wanting}
-use Rattle.implib_link_instances.specs.Worked.Archives.{two_libraries}
+use Rattle.implib_link_instances.specs.Worked.Search.{two_libraries}
 use Rattle.implib_link_instances.specs.Worked.Closed.{closed_taken}
 use Rattle.implib_link_instances.specs.Worked.Programs.{both_inputs, code_object, program_objects}
 use Rattle.implib_link_instances.specs.Worked.Programs.{symbol_of_class, touching_4, touching_8}

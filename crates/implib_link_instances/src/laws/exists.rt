@@ -1,7 +1,7 @@
 //! That there are closed programs.
 
-ghost use Rattle.implib_link_instances.specs.Worked.BothExists.{WorkedBothExists};
-ghost use Rattle.implib_link_instances.specs.Worked.BothExists.{WorkedReversedExists};
+ghost use Rattle.implib_link_instances.specs.Worked.BothFlavors.{WorkedBothExists};
+ghost use Rattle.implib_link_instances.specs.Worked.BothFlavors.{WorkedReversedExists};
 ghost use Rattle.implib_link_instances.specs.Worked.Exists.{WorkedExists};
 
 /// The closed program that was linked by hand, as the law says that there is one.

@@ -1,17 +1,9 @@
 //! Fields of code against imports, stored addresses, and the bounds of tables.
 
-ghost use Rattle.implib_link_instances.specs.Worked.Bounds.{WorkedBounds};
-ghost use Rattle.implib_link_instances.specs.Worked.NearStored.{NearHasAddField, NearHasRelative};
-ghost use Rattle.implib_link_instances.specs.Worked.NearStored.{NearHoldAddress, NearHoldsFurther};
-ghost use Rattle.implib_link_instances.specs.Worked.NearStored.{NearPointsTo, NearStores};
-ghost use Rattle.implib_link_instances.specs.Worked.NearStored.{NearSumArrives};
+ghost use Rattle.implib_link_instances.specs.Worked.Loads.{WorkedBounds};
 ghost use Rattle.implib_link_instances.specs.Worked.Operands.{AdjacentCalls, MovableCode};
-ghost use Rattle.implib_link_instances.specs.Worked.Operands.{PassingFields, WorkedFlavorFields};
+ghost use Rattle.implib_link_instances.specs.Worked.Operands.{PassingFields};
 ghost use Rattle.implib_link_instances.specs.Worked.Operands.{WorkedOperands};
-ghost use Rattle.implib_link_instances.specs.Worked.RefusedFields.{RefusedCode};
-ghost use Rattle.implib_link_instances.specs.Worked.RefusedFields.{RefusedFieldsOfTypes};
-ghost use Rattle.implib_link_instances.specs.Worked.RefusedFields.{RefusedInstructions};
-ghost use Rattle.implib_link_instances.specs.Worked.RefusedFields.{RefusedMoves, RefusedPairs};
 ghost use Rattle.implib_link_instances.specs.Worked.Registered.{WorkedRegistering};
 ghost use Rattle.implib_link_instances.specs.Worked.Stored.{WorkedHoldings};
 
@@ -19,36 +11,17 @@ ghost use Rattle.implib_link_instances.specs.Worked.Stored.{WorkedHoldings};
 /// another without a gap, some of types of which nothing is said, are in memory at two bases, and
 /// lead to the entry.
 ///
-/// Near misses: bytes that no linker makes of the worked code, and memory in which no field leads
-/// to the entry, each with one thing wrong.
-///
 /// Programs that lld wrote for I386, AMD64 and ARM64 of an object that clang made: pointers, a
 /// handler and code that name an import by its bare name are in memory at two bases. So are those
 /// that name a stub for GNU's linker, by hand.
 ///
-/// Near misses: what is no such field, what no linker makes of it, and memory that does not hold
-/// the address, each with one thing wrong.
-///
-/// The programs that were linked by hand are bounded as the law says, on each machine.
+/// The programs that were linked by hand are bounded as the law says, on AMD64 and I386.
 pub fn worked_fields()
     ensures passing_fields { PassingFields }
     ensures adjacent_calls { AdjacentCalls }
     ensures worked_operands { WorkedOperands }
     ensures movable_code { MovableCode }
-    ensures worked_flavor_fields { WorkedFlavorFields }
-    ensures refused_code { RefusedCode }
-    ensures refused_types { RefusedFieldsOfTypes }
-    ensures refused_instructions { RefusedInstructions }
-    ensures refused_pairs { RefusedPairs }
-    ensures refused_moves { RefusedMoves }
     ensures worked_holdings { WorkedHoldings }
     ensures worked_registering { WorkedRegistering }
-    ensures near_holds_further { NearHoldsFurther }
-    ensures near_stores { NearStores }
-    ensures near_has_relative { NearHasRelative }
-    ensures near_has_add_field { NearHasAddField }
-    ensures near_sum_arrives { NearSumArrives }
-    ensures near_hold_address { NearHoldAddress }
-    ensures near_points_to { NearPointsTo }
     ensures worked_bounds { WorkedBounds }
 {}

@@ -2,17 +2,14 @@
 
 ghost use Rattle.implib.specs.Import.{Ask};
 ghost use Rattle.implib_link_instances.specs.Worked.Files.{WorkedFiles};
-ghost use Rattle.implib_link_instances.specs.Worked.NearFiles.{NearIsFileOf, NearIsInDirectory};
-ghost use Rattle.implib_link_instances.specs.Worked.NearFiles.{WorkedHeaders};
+ghost use Rattle.implib_link_instances.specs.Worked.Files.{WorkedHeaders};
 ghost use Rattle.std.specs.Prelude.{List, ℕ};
 
 /// Files that lld wrote for I386, AMD64 and ARM64, byte for byte, are those of programs of the laws
 /// with their code; and a loader that begins with a file of GNU `ld` finds its import directory.
 ///
-/// Near misses: those files with single bytes changed, and what these say instead.
+/// Those files with single bytes changed, and what these say instead.
 pub fn worked_files()
     ensures worked_files { WorkedFiles }
-    ensures near_is_file_of { NearIsFileOf }
-    ensures near_is_in_directory { NearIsInDirectory }
     ensures worked_headers { (gives : List ℕ → Ask → List ℕ) → WorkedHeaders gives }
 {}

@@ -1,6 +1,6 @@
 //! Links beside the libraries of other makers.
 
-ghost use Rattle.implib_link_instances.specs.Worked.Older.{WorkedOlder};
+ghost use Rattle.implib_link_instances.specs.Worked.Parts.{WorkedOlder};
 ghost use Rattle.implib_link_instances.specs.Worked.OtherLibraries.{WorkedBeside};
 ghost use Rattle.implib_link_instances.specs.Worked.Parts.{WorkedParts, WorkedReach};
 

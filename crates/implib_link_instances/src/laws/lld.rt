@@ -1,23 +1,9 @@
 //! What lld makes of short imports.
 
-ghost use Rattle.implib_link_instances.specs.Worked.Lld.{WorkedLld};
-ghost use Rattle.implib_link_instances.specs.Worked.LldPrograms.{RefusedCalls, RefusedTables};
-ghost use Rattle.implib_link_instances.specs.Worked.LldPrograms.{RefusedThunks, WorkedLldPrograms};
 ghost use Rattle.implib_link_instances.specs.Worked.ThirdTexts.{WorkedThirdTexts};
 
-/// Tables that lld 19 wrote are those of the definitions, byte for byte; of short imports with a
-/// third text, too, and code reaches through them what the DLL gives for that text.
-///
-/// Programs that lld wrote for I386, AMD64 and ARM64, byte for byte: their tables are those of the
-/// definitions, and their code, their thunks and their memory at two bases meet all that the laws
-/// ask for.
-///
-/// Near misses of import tables, of thunks and of calls, each with one thing wrong.
+/// Tables that lld 19 wrote of short imports with a third text are those of the definitions, byte
+/// for byte, and code reaches through them what the DLL gives for that text.
 pub fn worked_lld()
-    ensures worked_lld { WorkedLld }
     ensures worked_third_texts { WorkedThirdTexts }
-    ensures worked_lld_programs { WorkedLldPrograms }
-    ensures refused_tables { RefusedTables }
-    ensures refused_thunks { RefusedThunks }
-    ensures refused_calls { RefusedCalls }
 {}

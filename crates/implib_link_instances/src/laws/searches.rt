@@ -1,12 +1,12 @@
 //! Archive searches.
 
-ghost use Rattle.implib_link_instances.specs.Worked.Archives.{WorkedArchives};
-ghost use Rattle.implib_link_instances.specs.Worked.Found.{WorkedFound};
-ghost use Rattle.implib_link_instances.specs.Worked.MsvcArchives.{WorkedMsvcArchives};
-ghost use Rattle.implib_link_instances.specs.Worked.NamedApart.{WorkedNamedApart};
-ghost use Rattle.implib_link_instances.specs.Worked.Plainly.{RefusedPlainly, WorkedPlainly};
+ghost use Rattle.implib_link_instances.specs.Worked.Search.{WorkedArchives};
+ghost use Rattle.implib_link_instances.specs.Worked.Search.{WorkedFound};
+ghost use Rattle.implib_link_instances.specs.Worked.MsvcSearch.{WorkedMsvcArchives};
+ghost use Rattle.implib_link_instances.specs.Worked.Search.{WorkedNamedApart};
+ghost use Rattle.implib_link_instances.specs.Worked.Plainly.{WorkedPlainly};
 ghost use Rattle.implib_link_instances.specs.Worked.Search.{WorkedSearch};
-ghost use Rattle.implib_link_instances.specs.Worked.Sweeps.{NearSweepsTake, WorkedSweeps};
+ghost use Rattle.implib_link_instances.specs.Worked.Search.{WorkedSweeps};
 
 /// Searches by hand: of the members of three exports, and of two libraries with an alias.
 ///
@@ -17,16 +17,14 @@ ghost use Rattle.implib_link_instances.specs.Worked.Sweeps.{NearSweepsTake, Work
 ///
 /// Libraries whose descriptors are found by the DLL's name, and others.
 ///
-/// Libraries that are named apart, and some that are not, by hand.
+/// Libraries that are named apart, by hand.
 ///
 /// Searches by hand of two libraries, one of which has an alias.
 pub fn worked_searches()
     ensures worked_search { WorkedSearch }
     ensures worked_archives { WorkedArchives }
     ensures worked_sweeps { WorkedSweeps }
-    ensures near_sweeps_take { NearSweepsTake }
     ensures worked_plainly { WorkedPlainly }
-    ensures refused_plainly { RefusedPlainly }
     ensures worked_found { WorkedFound }
     ensures worked_named_apart { WorkedNamedApart }
     ensures worked_msvc_archives { WorkedMsvcArchives }

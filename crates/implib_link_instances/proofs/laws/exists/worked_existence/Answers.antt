@@ -1,5 +1,5 @@
-use Rattle.implib_link_instances.proofs.Worked.BothExists.{worked_both_exists, worked_reversed_exists}
-use Rattle.implib_link_instances.proofs.Worked.Exists.{worked_exists}
+use Rattle.implib_link_instances.proofs.Worked.BothFlavors.{worked_both_exists, worked_reversed_exists}
+use Rattle.implib_link_instances.proofs.Worked.Closed.{worked_exists}
 use Rattle.implib_link_instances.proofs.laws.exists.worked_existence.Goals as goal
 
 pub returns : goal.returns

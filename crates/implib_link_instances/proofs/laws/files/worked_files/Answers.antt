@@ -1,11 +1,8 @@
-use Rattle.implib_link_instances.proofs.Worked.Files.{worked_files}
-use Rattle.implib_link_instances.proofs.Worked.NearFiles.{near_is_file_of, near_is_in_directory, worked_headers}
+use Rattle.implib_link_instances.proofs.Worked.Files.{worked_files, worked_headers}
 use Rattle.implib_link_instances.proofs.laws.files.worked_files.Goals as goal
 
 pub returns : goal.returns
 returns c = record {
   worked_files = worked_files;
-  near_is_file_of = near_is_file_of;
-  near_is_in_directory = near_is_in_directory;
   worked_headers = worked_headers;
 }

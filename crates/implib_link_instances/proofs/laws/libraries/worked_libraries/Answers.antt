@@ -1,6 +1,5 @@
-use Rattle.implib_link_instances.proofs.Worked.Older.{worked_older}
+use Rattle.implib_link_instances.proofs.Worked.Parts.{worked_older, worked_parts, worked_reach}
 use Rattle.implib_link_instances.proofs.Worked.OtherLibraries.{worked_beside}
-use Rattle.implib_link_instances.proofs.Worked.Parts.{worked_parts, worked_reach}
 use Rattle.implib_link_instances.proofs.laws.libraries.worked_libraries.Goals as goal
 
 pub returns : goal.returns

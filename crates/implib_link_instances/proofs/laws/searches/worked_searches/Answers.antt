@@ -1,10 +1,6 @@
-use Rattle.implib_link_instances.proofs.Worked.Archives.{worked_archives}
-use Rattle.implib_link_instances.proofs.Worked.Found.{worked_found}
-use Rattle.implib_link_instances.proofs.Worked.MsvcArchives.{worked_msvc_archives}
-use Rattle.implib_link_instances.proofs.Worked.NamedApart.{worked_named_apart}
-use Rattle.implib_link_instances.proofs.Worked.Plainly.{refused_plainly, worked_plainly}
-use Rattle.implib_link_instances.proofs.Worked.Search.{worked_search}
-use Rattle.implib_link_instances.proofs.Worked.Sweeps.{near_sweeps_take, worked_sweeps}
+use Rattle.implib_link_instances.proofs.Worked.Search.{worked_archives, worked_found, worked_named_apart, worked_search, worked_sweeps}
+use Rattle.implib_link_instances.proofs.Worked.MsvcSearch.{worked_msvc_archives}
+use Rattle.implib_link_instances.proofs.Worked.Plainly.{worked_plainly}
 use Rattle.implib_link_instances.proofs.laws.searches.worked_searches.Goals as goal
 
 pub returns : goal.returns
@@ -12,9 +8,7 @@ returns c = record {
   worked_search = worked_search;
   worked_archives = worked_archives;
   worked_sweeps = worked_sweeps;
-  near_sweeps_take = near_sweeps_take;
   worked_plainly = worked_plainly;
-  refused_plainly = refused_plainly;
   worked_found = worked_found;
   worked_named_apart = worked_named_apart;
   worked_msvc_archives = worked_msvc_archives;

@@ -1,8 +1,0 @@
-pub mod Corollaries
-pub mod InBytes
-pub mod Way
-pub mod LldEnds
-pub mod LldWay
-pub mod BothWay
-pub mod Files
-pub mod LldFiles

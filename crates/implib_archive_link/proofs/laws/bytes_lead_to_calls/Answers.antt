@@ -1,5 +1,0 @@
-use Rattle.implib_archive_link.proofs.Way.{bytes_lead_to_calls}
-use Rattle.implib_archive_link.proofs.laws.bytes_lead_to_calls.Goals as goal
-
-pub returns : goal.returns
-returns c = bytes_lead_to_calls

@@ -1,6 +1,0 @@
-use Rattle.implib_archive_link.proofs.LldEnds.{lld_search_ends}
-use Rattle.implib_archive_link.proofs.LldWay.{bytes_lead_to_lld_calls}
-use Rattle.implib_archive_link.proofs.laws.bytes_lead_to_lld_calls.Goals as goal
-
-pub returns : goal.returns
-returns c = record { arrives = bytes_lead_to_lld_calls; ends = lld_search_ends }

@@ -1,5 +1,0 @@
-use Rattle.implib_archive_link.proofs.Corollaries.{ends_given, ends_short, ends_wanted}
-use Rattle.implib_archive_link.proofs.laws.searches_end.Goals as goal
-
-pub returns : goal.returns
-returns c = record { wanted = ends_wanted; given = ends_given; short = ends_short }

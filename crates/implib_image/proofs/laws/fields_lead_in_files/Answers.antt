@@ -1,8 +1,0 @@
-use Rattle.implib_image.proofs.Files.{file_keeps, file_leads}
-use Rattle.implib_image.proofs.laws.fields_lead_in_files.Goals as goal
-
-pub returns : goal.returns
-returns c machine t codes targets bytes file gives n written tables steady beside own wide loads = (
-  file_leads machine t codes targets bytes file gives n written tables steady beside own wide loads,
-  file_keeps machine t codes targets bytes file gives n written tables steady beside own wide loads,
-)

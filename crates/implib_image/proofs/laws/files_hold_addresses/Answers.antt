@@ -1,6 +1,0 @@
-use Rattle.implib_image.proofs.Files.{file_holds}
-use Rattle.implib_image.proofs.laws.files_hold_addresses.Goals as goal
-
-pub returns : goal.returns
-returns c machine t codes targets bytes file gives n written tables steady beside further own wide loads =
-    file_holds machine t codes targets bytes file gives n written tables steady beside own wide loads further

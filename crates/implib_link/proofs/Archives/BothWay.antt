@@ -1,0 +1,80 @@
+-- The whole way for libraries of both flavours, by the laws on it.
+use Rattle.std.proofs.Common.{◌<◌, ◌+◌, ◌*◌, Bool, List, ℕ, length, map, ◌∙◌}
+use Rattle.std.specs.List.{AllByRecursion}
+use Rattle.implib.specs.declared.machine.MachineType.{MachineType}
+use Rattle.implib.specs.Formats.Object.{Object}
+use Rattle.implib.specs.Link.Placement.{Bases}
+use Rattle.implib.specs.Members.ImportTables.{thunk_width}
+use Rattle.implib.specs.Members.MemberSpec.{MemberView}
+use Rattle.implib_archive.specs.declared.kind.Kind.{Kind}
+use Rattle.implib_link.specs.Archives.BothWay.{AreLinkedForBoth, BothArrive}
+use Rattle.implib_link.specs.Archives.Files.{ArchiveFile, members_in_files}
+use Rattle.implib_link.specs.Search.CommandLines.{Input, SearchesFlavors, given_with, objects_given, others_of}
+use Rattle.implib_link.specs.Search.Sweeps.{members_at}
+use Rattle.implib_link.proofs.Search.CommandLines.{takes_of_libraries}
+use Rattle.implib_link.specs.Archives.InBytes.{LinkerMember, asks_with_on}
+use Rattle.implib_link.specs.Archives.Results.{HaveArchive, IsEnding, TakesJust}
+use Rattle.implib_link.proofs.Archives.Corollaries.{found_given, ending, given_taken}
+use Rattle.implib_link.proofs.Archives.InBytes.{takes_just}
+use Rattle.implib_link.specs.Flavors.Program.{OfMember, FlavorInput, IsMadeFor, ask_in, dll_of, symbol_in, thunks_of}
+use Rattle.implib_link.specs.Search.BothFlavors.{AreGivenForBoth, FlavorLibrary, IsFlavorArchive, LinksClosedForBoth, archive_of_both, inputs_of_both, msvc_among}
+use Rattle.implib_link.specs.Search.Closed.{unresolved}
+use Rattle.implib_link.specs.Search.MsvcArchives.{short_inputs, TakesIntoFor, wanted_for}
+use Rattle.implib_link.proofs.Flavors.Steady.{program_tables_none}
+use Rattle.implib_link.proofs.Search.BothArranged.{both_made}
+use Rattle.implib_link.proofs.Search.BothClosed.{closed_links_of_both}
+use Rattle.implib_link.proofs.Search.BothGiven.{both_given_closes, both_given_ends}
+use Rattle.implib_link.proofs.Tables.{tables_read}
+use Rattle.implib_link.proofs.TablesInMemory.{calls_beside}
+use Rattle.implib_link.proofs.TablesOfPrograms.{can_read, program_count, program_entry, program_tables}
+use Rattle.implib_link.specs.Tables.{AreTables, Tables, block_of_flavor, tables_at}
+use Rattle.implib_link.specs.Flavors.Expansion.{expanded_in}
+use Rattle.implib.specs.Import.{imp_symbol}
+
+pub both_arrive : (machine : MachineType) (libraries : List FlavorLibrary) (own : List Object) (taken : List MemberView) (arranged : List FlavorLibrary) (bases : Bases) (objects : List Object) →
+    IsFlavorArchive machine libraries → AreGivenForBoth machine libraries own → 0 < length (short_inputs (msvc_among libraries) (unresolved own)) → TakesIntoFor machine (archive_of_both libraries) own taken →
+    AreLinkedForBoth machine libraries own taken arranged bases objects → BothArrive machine libraries own taken arranged bases objects
+both_arrive machine libraries own taken arranged bases objects archive given some takes linked =
+    let closed = both_given_closes machine libraries own taken arranged objects linked.before linked.behind archive given takes some linked.order linked.others linked.members linked.tables in
+    let links : LinksClosedForBoth machine libraries own taken arranged bases objects =
+    closed_links_of_both machine libraries own taken arranged bases objects archive
+    (record { closed = closed; admissible = linked.admissible; lookups = linked.lookups; addresses = linked.addresses; follows = linked.follows }) in
+    let inputs : List FlavorInput = inputs_of_both machine arranged own taken in
+    let made : AllByRecursion (IsMadeFor machine) inputs = both_made machine libraries archive arranged linked.order (wanted_for machine own taken) in
+    let own_tables : Tables = tables_at machine bases objects (map (block_of_flavor machine) inputs) in
+    let tables : AreTables machine own_tables = program_tables machine OfMember bases inputs objects made links.program in
+    record {
+      links = links;
+      ends = λ gives n written wide reads. (tables_read machine own_tables gives n written tables wide reads).0 ∙ program_count machine bases inputs objects;
+      calls = λ image_base codes targets gives n written i j p e c offset can beside wide reads input chosen held has.
+          (calls_beside machine image_base own_tables codes targets gives tables (program_tables_none machine OfMember bases inputs objects made links.program.held.ended) beside n written wide reads (imp_symbol (symbol_in p.flavor e)) (dll_of p)
+          (ask_in p.flavor machine e) (bases.addresses + thunk_width machine * thunks_of i inputs) j (program_entry machine bases inputs objects i j p e input chosen) (can_read machine image_base bases (thunks_of i inputs) can)).calls
+          c offset held has;
+    }
+
+pub bytes_lead_to_both : (kind : Kind) (linker : LinkerMember) (machine : MachineType) (libraries : List FlavorLibrary) (own : List Object) → HaveArchive kind linker (archive_of_both libraries) →
+    IsFlavorArchive machine libraries → AreGivenForBoth machine libraries own → 0 < length (short_inputs (msvc_among libraries) (unresolved own)) →
+    TakesJust kind linker (archive_of_both libraries) (asks_with_on machine own) (λ taken. (arranged : List FlavorLibrary) (bases : Bases) (objects : List Object) →
+    AreLinkedForBoth machine libraries own taken arranged bases objects → BothArrive machine libraries own taken arranged bases objects)
+bytes_lead_to_both kind linker machine libraries own ready archive given some =
+    takes_just kind linker (archive_of_both libraries) (asks_with_on machine own)
+    (λ taken. (arranged : List FlavorLibrary) (bases : Bases) (objects : List Object) → AreLinkedForBoth machine libraries own taken arranged bases objects → BothArrive machine libraries own taken arranged bases objects) ready
+    (λ taken takes arranged bases objects linked. both_arrive machine libraries own taken arranged bases objects archive given some (given_taken (expanded_in machine) (archive_of_both libraries) own taken takes) linked)
+
+pub ends_for_both : (kind : Kind) (linker : LinkerMember) (machine : MachineType) (libraries : List FlavorLibrary) (own : List Object) → HaveArchive kind linker (archive_of_both libraries) →
+    IsFlavorArchive machine libraries → AreGivenForBoth machine libraries own → IsEnding kind linker (archive_of_both libraries) (asks_with_on machine own)
+ends_for_both kind linker machine libraries own ready archive given =
+    let found = both_given_ends machine libraries own archive given in
+    ending kind linker (archive_of_both libraries) (asks_with_on machine own) found.0 (found_given (expanded_in machine) kind linker (archive_of_both libraries) own found.0 ready found.1)
+
+-- The files of a command line.
+pub files_lead_to_both : (machine : MachineType) (libraries : List FlavorLibrary) (files : List ArchiveFile) (inputs : List Input) (is_given : MemberView → Bool) (taken : List ℕ) (arranged : List FlavorLibrary) (bases : Bases) (objects : List Object) →
+    SearchesFlavors machine libraries (members_in_files files) inputs is_given taken → IsFlavorArchive machine libraries →
+    AreGivenForBoth machine libraries (given_with (expanded_in machine) is_given (objects_given inputs) (members_at (members_in_files files) taken)) →
+    0 < length (short_inputs (msvc_among libraries) (unresolved (given_with (expanded_in machine) is_given (objects_given inputs) (members_at (members_in_files files) taken)))) →
+    AreLinkedForBoth machine libraries (given_with (expanded_in machine) is_given (objects_given inputs) (members_at (members_in_files files) taken)) (others_of is_given (members_at (members_in_files files) taken)) arranged bases objects →
+    BothArrive machine libraries (given_with (expanded_in machine) is_given (objects_given inputs) (members_at (members_in_files files) taken)) (others_of is_given (members_at (members_in_files files) taken)) arranged bases objects
+files_lead_to_both machine libraries files inputs is_given taken arranged bases objects searches archive given some linked =
+    let members = members_in_files files in
+    both_arrive machine libraries (given_with (expanded_in machine) is_given (objects_given inputs) (members_at members taken)) (others_of is_given (members_at members taken)) arranged bases objects archive given some
+    (takes_of_libraries (expanded_in machine) (archive_of_both libraries) members inputs is_given taken searches) linked

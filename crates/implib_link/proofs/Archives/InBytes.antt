@@ -1,0 +1,420 @@
+-- A search in the bytes of an archive is a search of its members.
+use Rattle.std.proofs.Common.{◌≡◌, ℕ, suc, ◌+◌, ◌%◌, ◌≤◌, Bool, true, false, inl, inr, List, [], ◌∷◌, Option, Some, None, if◌then◌else◌, is_some, length, map, option_and_then, refl, sym, ap, subst, ◌∙◌, arith}
+use Rattle.std.specs.Prelude.{slice_get}
+use Rattle.std.specs.List.{Contains, cons_option, filter_map}
+use Rattle.std.specs.Option.{option_map}
+use Rattle.std.proofs.lemmas.Bool.{true≢false}
+use Rattle.std.proofs.lemmas.Option.{slice_get-map, some_pair_parts}
+use Rattle.implib.specs.Members.MemberSpec.{MemberView}
+use Rattle.implib.proofs.Link.LinkedMembers.{among_contains}
+use Rattle.implib.proofs.Link.Ranges.{Among}
+use Rattle.implib_archive.specs.Archive.{archive_of}
+use Rattle.implib_archive.specs.Leads.{first_lister, header_for, headers_among, headers_in, lists, with_header}
+use Rattle.implib_archive.specs.ReadBack.{read_view}
+use Rattle.implib_archive.specs.Reader.{Linker, LongAt, LongNames, Name, Short, Stored, Unknown, member_at, name_in, stored_in}
+use Rattle.implib_archive.specs.declared.kind.Kind.{Kind}
+use Rattle.implib_archive.specs.declared.kind.Kind.TheVariants.{Coff, Gnu}
+use Rattle.implib_archive.proofs.Leading.{each_index_leads, each_second_leads}
+use Rattle.implib_link.specs.Archives.InBytes.{AreTakenAt, Asks, First, LinkerMember, PullsInAt, Second, TakesAt, contents_at, header_by}
+use Rattle.implib_link.specs.Archives.Results.{AreHeadersOf, HaveArchive, IsHeaderOf, IsSearchOf, LeadsToFirst, TakesJust}
+use Rattle.implib_link.specs.Search.Search.{first_listed}
+use Rattle.implib_link.proofs.Search.Lists.{contains_among}
+use Rattle.std.proofs.lemmas.List.{length-map}
+
+-- Headers rise.
+
+-- offsets rise strictly, from this one on
+unfoldable pub AreRising : ℕ → List ℕ → Type 0
+AreRising low [] = Unit {0}
+AreRising low (h ∷ headers) = (low ≤ h) × AreRising (h + 1) headers
+
+rising_from : (low high : ℕ) (headers : List ℕ) → low ≤ high → AreRising high headers → AreRising low headers
+unfolding AreRising
+rising_from low high [] less rising = tt
+rising_from low high (h ∷ headers) less rising = (omega (arith, less, rising.0), rising.1)
+
+rising_name : (n : Name) (place next : ℕ) (headers : List ℕ) → place + 1 ≤ next → AreRising next headers → AreRising place (with_header n place headers)
+unfolding AreRising with_header
+rising_name Linker place next headers more rising = rising_from place next headers (omega (arith, more)) rising
+rising_name LongNames place next headers more rising = rising_from place next headers (omega (arith, more)) rising
+rising_name (LongAt offset) place next headers more rising = (omega arith, rising_from (place + 1) next headers more rising)
+rising_name (Short text) place next headers more rising = (omega arith, rising_from (place + 1) next headers more rising)
+rising_name Unknown place next headers more rising = (omega arith, rising_from (place + 1) next headers more rising)
+
+rising_among : (place : ℕ) (parts : List Stored) → AreRising place (headers_among place parts)
+unfolding AreRising headers_among
+rising_among place [] = tt
+rising_among place (s ∷ parts) =
+    let next = place + (60 + length s.contents + length s.contents % 2) in
+    rising_name (name_in s.field) place next (headers_among next parts) (omega arith) (rising_among next parts)
+
+pub rising_headers : (bytes headers : List ℕ) → headers_in bytes ≡ Some headers → AreRising 8 headers
+unfolding headers_in
+rising_headers bytes headers found = by_parts (stored_in bytes) found
+  where
+    by_parts : (r : Option (List Stored)) → option_map (headers_among 8) r ≡ Some headers → AreRising 8 headers
+    by_parts None e = absurd (cc)
+    by_parts (Some parts) e = let same : headers_among 8 parts ≡ headers = cc in subst (AreRising 8) same (rising_among 8 parts)
+
+-- The first member that lists a name, with its header.
+
+first_is_header : (headers : List ℕ) (members : List MemberView) (name : List ℕ) (h : ℕ) (m : MemberView) → first_lister headers members name ≡ Some (h, m) → IsHeaderOf headers members h m
+first_is_header [] members name h m is = absurd (cc)
+first_is_header (x ∷ headers) [] name h m is = absurd (cc)
+first_is_header (x ∷ headers) (y ∷ members) name h m is = by_test (lists name y) (first_is_header headers members name h m) is
+  where
+    by_test : (b : Bool) → (first_lister headers members name ≡ Some (h, m) → IsHeaderOf headers members h m)
+        → (if b then Some (x, y) else first_lister headers members name) ≡ Some (h, m) → IsHeaderOf (x ∷ headers) (y ∷ members) h m
+    by_test true rest e = record { number = 0; header_is = ap (option_map (λ p. p.0)) e; member_is = ap (option_map (λ p. p.1)) e }
+    by_test false rest e = let later = rest e in record { number = suc later.number; header_is = later.header_is; member_is = later.member_is }
+
+-- the first member's header is not below the first of all
+first_above : (low : ℕ) (headers : List ℕ) (members : List MemberView) (name : List ℕ) (h : ℕ) (m : MemberView) → AreRising low headers → first_lister headers members name ≡ Some (h, m) → low ≤ h
+unfolding AreRising
+first_above low [] members name h m rising is = absurd (cc)
+first_above low (x ∷ headers) [] name h m rising is = absurd (cc)
+first_above low (x ∷ headers) (y ∷ members) name h m rising is = by_test (lists name y) (first_above (x + 1) headers members name h m rising.1) is
+  where
+    by_test : (b : Bool) → (first_lister headers members name ≡ Some (h, m) → x + 1 ≤ h)
+        → (if b then Some (x, y) else first_lister headers members name) ≡ Some (h, m) → low ≤ h
+    by_test true rest e = let same = (some_pair_parts x h y m e).0 in omega (arith, same, rising.0)
+    by_test false rest e = let later = rest e in omega (arith, later, rising.0)
+
+-- and it lists the name
+first_lists : (headers : List ℕ) (members : List MemberView) (name : List ℕ) (h : ℕ) (m : MemberView) → first_lister headers members name ≡ Some (h, m) → lists name m ≡ true
+first_lists [] members name h m is = absurd (cc)
+first_lists (x ∷ headers) [] name h m is = absurd (cc)
+first_lists (x ∷ headers) (y ∷ members) name h m is = by_test (lists name y) refl (first_lists headers members name h m) is
+  where
+    by_test : (b : Bool) → lists name y ≡ b → (first_lister headers members name ≡ Some (h, m) → lists name m ≡ true)
+        → (if b then Some (x, y) else first_lister headers members name) ≡ Some (h, m) → lists name m ≡ true
+    by_test true here rest e = let same = (some_pair_parts x h y m e).1 in subst (λ t. lists name t ≡ true) same here
+    by_test false here rest e = rest e
+
+-- two names that lead to one header lead to one member
+one_member : (low : ℕ) (headers : List ℕ) (members : List MemberView) (name other : List ℕ) (h : ℕ) (m o : MemberView) → AreRising low headers
+    → first_lister headers members name ≡ Some (h, m) → first_lister headers members other ≡ Some (h, o) → m ≡ o
+unfolding AreRising
+one_member low [] members name other h m o rising is also = absurd (cc)
+one_member low (x ∷ headers) [] name other h m o rising is also = absurd (cc)
+one_member low (x ∷ headers) (y ∷ members) name other h m o rising is also =
+    by_tests (lists name y) (lists other y) (one_member (x + 1) headers members name other h m o rising.1)
+    (first_above (x + 1) headers members name h m rising.1) (first_above (x + 1) headers members other h o rising.1) is also
+  where
+    by_tests : (a b : Bool) → (first_lister headers members name ≡ Some (h, m) → first_lister headers members other ≡ Some (h, o) → m ≡ o)
+        → (first_lister headers members name ≡ Some (h, m) → x + 1 ≤ h) → (first_lister headers members other ≡ Some (h, o) → x + 1 ≤ h)
+        → (if a then Some (x, y) else first_lister headers members name) ≡ Some (h, m) → (if b then Some (x, y) else first_lister headers members other) ≡ Some (h, o) → m ≡ o
+    by_tests true true rest above beyond e f = sym ((some_pair_parts x h y m e).1) ∙ (some_pair_parts x h y o f).1
+    by_tests true false rest above beyond e f = let same = (some_pair_parts x h y m e).0 in let past = beyond f in absurd (omega (arith, same, past))
+    by_tests false true rest above beyond e f = let same = (some_pair_parts x h y o f).0 in let past = above e in absurd (omega (arith, same, past))
+    by_tests false false rest above beyond e f = rest e f
+
+-- two names that lead to one member lead to one header
+one_header : (headers : List ℕ) (members : List MemberView) (name other : List ℕ) (h k : ℕ) (m : MemberView)
+    → first_lister headers members name ≡ Some (h, m) → first_lister headers members other ≡ Some (k, m) → h ≡ k
+one_header [] members name other h k m is also = absurd (cc)
+one_header (x ∷ headers) [] name other h k m is also = absurd (cc)
+one_header (x ∷ headers) (y ∷ members) name other h k m is also =
+    by_tests (lists name y) (lists other y) refl refl (one_header headers members name other h k m)
+    (first_lists headers members name h m) (first_lists headers members other k m) is also
+  where
+    by_tests : (a b : Bool) → lists name y ≡ a → lists other y ≡ b
+        → (first_lister headers members name ≡ Some (h, m) → first_lister headers members other ≡ Some (k, m) → h ≡ k)
+        → (first_lister headers members name ≡ Some (h, m) → lists name m ≡ true) → (first_lister headers members other ≡ Some (k, m) → lists other m ≡ true)
+        → (if a then Some (x, y) else first_lister headers members name) ≡ Some (h, m) → (if b then Some (x, y) else first_lister headers members other) ≡ Some (k, m) → h ≡ k
+    by_tests true true p q rest one two e f = sym ((some_pair_parts x h y m e).0) ∙ (some_pair_parts x k y m f).0
+    by_tests true false p q rest one two e f =
+        let same = (some_pair_parts x h y m e).1 in absurd (true≢false (sym (two f) ∙ (sym (ap (lists other) same) ∙ q)))
+    by_tests false true p q rest one two e f =
+        let same = (some_pair_parts x k y m f).1 in absurd (true≢false (sym (one e) ∙ (sym (ap (lists name) same) ∙ p)))
+    by_tests false false p q rest one two e f = rest e f
+
+first_member : (headers : List ℕ) (members : List MemberView) (name : List ℕ) → length headers ≡ length members → option_map (λ f. f.1) (first_lister headers members name) ≡ first_listed members name
+first_member [] [] name same = refl
+first_member [] (y ∷ members) name same = absurd (omega (arith, same))
+first_member (x ∷ headers) [] name same = absurd (omega (arith, same))
+first_member (x ∷ headers) (y ∷ members) name same = by_test (lists name y) (first_member headers members name (omega (arith, same)))
+  where
+    by_test : (b : Bool) → option_map (λ f. f.1) (first_lister headers members name) ≡ first_listed members name
+        → option_map (λ f. f.1) (if b then Some (x, y) else first_lister headers members name) ≡ (if b then Some y else first_listed members name)
+    by_test true rest = refl
+    by_test false rest = rest
+
+-- Objects in bytes.
+
+pub kept_of_map : {X Y Z : Type 0} (f : Y → Option Z) (g : X → Y) (xs : List X) → filter_map f (map g xs) ≡ filter_map (λ x. f (g x)) xs
+kept_of_map f g [] = refl
+kept_of_map f g (x ∷ xs) = ap (cons_option (f (g x))) (kept_of_map f g xs)
+
+-- Searches of members that look at their bytes alone.
+
+pub record PullsBy (archive : List MemberView) (asks : Asks) (taken : List MemberView) (name : List ℕ) (m : MemberView) : Type 0 where
+  pub asked : asks (map (λ m. m.bytes) taken) name
+  pub listed : first_listed archive name ≡ Some m
+  pub new : Contains taken m → ⊥
+
+unfoldable pub AreTakenBy : List MemberView → Asks → List MemberView → Type 0
+AreTakenBy archive asks [] = Unit {0}
+AreTakenBy archive asks (m ∷ earlier) = ((name : List ℕ) × PullsBy archive asks earlier name m) × AreTakenBy archive asks earlier
+
+pub record TakesBy (archive : List MemberView) (asks : Asks) (taken : List MemberView) : Type 0 where
+  pub in_turn : AreTakenBy archive asks taken
+  pub ended : (name : List ℕ) (m : MemberView) → PullsBy archive asks taken name m → ⊥
+
+-- headers and members that names lead to, one by one
+unfoldable pub ArePaired : List ℕ → List MemberView → List ℕ → List MemberView → Type 0
+ArePaired headers members [] [] = Unit {0}
+ArePaired headers members (h ∷ taken) (m ∷ found) = ((name : List ℕ) × (first_lister headers members name ≡ Some (h, m))) × ArePaired headers members taken found
+ArePaired headers members [] (m ∷ found) = ⊥
+ArePaired headers members (h ∷ taken) [] = ⊥
+
+paired_headers : (headers : List ℕ) (members : List MemberView) (taken : List ℕ) (found : List MemberView) → ArePaired headers members taken found → AreHeadersOf headers members taken found
+unfolding ArePaired AreHeadersOf
+paired_headers headers members [] [] paired = tt
+paired_headers headers members (h ∷ taken) (m ∷ found) paired = (first_is_header headers members paired.0.0 h m paired.0.1, paired_headers headers members taken found paired.1)
+paired_headers headers members [] (m ∷ found) paired = absurd paired
+paired_headers headers members (h ∷ taken) [] paired = absurd paired
+
+-- a member is taken exactly if its header is
+header_among : (headers : List ℕ) (members : List MemberView) (taken : List ℕ) (found : List MemberView) (name : List ℕ) (h : ℕ) (m : MemberView)
+    → ArePaired headers members taken found → first_lister headers members name ≡ Some (h, m) → Among m found → Among h taken
+unfolding ArePaired Among
+header_among headers members [] [] name h m paired is among = absurd among
+header_among headers members (x ∷ taken) (y ∷ found) name h m paired is (inl same) =
+    inl (one_header headers members name paired.0.0 h x m is (paired.0.1 ∙ ap (λ t. Some (x, t)) (sym same)))
+header_among headers members (x ∷ taken) (y ∷ found) name h m paired is (inr later) = inr (header_among headers members taken found name h m paired.1 is later)
+header_among headers members [] (y ∷ found) name h m paired is among = absurd paired
+header_among headers members (x ∷ taken) [] name h m paired is among = absurd paired
+
+member_among : (headers : List ℕ) (members : List MemberView) → AreRising 8 headers → (taken : List ℕ) (found : List MemberView) (name : List ℕ) (h : ℕ) (m : MemberView)
+    → ArePaired headers members taken found → first_lister headers members name ≡ Some (h, m) → Among h taken → Among m found
+unfolding ArePaired Among
+member_among headers members rising [] [] name h m paired is among = absurd among
+member_among headers members rising (x ∷ taken) (y ∷ found) name h m paired is (inl same) =
+    inl (one_member 8 headers members name paired.0.0 h m y rising is (paired.0.1 ∙ ap (λ t. Some (t, y)) (sym same)))
+member_among headers members rising (x ∷ taken) (y ∷ found) name h m paired is (inr later) = inr (member_among headers members rising taken found name h m paired.1 is later)
+member_among headers members rising [] (y ∷ found) name h m paired is among = absurd paired
+member_among headers members rising (x ∷ taken) [] name h m paired is among = absurd paired
+
+-- Bytes that lead to members.
+
+module _ (kind : Kind) (linker : LinkerMember) (bytes headers : List ℕ) (members : List MemberView) (rising : AreRising 8 headers)
+    (find : (name : List ℕ) → header_by linker bytes name ≡ option_map (λ f. f.0) (first_lister headers members name))
+    (many : length headers ≡ length members)
+    (reads : map (member_at kind bytes) headers ≡ map (λ m. Some (read_view m)) members) where
+  pub read_at : (h : ℕ) (m : MemberView) → IsHeaderOf headers members h m → member_at kind bytes h ≡ Some (read_view m)
+  read_at h m is =
+      let one : slice_get (map (member_at kind bytes) headers) is.number ≡ Some (member_at kind bytes h) = slice_get-map (member_at kind bytes) headers is.number ∙ ap (option_map (member_at kind bytes)) is.header_is in
+      let two : slice_get (map (λ m. Some (read_view m)) members) is.number ≡ Some (Some (read_view m)) = slice_get-map (λ m. Some (read_view m)) members is.number ∙ ap (option_map (λ m. Some (read_view m))) is.member_is in
+      let both : Some (member_at kind bytes h) ≡ Some (Some (read_view m)) = sym one ∙ (ap (λ t. slice_get t is.number) reads ∙ two) in
+      cc
+
+  paired_read : (taken : List ℕ) (found : List MemberView) → ArePaired headers members taken found → map (member_at kind bytes) taken ≡ map (λ m. Some (read_view m)) found
+  unfolding ArePaired
+  paired_read [] [] paired = refl
+  paired_read (h ∷ taken) (m ∷ found) paired =
+      ap (λ t. t ∷ map (member_at kind bytes) taken) (read_at h m (first_is_header headers members paired.0.0 h m paired.0.1)) ∙ ap (λ t. Some (read_view m) ∷ t) (paired_read taken found paired.1)
+  paired_read [] (m ∷ found) paired = absurd paired
+  paired_read (h ∷ taken) [] paired = absurd paired
+
+  contents_read : (taken : List ℕ) (found : List MemberView) → ArePaired headers members taken found → contents_at kind bytes taken ≡ map (λ m. m.bytes) found
+  unfolding ArePaired
+  contents_read [] [] paired = refl
+  contents_read (h ∷ taken) (m ∷ found) paired =
+      ap (λ r. cons_option (option_map (λ r. r.bytes) r) (contents_at kind bytes taken)) (read_at h m (first_is_header headers members paired.0.0 h m paired.0.1)) ∙ ap (λ t. m.bytes ∷ t) (contents_read taken found paired.1)
+  contents_read [] (m ∷ found) paired = absurd paired
+  contents_read (h ∷ taken) [] paired = absurd paired
+
+  module _ (asks : Asks) where
+    record IsPulledBack (found : List MemberView) (name : List ℕ) (h : ℕ) : Type 0 where
+      member : MemberView
+      led : first_lister headers members name ≡ Some (h, member)
+      pulls : PullsBy members asks found name member
+
+    -- a header that a name leads to is that of a member
+    pulled_back : (taken : List ℕ) (found : List MemberView) (name : List ℕ) (h : ℕ) → ArePaired headers members taken found → PullsInAt kind linker bytes asks taken name h → IsPulledBack found name h
+    pulled_back taken found name h paired pulls = by_first (first_lister headers members name) refl
+      where
+        by_first : (r : Option (ℕ × MemberView)) → first_lister headers members name ≡ r → IsPulledBack found name h
+        by_first None is =
+            let none : header_by linker bytes name ≡ None = find name ∙ ap (option_map (λ f. f.0)) is in
+            let no : Some h ≡ None = sym pulls.found ∙ none in absurd (cc)
+        by_first (Some f) is =
+            let at : Some f.0 ≡ Some h = sym (find name ∙ ap (option_map (λ f. f.0)) is) ∙ pulls.found in
+            let same : f.0 ≡ h = cc in
+            let led : first_lister headers members name ≡ Some (h, f.1) = is ∙ ap (λ t. Some (t, f.1)) same in
+            record {
+              member = f.1;
+              led = led;
+              pulls = record {
+                asked = subst (λ c. asks c name) (contents_read taken found paired) pulls.asked;
+                listed = sym (first_member headers members name many) ∙ ap (option_map (λ f. f.1)) led;
+                new = λ has. pulls.new (among_contains h taken (header_among headers members taken found name h f.1 paired led (contains_among f.1 found has)));
+              };
+            }
+
+    record IsPulledForth (taken : List ℕ) (name : List ℕ) (m : MemberView) : Type 0 where
+      header : ℕ
+      led : first_lister headers members name ≡ Some (header, m)
+      pulls : PullsInAt kind linker bytes asks taken name header
+
+    -- a member that a name pulls in has a header that it leads to
+    pulled_forth : (taken : List ℕ) (found : List MemberView) (name : List ℕ) (m : MemberView) → ArePaired headers members taken found → PullsBy members asks found name m → IsPulledForth taken name m
+    pulled_forth taken found name m paired pulls = by_first (first_lister headers members name) refl
+      where
+        by_first : (r : Option (ℕ × MemberView)) → first_lister headers members name ≡ r → IsPulledForth taken name m
+        by_first None is =
+            let none : first_listed members name ≡ None = sym (first_member headers members name many) ∙ ap (option_map (λ f. f.1)) is in
+            let no : Some m ≡ None = sym pulls.listed ∙ none in absurd (cc)
+        by_first (Some f) is =
+            let at : Some f.1 ≡ Some m = sym (sym (first_member headers members name many) ∙ ap (option_map (λ f. f.1)) is) ∙ pulls.listed in
+            let same : f.1 ≡ m = cc in
+            let led : first_lister headers members name ≡ Some (f.0, m) = is ∙ ap (λ t. Some (f.0, t)) same in
+            record {
+              header = f.0;
+              led = led;
+              pulls = record {
+                asked = subst (λ c. asks c name) (sym (contents_read taken found paired)) pulls.asked;
+                found = find name ∙ ap (option_map (λ f. f.0)) led;
+                new = λ has. pulls.new (among_contains m found (member_among headers members rising taken found name f.0 m paired led (contains_among f.0 taken has)));
+              };
+            }
+
+    record AreFound (taken : List ℕ) : Type 0 where
+      found : List MemberView
+      paired : ArePaired headers members taken found
+      in_turn : AreTakenBy members asks found
+
+    found_back : (taken : List ℕ) → AreTakenAt kind linker bytes asks taken → AreFound taken
+    unfolding AreTakenAt AreTakenBy ArePaired
+    found_back [] turn = record { found = []; paired = tt; in_turn = tt }
+    found_back (h ∷ taken) turn =
+        let earlier = found_back taken turn.1 in
+        let back = pulled_back taken earlier.found turn.0.0 h earlier.paired turn.0.1 in
+        record {
+          found = back.member ∷ earlier.found;
+          paired = ((turn.0.0, back.led), earlier.paired);
+          in_turn = ((turn.0.0, back.pulls), earlier.in_turn);
+        }
+
+    record AreAt (found : List MemberView) : Type 0 where
+      taken : List ℕ
+      paired : ArePaired headers members taken found
+      in_turn : AreTakenAt kind linker bytes asks taken
+
+    found_forth : (found : List MemberView) → AreTakenBy members asks found → AreAt found
+    unfolding AreTakenAt AreTakenBy ArePaired
+    found_forth [] turn = record { taken = []; paired = tt; in_turn = tt }
+    found_forth (m ∷ found) turn =
+        let earlier = found_forth found turn.1 in
+        let forth = pulled_forth earlier.taken found turn.0.0 m earlier.paired turn.0.1 in
+        record {
+          taken = forth.header ∷ earlier.taken;
+          paired = ((turn.0.0, forth.led), earlier.paired);
+          in_turn = ((turn.0.0, forth.pulls), earlier.in_turn);
+        }
+
+    pub record IsSearchBack (taken : List ℕ) : Type 0 where
+      pub found : List MemberView
+      pub paired : AreHeadersOf headers members taken found
+      pub read : map (member_at kind bytes) taken ≡ map (λ m. Some (read_view m)) found
+      pub takes : TakesBy members asks found
+
+    -- a search in the bytes is one of the members
+    pub search_back : (taken : List ℕ) → TakesAt kind linker bytes asks taken → IsSearchBack taken
+    search_back taken takes =
+        let back = found_back taken takes.in_turn in
+        record {
+          found = back.found;
+          paired = paired_headers headers members taken back.found back.paired;
+          read = paired_read taken back.found back.paired;
+          takes = record {
+            in_turn = back.in_turn;
+            ended = λ name m pulls. let forth = pulled_forth taken back.found name m back.paired pulls in takes.ended name forth.header forth.pulls;
+          };
+        }
+
+    pub record IsSearchForth (found : List MemberView) : Type 0 where
+      pub taken : List ℕ
+      pub paired : AreHeadersOf headers members taken found
+      pub takes : TakesAt kind linker bytes asks taken
+
+    -- a search of the members is one in the bytes
+    pub search_forth : (found : List MemberView) → TakesBy members asks found → IsSearchForth found
+    search_forth found takes =
+        let forth = found_forth found takes.in_turn in
+        record {
+          taken = forth.taken;
+          paired = paired_headers headers members forth.taken found forth.paired;
+          takes = record {
+            in_turn = forth.in_turn;
+            ended = λ name h pulls. let back = pulled_back forth.taken found name h forth.paired pulls in takes.ended name back.member back.pulls;
+          };
+        }
+
+-- By either linker member.
+
+module _ (kind : Kind) (linker : LinkerMember) (members : List MemberView) (ready : HaveArchive kind linker members) where
+  pub record IsReady : Type 0 where
+    pub headers : List ℕ
+    pub located : headers_in (archive_of kind members) ≡ Some headers
+    pub rising : AreRising 8 headers
+    pub find : (name : List ℕ) → header_by linker (archive_of kind members) name ≡ option_map (λ f. f.0) (first_lister headers members name)
+    pub many : length headers ≡ length members
+    pub read : map (member_at kind (archive_of kind members)) headers ≡ map (λ m. Some (read_view m)) members
+
+either_same : (kind : Kind) (linker : LinkerMember) (members : List MemberView) → HaveArchive kind linker members → (name : List ℕ) → header_by linker (archive_of kind members) name ≡ header_for (archive_of kind members) name
+unfolding header_by
+either_same kind First members ready name = refl
+either_same Coff Second members ready name = (each_second_leads members ready.accepted).same name
+either_same Gnu Second members ready name = absurd ready.has
+
+pub is_ready : (kind : Kind) (linker : LinkerMember) (members : List MemberView) (ready : HaveArchive kind linker members) → IsReady kind linker members ready
+is_ready kind linker members ready =
+    let leads = each_index_leads kind members ready.accepted in
+    let bytes = archive_of kind members in
+    record {
+      headers = leads.headers;
+      located = leads.found;
+      rising = rising_headers bytes leads.headers leads.found;
+      find = λ name. either_same kind linker members ready name ∙ leads.leads name;
+      many = sym (length-map leads.headers (member_at kind bytes)) ∙ (ap length leads.read ∙ length-map members (λ m. Some (read_view m)));
+      read = leads.read;
+    }
+
+-- a search in the bytes takes members of which what a search of the members says holds
+pub takes_just : (kind : Kind) (linker : LinkerMember) (members : List MemberView) (asks : Asks) (P : List MemberView → Type 0) → HaveArchive kind linker members
+    → ((found : List MemberView) → TakesBy members asks found → P found) → TakesJust kind linker members asks P
+takes_just kind linker members asks P ready says taken takes =
+    let r = is_ready kind linker members ready in
+    let back = search_back kind linker (archive_of kind members) r.headers members r.rising r.find r.many r.read asks taken takes in
+    record { headers = r.headers; located = r.located; found = back.found; at = back.paired; read = back.read; holds = says back.found back.takes }
+
+pub leads_to_first : (kind : Kind) (linker : LinkerMember) (members : List MemberView) → HaveArchive kind linker members → (name : List ℕ) → LeadsToFirst kind linker members name
+leads_to_first kind linker members ready name =
+    let r = is_ready kind linker members ready in
+    by_first r (first_lister r.headers members name) refl
+  where
+    by_first : (r : IsReady kind linker members ready) (f : Option (ℕ × MemberView)) → first_lister r.headers members name ≡ f → LeadsToFirst kind linker members name
+    by_first r None is =
+        let header = r.find name ∙ ap (option_map (λ f. f.0)) is in
+        let member = sym (first_member r.headers members name r.many) ∙ ap (option_map (λ f. f.1)) is in
+        record {
+          somewhere = ap is_some header ∙ sym (ap is_some member);
+          read = ap (option_and_then (member_at kind (archive_of kind members))) header ∙ sym (ap (option_map read_view) member);
+        }
+    by_first r (Some f) is =
+        let header = r.find name ∙ ap (option_map (λ f. f.0)) is in
+        let member = sym (first_member r.headers members name r.many) ∙ ap (option_map (λ f. f.1)) is in
+        let read = read_at kind linker (archive_of kind members) r.headers members r.rising r.find r.many r.read f.0 f.1 (first_is_header r.headers members name f.0 f.1 is) in
+        record {
+          somewhere = ap is_some header ∙ sym (ap is_some member);
+          read = ap (option_and_then (member_at kind (archive_of kind members))) header ∙ (read ∙ sym (ap (option_map read_view) member));
+        }
+
+-- a search of the members is one in the bytes
+pub search_of : (kind : Kind) (linker : LinkerMember) (members : List MemberView) (asks : Asks) (found : List MemberView) → HaveArchive kind linker members → TakesBy members asks found → IsSearchOf kind linker members asks found
+search_of kind linker members asks found ready takes =
+    let r = is_ready kind linker members ready in
+    let forth = search_forth kind linker (archive_of kind members) r.headers members r.rising r.find r.many r.read asks found takes in
+    record { headers = r.headers; located = r.located; taken = forth.taken; at = forth.paired; takes = forth.takes }

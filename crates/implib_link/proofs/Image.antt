@@ -1,0 +1,2 @@
+-- The same, proved.
+pub mod Files

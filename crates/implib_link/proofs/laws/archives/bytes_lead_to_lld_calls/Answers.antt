@@ -1,0 +1,6 @@
+use Rattle.implib_link.proofs.Archives.LldEnds.{lld_search_ends}
+use Rattle.implib_link.proofs.Archives.LldWay.{bytes_lead_to_lld_calls}
+use Rattle.implib_link.proofs.laws.archives.bytes_lead_to_lld_calls.Goals as goal
+
+pub returns : goal.returns
+returns c = record { arrives = bytes_lead_to_lld_calls; ends = lld_search_ends }

@@ -1,0 +1,6 @@
+-- What conclusions of laws refuse.
+pub mod Archives
+pub mod Code
+pub mod Links
+pub mod Searches
+pub mod Tables

@@ -1,0 +1,242 @@
+-- What no link gives, by computing.
+use Rattle.std.proofs.Common.{List, None, Some, [], ap, arith, codes, inl, inr, length, map, refl, suc, subst, sym, zero, ℕ, ◌*◌, ◌+◌, ◌∙◌, ◌∷◌, ◌≡◌, ◌⊎◌}
+use Rattle.std.specs.Prelude.{bytes_eq, slice_get, slice_index}
+use Rattle.std.specs.List.{Contains}
+use Rattle.implib.specs.declared.flavor.Flavor.TheVariants.{Gnu}
+use Rattle.implib.specs.declared.machine.MachineType.TheVariants.{AMD64, I386}
+use Rattle.implib.specs.Formats.Constants.{class_external, class_static}
+use Rattle.implib.specs.Formats.Object.{ASymbol, ObjectSection, ObjectSymbol}
+use Rattle.implib.specs.Formats.ShortImport.{ShortImport}
+use Rattle.implib.specs.Link.LinkedMembers.{LinkInput, chosen_exports}
+use Rattle.implib.specs.Link.Load.{NumberAt}
+use Rattle.implib.specs.Link.Placement.{Placed}
+use Rattle.implib.specs.Link.Resolution.{SymbolDefinition}
+use Rattle.implib.specs.Members.Gnu.{section}
+use Rattle.implib.specs.Members.ImportTables.{table_flags, zeros}
+use Rattle.implib.specs.Members.MemberSpec.{MemberView}
+use Rattle.implib.proofs.Link.LinkedMembers.{among_contains}
+use Rattle.implib.proofs.Link.Loading.{number_once}
+use Rattle.implib_link.specs.Directory.{DirectoryAt}
+use Rattle.implib_link.specs.Flavors.Expansion.{expanded_in}
+use Rattle.implib_link.specs.Flavors.LldImports.{grouped}
+use Rattle.implib_link.specs.Flavors.Program.{FlavorInput, OfMember, SymbolsAt, SymbolsGet, exports_chosen, gnu_input, members_linked, objects_taken, own_names}
+use Rattle.implib_link.specs.Gnu.OtherLibraries.{ends_behind, members_from, rows_before}
+use Rattle.implib_link.specs.Search.Archives.{archive_of}
+use Rattle.implib_link.specs.Search.BothFlavors.{IsImportedOfBoth, archive_of_both}
+use Rattle.implib_link.specs.Search.Closed.{IsAliasTaken, IsImported, listed_in}
+use Rattle.implib_link.specs.Search.MsvcArchives.{IsWeakTaken}
+use Rattle.implib_link.specs.Stub.{code_relocated, jump_reads}
+use Rattle.implib_link.proofs.Search.Lists.{any_among, contains_among}
+use Rattle.implib_link_instances.proofs.Refused.Code.{absent, nothing_there}
+use Rattle.implib_link_instances.proofs.Worked.Calls.{one_of}
+use Rattle.implib_link_instances.proofs.Worked.Lemmas.{differ, no_definition, none_at, none_in, none_passes, number, value}
+use Rattle.implib_link_instances.proofs.Worked.LldPrograms.{lld_opened}
+use Rattle.implib_link_instances.proofs.Worked.Opened.{searched}
+use Rattle.implib_link_instances.specs.Refused.Links.{RefusedFlavorTextLinks, RefusedFlavorTextsLink, RefusedInputImports, RefusedIsImported, RefusedIsImportedBy, RefusedIsImportedOfBoth, RefusedIsTaken, RefusedJumpsThrough, RefusedLinksBeside, RefusedLinksClosed, RefusedLinksClosedForBoth, RefusedLldLinks, RefusedProgramLinks, RefusedRunLinks, asking_entry, f_in, f_input, f_library, f_run, f_short, for_gnu, four_before, jump, later_short, listing, nul_within, unchosen, with_symbol}
+use Rattle.implib_link_instances.specs.Refused.Tables.{zero_image}
+use Rattle.implib_link_instances.specs.Worked.Programs.{code_object, symbol_of_class, touching_8}
+use Rattle.implib_link_instances.specs.Worked.Sources.{source_in, zed_meant, zed_text}
+
+nowhere : (address : ℕ) → None ≡ Some address → ⊥
+nowhere address is = cc
+
+abbrev pub first_letter : List ℕ → ℕ
+first_letter text = slice_index text 0
+
+-- the addresses of the descriptor of no DLL
+no_addresses : (n : ℕ) → NumberAt zero_image 4 0x1010 n → n ≡ 0
+no_addresses n there = number_once zero_image 4 0x1010 n 0 there (number zero_image 4 0x1010 0 (0 ∷ 0 ∷ 0 ∷ 0 ∷ []) refl refl refl)
+
+pub refused_input_imports : RefusedInputImports
+unfolding searched SymbolsAt SymbolsGet
+refused_input_imports = record {
+  top = λ x. no_definition _ x.top;
+  loads = λ x. absent 0x1000 4 x.loads.plain.lookups (omega arith) x.loads.plain.lookups_field;
+  table_located = λ x. differ 0 0x1000 (sym (no_addresses x.loads.plain.addresses x.loads.plain.addresses_field) ∙ x.table_located) (omega arith);
+  entries = λ x. no_definition _ x.entries.0;
+  gets = λ x. nowhere 0x1000 (x.gets.0 asking_entry (symbol_of_class (codes "__imp_f") 0 class_external) (0, omega arith, refl) (0, omega arith, refl) refl refl);
+}
+
+-- there is one group, of one short import
+first_group : (i : ℕ) (group : List ShortImport) → slice_get (grouped (f_short ∷ [])) i ≡ Some group → (i ≡ 0) × (group ≡ f_short ∷ [])
+unfolding lld_opened
+first_group zero group is = (refl, (let same : f_short ∷ [] ≡ group = cc in sym same))
+first_group (suc i) group is = absurd (none_at i group is)
+
+no_other_time : (j : ℕ) → slice_get (f_short ∷ []) j ≡ Some later_short → ⊥
+no_other_time zero is = let same : f_short ≡ later_short = cc in differ 0 1 (ap (λ (r : ShortImport). r.time) same) (omega arith)
+no_other_time (suc j) is = none_at j later_short is
+
+pub refused_is_imported_by : RefusedIsImportedBy
+unfolding lld_opened
+refused_is_imported_by = record {
+  its_group = λ x. no_other_time x.j (subst (λ g. slice_get g x.j ≡ Some later_short) (first_group x.i x.group x.its_group).1 x.its_place);
+  its_place = λ x. no_other_time x.j (subst (λ g. slice_get g x.j ≡ Some later_short) (first_group x.i x.group x.its_group).1 x.its_place);
+  loads = λ x. absent (0x1000 + 20 * x.i) 4 x.loads.plain.lookups (omega arith) x.loads.plain.lookups_field;
+  its_table = λ x.
+      let first : x.i ≡ 0 = (first_group x.i x.group x.its_group).0 in
+      let zero : x.loads.plain.addresses ≡ 0 = no_addresses x.loads.plain.addresses (subst (λ i. NumberAt zero_image 4 (0x1000 + 20 * i + 16) x.loads.plain.addresses) first x.loads.plain.addresses_field) in
+      let table = x.its_table in
+      omega arith;
+  once = λ x. no_definition _ x.once;
+  gets = λ x. nowhere _ (x.gets asking_entry (symbol_of_class (codes "__imp_f") 0 class_external) (0, omega arith, refl) (0, omega arith, refl) refl refl);
+}
+
+pub refused_lld_links : RefusedLldLinks
+unfolding lld_opened DirectoryAt
+refused_lld_links = record {
+  directory = λ x. nothing_there (zeros 20) 0x1000 (omega arith) x.directory;
+  imported = λ x. no_definition _ (x.imported f_short (0, omega arith, refl)).once;
+  only = λ x. differ 70 102 (ap first_letter x.only.0.1.0.1) (omega arith);
+}
+
+-- three members, of which two are read
+few_read : length (map (λ (m : MemberView). expanded_in AMD64 m.bytes) (members_linked AMD64 nul_within)) ≡ length (map Some (objects_taken AMD64 (members_linked AMD64 nul_within))) → ⊥
+unfolding searched
+few_read is = differ 2 3 (sym is) (omega arith)
+
+pub refused_is_taken : RefusedIsTaken
+unfolding searched
+refused_is_taken = record {
+  from_members = λ x. none_in _ x.from_members.0;
+  read = λ x. few_read (ap length x.read);
+  null = λ x. none_in _ (x.null refl);
+}
+
+pub refused_program_links : RefusedProgramLinks
+unfolding searched DirectoryAt
+refused_program_links = record {
+  linked = λ x. none_in _ x.linked.0.from_members.0;
+  imports = λ x. no_definition _ (x.imports 0 (gnu_input f_input) refl).top;
+  directory = λ x. nothing_there (zeros 20) 4 (omega arith) x.directory;
+  null = λ x. no_definition _ x.null;
+  ended = λ x. differ 4 5 (sym x.ended) (omega arith);
+  targets = λ x. nowhere x.targets.0.0.0.0 x.targets.0.0.0.1;
+  defined = λ x. no_definition _ x.defined.0.1;
+  listed = λ x. no_definition _ x.listed.0.1;
+  claimed = λ x. none_passes (bytes_eq (codes "more")) (codes "more") (own_names OfMember AMD64 []) refl ((x.claimed (codes "more")).0 (0, omega arith, refl)) refl;
+}
+
+pub refused_run_links : RefusedRunLinks
+unfolding searched
+refused_run_links = record {
+  imports = λ x. no_definition _ (x.imports 0 f_input refl).top;
+  targets = λ x. nowhere x.targets.0.1.1.1.0.1.1.0.0 x.targets.0.1.1.1.0.1.1.0.1;
+  defined = λ x. no_definition _ x.defined.0.1;
+}
+
+pub refused_links_beside : RefusedLinksBeside
+unfolding searched DirectoryAt members_from ends_behind rows_before
+refused_links_beside = record {
+  linked = λ x. none_in _ x.linked.0.0.from_members.0;
+  members = λ x. no_definition _ ((x.members 0 f_run refl).imports 0 f_input refl).top;
+  rows = λ x. differ 4 8 (sym (x.rows 0 four_before refl)) (omega arith);
+  directory = λ x. nothing_there (zeros 20) 4 (omega arith) x.directory;
+  listed = λ x. no_definition _ x.listed.0.1;
+}
+
+f_listed : Contains (listed_in (archive_of (f_library ∷ []))) (codes "f")
+unfolding searched
+f_listed = among_contains (codes "f") (listed_in (archive_of (f_library ∷ []))) (any_among (codes "f") (listed_in (archive_of (f_library ∷ []))) refl)
+
+not_resolved : IsImported AMD64 [] touching_8 [] (codes "f") ⊎ IsAliasTaken [] (codes "f") → ⊥
+unfolding searched
+not_resolved (inl x) = none_at x.number x.input x.input_is
+not_resolved (inr x) = none_in x.0 x.1
+
+pub refused_links_closed : RefusedLinksClosed
+unfolding searched
+refused_links_closed = record {
+  taken_is = λ x. none_in listing ((x.taken_is.inputs listing).0 (0, omega arith, refl));
+  program = λ x. differ 0 1 (ap length x.program.held.ended.tables) (omega arith);
+  links = λ x. none_in _ x.links.linked.0.from_members.0;
+  resolved = λ x. not_resolved (x.resolved (codes "f") (0, omega arith, refl) f_listed);
+  closed = λ x. x.closed (codes "f") (0, omega arith, refl) f_listed;
+}
+
+f_listed_for_both : Contains (listed_in (archive_of_both (for_gnu f_library))) (codes "f")
+unfolding searched
+f_listed_for_both = among_contains (codes "f") (listed_in (archive_of_both (for_gnu f_library))) (any_among (codes "f") (listed_in (archive_of_both (for_gnu f_library))) refl)
+
+not_resolved_for_both : IsImportedOfBoth AMD64 [] touching_8 [] (codes "f") ⊎ IsWeakTaken AMD64 [] (codes "f") → ⊥
+unfolding searched
+not_resolved_for_both (inl x) = none_at x.number x.input x.input_is
+not_resolved_for_both (inr x) = none_in x.0 x.1
+
+pub refused_links_closed_for_both : RefusedLinksClosedForBoth
+unfolding searched
+refused_links_closed_for_both = record {
+  taken_is = λ x. none_in listing ((x.taken_is.inputs listing).0 (0, omega arith, refl));
+  program = λ x. none_in x.program.held.ended.null_from x.program.held.ended.null_held;
+  links = λ x. none_in _ x.links.linked.0.from_members.0;
+  resolved = λ x. not_resolved_for_both (x.resolved (codes "f") (0, omega arith, refl) f_listed_for_both);
+  closed = λ x. x.closed (codes "f") (0, omega arith, refl) f_listed_for_both;
+}
+
+-- the only input
+only_one : {X : Type 0} (only x : X) (n : ℕ) → slice_get (only ∷ []) n ≡ Some x → only ≡ x
+only_one only x zero is = cc
+only_one only x (suc n) is = absurd (none_at n x is)
+
+undefined : {A : Type 0} (name : List ℕ) (address : ℕ) {B C : Type 0} → (A × (◌≡◌ {A = List SymbolDefinition} [] (record { name = name; address = Some address } ∷ []))) ⊎ (B × C × ((d : SymbolDefinition) × ([] ≡ d ∷ []))) → ⊥
+undefined name address (inl x) = no_definition _ x.1
+undefined name address (inr x) = no_definition _ x.2.1
+
+pub refused_is_imported : RefusedIsImported
+refused_is_imported = record {
+  input_is = λ x. none_at x.number x.input x.input_is;
+  export_is = λ x. none_at x.index x.export (subst (λ (p : LinkInput). slice_get (chosen_exports p.definition p.chosen) x.index ≡ Some x.export) (sym (only_one unchosen x.input x.number x.input_is)) x.export_is);
+  by = λ x. undefined (codes "f") _ x.by;
+}
+
+pub refused_is_imported_of_both : RefusedIsImportedOfBoth
+refused_is_imported_of_both = record {
+  input_is = λ x. none_at x.number x.input x.input_is;
+  export_is = λ x. none_at x.index x.export (subst (λ (p : FlavorInput). slice_get (exports_chosen p) x.index ≡ Some x.export) (sym (only_one (gnu_input unchosen) x.input x.number x.input_is)) x.export_is);
+  by = λ x. undefined (codes "f") _ x.by;
+}
+
+pub refused_flavor_text_links : RefusedFlavorTextLinks
+refused_flavor_text_links = record {
+  imports = λ x. no_definition _ x.imports.top;
+}
+
+pub refused_flavor_texts_link : RefusedFlavorTextsLink
+unfolding DirectoryAt
+refused_flavor_texts_link = record {
+  among = λ x. nothing_there (zeros 20) 4 (omega arith) x.among.directory;
+  imports = λ x. no_definition _ (x.imports 0 (source_in Gnu AMD64 zed_text (zed_meant AMD64) (0 ∷ [])) refl).imports.top;
+}
+
+-- the one object and its one symbol
+abbrev first_of : List Placed → Placed
+first_of [] = record { object = code_object []; section_addresses = [] }
+first_of (p ∷ linked) = p
+
+only_from : (s : ObjectSymbol) (sections : List ObjectSection) (from : Placed) → Contains (with_symbol s sections) from → from ≡ first_of (with_symbol s sections)
+only_from s sections from held = one_of from (first_of (with_symbol s sections)) (contains_among from (with_symbol s sections) held)
+
+only_symbol : (s : ObjectSymbol) (sections : List ObjectSection) (from : Placed) (symbol : ObjectSymbol) → Contains (with_symbol s sections) from → Contains from.object.entries (ASymbol symbol) → symbol ≡ s
+only_symbol s sections from symbol held defined =
+    let entry : ASymbol symbol ≡ ASymbol s =
+    one_of (ASymbol symbol) (ASymbol s) (contains_among (ASymbol symbol) (ASymbol s ∷ []) (subst (λ (p : Placed). Contains p.object.entries (ASymbol symbol)) (only_from s sections from held) defined)) in
+    cc
+
+pub refused_jumps_through : RefusedJumpsThrough
+refused_jumps_through = record {
+  once = λ x. no_definition _ x.once.1;
+  held = λ x. none_in x.from x.held;
+  defined = λ x.
+      let empty : Placed = record { object = code_object []; section_addresses = [] } in
+      none_in (ASymbol x.symbol) (subst (λ (p : Placed). Contains p.object.entries (ASymbol x.symbol)) (one_of x.from empty (contains_among x.from (empty ∷ []) x.held)) x.defined);
+  named = λ x. differ 102 103 (ap first_letter (sym (ap (λ (s : ObjectSymbol). s.name) (only_symbol (f_in 1) jump x.from x.symbol x.held x.defined)) ∙ x.named)) (omega arith);
+  shared = λ x. differ 2 3 (sym (sym (ap (λ (s : ObjectSymbol). s.class) (only_symbol (symbol_of_class (codes "f") 1 class_static) jump x.from x.symbol x.held x.defined)) ∙ x.shared)) (omega arith);
+  first = λ x. differ 1 2 (sym (sym (ap (λ (s : ObjectSymbol). s.section) (only_symbol (f_in 2) jump x.from x.symbol x.held x.defined)) ∙ x.first)) (omega arith);
+  begins = λ x. differ 0 8 (sym (sym (ap (λ (s : ObjectSymbol). s.value) (only_symbol (record (f_in 1) { value = 8 }) jump x.from x.symbol x.held x.defined)) ∙ x.begins)) (omega arith);
+  here = λ x. let none : None ≡ Some x.code = subst (λ (p : Placed). slice_get p.object.sections 0 ≡ Some x.code) (only_from (f_in 1) [] x.from x.held) x.here in cc;
+  jumps = λ x.
+      let is : slice_get jump 0 ≡ Some x.code = subst (λ (p : Placed). slice_get p.object.sections 0 ≡ Some x.code) (only_from (f_in 1) jump x.from x.held) x.here in
+      let code : section (codes ".text") table_flags (0xFF ∷ 0x25 ∷ 0 ∷ 0 ∷ 0 ∷ 0 ∷ []) [] ≡ x.code = cc in
+      let reads : Some 0 ≡ Some 0x60 = subst (λ (c : ObjectSection). jump_reads I386 0x1000 (code_relocated I386 0 (with_symbol (f_in 1) jump) x.from 0x1000 c.relocations c.bytes) ≡ Some 0x60) (sym code) (x.jumps 0x1000 (omega arith)) in
+      differ 0 0x60 (value 0 0x60 reads) (omega arith);
+}

@@ -1,0 +1,148 @@
+-- What no search takes, by computing.
+use Rattle.std.proofs.Common.{List, None, Some, [], ap, arith, codes, inl, inr, length, refl, subst, sym, ℕ, ◌∙◌, ◌∷◌, ◌≡◌, ◌⊎◌}
+use Rattle.std.specs.Prelude.{slice_index}
+use Rattle.std.specs.List.{Contains}
+use Rattle.std.proofs.lemmas.Bool.{true≢false}
+use Rattle.implib.specs.declared.machine.MachineType.TheVariants.{AMD64}
+use Rattle.implib.specs.Definition.{ExportView}
+use Rattle.implib.specs.Import.{imp_symbol}
+use Rattle.implib.specs.Link.LinkedMembers.{linked_members}
+use Rattle.implib.specs.Members.MemberSpec.{MemberView}
+use Rattle.implib.specs.Members.Msvc.{short_import_symbol}
+use Rattle.implib_link.specs.Flavors.Program.{LinksAmong, gnu_input}
+use Rattle.implib_link.specs.Gnu.Program.{linked_symbols}
+use Rattle.implib_link.specs.Search.MsvcArchives.{is_short_alias}
+use Rattle.implib_link.specs.Search.Archives.{Library, exports_of}
+use Rattle.implib_link.specs.Search.BothFlavors.{IsWeakOfBoth}
+use Rattle.implib_link.specs.Search.Closed.{AreTakenIntoAs}
+use Rattle.implib_link.specs.Search.Search.{AreTakenInTurnAs}
+use Rattle.implib_link.proofs.Search.Lists.{contains_among}
+use Rattle.implib_link_instances.proofs.Worked.Calls.{one_of}
+use Rattle.implib_link_instances.proofs.Worked.Lemmas.{differ, no_definition, none_in}
+use Rattle.implib_link_instances.proofs.Worked.Opened.{searched}
+use Rattle.implib_link_instances.specs.Refused.Links.{f_library, listing}
+use Rattle.implib_link_instances.specs.Refused.Searches.{RefusedImportsWanted, RefusedIsLinkedOfWanted, RefusedIsWeakData, RefusedIsWeakShort, RefusedPullsIntoAs, RefusedSearches, RefusedTakesAs, RefusedTakesIntoAs, RefusedTakesOfBoth, RefusedTakesOfLibraries, exportless, f_export}
+use Rattle.implib_link_instances.specs.Worked.Programs.{touching_8}
+use Rattle.implib_link_instances.specs.Worked.Search.{members_of, three, by_name, searched_objects}
+
+pub refused_pulls_into : RefusedPullsIntoAs
+unfolding searched
+refused_pulls_into = record {
+  named = λ x. none_in (codes "f") x.named;
+  listed = λ x. let none : None ≡ Some listing = x.listed in cc;
+  new = λ x. x.new (0, omega arith, refl);
+}
+
+pub refused_takes : RefusedTakesAs
+unfolding searched AreTakenInTurnAs
+refused_takes = record {
+  in_turn = λ x. none_in x.in_turn.0.0 x.in_turn.0.1.named;
+  ended = λ x. x.ended (codes "f") listing (record { named = (0, omega arith, refl); undefined = refl; listed = refl; new = λ held. none_in listing held });
+}
+
+pub refused_takes_into : RefusedTakesIntoAs
+unfolding searched AreTakenIntoAs
+refused_takes_into = record {
+  in_turn = λ x. none_in x.in_turn.0.0 x.in_turn.0.1.named;
+  ended = λ x. x.ended (codes "f") listing (record { named = (0, omega arith, refl); listed = refl; new = λ held. none_in listing held });
+}
+
+pub refused_takes_of_libraries : RefusedTakesOfLibraries
+unfolding searched
+refused_takes_of_libraries = record {
+  inputs = λ x. none_in listing ((x.inputs listing).0 (0, omega arith, refl));
+  weak = λ x. none_in _ x.weak.0.held;
+}
+
+not_weak : (names : List (List ℕ)) (m : MemberView) → IsWeakOfBoth [] names m → ⊥
+not_weak names m (inl x) = none_in x.library x.held
+not_weak names m (inr x) = none_in x.library x.held
+
+pub refused_takes_of_both : RefusedTakesOfBoth
+unfolding searched
+refused_takes_of_both = record {
+  inputs = λ x. none_in listing ((x.inputs listing).0 (0, omega arith, refl));
+  weak = λ x. not_weak _ _ x.weak.0;
+}
+
+-- the only library's only export
+export_is : (l : Library) (e : ExportView) → Contains (f_library ∷ []) l → Contains (exports_of l) e → e ≡ f_export
+export_is l e held among = one_of e f_export (contains_among e (f_export ∷ []) (subst (λ (k : Library). Contains (exports_of k) e) (one_of l f_library (contains_among l (f_library ∷ []) held)) among))
+
+no_export : (l : Library) (e : ExportView) → Contains (exportless ∷ []) l → Contains (exports_of l) e → ⊥
+no_export l e held among = none_in e (subst (λ (k : Library). Contains (exports_of k) e) (one_of l exportless (contains_among l (exportless ∷ []) held)) among)
+
+abbrev first_letter : List ℕ → ℕ
+first_letter text = slice_index text 0
+
+pub refused_is_weak_data : RefusedIsWeakData
+unfolding searched
+refused_is_weak_data = record {
+  held = λ x. none_in x.library x.held;
+  among = λ x. no_export x.library x.export x.held x.among;
+  data_alone = λ x. true≢false (sym x.data_alone ∙ ap (λ (e : ExportView). e.is_data) (export_is x.library x.export x.held x.among));
+  named = λ x. none_in x.export.name x.named;
+  listed = λ x. differ 0 1 (ap length x.listed) (omega arith);
+}
+
+other_name : (name : List ℕ) → name ≡ codes "g" → (name ≡ codes "f") ⊎ (name ≡ codes "__imp_f") → ⊥
+other_name name is (inl by) = differ 102 103 (sym (ap first_letter (sym is ∙ by))) (omega arith)
+other_name name is (inr by) = differ 95 103 (sym (ap first_letter (sym is ∙ by))) (omega arith)
+
+pub refused_is_weak_short : RefusedIsWeakShort
+unfolding searched
+refused_is_weak_short = record {
+  held = λ x. none_in x.library x.held;
+  among = λ x. no_export x.library x.export x.held x.among;
+  alias = λ x. true≢false (sym x.alias ∙ ap (λ (e : ExportView). is_short_alias e) (export_is x.library x.export x.held x.among));
+  is = λ x. other_name x.name (one_of x.name (codes "g") (contains_among x.name (codes "g" ∷ []) x.named))
+      (subst (λ (e : ExportView). (x.name ≡ short_import_symbol e) ⊎ (x.name ≡ imp_symbol (short_import_symbol e))) (export_is x.library x.export x.held x.among) x.is);
+  named = λ x. none_in x.name x.named;
+  listed = λ x. differ 0 1 (ap length x.listed) (omega arith);
+}
+
+-- no members are linked of no numbers but the head and the tail
+four_linked : (chosen : List ℕ) → chosen ≡ [] → by_name ≡ linked_members three AMD64 chosen → ⊥
+unfolding searched
+four_linked chosen none is =
+    let two : 4 ≡ 2 = ap length is ∙ ap (λ (ns : List ℕ). length (linked_members three AMD64 ns)) none in
+    differ 2 4 (sym two) (omega arith)
+
+-- the same as none is none
+none_same : (chosen : List ℕ) → ((n : ℕ) → Contains chosen n → Contains [] n) → chosen ≡ []
+none_same [] same = refl
+none_same (n ∷ ns) same = absurd (none_in n (same n (0, omega arith, refl)))
+
+pub refused_is_linked_of_wanted : RefusedIsLinkedOfWanted
+unfolding searched
+refused_is_linked_of_wanted = record {
+  same = λ x. four_linked x.chosen (none_same x.chosen (λ n. (x.same n).0)) x.linked;
+  linked = λ x. differ 0 (length (linked_members three AMD64 x.chosen)) (ap length x.linked) (omega arith);
+}
+
+-- the names that are claimed are more than those of the head and the tail
+few_listed : (chosen : List ℕ) → chosen ≡ [] → (x : LinksAmong AMD64 touching_8 (record { definition = three; members = members_of three; chosen = chosen } ∷ []) searched_objects) → ⊥
+unfolding searched
+few_listed chosen none x =
+    let listed : List ℕ → ℕ = λ ns. length (linked_symbols AMD64 (record { definition = three; members = members_of three; chosen = ns } ∷ [])) in
+    let two : 5 ≡ 2 = ap length x.claimed ∙ ap listed none in
+    differ 2 5 (sym two) (omega arith)
+
+pub refused_imports_wanted : RefusedImportsWanted
+refused_imports_wanted = record {
+  same = λ x. few_listed x.chosen (none_same x.chosen (λ n. (x.same n).0)) x.links;
+  links = λ x. no_definition _ (x.links.imports 0 (gnu_input (record { definition = three; members = members_of three; chosen = x.chosen })) refl).top;
+}
+
+pub refused_searches : RefusedSearches
+unfolding searched AreTakenIntoAs
+refused_searches = record {
+  have_same = λ x. none_in (codes "f") ((x (codes "f")).0 (0, omega arith, refl));
+  are_taken_into_as = λ x. none_in x.0.0 x.0.1.named;
+  is_alias_taken = λ x. none_in x.0 x.1;
+  is_used = λ x. none_in x.0 x.2;
+  is_used_in = λ x. none_in x.0 x.2;
+  is_weak_among = λ x. none_in x.0 x.2;
+  is_weak_of_both = λ x. not_weak [] listing x;
+  is_weak_taken = λ x. none_in x.0 x.1;
+}

@@ -1,0 +1,80 @@
+-- What instances share: numbers that differ, bytes in images, and what no list has.
+use Rattle.std.proofs.Common.{Bool, List, None, Option, Some, [], ap, arith, false, inl, inr, length, refl, sym, true, ℕ, ◌++◌, ◌+◌, ◌<◌, ◌∙◌, ◌∷◌, ◌≡◌}
+use Rattle.std.specs.Prelude.{nat_eq, slice_get, ◌&&◌}
+use Rattle.implib.proofs.Link.Ranges.{Among}
+use Rattle.implib.specs.Link.Image.{AllApart, AreApart, Range, byte_at}
+use Rattle.implib.specs.Link.Load.{BytesAt, NumberAt, number_in}
+use Rattle.implib.specs.Link.Resolution.{SymbolDefinition}
+use Rattle.implib_link.proofs.Search.Lists.{contains_among}
+use Rattle.implib_link_instances.specs.Worked.Operands.{or_else}
+use Rattle.std.proofs.lemmas.Bool.{and_parts, eqb-true, or_parts, true≢false}
+use Rattle.std.specs.List.{AllByRecursion, Contains, list_any}
+use Rattle.implib.proofs.Link.Linked.{all_append}
+
+-- numbers that are not equal
+pub differ : (n m : ℕ) → n ≡ m → n < m → ⊥
+differ n m same less = omega arith
+
+-- whether bytes are in an image
+abbrev pub is_byte : Option ℕ → ℕ → Bool
+is_byte None n = false
+is_byte (Some m) n = nat_eq m n
+
+abbrev pub is_each_located : List Range → ℕ → List ℕ → Bool
+is_each_located image a [] = true
+is_each_located image a (byte ∷ bytes) = is_byte (byte_at image a) byte && is_each_located image (a + 1) bytes
+
+pub is_the_byte : (o : Option ℕ) (n : ℕ) → is_byte o n ≡ true → o ≡ Some n
+is_the_byte None n is = cc
+is_the_byte (Some m) n is = ap Some (eqb-true m n is)
+
+pub are_located : (image : List Range) (bytes : List ℕ) (a : ℕ) → is_each_located image a bytes ≡ true → BytesAt image a bytes
+unfolding BytesAt
+are_located image [] a is = tt
+are_located image (byte ∷ bytes) a is =
+    let parts = and_parts (is_byte (byte_at image a) byte) (is_each_located image (a + 1) bytes) is in
+    (is_the_byte (byte_at image a) byte parts.0, are_located image bytes (a + 1) parts.1)
+
+pub number : (image : List Range) (width a n : ℕ) (bytes : List ℕ) → is_each_located image a bytes ≡ true → length bytes ≡ width → number_in bytes ≡ n → NumberAt image width a n
+number image width a n bytes is count value = record { bytes = bytes; located = are_located image bytes a is; count = count; value = value }
+
+pub value : (a b : ℕ) → Some a ≡ Some b → a ≡ b
+value a b is = ap (λ o. or_else o 0) is
+
+-- the same bytes, where as many are at one address
+pub same_bytes : (memory : List Range) (xs ys : List ℕ) (a : ℕ) → BytesAt memory a xs → BytesAt memory a ys → length xs ≡ length ys → xs ≡ ys
+unfolding BytesAt
+same_bytes memory [] [] a first second long = refl
+same_bytes memory [] (y ∷ ys) a first second long = absurd (omega arith)
+same_bytes memory (x ∷ xs) [] a first second long = absurd (omega arith)
+same_bytes memory (x ∷ xs) (y ∷ ys) a first second long =
+    rw (value x y (sym first.0 ∙ second.0), same_bytes memory xs ys (a + 1) first.1 second.1 (omega arith)) refl
+
+pub entry_is : (base entry place : ℕ) → Some (base + place) ≡ Some (base + entry) → entry ≡ place
+entry_is base entry place is = let same : base + place ≡ base + entry = value (base + place) (base + entry) is in omega arith
+
+none_passes_among : {X : Type 0} (p : X → Bool) (x : X) (xs : List X) → list_any p xs ≡ false → Among x xs → p x ≡ true → ⊥
+unfolding Among
+none_passes_among p x [] none held is = absurd held
+none_passes_among p x (y ∷ xs) none (inl e) is = true≢false (sym is ∙ ap p e ∙ (or_parts (p y) (list_any p xs) none).0)
+none_passes_among p x (y ∷ xs) none (inr held) is = none_passes_among p x xs (or_parts (p y) (list_any p xs) none).1 held is
+
+-- no element of a list passes a test
+pub none_passes : {X : Type 0} (p : X → Bool) (x : X) (xs : List X) → list_any p xs ≡ false → Contains xs x → p x ≡ true → ⊥
+none_passes p x xs none held is = none_passes_among p x xs none (contains_among x xs held) is
+
+pub none_in : {X : Type 0} (x : X) → Contains [] x → ⊥
+none_in x held = none_passes (λ y. true) x [] refl held refl
+
+pub none_at : {X : Type 0} (i : ℕ) (x : X) → slice_get [] i ≡ Some x → ⊥
+none_at i x is = cc
+
+pub no_definition : (d : SymbolDefinition) → [] ≡ d ∷ [] → ⊥
+no_definition d is = cc
+
+-- Code.
+
+-- a range after others that is apart from each
+pub put_last : (ranges : List Range) (r : Range) → AllByRecursion (AreApart r) ranges → AllApart ranges → AllApart (ranges ++ r ∷ [])
+put_last [] r each apart = (tt, tt)
+put_last (x ∷ ranges) r each apart = (all_append (AreApart x) ranges (r ∷ []) apart.0 ((λ address here there. each.0 address there here), tt), put_last ranges r each.1 apart.1)

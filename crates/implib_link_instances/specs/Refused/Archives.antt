@@ -1,0 +1,90 @@
+-- What no search in bytes takes, and what does not arrive. A record `RefusedX` has for each field
+-- of `X` what this field refuses.
+use Rattle.std.specs.Prelude.{List, [], codes, ℕ, ◌++◌, ◌∷◌}
+use Rattle.implib.specs.declared.machine.MachineType.TheVariants.{AMD64}
+use Rattle.implib.specs.Members.MemberSpec.{MemberView}
+use Rattle.implib_archive.specs.Worked.{worked_members}
+use Rattle.implib_archive.specs.declared.kind.Kind.TheVariants.{Coff, Gnu}
+use Rattle.implib_link.specs.Archives.BothWay.{BothArrive}
+use Rattle.implib_link.specs.Archives.Files.{HasMembersAs}
+use Rattle.implib_link.specs.Archives.InBytes.{First, Second, asks_for}
+use Rattle.implib_link.specs.Archives.LldWay.{LldArrives}
+use Rattle.implib_link.specs.Archives.Results.{AreHeadersOf, AreMembersAt, IsHeaderOf, IsSearchOf}
+use Rattle.implib_link.specs.Archives.Results.{LeadsToFirst, TakesJust}
+use Rattle.implib_link.specs.Archives.Way.{CallsArrive}
+use Rattle.implib_link.specs.Image.Files.{DataDirectory}
+use Rattle.implib_link.specs.Image.Laws.{IsInDirectory}
+use Rattle.implib_link_instances.specs.Archives.Files.{libquit}
+use Rattle.implib_link_instances.specs.Refused.Links.{f_library, for_gnu, listing, own}
+use Rattle.implib_link_instances.specs.Refused.Tables.{range_at}
+use Rattle.implib_link_instances.specs.Worked.MsvcSearch.{short_named}
+use Rattle.implib_link_instances.specs.Worked.Programs.{program_objects, touching_8}
+use Rattle.implib_link_instances.specs.Worked.Search.{members_of, three, wanted}
+
+pub record RefusedIsHeaderOf : Type 0 where
+  pub header_is : IsHeaderOf [] (listing ∷ []) 8 listing → ⊥
+  pub member_is : IsHeaderOf (8 ∷ []) [] 8 listing → ⊥
+
+-- a member with the header and the byte of another one in its bytes
+abbrev pub with_header_in : List MemberView
+with_header_in = record {
+  name = codes "a.o";
+  bytes = codes "x.o/            0           0     0     644     1         `\n" ++ 7 ∷ [];
+  symbols = [];
+} ∷ []
+
+-- the member in the bytes of one; no member; none where nothing is; and one of which nothing holds
+pub record RefusedAreMembersAt : Type 0 where
+  pub located : AreMembersAt Gnu with_header_in (68 ∷ []) (λ found. Unit {0}) → ⊥
+  pub at : AreMembersAt Gnu [] (8 ∷ []) (λ found. Unit {0}) → ⊥
+  pub read : AreMembersAt Gnu [] (9999 ∷ []) (λ found. Unit {0}) → ⊥
+  pub holds : AreMembersAt Gnu [] [] (λ found. ⊥) → ⊥
+
+-- a member of none; and nothing, though `f` asks for a member
+pub record RefusedIsSearchOf : Type 0 where
+  pub at : IsSearchOf Gnu First [] (asks_for []) (listing ∷ []) → ⊥
+  pub takes : IsSearchOf Gnu First worked_members (asks_for (codes "f" ∷ [])) [] → ⊥
+
+-- a member without a name, which is read as a linker member, that is listed for a name
+abbrev pub nameless_for : List ℕ → List MemberView
+nameless_for name = record { name = []; bytes = 1 ∷ []; symbols = name ∷ [] } ∷ []
+
+-- such a member that is listed for a name which a NUL cuts to `f`; and one that is listed for `f`
+pub record RefusedLeadsToFirst : Type 0 where
+  pub somewhere : LeadsToFirst Gnu First (nameless_for (codes "f" ++ 0 ∷ codes "g")) (codes "f") → ⊥
+  pub read : LeadsToFirst Gnu First (nameless_for (codes "f")) (codes "f") → ⊥
+
+-- a library's name that is left, and more DLLs in the image than are imported
+pub record RefusedCallsArrive : Type 0 where
+  pub links : CallsArrive AMD64 (f_library ∷ []) [] [] [] touching_8 own → ⊥
+  pub ends : CallsArrive AMD64 [] [] [] [] touching_8 (program_objects AMD64) → ⊥
+
+pub record RefusedBothArrive : Type 0 where
+  pub links : BothArrive AMD64 (for_gnu f_library) [] [] [] touching_8 own → ⊥
+  pub ends : BothArrive AMD64 [] [] [] [] touching_8 (program_objects AMD64) → ⊥
+
+-- short imports of one DLL that is called in two ways, which make no program
+abbrev pub ways_taken : List MemberView
+ways_taken =
+    short_named (codes "Beta.dll") (codes "gee") ∷ short_named (codes "beta.dll") (codes "mid") ∷ []
+
+pub record RefusedLldArrives : Type 0 where
+  pub shorts : LldArrives AMD64 (f_library ∷ []) own [] → ⊥
+  pub program : LldArrives AMD64 [] [] ways_taken → ⊥
+
+abbrev pub at_0x1000 : DataDirectory
+at_0x1000 = record { address = 0x1000; size = 8 }
+
+pub record RefusedIsInDirectory : Type 0 where
+  pub from : IsInDirectory at_0x1000 (range_at 0x0FFF) → ⊥
+  pub to : IsInDirectory at_0x1000 (range_at 0x1009) → ⊥
+
+-- no archive; one of one member; and of a member without symbols
+pub record RefusedHasMembersAs : Type 0 where
+  pub located : HasMembersAs Gnu [] [] → ⊥
+  pub read : HasMembersAs Gnu [] (listing ∷ []) → ⊥
+  pub ordered : HasMembersAs Gnu libquit [] → ⊥
+
+pub record RefusedInBytes : Type 0 where
+  pub are_headers_of : AreHeadersOf [] [] (8 ∷ []) [] → ⊥
+  pub takes_just : TakesJust Coff Second (members_of three) (asks_for wanted) (λ found. ⊥) → ⊥
