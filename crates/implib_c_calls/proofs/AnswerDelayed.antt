@@ -1,5 +1,5 @@
 -- The answers of a call for delayed imports, case by case.
-use Rattle.std.proofs.Common.{◌≡◌, ℕ, List, Option, None, Some, Result, Ok, Err, length, refl, arith, ap}
+use Rattle.std.proofs.Common.{◌≡◌, ℕ, List, None, Some, Result, Ok, Err, length, refl, arith, ap}
 use Rattle.implib.specs.Members.MemberSpec.{MemberView}
 use Rattle.implib.specs.declared.flavor.Flavor.TheVariants.{Msvc, Gnu}
 use Rattle.implib_archive.specs.declared.kind.Kind.TheVariants as kind
@@ -8,7 +8,6 @@ use Rattle.implib_archive.specs.Refusal.{refusal_of}
 use Rattle.implib_delay_library.specs.declared.library.DelayRefusal.{DelayRefusal}
 use Rattle.implib_delay_library.specs.declared.library.DelayRefusal.TheVariants.{Refused as RefusedBefore, Undelayed as CannotDelay}
 use Rattle.implib_delay_library.specs.declared.library.Undelayed.TheVariants as undelayed
-use Rattle.implib_delay_library.specs.declared.library.LeftOut.{LeftOut}
 use Rattle.implib_delay_library.specs.Libraries.{DelayedMembersFor, IsDelayedLibrary, IsRefusalOfDelayed, IsRefusalOfDelayedMembers}
 use Rattle.implib_delay_library.proofs.Refusals.{no_archive}
 use Rattle.implib_rules.specs.declared.library.Refusal.TheVariants as refusal
@@ -44,30 +43,30 @@ delayed_within text options (CannotDelay undelayed.Machine) is = tt
 
 module _ (text : List ℕ) (options : LibraryOptionsView) (old : List ℕ) where
   -- members that an archive carries
-  is_library : (found : Option LeftOut) (members : List MemberView) → DelayedMembersFor text options found members → refusal_of kind.Gnu members ≡ None
+  is_library : (members : List MemberView) → DelayedMembersFor text options members → refusal_of kind.Gnu members ≡ None
       → IsDelayedLibrary text options (archive_of kind.Gnu members)
-  is_library found members made accepted = record { found = found; members = members; members_for = made; accepted = accepted; is = refl }
+  is_library members made accepted = record { members = members; members_for = made; accepted = accepted; is = refl }
 
   -- the archive is put into the buffer, or not
-  pub puts_packed : (found : Option LeftOut) (members : List MemberView) → DelayedMembersFor text options found members → (new : List ℕ) (result : Result ℕ Failure)
+  pub puts_packed : (members : List MemberView) → DelayedMembersFor text options members → (new : List ℕ) (result : Result ℕ Failure)
       → PacksInto kind.Gnu members old new result → PutsDelayed text options old new (length_given result) (place_given result) (status_given result)
-  puts_packed found members made new (Ok put) puts = record {
+  puts_packed members made new (Ok put) puts = record {
     ending = Made (archive_of kind.Gnu members);
-    ends = (is_library found members made puts.0, omega (arith, puts.1, puts.2));
+    ends = (is_library members made puts.0, omega (arith, puts.1, puts.2));
     status_is = refl;
     length_is = puts.1;
     place_is = refl;
     buffer_is = puts.3;
   }
-  puts_packed found members made new (Err (failure.BufferTooSmall needed)) puts = record {
+  puts_packed members made new (Err (failure.BufferTooSmall needed)) puts = record {
     ending = TooLong (archive_of kind.Gnu members);
-    ends = (is_library found members made puts.0, omega (arith, puts.1, puts.2));
+    ends = (is_library members made puts.0, omega (arith, puts.1, puts.2));
     status_is = refl;
     length_is = puts.1;
     place_is = refl;
     buffer_is = puts.3;
   }
-  puts_packed found members made new (Err failure.OutOfMemory) puts = record {
+  puts_packed members made new (Err failure.OutOfMemory) puts = record {
     ending = Refused (RefusedBefore refusal.OutOfMemory);
     ends = tt;
     status_is = refl;
@@ -75,21 +74,21 @@ module _ (text : List ℕ) (options : LibraryOptionsView) (old : List ℕ) where
     place_is = refl;
     buffer_is = puts;
   }
-  puts_packed found members made new (Err (failure.NotUtf8 offset)) puts = absurd puts
-  puts_packed found members made new (Err failure.UnknownMachine) puts = absurd puts
-  puts_packed found members made new (Err failure.UnknownFlavor) puts = absurd puts
-  puts_packed found members made new (Err (failure.SyntaxError fault offset)) puts = absurd puts
-  puts_packed found members made new (Err (failure.Refused fault)) puts = absurd puts
-  puts_packed found members made new (Err failure.UnknownFlags) puts = absurd puts
-  puts_packed found members made new (Err failure.DllNotUtf8) puts = absurd puts
-  puts_packed found members made new (Err failure.NoDllName) puts = absurd puts
-  puts_packed found members made new (Err (failure.RefusedAt fault offset)) puts = absurd puts
-  puts_packed found members made new (Err (failure.NoExport fault index)) puts = absurd puts
-  puts_packed found members made new (Err failure.NotALibrary) puts = absurd puts
-  puts_packed found members made new (Err (failure.NotAnImage offset)) puts = absurd puts
-  puts_packed found members made new (Err failure.NoExportDirectory) puts = absurd puts
-  puts_packed found members made new (Err (failure.NotDelayed why offset)) puts = absurd puts
-  puts_packed found members made new (Err (failure.NoArchive fault)) puts = record {
+  puts_packed members made new (Err (failure.NotUtf8 offset)) puts = absurd puts
+  puts_packed members made new (Err failure.UnknownMachine) puts = absurd puts
+  puts_packed members made new (Err failure.UnknownFlavor) puts = absurd puts
+  puts_packed members made new (Err (failure.SyntaxError fault offset)) puts = absurd puts
+  puts_packed members made new (Err (failure.Refused fault)) puts = absurd puts
+  puts_packed members made new (Err failure.UnknownFlags) puts = absurd puts
+  puts_packed members made new (Err failure.DllNotUtf8) puts = absurd puts
+  puts_packed members made new (Err failure.NoDllName) puts = absurd puts
+  puts_packed members made new (Err (failure.RefusedAt fault offset)) puts = absurd puts
+  puts_packed members made new (Err (failure.NoExport fault index)) puts = absurd puts
+  puts_packed members made new (Err failure.NotALibrary) puts = absurd puts
+  puts_packed members made new (Err (failure.NotAnImage offset)) puts = absurd puts
+  puts_packed members made new (Err failure.NoExportDirectory) puts = absurd puts
+  puts_packed members made new (Err (failure.NotDelayed why offset)) puts = absurd puts
+  puts_packed members made new (Err (failure.NoArchive fault)) puts = record {
     ending = Refused (RefusedBefore (refusal.Archive fault));
     ends = no_archive text options members (refusal.Archive fault) made puts.0;
     status_is = refl;

@@ -65,7 +65,7 @@ fn put_delayed(
         (length_given result) (place_given result) (status_given result) }
 {
     match delayed_members_for(alloc, text, options) {
-        Ok(made) => pack_into(alloc, buffer, &made.members, Kind::Gnu),
+        Ok(members) => pack_into(alloc, buffer, &members, Kind::Gnu),
         Err(refusal) => Err(failure_delayed(text, refusal)),
     }
 }

@@ -8,8 +8,7 @@ use Rattle.implib_delay.specs.Members.{delay_refusal}
 use Rattle.implib_delay.specs.Refusal.{DelayCause}
 use Rattle.implib_delay_library.specs.declared.library.DelayRefusal.{DelayRefusal}
 use Rattle.implib_delay_library.specs.declared.library.DelayRefusal.TheVariants.{Refused, Undelayed as CannotDelay}
-use Rattle.implib_delay_library.specs.declared.library.LeftOut.{LeftOut}
-use Rattle.implib_delay_library.specs.Libraries.{DelayedMembersFor, IsRefusalOfDelayed, IsRefusalOfDelayedArchive, IsRefusalOfDelayedMembers, IsRefusalPlaced, RefusesDelay, delayed_options, without_data}
+use Rattle.implib_delay_library.specs.Libraries.{DelayedMembersFor, IsRefusalOfDelayed, IsRefusalOfDelayedArchive, IsRefusalOfDelayedMembers, IsRefusalPlaced, RefusesDelay, delayed_options}
 use Rattle.implib_rules.specs.declared.library.Refusal.{Refusal}
 use Rattle.implib_rules.specs.declared.library.Refusal.TheVariants.{Archive, Members, NoName, NotUtf8, OutOfMemory, Syntax}
 use Rattle.implib_rules.specs.Library.{DefinitionFor, definition_text}
@@ -18,7 +17,7 @@ use Rattle.implib_rules.specs.Options.{LibraryOptionsView}
 -- a definition of the text of bytes that cannot be delayed
 pub refuses : (bytes text : List ℕ) (options made : LibraryOptionsView) (definition : DefinitionView) (cause : DelayCause)
     → (text ≡ definition_text bytes) × IsUtf8 (definition_text bytes) → made ≡ delayed_options options → DefinitionFor text made definition
-    → delay_refusal (renamed (without_data definition)) options.machine ≡ Some cause → RefusesDelay bytes options cause
+    → delay_refusal (renamed definition) options.machine ≡ Some cause → RefusesDelay bytes options cause
 refuses bytes text options made definition cause found is of_text refused = record {
   utf8 = found.1;
   definition = definition;
@@ -40,11 +39,11 @@ undelayed bytes text options cause (CannotDelay why) is refuses placed =
     record { cause = cause; refuses = refuses; placed = subst (λ t. IsRefusalPlaced t cause (CannotDelay why)) is placed }
 
 -- members without an archive are no library
-pub no_archive : (bytes : List ℕ) (options : LibraryOptionsView) (found : Option LeftOut) (members : List MemberView) (refusal : Refusal)
-    → DelayedMembersFor bytes options found members → IsRefusalOfDelayedArchive members refusal → IsRefusalOfDelayed bytes options (Refused refusal)
-no_archive bytes options found members (NotUtf8 position) made refused = absurd refused
-no_archive bytes options found members (Syntax fault position) made refused = absurd refused
-no_archive bytes options found members NoName made refused = absurd refused
-no_archive bytes options found members (Members fault position) made refused = absurd refused
-no_archive bytes options found members (Archive fault) made refused = record { found = found; members = members; members_for = made; refused = refused }
-no_archive bytes options found members OutOfMemory made refused = tt
+pub no_archive : (bytes : List ℕ) (options : LibraryOptionsView) (members : List MemberView) (refusal : Refusal)
+    → DelayedMembersFor bytes options members → IsRefusalOfDelayedArchive members refusal → IsRefusalOfDelayed bytes options (Refused refusal)
+no_archive bytes options members (NotUtf8 position) made refused = absurd refused
+no_archive bytes options members (Syntax fault position) made refused = absurd refused
+no_archive bytes options members NoName made refused = absurd refused
+no_archive bytes options members (Members fault position) made refused = absurd refused
+no_archive bytes options members (Archive fault) made refused = record { members = members; members_for = made; refused = refused }
+no_archive bytes options members OutOfMemory made refused = tt

@@ -1,10 +1,9 @@
 -- The library of delayed imports of a definition (this project's own; docs/DLLTOOL.md, "Delayed
 -- imports").
-use Rattle.std.specs.Prelude.{◌≡◌, ℕ, Bool, true, ◌&&◌, ◌||◌, not, List, Option, None, Some}
-use Rattle.std.specs.Prelude.{count_by, map}
+use Rattle.std.specs.Prelude.{◌≡◌, ℕ, true, List, Option, None, Some}
 use Rattle.std.specs.Str.{IsUtf8}
 use Rattle.implib.specs.declared.def.position.Position.{Position}
-use Rattle.implib.specs.Definition.{DefinitionView, ExportView}
+use Rattle.implib.specs.Definition.{DefinitionView}
 use Rattle.implib.specs.Fault.{cause_of}
 use Rattle.implib.specs.Members.MemberSpec.{MemberView}
 use Rattle.implib.specs.Renaming.{renamed}
@@ -17,13 +16,11 @@ use Rattle.implib_delay.specs.Refusal.{DelayCause, IsAlias, IsData, NoMachine, O
 use Rattle.implib_delay_library.specs.declared.library.DelayRefusal.{DelayRefusal}
 use Rattle.implib_delay_library.specs.declared.library.DelayRefusal.TheVariants.{Refused}
 use Rattle.implib_delay_library.specs.declared.library.DelayRefusal.TheVariants.{Undelayed as CannotDelay}
-use Rattle.implib_delay_library.specs.declared.library.LeftOut.{LeftOut}
 use Rattle.implib_delay_library.specs.declared.library.Undelayed.{Undelayed}
 use Rattle.implib_delay_library.specs.declared.library.Undelayed.TheVariants.{Alias, Data, Machine}
 use Rattle.implib_rules.specs.declared.library.Refusal.{Refusal}
 use Rattle.implib_rules.specs.declared.library.Refusal.TheVariants.{Archive, Members, NoName}
 use Rattle.implib_rules.specs.declared.library.Refusal.TheVariants.{NotUtf8, OutOfMemory, Syntax}
-use Rattle.implib_rules.specs.Firsts.{first_where}
 use Rattle.implib_rules.specs.Library.{DefinitionFor, RefusesText, definition_text}
 use Rattle.implib_rules.specs.Options.{LibraryOptionsView}
 use Rattle.implib_rules.specs.Places.{IsAtFault, IsAtName}
@@ -34,43 +31,21 @@ use Rattle.implib_rules.specs.Utf8.{IsNotUtf8At}
 abbrev pub delayed_options : LibraryOptionsView → LibraryOptionsView
 delayed_options options = record options { naming = record options.naming { kills_at = true } }
 
--- whether an export is data or a constant: no call of it loads the DLL
-abbrev pub is_undelayable : ExportView → Bool
-is_undelayable e = not e.private && (e.is_data || e.constant)
-
--- an export, which is private from now on if it is data or a constant
-abbrev pub left_out : ExportView → ExportView
-left_out e = record e { private = e.private || (e.is_data || e.constant) }
-
--- a definition without its data
-abbrev pub without_data : DefinitionView → DefinitionView
-without_data d = record d { exports = map left_out d.exports }
-
--- how many exports are left out, and where the first of them begins
-abbrev pub AreLeftOut : List ℕ → DefinitionView → Option LeftOut → Type 0
-AreLeftOut text d None = first_where is_undelayable d.exports ≡ None
-AreLeftOut text d (Some found) =
-    (found.count ≡ count_by is_undelayable d.exports)
-    × ((index : ℕ) × ((first_where is_undelayable d.exports ≡ Some index)
-    × IsAtName text index found.first))
-
--- The members of the library of delayed imports: those of the definition of the bytes, but for its
--- data. By their bytes alone they are read as its imports.
+-- The members of the library of delayed imports: those of the definition of the bytes. By their
+-- bytes alone they are read as its imports.
 pub record DelayedMembersFor (bytes : List ℕ) (options : LibraryOptionsView)
-    (found : Option LeftOut) (members : List MemberView) : Type 0 where
+    (members : List MemberView) : Type 0 where
   pub utf8 : IsUtf8 (definition_text bytes)
   pub definition : DefinitionView
   pub of_text : DefinitionFor (definition_text bytes) (delayed_options options) definition
-  pub left_out : AreLeftOut (definition_text bytes) definition found
-  pub made : AreDelayedMembersOf (renamed (without_data definition)) options.machine members
-  pub reads : DelayedReadBack (without_data definition) options.machine members
+  pub made : AreDelayedMembersOf (renamed definition) options.machine members
+  pub reads : DelayedReadBack definition options.machine members
 
 -- the bytes of the library of delayed imports: the archive of the members, of GNU's kind
 pub record IsDelayedLibrary (bytes : List ℕ) (options : LibraryOptionsView) (file : List ℕ)
     : Type 0 where
-  pub found : Option LeftOut
   pub members : List MemberView
-  pub members_for : DelayedMembersFor bytes options found members
+  pub members_for : DelayedMembersFor bytes options members
   pub accepted : refusal_of kind.Gnu members ≡ None
   pub is : file ≡ archive_of kind.Gnu members
 
@@ -80,7 +55,7 @@ pub record RefusesDelay (bytes : List ℕ) (options : LibraryOptionsView) (cause
   pub utf8 : IsUtf8 (definition_text bytes)
   pub definition : DefinitionView
   pub of_text : DefinitionFor (definition_text bytes) (delayed_options options) definition
-  pub refused : delay_refusal (renamed (without_data definition)) options.machine ≡ Some cause
+  pub refused : delay_refusal (renamed definition) options.machine ≡ Some cause
 
 -- the refusal is that of a cause, and its position that of the export, if it is of one
 abbrev pub IsRefusalPlaced : List ℕ → DelayCause → DelayRefusal → Type 0
@@ -128,9 +103,8 @@ IsRefusalOfDelayedArchive members _ = ⊥
 -- the bytes have members of delayed imports, which an archive cannot carry
 pub record HasNoDelayedArchive (bytes : List ℕ) (options : LibraryOptionsView) (refusal : Refusal)
     : Type 0 where
-  pub found : Option LeftOut
   pub members : List MemberView
-  pub members_for : DelayedMembersFor bytes options found members
+  pub members_for : DelayedMembersFor bytes options members
   pub refused : IsRefusalOfDelayedArchive members refusal
 
 -- why bytes have no library of delayed imports

@@ -6,6 +6,4 @@
 
 mod library;
 
-pub use library::{
-    DelayRefusal, DelayedImports, LeftOut, Undelayed, delayed_archive, delayed_members_for,
-};
+pub use library::{DelayRefusal, Undelayed, delayed_archive, delayed_members_for};

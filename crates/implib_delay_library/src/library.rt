@@ -8,14 +8,10 @@ ghost use Rattle.implib_delay_library.specs.Libraries.{IsRefusalOfDelayedMembers
 ghost use Rattle.implib_delay_library.specs.Libraries.{delayed_options, position_of_undelayed};
 ghost use Rattle.implib_delay.specs.Refusal.{delay_cause};
 ghost use Rattle.implib_rules.specs.Options.{library_options_view};
-ghost use Rattle.implib.specs.Definition.{definition_view, export_view};
-ghost use Rattle.implib_delay_library.specs.Libraries.{AreLeftOut, is_undelayable, left_out};
-ghost use Rattle.implib_delay_library.specs.Libraries.{without_data};
-ghost use Rattle.implib_rules.specs.Firsts.{first_where};
-ghost use Rattle.std.specs.Prelude.{◌≡◌, IfErr, IfOk, None, OnOk, count_by, map};
+ghost use Rattle.std.specs.Prelude.{◌≡◌, IfErr, IfOk, None, OnOk};
 
 use implib::Fault;
-use implib::def::{ModuleDef, Position, ShortExport};
+use implib::def::{ModuleDef, Position};
 use implib_archive::{Archive, Kind};
 use implib_delay::{DelayError, DelayFault, DelayedMembers, delayed_members};
 use implib_rules::library::{Refusal, definition_for};
@@ -116,107 +112,21 @@ fn refusal_placed(alloc: Global, text: &str, fault: DelayFault) -> DelayRefusal
     }
 }
 
-/// Exports of a definition that are left out of a library of delayed imports: data and constants,
-/// since no call of them loads the DLL. A program that uses one does not link.
-#[derive(Clone, Copy, Debug)]
-pub struct LeftOut {
-    /// How many they are.
-    pub count: usize,
-    /// Where the first of them begins.
-    pub first: Position,
-}
-
-/// What a library of delayed imports is made of.
-#[derive(Drop)]
-pub struct DelayedImports {
-    /// Its members.
-    pub members: DelayedMembers,
-    /// The exports that it leaves out, if it does.
-    pub left_out: Option<LeftOut>,
-}
-
-// Whether an export is data or a constant.
-fn is_undelayable(export: &ShortExport) -> bool
-    ensures { result ≡ is_undelayable (export_view export.now) }
-{
-    !export.private && (export.is_data || export.constant)
-}
-
-// How many exports are data or constants.
-fn count_data(exports: &[ShortExport]) -> usize
-    ensures { result ≡ count_by is_undelayable (map export_view exports.now) }
-{
-    let mut count = 0;
-    for export in exports {
-        if is_undelayable(export) {
-            count += 1;
-        }
-    }
-    count
-}
-
-// The index of the first of them.
-fn first_data(exports: &[ShortExport]) -> Option<usize>
-    ensures { result ≡ first_where is_undelayable (map export_view exports.now) }
-{
-    let mut first = None;
-    for (index, export) in exports.iter().enumerate() {
-        if first.is_none() && is_undelayable(export) {
-            first = Some(index);
-        }
-    }
-    first
-}
-
-// Makes data and constants private.
-fn leave_out_data(exports: &mut Vec<ShortExport>)
-    ensures { map export_view exports.new.items
-        ≡ map left_out (map export_view exports.old.items) }
-{
-    for export in exports.iter_mut() {
-        export.private = export.private || export.is_data || export.constant;
-    }
-}
-
-// A definition without its data.
-fn without_data(mut def: ModuleDef) -> ModuleDef
-    ensures { definition_view result ≡ without_data (definition_view def) }
-{
-    leave_out_data(&mut def.exports);
-    def
-}
-
-// What is left out of the exports of a text's definition.
-fn left_out_of(alloc: Global, text: &str, def: &ModuleDef) -> Result<Option<LeftOut>, AllocError>
-    ensures { IfOk result (AreLeftOut text.now (definition_view def.now)) }
-{
-    let exports = def.exports.as_slice();
-    let Some(index) = first_data(exports) else {
-        return Ok(None);
-    };
-    match position_of_fault(alloc, text, &Fault::EmptyName(index)) {
-        Ok(first) => Ok(Some(LeftOut {
-            count: count_data(exports),
-            first,
-        })),
-        Err(_) => Err(AllocError),
-    }
-}
-
 /// The members of the library of delayed imports of a definition, for the machine and under the
-/// name of the options. Names are asked for as under `-k`, as by GNU dlltool. Data is left out.
+/// name of the options. Names are asked for as under `-k`, as by GNU dlltool.
 ///
 /// # Errors
 ///
 /// `Refused`: bytes that are not UTF-8; what [`definition_for`] refuses; an export that an ordinary
-/// library for GNU's linker refuses too. `Undelayed`: a machine without code for delayed imports.
+/// library for GNU's linker refuses too. `Undelayed`: data, with its place; a machine without code
+/// for delayed imports.
 pub fn delayed_members_for(
     alloc: Global,
     bytes: &[u8],
     options: &LibraryOptions<'_>,
-) -> Result<DelayedImports, DelayRefusal>
-    ensures made { IfOk result (λ made. DelayedMembersFor bytes.now
-        (library_options_view options.now) made.left_out made.members) }
+) -> Result<DelayedMembers, DelayRefusal>
+    ensures made { IfOk result
+        (DelayedMembersFor bytes.now (library_options_view options.now)) }
     ensures refused { IfErr result
         (IsRefusalOfDelayedMembers bytes.now (library_options_view options.now)) }
 {
@@ -226,9 +136,8 @@ pub fn delayed_members_for(
         Err(position) => return Err(DelayRefusal::Refused(Refusal::NotUtf8(position))),
     };
     let def = definition_for(alloc, text, &delayed_options(options))?;
-    let left_out = left_out_of(alloc, text, &def)?;
-    match delayed_members(without_data(def), options.machine) {
-        Ok(members) => Ok(DelayedImports { members, left_out }),
+    match delayed_members(def, options.machine) {
+        Ok(members) => Ok(members),
         Err(DelayError::Invalid(fault)) => Err(refusal_placed(alloc, text, fault)),
         Err(DelayError::OutOfMemory(_)) => Err(DelayRefusal::Refused(Refusal::OutOfMemory)),
     }

@@ -49,12 +49,6 @@ impl<'a> fmt::Display for Message<'a> {
                 ShownPlace(path, why.position()),
                 undelayed_text(why),
             ),
-            Message::Complaint(path, Complaint::LeftOut(count, position)) => write!(
-                f,
-                "{} {}",
-                ShownPlace(path, Some(*position)),
-                Complaint::LeftOut(*count, *position),
-            ),
             Message::Complaint(path, Complaint::Unimported(why)) => write!(
                 f,
                 "{} {}",

@@ -1,7 +1,6 @@
 -- What the program says on standard error, as what it says and of what; the words of a line are not
 -- stated.
 use Rattle.std.specs.Prelude.{◌≡◌, ℕ, List, ◌++◌, Option, None, Some}
-use Rattle.implib.specs.declared.def.position.Position.{Position}
 use Rattle.implib_arm64ec_library.specs.declared.library.Unimported.{Unimported}
 use Rattle.implib_delay_library.specs.declared.library.Undelayed.{Undelayed}
 use Rattle.implib_driver.specs.declared.dll.DllRefusal.{DllRefusal}
@@ -47,8 +46,6 @@ pub data ComplaintView : Type 0 where
   OfAstray : ℕ → ComplaintView
   -- a DLL whose export directory has another name than its file
   OfRenamed : ComplaintView
-  -- exports that are data, of which the first begins here, beside delayed imports
-  OfLeftOut : ℕ → Position → ComplaintView
 
 -- the view of a complaint of the program
 abbrev pub complaint_view : Complaint → ComplaintView
@@ -68,7 +65,6 @@ complaint_view complaint.NoLibrary = OfNoLibrary
 complaint_view (complaint.Missing count) = OfMissing count
 complaint_view (complaint.Astray count) = OfAstray count
 complaint_view complaint.Renamed = OfRenamed
-complaint_view (complaint.LeftOut count position) = OfLeftOut count position
 
 -- what is said at once
 pub data Line : Type 0 where

@@ -3,8 +3,7 @@
 ghost use Rattle.implib_archive.specs.Archive.{archive_of};
 ghost use Rattle.implib_driver.specs.Program.{Finishes, FinishesDelayed, FinishesDelaying};
 ghost use Rattle.implib_driver.specs.Program.{FinishesFailing, FinishesText, FinishesWith};
-ghost use Rattle.implib_driver.specs.Program.{FinishesWithout, KeepsFiles, SaysLeftOut};
-ghost use Rattle.implib_driver.specs.Program.{begins_utf16};
+ghost use Rattle.implib_driver.specs.Program.{FinishesWithout, KeepsFiles, begins_utf16};
 ghost use Rattle.implib_driver.specs.Program.{definition_in, delay_lines, delay_status};
 ghost use Rattle.implib_driver.specs.Program.{members_counted};
 ghost use Rattle.implib_driver.specs.Reports.{Says};
@@ -22,7 +21,7 @@ use crate::warned::{Counted, is_bare, warn};
 use implib::Flavor;
 use implib_archive::Archive;
 use implib_delay::DelayedMembers;
-use implib_delay_library::{DelayRefusal, LeftOut, delayed_archive, delayed_members_for};
+use implib_delay_library::{DelayRefusal, delayed_archive, delayed_members_for};
 use implib_rules::library::{LibraryError, Refusal, members_asked};
 use implib_rules::members::LibraryMembers;
 use std::alloc::Global;
@@ -229,15 +228,6 @@ fn finish_delayed<D: Disk, T: Reporter>(
     }
 }
 
-// Says what a library of delayed imports leaves out, if it does.
-fn say_left_out<T: Reporter>(reporter: &mut T, path: &str, left_out: Option<LeftOut>)
-    ensures { SaysLeftOut path.now left_out (T.said reporter.old) (T.said reporter.new) }
-{
-    if let Some(found) = left_out {
-        reporter.complain(path, Complaint::LeftOut(found.count, found.first));
-    }
-}
-
 // Puts the libraries of a definition that is read, of which that of delayed imports is for this
 // path, and gives the exit status. Nothing is put unless both can be made.
 fn answer_delaying<D: Disk, T: Reporter>(
@@ -256,13 +246,12 @@ fn answer_delaying<D: Disk, T: Reporter>(
         reporter.complain(request.definition, Complaint::Utf16);
         return 1;
     }
-    let made = match delayed_members_for(alloc, bytes, &request.library) {
-        Ok(made) => made,
+    let members = match delayed_members_for(alloc, bytes, &request.library) {
+        Ok(members) => members,
         Err(refusal) => return refuse_delay(reporter, request.definition, refusal),
     };
-    match delayed_archive(alloc, &made.members) {
+    match delayed_archive(alloc, &members) {
         Ok(archive) => {
-            say_left_out(reporter, request.definition, made.left_out);
             let delayed = Delayed { path, archive };
             finish_delayed(alloc, bytes, disk, &delayed, request, reporter)
         }

@@ -355,14 +355,6 @@ impl<'a> fmt::Display for Complaint<'a> {
                 "warning: its export directory has another name, by which programs will ask for \
                  the DLL; -D gives the library the file's",
             ),
-            Complaint::LeftOut(1, _) => f.write_str(
-                "warning: data cannot be delayed: this export is left out of the library of -y",
-            ),
-            Complaint::LeftOut(count, _) => write!(
-                f,
-                "warning: data cannot be delayed: {count} exports, this one first, are left out of \
-                 the library of -y"
-            ),
             Complaint::Undelayed(why) => f.write_str(undelayed_text(why)),
             Complaint::Unimported(why) => write!(f, "{}", UnimportedMessage(why)),
             Complaint::Utf16 => f.write_str("the definition is UTF-16; expected UTF-8"),

@@ -9,7 +9,6 @@ use crate::arguments::WordFault;
 use crate::dll::DllRefusal;
 use crate::identity::NotIdentified;
 use crate::request::CallFault;
-use implib::def::Position;
 use implib_archive::WriteError;
 use implib_arm64ec_library::Unimported;
 use implib_delay_library::Undelayed;
@@ -52,9 +51,6 @@ pub enum Complaint<'a> {
     Astray(usize),
     /// The export directory of a DLL has another name than its file: a warning.
     Renamed,
-    /// So many exports are data, of which the first begins here, and are left out of the library of
-    /// delayed imports: a warning.
-    LeftOut(usize, Position),
 }
 
 /// Who says what is wrong, each a line.

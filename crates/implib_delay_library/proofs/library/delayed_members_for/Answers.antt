@@ -10,7 +10,8 @@ pub returns-in-Err-Invalid-clause-refused : goal.returns-in-Err-Invalid-clause-r
 returns-in-Err-Invalid-clause-refused c =
     let bytes = c.args.bytes.now in
     let options = library_options_view c.args.options.now in
+    let cause = delay_cause c.in-Err-Invalid.fault in
     let found = found_in bytes c.in-Ok.text.now c.in_ok-read.read c.in_ok-read.ensures c.in-Ok.ensures in
-    undelayed bytes c.in-Ok.text.now options _ c.refusal_placed.result found.0
-    (refuses bytes c.in-Ok.text.now options (library_options_view c.delayed_options.result) (definition_view c.in_ok-def.def) _ found c.delayed_options.ensures c.in_ok-def.ensures.meant (search rules))
+    undelayed bytes c.in-Ok.text.now options cause c.refusal_placed.result found.0
+    (refuses bytes c.in-Ok.text.now options (library_options_view c.delayed_options.result) (definition_view c.in_ok-def.def) cause found c.delayed_options.ensures c.in_ok-def.ensures.meant (search rules))
     c.refusal_placed.ensures

@@ -9,7 +9,7 @@ returns g c =
     let refusal = c.in-Err-delayed_archive.refusal in
     inr (inl (record {
       refusal = Refused refusal;
-      refused = no_archive c.args.bytes.now (library_options_view c.args.request.now.library) c.in-Ok.made.left_out c.in-Ok.made.members refusal c.in-Ok.ensures.made c.in-Err-delayed_archive.ensures.refused;
+      refused = no_archive c.args.bytes.now (library_options_view c.args.request.now.library) c.in-Ok.members refusal c.in-Ok.ensures.made c.in-Err-delayed_archive.ensures.refused;
       same_disk = refl;
       says = c.refuse_delay-in-Err-delayed_archive.ensures.said;
       is_status = c.refuse_delay-in-Err-delayed_archive.ensures.status;
