@@ -8,7 +8,6 @@ use Rattle.implib.specs.declared.machine.MachineType.TheVariants.{ARM64}
 use Rattle.implib_arm64ec_library.specs.Libraries.{NoneIsWeak}
 use Rattle.implib_rules.specs.Additions.{extended}
 use Rattle.implib_rules.specs.Linked.{NamingView, linked_export}
-use Rattle.implib_rules.specs.Nameless.{asking_by_ordinal}
 use Rattle.implib_rules.specs.Names.{dll_name, is_program, own_name}
 use Rattle.implib_rules.specs.Repeats.{without_repeats}
 
@@ -20,7 +19,7 @@ each_asks naming all (e ∷ rest) = (refl, each_asks naming all rest)
 
 pub none_is_weak : NoneIsWeak
 none_is_weak text options d reads =
-    let exports = (asking_by_ordinal (without_repeats (extended ARM64 options.naming options.additions
-    (record reads.parsed { import_name = dll_name options.dll (own_name reads.heard) (is_program reads.heard) })))).exports in
+    let exports = (without_repeats (extended ARM64 options.naming options.additions
+    (record reads.parsed { import_name = dll_name options.dll (own_name reads.heard) (is_program reads.heard) }))).exports in
     subst (λ (v : DefinitionView). AllByRecursion (λ (e : ExportView). e.alias_target ≡ []) v.exports)
     (sym reads.is) (each_asks options.naming exports exports)

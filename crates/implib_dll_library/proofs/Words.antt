@@ -57,9 +57,9 @@ both_false a b first second = ap (λ x. x || b) first ∙ second
 
 nothing_under : (machine : MachineType) (naming : NamingView) (w : Word) → underscored machine naming no_additions (of_word w) ≡ of_word w
 nothing_under machine naming w =
-    ap (λ b. cond (not (has_target (of_word w)) && b) (record (of_word w) { alias_target = word_asked machine naming (underscore ∷ w.name) }) (of_word w))
+    ap (λ b. cond (not (has_target (of_word w)) && b) (record (of_word w) { alias_target = underscore ∷ word_asked machine naming w.name }) (of_word w))
     (and_false (not (begins_with at_sign w.name)))
-    ∙ ap (λ b. cond b (record (of_word w) { alias_target = word_asked machine naming (underscore ∷ w.name) }) (of_word w))
+    ∙ ap (λ b. cond b (record (of_word w) { alias_target = underscore ∷ word_asked machine naming w.name }) (of_word w))
     (and_false (not (has_target (of_word w))))
 
 nothing_unders : (machine : MachineType) (naming : NamingView) (ws : List Word) → map (underscored machine naming no_additions) (map of_word ws) ≡ map of_word ws

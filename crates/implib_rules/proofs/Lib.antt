@@ -2,7 +2,6 @@ pub mod Parts
 pub mod Asked
 pub mod Targets
 pub mod LeftOut
-pub mod Numbered
 pub mod Rising
 pub mod LibraryNames
 pub mod Symbols

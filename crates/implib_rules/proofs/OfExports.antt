@@ -15,7 +15,6 @@ use Rattle.implib_rules.specs.Library.{MembersFor, definition_for, kind_of, defi
 use Rattle.implib_rules.specs.LibraryLaws.{LibrariesAreOfExports}
 use Rattle.implib_rules.specs.LibraryName.{gnu_library_name, with_library_name}
 use Rattle.implib_rules.specs.Linked.{NamingView, linked}
-use Rattle.implib_rules.specs.Nameless.{asking_by_ordinal}
 use Rattle.implib_rules.specs.Names.{dll_name, is_program, lacks_name, own_name, part_after_last}
 use Rattle.implib_rules.specs.Options.{LibraryOptionsView}
 use Rattle.implib_rules.specs.Additions.{AdditionsView, extended}
@@ -26,7 +25,7 @@ use Rattle.implib_rules.specs.Repeats.{without_repeats}
 abbrev specs_named : MachineType → NamingView → AdditionsView → Flavor → DefinitionView → List ℕ → List MemberSpec
 specs_named machine naming additions flavor d name =
     specs_made naming machine flavor
-    (renamed (with_library_name machine flavor (linked machine naming flavor (asking_by_ordinal (without_repeats (extended machine naming additions (record d { import_name = name })))))))
+    (renamed (with_library_name machine flavor (linked machine naming flavor (without_repeats (extended machine naming additions (record d { import_name = name }))))))
 
 -- they are of its exports
 of_their_exports : (machine : MachineType) (naming : NamingView) (additions : AdditionsView) (flavor : Flavor) (d : DefinitionView) (name : List ℕ)

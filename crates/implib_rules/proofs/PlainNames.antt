@@ -16,7 +16,6 @@ use Rattle.implib_rules.specs.Library.{DefinitionFor, definition_for}
 use Rattle.implib.specs.Ascii.{underscore}
 use Rattle.implib_rules.specs.Additions.{AdditionsView, all_prefixed, extended_exports, gets_one, prefixed, underscored}
 use Rattle.implib_rules.specs.Linked.{NamingView, adds_target, alias_symbol, has_target, is_among, linked_export, linked_to, new_target, symbol_of, target_import, targets_added, targets_beside, with_target, word_asked, word_of}
-use Rattle.implib_rules.specs.Nameless.{by_ordinal, ordinal_asked, with_ordinals}
 use Rattle.implib_rules.specs.Names.{is_program, own_name}
 use Rattle.implib_rules.specs.Repeats.{left_out, left_out_by, repeats_behind, without_repeated}
 use Rattle.implib_rules.specs.Options.{LibraryOptionsView}
@@ -117,30 +116,16 @@ module _ (machine : MachineType) (naming : NamingView) (a : AdditionsView) where
       plain_both (map (underscored machine naming a) exports) (all_prefixed machine naming a.prefix (map (underscored machine naming a) exports))
       (plain_underscored exports plain) (plain_prefixed a.prefix (map (underscored machine naming a) exports))
 
--- an export that asks for an ordinal keeps its symbol name
-plain_numbered : (o : Option ℕ) (e : ExportView) → is_empty_text (by_ordinal o e).symbol_name ≡ is_empty_text e.symbol_name
-plain_numbered None e = refl
-plain_numbered (Some ordinal) e = refl
-
-plain_by_ordinals : (all exports : List ExportView) → list_all (λ e. is_empty_text e.symbol_name) exports ≡ true
-    → list_all (λ e. is_empty_text e.symbol_name) (map (λ e. by_ordinal (ordinal_asked all e) e) exports) ≡ true
-plain_by_ordinals all [] plain = refl
-plain_by_ordinals all (e ∷ exports) plain =
-    let parts = and_parts (is_empty_text e.symbol_name) (list_all (λ (x : ExportView). is_empty_text x.symbol_name) exports) plain in
-    ap (λ b. b && list_all (λ (x : ExportView). is_empty_text x.symbol_name) (map (λ x. by_ordinal (ordinal_asked all x) x) exports)) (plain_numbered (ordinal_asked all e) e ∙ parts.0)
-    ∙ plain_by_ordinals all exports parts.1
-
 -- no export of a definition that is made by the rules has a symbol name, if none had one before
 pub plain_for : (options : LibraryOptionsView) (parsed : DefinitionView) (own : List ℕ) (program : Bool) → list_all (λ e. is_empty_text e.symbol_name) parsed.exports ≡ true
     → AllByRecursion IsPlain (public_exports (renamed (definition_for options parsed own program)))
 plain_for options parsed own program lacks =
     let more = extended_exports options.machine options.naming options.additions parsed.exports in
-    let once = without_repeated more in
-    let exports = with_ordinals once in
+    let exports = without_repeated more in
     let linked = map (linked_export options.machine options.naming options.flavor exports) exports in
     let targets = targets_added options.machine options.naming options.flavor exports in
     let plain : AllByRecursion IsPlain (linked ++ targets) =
-    all_append IsPlain linked targets (plain_linked options.machine options.naming exports options.flavor exports (plain_by_ordinals once once (plain_left_out more (plain_extended options.machine options.naming options.additions parsed.exports lacks))))
+    all_append IsPlain linked targets (plain_linked options.machine options.naming exports options.flavor exports (plain_left_out more (plain_extended options.machine options.naming options.additions parsed.exports lacks)))
     (plain_added options.machine options.naming exports options.flavor) in
     plain_public (linked ++ targets) plain
 

@@ -2,7 +2,6 @@ pub mod Options
 pub mod Machines
 pub mod Names
 pub mod Linked
-pub mod Nameless
 pub mod Additions
 pub mod Firsts
 pub mod Repeats

@@ -36,7 +36,6 @@ use Rattle.implib_rules.specs.declared.library.Refusal.TheVariants.{Members, Arc
 use Rattle.implib_rules.specs.Additions.{extended}
 use Rattle.implib_rules.specs.LibraryName.{with_library_name}
 use Rattle.implib_rules.specs.Linked.{linked}
-use Rattle.implib_rules.specs.Nameless.{asking_by_ordinal}
 use Rattle.implib_rules.specs.Names.{dll_name, is_program, lacks_name, own_name}
 use Rattle.implib_rules.specs.ExportAs.{AreMadeFor, refusal_made}
 use Rattle.implib_rules.specs.Forms.{IsFormed, IsMisplacedAt, IsOpenAt, open_quote}
@@ -68,14 +67,13 @@ abbrev pub definition_text : List ℕ → List ℕ
 definition_text bytes = plain_text (without_mark bytes)
 
 -- the definition under the name of its DLL, with what options add to its exports, without repeats,
--- by ordinal those that ask for one without a name, each export as it is linked, and with the name
--- of its library
+-- each export as it is linked, and with the name of its library
 abbrev pub definition_for : LibraryOptionsView → DefinitionView → List ℕ → Bool → DefinitionView
 definition_for options parsed own program =
     with_library_name options.machine options.flavor
     (linked options.machine options.naming options.flavor
-    (asking_by_ordinal (without_repeats (extended options.machine options.naming options.additions
-    (record parsed { import_name = dll_name options.dll own program })))))
+    (without_repeats (extended options.machine options.naming options.additions
+    (record parsed { import_name = dll_name options.dll own program }))))
 
 -- The definition of a text for these options: what the text means with its words as they are
 -- written, which is what it means on AMD64, under the name of the DLL, which is the one given or

@@ -11,7 +11,6 @@ use Rattle.implib.specs.declared.machine.MachineType.{MachineType}
 use Rattle.implib.specs.Definition.{ExportView}
 use Rattle.implib.specs.Import.{is_empty_text}
 use Rattle.implib.specs.Machine.{has_leading_underscore}
-use Rattle.implib_rules.specs.Nameless.{by_ordinal}
 use Rattle.implib_rules.specs.Linked.{NamingView, linked_export, linked_to, targets_added, word_of}
 
 -- the bytes of a text that may be given
@@ -41,17 +40,6 @@ rise_from last (e ∷ exports) = comes_before last (word_of e) && rise_from (wor
 abbrev pub first_symbol : List (Option (List ℕ)) → Option (List ℕ)
 first_symbol [] = None
 first_symbol (symbol ∷ symbols) = symbol
-
--- the first of some ordinals, if there is one and it is given
-abbrev pub first_ordinal : List (Option ℕ) → Option ℕ
-first_ordinal [] = None
-first_ordinal (ordinal ∷ ordinals) = ordinal
-
--- exports, each by its ordinal, if that is given
-abbrev pub each_by_ordinal : List (Option ℕ) → List ExportView → List ExportView
-each_by_ordinal ordinals [] = []
-each_by_ordinal ordinals (e ∷ exports) =
-    by_ordinal (first_ordinal ordinals) e ∷ each_by_ordinal (drop 1 ordinals) exports
 
 -- exports as they are linked, each weak for its symbol, if that is given
 abbrev pub linked_by : MachineType → NamingView → List (Option (List ℕ)) → List ExportView →

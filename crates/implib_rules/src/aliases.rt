@@ -202,7 +202,7 @@ fn msvc_targets(alloc: Global, lookups: &Lookups<'_>) -> Result<Vec<ShortExport>
 }
 
 // Whether an export has a word after `==`.
-pub(crate) fn has_targets(exports: &[ShortExport]) -> bool
+fn has_targets(exports: &[ShortExport]) -> bool
     ensures { result ≡ list_any has_target (map export_view exports.now) }
 {
     for export in exports {

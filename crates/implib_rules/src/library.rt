@@ -33,7 +33,6 @@ use crate::library_name::library_name_for;
 use crate::linked::Naming;
 use crate::members::{LibraryMembers, MadeLater};
 use crate::name::{FirstHeading, dll_name, lacks_name};
-use crate::nameless::ask_by_ordinal;
 use crate::options::LibraryOptions;
 use crate::places::position_of_fault;
 use crate::repeats::leave_out_repeats;
@@ -147,9 +146,9 @@ impl From<io::Error> for LibraryError {
 }
 
 /// A definition by the rules of `dlltool`, under the name of the DLL that is given, or else its
-/// own: with what the options add to its exports, of the exports of one word the first alone, by
-/// ordinal those that ask for one without a name, each as it is linked on the machine, and with the
-/// name of its library for the linker. There is none where neither name is one.
+/// own: with what the options add to its exports, of the exports of one word the first alone, each
+/// as it is linked on the machine, and with the name of its library for the linker. There is none
+/// where neither name is one.
 ///
 /// # Errors
 ///
@@ -179,7 +178,6 @@ pub(crate) fn by_rules(
         &mut def.exports,
     )?;
     leave_out_repeats(alloc, &mut def.exports)?;
-    ask_by_ordinal(alloc, &mut def.exports)?;
     link_with_targets(
         alloc,
         options.machine,
