@@ -356,6 +356,13 @@ output_or (Some path) =
     else if bytes_eq path [] then Err HasEmptyOutput
     else Ok (Some path)
 
+-- the files of the library, and of that of delayed imports, that options give
+abbrev pub output_in : List OccurrenceView → Asked (Option (List ℕ))
+output_in options = output_or (last_given Output options)
+
+abbrev pub delayed_in : List OccurrenceView → Asked (Option (List ℕ))
+delayed_in options = output_or (last_given DelayedOutput options)
+
 -- the file of the native definition, which has a name, and is not standard input if the definition
 -- is
 abbrev pub native_or : List ℕ → Option (List ℕ) → Asked (Option (List ℕ))
@@ -436,8 +443,8 @@ definition_or (Some path) = if bytes_eq path [] then Err HasEmptyDefinition else
 abbrev pub request_of : Caller → List OccurrenceView → Option (List ℕ) → Asked RequestView
 request_of caller options given =
     with (definition_or given) (λ definition.
-    with (output_or (last_given Output options)) (λ output.
-    with (output_or (last_given DelayedOutput options)) (λ delayed.
+    with (output_in options) (λ output.
+    with (delayed_in options) (λ delayed.
     with (machine_in caller.machine options) (λ machine.
     with (flavor_in caller.called_as (machine_type machine) output options) (λ flavor.
     with (arm64ec_in machine flavor definition options) (λ arm64ec.

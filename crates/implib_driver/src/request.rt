@@ -16,7 +16,7 @@ ghost use Rattle.implib_driver.specs.Request.{has_gnu_habits, holds_text, input_
 ghost use Rattle.implib_driver.specs.Request.{is_other_architecture};
 ghost use Rattle.implib_driver.specs.Request.{machine_in, machine_named, machine_of_architecture};
 ghost use Rattle.implib_driver.specs.Request.{machine_of_name};
-ghost use Rattle.implib_driver.specs.Request.{delay_for, output_or};
+ghost use Rattle.implib_driver.specs.Request.{delay_for, delayed_in, output_in, output_or};
 ghost use Rattle.implib_driver.specs.Request.{naming_in, older_symbols_in, request_in};
 ghost use Rattle.implib_driver.specs.Request.{request_view, wish_view};
 ghost use Rattle.implib_driver.specs.Request.{task_of, task_view, wanted_of};
@@ -415,6 +415,26 @@ fn output_given(given: Option<&str>) -> Result<Option<&str>, CallFault<'_>>
     }
 }
 
+// The file of the library that the options give.
+fn output_in<'a>(options: &[Occurrence<'a>]) -> Result<Option<&'a str>, CallFault<'a>>
+    ensures ok { IfOk result (λ output. output_in (map occurrence_view options.now)
+        ≡ Ok (option_map (λ text. text.now) output)) }
+    ensures refused { IfErr result (λ fault.
+        output_in (map occurrence_view options.now) ≡ Err (call_fault_view fault)) }
+{
+    output_given(last_given(options, Setting::Output))
+}
+
+// The file of the library of delayed imports that the options give.
+fn delayed_in<'a>(options: &[Occurrence<'a>]) -> Result<Option<&'a str>, CallFault<'a>>
+    ensures ok { IfOk result (λ output. delayed_in (map occurrence_view options.now)
+        ≡ Ok (option_map (λ text. text.now) output)) }
+    ensures refused { IfErr result (λ fault.
+        delayed_in (map occurrence_view options.now) ≡ Err (call_fault_view fault)) }
+{
+    output_given(last_given(options, Setting::DelayedOutput))
+}
+
 // The file of the native definition, which is not standard input if the definition is.
 fn native_given<'a>(
     given: Option<&'a str>,
@@ -591,8 +611,8 @@ pub(crate) fn request_in<'a>(
     if definition.is_empty() {
         return Err(CallError::Refused(CallFault::EmptyDefinition));
     }
-    let output = output_given(last_given(options, Setting::Output))?;
-    let delayed = output_given(last_given(options, Setting::DelayedOutput))?;
+    let output = output_in(options)?;
+    let delayed = delayed_in(options)?;
     let named = machine_in(alloc, options, caller.machine)?;
     let machine = named.machine_type();
     let flavor = flavor_in(options, caller.called_as, machine, output)?;
