@@ -135,7 +135,7 @@ enum implib_status {
     /* Of implib_library_with under IMPLIB_DELAYED. */
     IMPLIB_DELAY_FLAVOR = 50,  /* Microsoft's linkers delay imports of an ordinary library; *place is 0 */
     IMPLIB_DELAY_MACHINE = 51, /* the machine has no code for delayed imports; *place is 0 */
-    IMPLIB_DELAY_DATA = 52,    /* of an export: it is data or a constant; *place is the offset of its name */
+    IMPLIB_DELAY_DATA = 52,    /* no longer: data and constants are left out of a delayed library */
     IMPLIB_DELAY_ALIAS = 53    /* of an export, and of no text: it is a weak name for another; *place is the offset of its name */
 };
 

@@ -11,13 +11,14 @@ fn library_is_an_archive_of_the_dll() {
         assert_eq!(own, given);
         let other = delay::library("LIBRARY zoo.dll\nEXPORTS\nfeed", machine, Some("other.dll")).unwrap();
         assert_ne!(own, other);
+        // data is left out
+        assert_eq!(own, delay::library("LIBRARY zoo\nEXPORTS\nfeed\ncount DATA", machine, None).unwrap());
     }
 }
 
 #[test]
 fn what_cannot_be_delayed_is_refused() {
     let faults = [
-        ("LIBRARY zoo\nEXPORTS\nfeed\n count DATA", MachineType::AMD64, Fault::DelayData, Some((26, 4, 2))),
         ("LIBRARY zoo\nEXPORTS\n\"\"", MachineType::I386, Fault::EmptyAskedName, Some((21, 3, 2))),
         ("LIBRARY zoo\nEXPORTS\n\"\"", MachineType::AMD64, Fault::EmptyName, Some((21, 3, 2))),
         ("LIBRARY zoo\nOTHER", MachineType::I386, Fault::UnknownDirective, Some((12, 2, 1))),

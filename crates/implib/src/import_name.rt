@@ -5,7 +5,8 @@ ghost use Rattle.implib.specs.Definition.{export_view, given_name};
 ghost use Rattle.implib.specs.Import.{name_asked};
 ghost use Rattle.implib.specs.Ascii.{begins_with};
 ghost use Rattle.implib.specs.Members.Msvc.{asked_by_short_import, name_type_of};
-ghost use Rattle.implib.specs.Members.Msvc.{name_type_asking, short_import_symbol};
+ghost use Rattle.implib.specs.Members.Msvc.{is_cut_alike, name_type_asking};
+ghost use Rattle.implib.specs.Members.Msvc.{short_import_symbol};
 ghost use Rattle.implib.specs.Members.NameRules.{asked_in, asks_another, name_to_ask};
 ghost use Rattle.std.specs.Prelude.{◌==◌, ◌≡◌, ◌≤◌};
 
@@ -93,19 +94,27 @@ pub(crate) fn name_type(export: &ShortExport, machine: MachineType) -> u16
     }
 }
 
+// Whether linkers take the same prefix off the symbol.
+fn is_cut_alike(machine: MachineType, symbol: &[u8]) -> bool
+    ensures { result ≡ is_cut_alike machine symbol.now }
+{
+    machine.has_leading_underscore() || symbol.first() != Some(&b'_')
+}
+
 // The first of name, no prefix and undecorate by which a short import of the symbol asks for the
-// name; undecorate where none does. Where symbols have no underscore it is name: linkers cut a
-// symbol alike on I386 alone.
+// name; where none does, undecorate on I386 and name elsewhere.
 fn name_type_asking(machine: MachineType, symbol: &[u8], name: &[u8]) -> u16
     ensures number { result ≡ name_type_asking machine symbol.now name.now }
     ensures at_most { result ≤ IMPORT_NAME_UNDECORATE }
 {
-    if !machine.has_leading_underscore() || symbol == name {
+    if symbol == name {
         IMPORT_NAME
-    } else if without_prefix(symbol) == name {
+    } else if is_cut_alike(machine, symbol) && without_prefix(symbol) == name {
         IMPORT_NAME_NOPREFIX
-    } else {
+    } else if machine.has_leading_underscore() {
         IMPORT_NAME_UNDECORATE
+    } else {
+        IMPORT_NAME
     }
 }
 

@@ -58,11 +58,6 @@ archive_named kind members padding' accepted =
 
 -- Members by their name fields.
 
-pub read_named : (kind : Kind) (data' field' name contents : List ℕ) → HasName kind data' field' name → read_as kind data' (name_in field') contents ≡ Some (record { name = name; bytes = contents })
-unfolding read_as
-read_named kind data' field' name contents (inl short) = ap (λ n. read_as kind data' n contents) short
-read_named kind data' field' name contents (inr long) = ap (λ n. read_as kind data' n contents) long.at ∙ ap (λ t. Some (record { name = t; bytes = contents })) long.read
-
 before_named : (kind : Kind) (data' field' name contents : List ℕ) (others : List Read) → HasName kind data' field' name → before_others kind data' (name_in field') contents (Some others) ≡ Some (record { name = name; bytes = contents } ∷ others)
 unfolding before_others read_as
 before_named kind data' field' name contents others (inl short) = ap (λ n. before_others kind data' n contents (Some others)) short

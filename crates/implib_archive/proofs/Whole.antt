@@ -1,5 +1,5 @@
 -- The length of an archive, and what holds of members that have one.
-use Rattle.std.proofs.Common.{◌≡◌, ℕ, zero, suc, ◌+◌, ◌-◌, ◌*◌, ◌%◌, ◌^◌, ◌<◌, ◌≤◌, Bool, true, false, ◌&&◌, ◌||◌, List, [], ◌∷◌, ◌++◌, Option, Some, None, bytes_eq, codes, decimal, flat_map, fold, get_or, if◌then◌else◌, is_some, length, min, nat_eq, nat_le, nat_lt, replicate, unwrap_or, refl, sym, ap, subst, ◌∙◌, length-append, arith}
+use Rattle.std.proofs.Common.{◌≡◌, ℕ, zero, suc, ◌+◌, ◌-◌, ◌*◌, ◌%◌, ◌^◌, ◌<◌, ◌≤◌, Bool, true, false, ◌||◌, List, [], ◌∷◌, ◌++◌, Option, Some, None, bytes_eq, codes, decimal, flat_map, fold, get_or, if◌then◌else◌, is_some, length, min, nat_eq, nat_le, nat_lt, replicate, unwrap_or, refl, sym, ap, subst, ◌∙◌, length-append, arith}
 use Rattle.std.specs.List.{All, list_any}
 use Rattle.std.proofs.lemmas.Bool.{leb-false, lt-ltb, ltb-false, ltb-true, true≢false}
 use Rattle.std.proofs.lemmas.Fmt.{length-decimal-le}
@@ -19,10 +19,6 @@ use Rattle.implib_archive.proofs.Placed.{first_too_far}
 use Rattle.implib_archive.proofs.Sized.{length-first_linker, length-padding, length-second_linker, linkers-gnu, names_part-some}
 
 -- Refusals.
-
-and_true : (a b : Bool) → (a && b) ≡ true → a ≡ true
-and_true true b h = refl
-and_true false b h = absurd (true≢false (sym h))
 
 -- a first header that is not refused is below 2^32
 pub first_near : (first : ℕ) (members : List MemberView) → places_refusal first members ≡ None → first < 2 ^ 32

@@ -16,10 +16,6 @@ abbrev pub shifted : ℕ → Reading → Reading
 shifted by (Ends place) = Ends (by + place)
 shifted by (Stops place) = Stops (by + place)
 
-pub shifted_zero : (r : Reading) → shifted 0 r ≡ r
-shifted_zero (Ends place) = ap Ends (omega arith)
-shifted_zero (Stops place) = ap Stops (omega arith)
-
 pub shifted_one_more : (by : ℕ) (r : Reading) → shifted by (one_more r) ≡ shifted (by + 1) r
 shifted_one_more by (Ends place) = ap Ends (omega arith)
 shifted_one_more by (Stops place) = ap Stops (omega arith)

@@ -19,8 +19,6 @@ unfolding bytes_of_digits worked_archive ec_archive ec_front ec_index ec_label e
 worked_archives = record {
   whole = refl;
   function = refl;
-  no_import = refl;
-  no_member = refl;
   odd = refl;
 }
 
@@ -44,18 +42,10 @@ unfolding bytes_of_digits worked_archive data_at first_in linker_data linker_in 
 worked_archive_readings = record {
   read = read_whole;
   leads = leads_whole;
-  headers = refl;
-  ec_symbols = refl;
   ec_f = refl;
   ec_marked = refl;
-  ec_variable = refl;
-  ec_native = refl;
   f = refl;
   marked = refl;
-  variable = refl;
-  native = refl;
-  second_f = refl;
-  member = refl;
   other_reader = refl;
   other_order = λ other. let sizes : 31 ≡ 28 = ap fourth_size (sym read_whole.in_order ∙ other.in_order) in absurd (omega (arith, sizes));
 }

@@ -9,35 +9,22 @@ use Rattle.implib_arm64ec.specs.WorkedImports.{WorkedImports, WorkedReadings, Wo
 pub worked_imports : WorkedImports
 unfolding read bytes_of_digits u16_bytes u32_bytes u16_at u32_at
 worked_imports = record {
-  function = refl;
   marked = refl;
-  cplusplus = refl;
   marked_cplusplus = refl;
-  alias = refl;
   exported_as = refl;
   hinted = refl;
-  by_ordinal = refl;
-  variable = refl;
   variable_alias = refl;
   variable_by_ordinal = refl;
   variable_never_marked = refl;
-  constant = refl;
   constant_by_ordinal = refl;
   constant_alias = refl;
-  refused = refl;
 }
 
 pub worked_symbols : WorkedSymbols
 unfolding read bytes_of_digits u16_bytes u32_bytes u16_at u32_at
 worked_symbols = record {
-  function = refl;
   marked = refl;
-  cplusplus = refl;
-  alias = refl;
-  by_ordinal = refl;
-  variable = refl;
   variable_never_marked = refl;
-  constant = refl;
   marked_variable = refl;
   marked_constant = refl;
   marked_cplusplus_constant = refl;
@@ -46,21 +33,6 @@ worked_symbols = record {
 pub worked_readings : WorkedReadings
 unfolding read bytes_of_digits u16_bytes u32_bytes u16_at u32_at
 worked_readings = record {
-  function = refl;
-  marked = refl;
-  cplusplus = refl;
-  marked_cplusplus = refl;
-  alias = refl;
-  exported_as = refl;
-  hinted = refl;
-  by_ordinal = refl;
-  variable = refl;
-  variable_alias = refl;
-  variable_by_ordinal = refl;
-  variable_never_marked = refl;
-  constant = refl;
-  constant_by_ordinal = refl;
-  constant_alias = refl;
   of_arm64 = refl;
   third_by_name = refl;
   no_third = refl;

@@ -2,14 +2,14 @@
 use Rattle.std.specs.Prelude.{◌≡◌, ℕ, List, [], ◌∷◌, ◌++◌, None, Some, codes, drop, take}
 use Rattle.implib.specs.Members.MemberSpec.{MemberView}
 use Rattle.implib.specs.Worked.Digits.{hex}
-use Rattle.implib_archive.specs.Leads.{header_for, second_header_for}
-use Rattle.implib_archive.specs.Reader.{member_at, members_in}
+use Rattle.implib_archive.specs.Leads.{header_for}
+use Rattle.implib_archive.specs.Reader.{members_in}
 use Rattle.implib_archive.specs.Worked.{member}
 use Rattle.implib_archive.specs.declared.error.Fault.TheVariants.{EmptyName, NulInSymbol}
 use Rattle.implib_archive.specs.declared.kind.Kind.TheVariants.{Coff}
 use Rattle.implib_arm64ec.specs.Archive.{ec_archive, ec_entries, ec_index, library_refusal}
 use Rattle.implib_arm64ec.specs.ArchiveLaws.{IndexesLead, IsReadBack}
-use Rattle.implib_arm64ec.specs.ArchiveReader.{ec_header_for, ec_headers_in, ec_symbols_in}
+use Rattle.implib_arm64ec.specs.ArchiveReader.{ec_header_for}
 use Rattle.implib_arm64ec.specs.Library.{LibraryView}
 
 -- The file of `-m arm64ec -d DEF -N NATIVE`, DEF with `f` and `d DATA`, NATIVE with `f`, `g` and `h
@@ -95,23 +95,13 @@ descriptor_text = codes "__IMPORT_DESCRIPTOR_t" ++ 0 ∷ (codes "__NULL_IMPORT_D
 abbrev pub thunk_text : List ℕ
 thunk_text = (127 ∷ codes "t_NULL_THUNK_DATA") ++ 0 ∷ []
 
--- The EC index of a function alone, and of no import, and the whole archive. The archive of no
--- members at all has its indexes, too.
+-- The EC index of a function alone, and the whole archive.
 pub record WorkedArchives : Type 0 where
   pub whole : ec_archive worked_library ≡ worked_archive
   pub function : ec_index (ec_entries function_library)
       ≡ hex "07 00 00 00 04 00 01 00 02 00 04 00 04 00 04 00 03 00"
       ++ (codes "#f" ++ 0 ∷ (descriptor_text
       ++ (codes "__imp_aux_f" ++ 0 ∷ (codes "__imp_f" ++ 0 ∷ (codes "f" ++ 0 ∷ thunk_text)))))
-  pub no_import : ec_index (ec_entries (record function_library { imports = [] }))
-      ≡ hex "03 00 00 00 01 00 02 00 03 00" ++ (descriptor_text ++ thunk_text)
-  pub no_member : ec_archive (record { headers = []; imports = []; natives = [] })
-      ≡ codes "!<arch>\n/               0           0     0     0       4         `\n"
-      ++ (hex "00 00 00 00"
-      ++ (codes "/               0           0     0     0       8         `\n"
-      ++ (hex "00 00 00 00 00 00 00 00"
-      ++ (codes "/<ECSYMBOLS>/   0           0     0     0       4         `\n"
-      ++ hex "00 00 00 00"))))
   -- two bytes and their NULs after 6 bytes, and a zero byte more that the size counts
   pub odd : ec_archive (library_of (codes "a") (codes "bc"))
       ≡ codes "!<arch>\n/               0           0     0     0       4         `\n"
@@ -123,31 +113,16 @@ pub record WorkedArchives : Type 0 where
       ++ codes "a/              0           0     0     644     0         `\n")))))
 
 -- The archive is read back, with its indexes. `f` is an import for ARM64EC and a native one for
--- ARM64, each found by its own index; `#f` is ARM64EC's alone, and `g` ARM64's. A reader without
--- the EC index finds no members. With imports and native members in the other order it is no
+-- ARM64, each found by its own index; `#f` is ARM64EC's alone. A reader without the EC index finds
+-- no members. With imports and native members in the other order it is no
 -- archive of the library.
 pub record WorkedArchiveReadings : Type 0 where
   pub read : IsReadBack worked_library worked_archive
   pub leads : IndexesLead worked_library worked_archive
-  pub headers : ec_headers_in worked_archive ≡ Some (588 ∷ 1000 ∷ 1188 ∷ 1406 ∷ 1498 ∷ 1586 ∷ 1674 ∷ 1762 ∷ [])
-  pub ec_symbols : ec_symbols_in worked_archive
-      ≡ Some ((codes "#f", 4) ∷ (codes "__IMPORT_DESCRIPTOR_t", 1)
-      ∷ (codes "__NULL_IMPORT_DESCRIPTOR", 2) ∷ (codes "__imp_aux_f", 4)
-      ∷ (codes "__imp_d", 5) ∷ (codes "__imp_f", 4) ∷ (codes "f", 4)
-      ∷ (127 ∷ codes "t_NULL_THUNK_DATA", 3) ∷ [])
   pub ec_f : ec_header_for worked_archive (codes "f") ≡ Some 1406
   pub ec_marked : ec_header_for worked_archive (codes "#f") ≡ Some 1406
-  pub ec_variable : ec_header_for worked_archive (codes "__imp_d") ≡ Some 1498
-  pub ec_native : ec_header_for worked_archive (codes "g") ≡ None
   pub f : header_for worked_archive (codes "f") ≡ Some 1586
   pub marked : header_for worked_archive (codes "#f") ≡ None
-  pub variable : header_for worked_archive (codes "__imp_d") ≡ None
-  pub native : header_for worked_archive (codes "g") ≡ Some 1674
-  pub second_f : second_header_for worked_archive (codes "f") ≡ Some 1586
-  pub member : member_at Coff worked_archive 1498 ≡ Some (record {
-    name = codes "t.dll";
-    bytes = hex "00 00 ff ff 00 00 41 a6 00 00 00 00 08 00 00 00 00 00 05 00" ++ (codes "d" ++ 0 ∷ (codes "t.dll" ++ 0 ∷ []));
-  })
   pub other_reader : members_in Coff worked_archive ≡ None
   pub other_order : IsReadBack
       (record worked_library { imports = worked_library.natives; natives = worked_library.imports })

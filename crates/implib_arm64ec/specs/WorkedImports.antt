@@ -1,13 +1,12 @@
 -- Short imports worked out apart from the program: their bytes, and their symbols in the order of
 -- the member's, as llvm-dlltool 19 writes them; and what is read of them.
-use Rattle.std.specs.Prelude.{◌≡◌, ℕ, true, [], ◌∷◌, ◌++◌, List, Option, Some, None, Result, Ok}
+use Rattle.std.specs.Prelude.{◌≡◌, ℕ, true, [], ◌∷◌, ◌++◌, List, Some, None, Result, Ok}
 use Rattle.std.specs.Prelude.{Err, codes}
 use Rattle.implib.specs.Definition.{ExportView, empty_export}
-use Rattle.implib.specs.Import.{Name, Ordinal}
 use Rattle.implib.specs.LibraryName.{NamesOfDll}
 use Rattle.implib.specs.Members.MemberSpec.{MemberSpec, file_bytes}
 use Rattle.implib.specs.Worked.Digits.{hex}
-use Rattle.implib_arm64ec.specs.Reader.{ReadImport, import_in}
+use Rattle.implib_arm64ec.specs.Reader.{import_in}
 use Rattle.implib_arm64ec.specs.ShortImports.{spec_of}
 
 -- what a member that is made has of something
@@ -25,38 +24,17 @@ bytes_made e = of_made (λ spec. file_bytes spec.contents) (spec_of t_dll e)
 abbrev pub symbols_made : ExportView → Result (List (List ℕ)) ℕ
 symbols_made e = of_made (λ spec. spec.symbols) (spec_of t_dll e)
 
--- what is read of the bytes
-abbrev pub read_made : Result (List ℕ) ℕ → Option ReadImport
-read_made (Ok bytes) = import_in bytes
-read_made (Err place) = None
-
-abbrev pub read_back : ExportView → Option ReadImport
-read_back e = read_made (bytes_made e)
-
 -- the bytes of the short imports of t.dll
 pub record WorkedImports : Type 0 where
-  -- `f`
-  pub function : bytes_made (record empty_export { name = codes "f" })
-      ≡ Ok (hex "00 00 ff ff 00 00 41 a6 00 00 00 00 0b 00 00 00 00 00 10 00"
-      ++ (codes "#f" ++ 0 ∷ (codes "t.dll" ++ 0 ∷ (codes "f" ++ 0 ∷ []))))
   -- `#mang`
   pub marked : bytes_made (record empty_export { name = codes "#mang" })
       ≡ Ok (hex "00 00 ff ff 00 00 41 a6 00 00 00 00 11 00 00 00 00 00 10 00"
       ++ (codes "#mang" ++ 0 ∷ (codes "t.dll" ++ 0 ∷ (codes "mang" ++ 0 ∷ []))))
-  -- `?cpp@@YAHPEAX@Z`
-  pub cplusplus : bytes_made (record empty_export { name = codes "?cpp@@YAHPEAX@Z" })
-      ≡ Ok (hex "00 00 ff ff 00 00 41 a6 00 00 00 00 29 00 00 00 00 00 10 00"
-      ++ (codes "?cpp@@$$hYAHPEAX@Z" ++ 0
-      ∷ (codes "t.dll" ++ 0 ∷ (codes "?cpp@@YAHPEAX@Z" ++ 0 ∷ []))))
   -- `?cpph@@$$hYAHPEAX@Z`
   pub marked_cplusplus : bytes_made (record empty_export { name = codes "?cpph@@$$hYAHPEAX@Z" })
       ≡ Ok (hex "00 00 ff ff 00 00 41 a6 00 00 00 00 2b 00 00 00 00 00 10 00"
       ++ (codes "?cpph@@$$hYAHPEAX@Z" ++ 0
       ∷ (codes "t.dll" ++ 0 ∷ (codes "?cpph@@YAHPEAX@Z" ++ 0 ∷ []))))
-  -- `a == b`
-  pub alias : bytes_made (record empty_export { name = codes "a"; alias_target = codes "b" })
-      ≡ Ok (hex "00 00 ff ff 00 00 41 a6 00 00 00 00 0b 00 00 00 00 00 10 00"
-      ++ (codes "#a" ++ 0 ∷ (codes "t.dll" ++ 0 ∷ (codes "b" ++ 0 ∷ []))))
   -- `a EXPORTAS b`
   pub exported_as : bytes_made
       (record empty_export { name = codes "a"; asked_name = Some (codes "b") })
@@ -66,15 +44,6 @@ pub record WorkedImports : Type 0 where
   pub hinted : bytes_made (record empty_export { name = codes "f"; ordinal = 7 })
       ≡ Ok (hex "00 00 ff ff 00 00 41 a6 00 00 00 00 0b 00 00 00 07 00 10 00"
       ++ (codes "#f" ++ 0 ∷ (codes "t.dll" ++ 0 ∷ (codes "f" ++ 0 ∷ []))))
-  -- `n @3 NONAME`
-  pub by_ordinal : bytes_made
-      (record empty_export { name = codes "n"; ordinal = 3; no_name = true })
-      ≡ Ok (hex "00 00 ff ff 00 00 41 a6 00 00 00 00 09 00 00 00 03 00 00 00"
-      ++ (codes "#n" ++ 0 ∷ (codes "t.dll" ++ 0 ∷ [])))
-  -- `d DATA`
-  pub variable : bytes_made (record empty_export { name = codes "d"; is_data = true })
-      ≡ Ok (hex "00 00 ff ff 00 00 41 a6 00 00 00 00 08 00 00 00 00 00 05 00"
-      ++ (codes "d" ++ 0 ∷ (codes "t.dll" ++ 0 ∷ [])))
   -- `d == e DATA`
   pub variable_alias : bytes_made
       (record empty_export { name = codes "d"; alias_target = codes "e"; is_data = true })
@@ -90,10 +59,6 @@ pub record WorkedImports : Type 0 where
       (record empty_export { name = codes "?v@@3HA"; is_data = true })
       ≡ Ok (hex "00 00 ff ff 00 00 41 a6 00 00 00 00 0e 00 00 00 00 00 05 00"
       ++ (codes "?v@@3HA" ++ 0 ∷ (codes "t.dll" ++ 0 ∷ [])))
-  -- `c CONSTANT`
-  pub constant : bytes_made (record empty_export { name = codes "c"; constant = true })
-      ≡ Ok (hex "00 00 ff ff 00 00 41 a6 00 00 00 00 08 00 00 00 00 00 06 00"
-      ++ (codes "c" ++ 0 ∷ (codes "t.dll" ++ 0 ∷ [])))
   -- `c @3 NONAME CONSTANT`
   pub constant_by_ordinal : bytes_made
       (record empty_export { name = codes "c"; ordinal = 3; no_name = true; constant = true })
@@ -104,30 +69,14 @@ pub record WorkedImports : Type 0 where
       (record empty_export { name = codes "c"; alias_target = codes "g"; constant = true })
       ≡ Ok (hex "00 00 ff ff 00 00 41 a6 00 00 00 00 0a 00 00 00 00 00 12 00"
       ++ (codes "c" ++ 0 ∷ (codes "t.dll" ++ 0 ∷ (codes "g" ++ 0 ∷ []))))
-  -- a name without a reading
-  pub refused : bytes_made (record empty_export { name = codes "?bad" }) ≡ Err 4
 
 -- their symbols
 pub record WorkedSymbols : Type 0 where
-  pub function : symbols_made (record empty_export { name = codes "f" })
-      ≡ Ok (codes "__imp_f" ∷ codes "f" ∷ codes "__imp_aux_f" ∷ codes "#f" ∷ [])
   pub marked : symbols_made (record empty_export { name = codes "#mang" })
       ≡ Ok (codes "__imp_mang" ∷ codes "mang" ∷ codes "__imp_aux_mang" ∷ codes "#mang" ∷ [])
-  pub cplusplus : symbols_made (record empty_export { name = codes "?cpp@@YAHPEAX@Z" })
-      ≡ Ok (codes "__imp_?cpp@@YAHPEAX@Z" ∷ codes "?cpp@@YAHPEAX@Z"
-      ∷ codes "__imp_aux_?cpp@@YAHPEAX@Z" ∷ codes "?cpp@@$$hYAHPEAX@Z" ∷ [])
-  pub alias : symbols_made (record empty_export { name = codes "a"; alias_target = codes "b" })
-      ≡ Ok (codes "__imp_a" ∷ codes "a" ∷ codes "__imp_aux_a" ∷ codes "#a" ∷ [])
-  pub by_ordinal : symbols_made
-      (record empty_export { name = codes "n"; ordinal = 3; no_name = true })
-      ≡ Ok (codes "__imp_n" ∷ codes "n" ∷ codes "__imp_aux_n" ∷ codes "#n" ∷ [])
-  pub variable : symbols_made (record empty_export { name = codes "d"; is_data = true })
-      ≡ Ok (codes "__imp_d" ∷ [])
   pub variable_never_marked : symbols_made
       (record empty_export { name = codes "?v@@3HA"; is_data = true })
       ≡ Ok (codes "__imp_?v@@3HA" ∷ [])
-  pub constant : symbols_made (record empty_export { name = codes "c"; constant = true })
-      ≡ Ok (codes "__imp_c" ∷ codes "c" ∷ codes "__imp_aux_c" ∷ [])
   -- a mark that the definition writes, where none is made: it is off in the names
   pub marked_variable : symbols_made (record empty_export { name = codes "#d"; is_data = true })
       ≡ Ok (codes "__imp_d" ∷ [])
@@ -139,104 +88,8 @@ pub record WorkedSymbols : Type 0 where
       ∷ codes "__imp_aux_?cpq@@YAHPEAX@Z"
       ∷ codes "?cpq@@$$hYAHPEAX@Z" ∷ [])
 
--- what is read of them, and bytes that are none: of another machine, and with a text too many
+-- bytes that are none: of another machine, and with a text too many or too few
 pub record WorkedReadings : Type 0 where
-  pub function : read_back (record empty_export { name = codes "f" })
-      ≡ Some (record {
-        symbol = codes "#f";
-        dll = codes "t.dll";
-        import_type = 0;
-        ask = Name (codes "f") 0;
-      })
-  pub marked : read_back (record empty_export { name = codes "#mang" })
-      ≡ Some (record {
-        symbol = codes "#mang";
-        dll = codes "t.dll";
-        import_type = 0;
-        ask = Name (codes "mang") 0;
-      })
-  pub cplusplus : read_back (record empty_export { name = codes "?cpp@@YAHPEAX@Z" })
-      ≡ Some (record {
-        symbol = codes "?cpp@@$$hYAHPEAX@Z";
-        dll = codes "t.dll";
-        import_type = 0;
-        ask = Name (codes "?cpp@@YAHPEAX@Z") 0;
-      })
-  pub marked_cplusplus : read_back (record empty_export { name = codes "?cpph@@$$hYAHPEAX@Z" })
-      ≡ Some (record {
-        symbol = codes "?cpph@@$$hYAHPEAX@Z";
-        dll = codes "t.dll";
-        import_type = 0;
-        ask = Name (codes "?cpph@@YAHPEAX@Z") 0;
-      })
-  pub alias : read_back (record empty_export { name = codes "a"; alias_target = codes "b" })
-      ≡ Some (record {
-        symbol = codes "#a";
-        dll = codes "t.dll";
-        import_type = 0;
-        ask = Name (codes "b") 0;
-      })
-  pub exported_as : read_back
-      (record empty_export { name = codes "a"; asked_name = Some (codes "b") })
-      ≡ Some (record {
-        symbol = codes "#a";
-        dll = codes "t.dll";
-        import_type = 0;
-        ask = Name (codes "b") 0;
-      })
-  pub hinted : read_back (record empty_export { name = codes "f"; ordinal = 7 })
-      ≡ Some (record {
-        symbol = codes "#f";
-        dll = codes "t.dll";
-        import_type = 0;
-        ask = Name (codes "f") 7;
-      })
-  pub by_ordinal : read_back (record empty_export { name = codes "n"; ordinal = 3; no_name = true })
-      ≡ Some (record { symbol = codes "#n"; dll = codes "t.dll"; import_type = 0; ask = Ordinal 3 })
-  pub variable : read_back (record empty_export { name = codes "d"; is_data = true })
-      ≡ Some (record {
-        symbol = codes "d";
-        dll = codes "t.dll";
-        import_type = 1;
-        ask = Name (codes "d") 0;
-      })
-  pub variable_alias : read_back
-      (record empty_export { name = codes "d"; alias_target = codes "e"; is_data = true })
-      ≡ Some (record {
-        symbol = codes "d";
-        dll = codes "t.dll";
-        import_type = 1;
-        ask = Name (codes "e") 0;
-      })
-  pub variable_by_ordinal : read_back
-      (record empty_export { name = codes "d"; ordinal = 3; no_name = true; is_data = true })
-      ≡ Some (record { symbol = codes "d"; dll = codes "t.dll"; import_type = 1; ask = Ordinal 3 })
-  pub variable_never_marked : read_back
-      (record empty_export { name = codes "?v@@3HA"; is_data = true })
-      ≡ Some (record {
-        symbol = codes "?v@@3HA";
-        dll = codes "t.dll";
-        import_type = 1;
-        ask = Name (codes "?v@@3HA") 0;
-      })
-  pub constant : read_back (record empty_export { name = codes "c"; constant = true })
-      ≡ Some (record {
-        symbol = codes "c";
-        dll = codes "t.dll";
-        import_type = 2;
-        ask = Name (codes "c") 0;
-      })
-  pub constant_by_ordinal : read_back
-      (record empty_export { name = codes "c"; ordinal = 3; no_name = true; constant = true })
-      ≡ Some (record { symbol = codes "c"; dll = codes "t.dll"; import_type = 2; ask = Ordinal 3 })
-  pub constant_alias : read_back
-      (record empty_export { name = codes "c"; alias_target = codes "g"; constant = true })
-      ≡ Some (record {
-        symbol = codes "c";
-        dll = codes "t.dll";
-        import_type = 2;
-        ask = Name (codes "g") 0;
-      })
   pub of_arm64 : import_in (hex "00 00 ff ff 00 00 64 aa 00 00 00 00 08 00 00 00 00 00 04 00" ++ (codes "f" ++ 0 ∷ (codes "t.dll" ++ 0 ∷ [])))
       ≡ None
   pub third_by_name : import_in (hex "00 00 ff ff 00 00 41 a6 00 00 00 00 0a 00 00 00 00 00 04 00"

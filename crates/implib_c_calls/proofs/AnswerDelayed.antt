@@ -5,11 +5,11 @@ use Rattle.implib.specs.declared.flavor.Flavor.TheVariants.{Msvc, Gnu}
 use Rattle.implib_archive.specs.declared.kind.Kind.TheVariants as kind
 use Rattle.implib_archive.specs.Archive.{archive_of}
 use Rattle.implib_archive.specs.Refusal.{refusal_of}
-use Rattle.implib_delay_library.specs.declared.library.DelayRefusal.{DelayRefusal}
-use Rattle.implib_delay_library.specs.declared.library.DelayRefusal.TheVariants.{Refused as RefusedBefore, Undelayed as CannotDelay}
-use Rattle.implib_delay_library.specs.declared.library.Undelayed.TheVariants as undelayed
-use Rattle.implib_delay_library.specs.Libraries.{DelayedMembersFor, IsDelayedLibrary, IsRefusalOfDelayed, IsRefusalOfDelayedMembers}
-use Rattle.implib_delay_library.proofs.Refusals.{no_archive}
+use Rattle.implib_libraries.specs.declared.delayed.DelayRefusal.{DelayRefusal}
+use Rattle.implib_libraries.specs.declared.delayed.DelayRefusal.TheVariants.{Refused as RefusedBefore, Undelayed as CannotDelay}
+use Rattle.implib_libraries.specs.declared.delayed.Undelayed.TheVariants as undelayed
+use Rattle.implib_libraries.specs.Delayed.{DelayedMembersFor, IsDelayedLibrary, IsRefusalOfDelayed, IsRefusalOfDelayedMembers}
+use Rattle.implib_libraries.proofs.Refusals.{no_archive}
 use Rattle.implib_rules.specs.declared.library.Refusal.TheVariants as refusal
 use Rattle.implib_rules.specs.Library.{definition_text}
 use Rattle.implib_rules.specs.Options.{LibraryOptionsView}

@@ -4,51 +4,22 @@ use Rattle.implib.specs.Worked.Digits.{bytes_of_digits}
 use Rattle.implib_c_calls.specs.Check.{encoded_told, told_in}
 use Rattle.implib_c_calls.specs.Encoding.{bytes_in, encoded_number, items_in, list_in, number_in, text_in}
 use Rattle.implib_c_calls.specs.Imports.{encoded_row, encoded_rows, row_in, rows_in}
-use Rattle.implib_c_calls.specs.WorkedCheck.{WorkedChecks, WorkedFlagged, WorkedNumbers, WorkedTold, WorkedToldBytes, two_apart_bytes}
+use Rattle.implib_c_calls.specs.WorkedCheck.{WorkedChecks, WorkedTold, WorkedToldBytes, two_apart_bytes}
 use Rattle.implib_c_calls.specs.WorkedImports.{bar_row_bytes, old_row_bytes}
 
 told : WorkedTold
 told = record {
-  itself = refl;
   nothing = refl;
   beside_nothing = refl;
-  alias_missing = refl;
-  by_ordinal = refl;
-  twice = refl;
-  hint = refl;
   not_understood = refl;
-  other = refl;
-}
-
-flags : WorkedFlagged
-flags = record {
-  first = refl;
-  second = refl;
-  both = refl;
-  few_flags = refl;
-  few_rows = refl;
-}
-
-numbers : WorkedNumbers
-numbers = record {
-  same = refl;
-  different = refl;
-  not_decided = refl;
-  works = refl;
-  broken = refl;
-  works_not_decided = refl;
 }
 
 bytes : WorkedToldBytes
 unfolding bar_row_bytes bytes_in bytes_of_digits encoded_number encoded_row encoded_rows encoded_told items_in list_in number_in old_row_bytes row_in rows_in text_in told_in two_apart_bytes
 bytes = record {
-  same = refl;
   apart = refl;
-  apart_length = refl;
-  apart_read = refl;
-  apart_read_before_others = refl;
   second_list_missing = refl;
 }
 
 pub worked_checks : WorkedChecks
-worked_checks = record { told = told; flags = flags; numbers = numbers; bytes = bytes }
+worked_checks = record { told = told; works_not_decided = refl; bytes = bytes }

@@ -8,11 +8,7 @@ use Rattle.implib_c_calls.specs.WorkedDefinition.{WorkedDefinitions, export_byte
 pub worked_definitions : WorkedDefinitions
 unfolding bytes_of_digits bytes_in definition_in encoded_definition encoded_export encoded_number export_bytes export_in items_in list_in number_in optional_in text_in two_exports two_exports_bytes
 worked_definitions = record {
-  empty = refl;
   two = refl;
-  two_length = refl;
-  two_read = refl;
-  two_read_before_others = refl;
   seven_bytes = refl;
   third_text = refl;
   fifth_attribute = refl;

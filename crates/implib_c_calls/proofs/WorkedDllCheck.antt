@@ -12,24 +12,12 @@ unfolding order_at searched missing_from
 told = record {
   told = refl;
   renamed = refl;
-  none = refl;
-  reached = refl;
-  searched = refl;
-  other_dll = refl;
-  other_machine = refl;
-  not_found = refl;
-  data_as_function = refl;
-  own_name = refl;
-  given_name = refl;
 }
 
 bytes : WorkedDllToldBytes
 unfolding bytes_of_digits dll_told_in encoded_dll_told encoded_number items_in list_in number_in small_told_bytes
 bytes = record {
   small = refl;
-  small_length = refl;
-  small_read = refl;
-  small_read_before_others = refl;
   none_read = refl;
 }
 

@@ -12,11 +12,7 @@ use Rattle.implib_c_calls.specs.WorkedImports.{WorkedImports, WorkedRowBytes, Wo
 rows : WorkedRows
 unfolding archive_in library_in members_read parts_from parts_in
 rows = record {
-  llvm = ap (option_map (map row_of)) worked_libraries.llvm;
   ld = ap (option_map (map row_of)) worked_libraries.ld;
-  no_members = refl;
-  thin = refl;
-  no_bytes = refl;
   an_alias = refl;
   delayed = refl;
   other = refl;
@@ -26,14 +22,7 @@ rows = record {
 bytes : WorkedRowBytes
 unfolding bar_row_bytes bytes_in bytes_of_digits encoded_number encoded_row encoded_rows items_in list_in number_in old_row_bytes row_in rows_in text_in two_rows_bytes
 bytes = record {
-  none = refl;
-  bar = refl;
-  bar_length = refl;
-  old = refl;
-  old_length = refl;
   two = refl;
-  two_read = refl;
-  two_read_before_others = refl;
   row_missing = refl;
 }
 

@@ -6,22 +6,15 @@ use Rattle.implib_c_calls.specs.WorkedPlace.{WorkedPlaces}
 pub worked_places : WorkedPlaces
 unfolding bytes_of_digits
 worked_places = record {
-  beginning = refl;
   line_feed = refl;
   second_line = refl;
   end = refl;
   behind_the_end = refl;
-  no_text = refl;
-  bad_byte = refl;
-  behind_a_bad_byte = refl;
   in_a_comment = refl;
-  after_a_comment = refl;
-  after_a_mark = refl;
   in_a_mark = refl;
   lines_after_a_mark = refl;
   marked = refl;
   mark_alone = refl;
   half_a_mark = refl;
   unmarked = refl;
-  within_a_letter = refl;
 }

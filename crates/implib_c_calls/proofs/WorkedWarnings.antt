@@ -1,18 +1,13 @@
 -- The worked warnings, by computing.
 use Rattle.std.proofs.Common.{refl}
 use Rattle.implib.specs.Worked.Digits.{bytes_of_digits}
-use Rattle.implib_c_calls.specs.Encoding.{bytes_in, encoded_number, items_in, list_in, number_in, text_in}
-use Rattle.implib_c_calls.specs.Warnings.{encoded_said, encoded_warnings, said_in, warnings_in}
-use Rattle.implib_c_calls.specs.WorkedWarnings.{WorkedWarnings, two_warnings, two_warnings_bytes}
+use Rattle.implib_c_calls.specs.Encoding.{bytes_in, items_in, list_in, number_in, text_in}
+use Rattle.implib_c_calls.specs.Warnings.{said_in, warnings_in}
+use Rattle.implib_c_calls.specs.WorkedWarnings.{WorkedWarnings}
 
 pub worked_warnings : WorkedWarnings
-unfolding bytes_of_digits bytes_in encoded_number encoded_said encoded_warnings items_in list_in number_in said_in text_in two_warnings two_warnings_bytes warnings_in
+unfolding bytes_of_digits bytes_in items_in list_in number_in said_in text_in warnings_in
 worked_warnings = record {
-  none = refl;
-  two = refl;
-  two_length = refl;
-  two_read = refl;
-  two_read_before_others = refl;
   warning_missing = refl;
   behind_mark = refl;
   no_export = refl;

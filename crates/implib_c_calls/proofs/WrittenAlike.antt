@@ -1,50 +1,19 @@
 -- What a call with options puts is what the program writes.
-use Rattle.std.proofs.Common.{◌≡◌, ℕ, List, ◌++◌, drop, length, map, take, sym, ◌∙◌, subst, arith, ap}
+use Rattle.std.proofs.Common.{◌≡◌, ℕ, List, ◌++◌, drop, length, take, sym, ◌∙◌, subst, arith, ap}
 use Rattle.std.proofs.lemmas.List.{take_at}
 use Rattle.std.proofs.lemmas.Option.{same_Some}
-use Rattle.implib.specs.declared.machine.MachineType.TheVariants.{AMD64}
-use Rattle.implib.specs.Definition.{DefinitionView}
 use Rattle.implib.specs.Fault.{Cause, cause_of}
 use Rattle.implib.specs.Fault as cause
-use Rattle.implib.specs.Members.MemberSpec.{MemberView, member_of}
-use Rattle.implib.specs.Renaming.{renamed}
-use Rattle.std.specs.Str.{IsUtf8}
-use Rattle.implib.proofs.Text.HeardNames.{heard_once}
-use Rattle.implib.proofs.Text.OneReading.{one_definition}
 use Rattle.implib_archive.specs.declared.error.Fault.{Fault as ArchiveFault}
 use Rattle.implib_archive.specs.declared.error.Fault.TheVariants as archive
-use Rattle.implib_archive.specs.Archive.{archive_of}
 use Rattle.implib_rules.specs.declared.library.Refusal.{Refusal}
 use Rattle.implib_rules.specs.declared.library.Refusal.TheVariants as refusal
-use Rattle.implib_rules.specs.Library.{DefinitionFor, IsLibrary, MembersFor, definition_for, kind_of, definition_text}
-use Rattle.implib_rules.specs.Names.{is_program, own_name}
+use Rattle.implib_rules.specs.Library.{IsLibrary}
 use Rattle.implib_rules.specs.Options.{LibraryOptionsView}
-use Rattle.implib_rules.specs.ExportAs.{specs_made}
+use Rattle.implib_rules.proofs.OneDefinition.{one_library}
 use Rattle.implib_c_calls.specs.LibraryWith.{AreOptions, EndingWith, EndsWith, GivenOptions, Made, NoOptions, Refused, TooLong, OptionFault, DllNotUtf8, UnknownFlags, UnknownFlavor, UnknownMachine, buffer_with, length_with, option_status, refusal_status, status_with}
 use Rattle.implib_c_calls.specs.Status.{archive_status, cause_status, status_number}
-use Rattle.implib_c_calls.specs.WrittenAlike.{OneLibrary, PutsWhatIsWritten}
-
--- a text means one definition for options
-one_for : (text : List ℕ) (options : LibraryOptionsView) (definition other : DefinitionView) → IsUtf8 text → DefinitionFor text options definition → DefinitionFor text options other → definition ≡ other
-one_for text options definition other utf8 first second =
-    first.is
-    ∙ ap (λ d. definition_for options d (own_name first.heard) (is_program first.heard)) (one_definition text utf8 AMD64 first.parsed second.parsed first.parses second.parses)
-    ∙ ap (λ h. definition_for options second.parsed (own_name h) (is_program h)) (heard_once text first.heard second.heard utf8 first.is_heard second.is_heard)
-    ∙ sym second.is
-
--- and has one list of members
-one_members : (text : List ℕ) (options : LibraryOptionsView) (members others : List MemberView) → MembersFor text options members → MembersFor text options others → members ≡ others
-one_members text options members others first second =
-    first.made_for.is
-    ∙ ap (λ d. map member_of (specs_made options.naming options.machine options.flavor (renamed d)))
-    (one_for (definition_text text) options first.definition second.definition first.utf8 first.of_text second.of_text)
-    ∙ sym second.made_for.is
-
-pub one_library : (text : List ℕ) (options : LibraryOptionsView) → OneLibrary text options
-one_library text options file other first second =
-    first.is
-    ∙ ap (λ members. archive_of (kind_of options.flavor members) members) (one_members text options first.members second.members first.members_for second.members_for)
-    ∙ sym second.is
+use Rattle.implib_c_calls.specs.WrittenAlike.{PutsWhatIsWritten}
 
 -- what is given is one record of options
 options_once : (given : GivenOptions) (options other : LibraryOptionsView) → AreOptions given options → AreOptions given other → options ≡ other

@@ -1,16 +1,16 @@
 -- What `implib_library_with` answers where delayed imports are asked for: the library of them that
 -- the program `implib_dlltool` makes of the text under these options, by `-y`
--- (`implib_delay_library`).
+-- (`implib_libraries`).
 use Rattle.std.specs.Prelude.{◌≡◌, ℕ, ◌+◌, ◌<◌, ◌≤◌, List, ◌++◌, length, drop, Option, None, Some}
 use Rattle.implib.specs.declared.def.position.Position.{Position}
 use Rattle.implib.specs.declared.flavor.Flavor.TheVariants.{Msvc, Gnu}
-use Rattle.implib_delay_library.specs.declared.library.DelayRefusal.{DelayRefusal}
-use Rattle.implib_delay_library.specs.declared.library.DelayRefusal.TheVariants.{Refused as RefusedBefore}
-use Rattle.implib_delay_library.specs.declared.library.DelayRefusal.TheVariants.{Undelayed as CannotDelay}
-use Rattle.implib_delay_library.specs.declared.library.Undelayed.{Undelayed}
-use Rattle.implib_delay_library.specs.declared.library.Undelayed.TheVariants as undelayed
-use Rattle.implib_delay_library.specs.Libraries.{IsDelayedLibrary, IsRefusalOfDelayed}
-use Rattle.implib_delay_library.specs.Libraries.{position_of_undelayed}
+use Rattle.implib_libraries.specs.declared.delayed.DelayRefusal.{DelayRefusal}
+use Rattle.implib_libraries.specs.declared.delayed.DelayRefusal.TheVariants.{Refused as RefusedBefore}
+use Rattle.implib_libraries.specs.declared.delayed.DelayRefusal.TheVariants.{Undelayed as CannotDelay}
+use Rattle.implib_libraries.specs.declared.delayed.Undelayed.{Undelayed}
+use Rattle.implib_libraries.specs.declared.delayed.Undelayed.TheVariants as undelayed
+use Rattle.implib_libraries.specs.Delayed.{IsDelayedLibrary, IsRefusalOfDelayed}
+use Rattle.implib_libraries.specs.Delayed.{position_of_undelayed}
 use Rattle.implib_c_calls.specs.declared.outcome.NoDelay.{NoDelay}
 use Rattle.implib_c_calls.specs.declared.outcome.NoDelay.TheVariants.{Alias, Data, Flavor, Machine}
 use Rattle.implib_c_calls.specs.declared.status.Status.{Status}

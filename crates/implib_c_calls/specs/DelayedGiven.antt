@@ -1,11 +1,11 @@
 -- Views: what the functions below `implib_delayed_library` give each other. No promise cites them.
 use Rattle.std.specs.Prelude.{◌≡◌, ℕ, ◌<◌, ◌≤◌, List, length, IfSome}
-use Rattle.implib_delay_library.specs.declared.library.DelayRefusal.{DelayRefusal}
-use Rattle.implib_delay_library.specs.declared.library.DelayRefusal.TheVariants.{Refused as RefusedBefore}
-use Rattle.implib_delay_library.specs.declared.library.DelayRefusal.TheVariants.{Undelayed as CannotDelay}
-use Rattle.implib_delay_library.specs.declared.library.Undelayed.{Undelayed}
-use Rattle.implib_delay_library.specs.Libraries.{IsDelayedLibrary, IsRefusalOfDelayed}
-use Rattle.implib_delay_library.specs.Libraries.{position_of_undelayed}
+use Rattle.implib_libraries.specs.declared.delayed.DelayRefusal.{DelayRefusal}
+use Rattle.implib_libraries.specs.declared.delayed.DelayRefusal.TheVariants.{Refused as RefusedBefore}
+use Rattle.implib_libraries.specs.declared.delayed.DelayRefusal.TheVariants.{Undelayed as CannotDelay}
+use Rattle.implib_libraries.specs.declared.delayed.Undelayed.{Undelayed}
+use Rattle.implib_libraries.specs.Delayed.{IsDelayedLibrary, IsRefusalOfDelayed}
+use Rattle.implib_libraries.specs.Delayed.{position_of_undelayed}
 use Rattle.implib_rules.specs.Library.{definition_text}
 use Rattle.implib_rules.specs.Options.{LibraryOptionsView}
 use Rattle.implib_c_calls.specs.declared.status.Status.{Status}

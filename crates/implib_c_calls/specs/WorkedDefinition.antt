@@ -1,9 +1,8 @@
 -- Encodings of definitions worked by hand, and buffers that are read.
-use Rattle.std.specs.Prelude.{◌≡◌, ℕ, true, false, List, [], ◌∷◌, ◌++◌, None, Some, codes, length}
-use Rattle.implib.specs.Definition.{empty_definition}
+use Rattle.std.specs.Prelude.{◌≡◌, ℕ, true, false, List, [], ◌∷◌, ◌++◌, None, Some, codes}
 use Rattle.implib.specs.Worked.Digits.{hex}
 use Rattle.implib_c_calls.specs.Definition.{StatedDefinition, definition_in, encoded_definition}
-use Rattle.implib_c_calls.specs.Definition.{export_in, stated}
+use Rattle.implib_c_calls.specs.Definition.{export_in}
 
 -- a definition whose numbers differ, with an export that has each text, and one that has a name
 -- alone
@@ -76,14 +75,7 @@ export_bytes ext_name flags =
 
 -- what the encodings are, and what is read of bytes that are none
 pub record WorkedDefinitions : Type 0 where
-  pub empty : encoded_definition (stated empty_definition) ≡
-      hex "00 00 00 00 00 00 00 00 00 00 00 00 00 00 00 00 00 00 00 00 00 00 00 00 00 00 00 00 00 00 00 00 00 00 00 00"
-      ++ hex "00 00 00 00 00 00 00 00 00 00 00 00 00 00 00 00 00 00 00 00 00 00 00 00 00 00 00 00 00 00 00 00 00 00 00 00"
   pub two : encoded_definition two_exports ≡ two_exports_bytes
-  pub two_length : length two_exports_bytes ≡ 166
-  pub two_read : definition_in two_exports_bytes ≡ Some (two_exports, [])
-  pub two_read_before_others : definition_in (two_exports_bytes ++ hex "ff 00")
-      ≡ Some (two_exports, hex "ff 00")
   pub seven_bytes : definition_in (hex "00 00 00 00 00 00 00") ≡ None
   pub third_text : export_in
       (export_bytes (hex "02 00 00 00 00 00 00 00") (hex "00 00 00 00 00 00 00 00")) ≡ None

@@ -2,18 +2,13 @@
 -- and buffers that are read. The DLL is for I386, is called `w.dll` in its export directory, and
 -- exports `alpha` and `beta` at ordinal 5, a variable at 6, nothing at 7, `gamma`, a forwarder, at
 -- 8, and a function at 9.
-use Rattle.std.specs.Prelude.{◌≡◌, ℕ, List, [], ◌∷◌, ◌++◌, None, Some, codes, length}
+use Rattle.std.specs.Prelude.{◌≡◌, ℕ, List, [], ◌∷◌, ◌++◌, None, codes}
 use Rattle.implib.specs.Import.{Ask, Name, Ordinal}
 use Rattle.implib.specs.Worked.Digits.{hex}
 use Rattle.implib_dll.specs.WorkedFiles.{worked_exports}
-use Rattle.implib_dll_check.specs.declared.import.Judgement.TheVariants.{Lost, NoImport, Reached}
-use Rattle.implib_dll_check.specs.declared.import.Judgement.TheVariants.{Searched}
-use Rattle.implib_dll_check.specs.declared.import.Loss.TheVariants.{DataAsFunction, NotFound}
-use Rattle.implib_dll_check.specs.declared.import.Loss.TheVariants.{OtherDll, OtherMachine}
 use Rattle.implib_read.specs.Classes.{AnImport, Class, Descriptor, MemberRead}
 use Rattle.implib_read.specs.declared.import.ImportKind.TheVariants.{Code}
 use Rattle.implib_c_calls.specs.DllCheck.{DllTold, dll_told, dll_told_in, encoded_dll_told}
-use Rattle.implib_c_calls.specs.DllCheck.{judgement_number, names_given}
 
 -- a member
 abbrev pub member_of : Class → MemberRead
@@ -60,23 +55,10 @@ pub record WorkedDllTold : Type 0 where
   -- by another name no import is of the DLL, but one that was of no other
   pub renamed : dll_told worked_exports (codes "V") members
       ≡ record { members = 0 ∷ 3 ∷ 3 ∷ 1 ∷ 3 ∷ 3 ∷ 3 ∷ []; unasked = 0 ∷ 1 ∷ 3 ∷ [] }
-  pub none : judgement_number NoImport ≡ 0
-  pub reached : judgement_number Reached ≡ 1
-  pub searched : judgement_number Searched ≡ 2
-  pub other_dll : judgement_number (Lost OtherDll) ≡ 3
-  pub other_machine : judgement_number (Lost OtherMachine) ≡ 4
-  pub not_found : judgement_number (Lost NotFound) ≡ 5
-  pub data_as_function : judgement_number (Lost DataAsFunction) ≡ 6
-  pub own_name : names_given [] worked_exports ≡ codes "w.dll" ∷ []
-  pub given_name : names_given (codes "Zoo") worked_exports ≡ codes "zoo.dll" ∷ []
 
 -- the encodings, and what is read of bytes that are none
 pub record WorkedDllToldBytes : Type 0 where
   pub small : encoded_dll_told small_told ≡ small_told_bytes
-  pub small_length : length small_told_bytes ≡ 40
-  pub small_read : dll_told_in small_told_bytes ≡ Some (small_told, [])
-  pub small_read_before_others : dll_told_in (small_told_bytes ++ hex "ff 00")
-      ≡ Some (small_told, hex "ff 00")
   pub none_read : dll_told_in (hex "01 00 00 00 00 00 00 00 05 00 00 00 00 00 00 00") ≡ None
 
 -- all of them

@@ -1,22 +1,10 @@
 -- Encodings worked by hand, and buffers that are read.
-use Rattle.std.specs.Prelude.{◌≡◌, ℕ, List, [], ◌∷◌, ◌++◌, None, Some, codes, length}
+use Rattle.std.specs.Prelude.{◌≡◌, ℕ, List, [], ◌∷◌, ◌++◌, None, codes}
 use Rattle.implib.specs.Members.MemberSpec.{MemberView}
 use Rattle.implib.specs.Worked.Digits.{hex}
 use Rattle.implib_c_calls.specs.Encoding.{encoded_members, members_in}
 
--- a member of one symbol, with its encoding
-unfoldable pub one_member : List MemberView
-one_member = record { name = codes "a"; bytes = codes "c"; symbols = codes "b" ∷ [] } ∷ []
-
-unfoldable pub one_member_bytes : List ℕ
-one_member_bytes =
-    hex "01 00 00 00 00 00 00 00"
-    ++ (hex "01 00 00 00 00 00 00 00 61"
-    ++ (hex "01 00 00 00 00 00 00 00"
-    ++ (hex "01 00 00 00 00 00 00 00 62"
-    ++ hex "01 00 00 00 00 00 00 00 63")))
-
--- the same member, and one of two symbols without a name and a file
+-- a member of one symbol, and one of two symbols without a name and a file
 unfoldable pub two_members : List MemberView
 two_members =
     record { name = codes "a"; bytes = codes "c"; symbols = codes "b" ∷ [] }
@@ -39,13 +27,7 @@ two_members_bytes =
 
 -- what the encodings are, and what is read of bytes that are none
 pub record WorkedEncodings : Type 0 where
-  pub none : encoded_members [] ≡ hex "00 00 00 00 00 00 00 00"
-  pub one : encoded_members one_member ≡ one_member_bytes
-  pub one_length : length one_member_bytes ≡ 43
   pub two : encoded_members two_members ≡ two_members_bytes
-  pub two_read : members_in two_members_bytes ≡ Some (two_members, [])
-  pub two_read_before_others : members_in (two_members_bytes ++ hex "ff 00")
-      ≡ Some (two_members, hex "ff 00")
   pub seven_bytes : members_in (hex "00 00 00 00 00 00 00") ≡ None
   pub member_missing : members_in (hex "01 00 00 00 00 00 00 00") ≡ None
   pub name_too_short : members_in (hex "01 00 00 00 00 00 00 00 02 00 00 00 00 00 00 00 61") ≡ None

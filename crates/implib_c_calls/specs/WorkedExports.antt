@@ -5,8 +5,8 @@ use Rattle.implib.specs.Definition.{ExportView, empty_export}
 use Rattle.implib_archive.specs.declared.error.Fault.TheVariants as archive
 use Rattle.implib_rules.specs.declared.exports.ExportsRefusal.TheVariants as refusal
 use Rattle.implib_c_calls.specs.declared.export.ExportFault.TheVariants.{NotUtf8, UnknownFlags}
-use Rattle.implib_c_calls.specs.LibraryOf.{EndingOf, GivenExport, Made, NoExport, NoOptions}
-use Rattle.implib_c_calls.specs.LibraryOf.{OutOfMemory, Refused, TooLong, Unpacked, export_given}
+use Rattle.implib_c_calls.specs.LibraryOf.{EndingOf, GivenExport, NoExport, NoOptions}
+use Rattle.implib_c_calls.specs.LibraryOf.{Refused, Unpacked, export_given}
 use Rattle.implib_c_calls.specs.LibraryOf.{place_of, status_of}
 use Rattle.implib_c_calls.specs.LibraryWith as options
 use Rattle.implib_c_calls.specs.Status.{status_number}
@@ -22,22 +22,10 @@ named name = record empty_export { name = name }
 
 -- what a definition has of exports
 pub record WorkedFlags : Type 0 where
-  pub plain : export_given (passed (codes "a") [] 0 0) ≡ named (codes "a")
-  pub ordinal : export_given (passed (codes "a") [] 65535 0)
-      ≡ record (named (codes "a")) { ordinal = 65535 }
-  pub target : export_given (passed (codes "a") (codes "b") 0 0)
-      ≡ record (named (codes "a")) { alias_target = codes "b" }
-  pub no_name : export_given (passed (codes "a") [] 5 1)
-      ≡ record (named (codes "a")) { ordinal = 5; no_name = true }
-  pub data_flag : export_given (passed (codes "a") [] 0 2)
-      ≡ record (named (codes "a")) { is_data = true }
   pub constant_flag : export_given (passed (codes "a") [] 0 4)
       ≡ record (named (codes "a")) { constant = true }
   pub private_flag : export_given (passed (codes "a") [] 0 8)
       ≡ record (named (codes "a")) { private = true }
-  pub all_flags : export_given (passed (codes "a") [] 0 15)
-      ≡ record (named (codes "a"))
-      { no_name = true; is_data = true; constant = true; private = true }
 
 -- the number with which a call with exports ends so
 abbrev pub number_of : EndingOf → ℕ
@@ -45,17 +33,12 @@ number_of ending = status_number (status_of ending)
 
 -- what the numbers of these calls are, and the places that they give
 pub record WorkedNumbersOf : Type 0 where
-  pub made : (file : List ℕ) → number_of (Made file) ≡ 0
-  pub too_long : (file : List ℕ) → number_of (TooLong file) ≡ 1
-  pub out_of_memory : number_of OutOfMemory ≡ 2
-  pub unknown_machine : number_of (NoOptions options.UnknownMachine) ≡ 4
   pub too_many_members : number_of (Unpacked archive.TooManyMembers) ≡ 34
   pub no_dll_name : number_of (Refused refusal.NoName) ≡ 39
   pub dll_not_utf8 : number_of (NoOptions options.DllNotUtf8) ≡ 42
   pub unknown_export_flags : number_of (NoExport UnknownFlags 7) ≡ 43
   pub export_not_utf8 : number_of (NoExport NotUtf8 7) ≡ 44
   pub place_of_export : place_of (NoExport NotUtf8 7) ≡ 7
-  pub no_place : place_of (Refused refusal.NoName) ≡ 0
 
 -- all of them
 pub record WorkedExports : Type 0 where

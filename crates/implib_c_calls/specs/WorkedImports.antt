@@ -1,12 +1,11 @@
--- Rows of libraries that were worked by hand, their encodings byte by byte, and buffers that are
--- read.
-use Rattle.std.specs.Prelude.{◌≡◌, ℕ, List, [], ◌∷◌, ◌++◌, None, Some, codes, length}
+-- Rows of a library that was worked by hand, an encoding byte by byte, and a buffer that is read.
+use Rattle.std.specs.Prelude.{◌≡◌, ℕ, List, [], ◌∷◌, ◌++◌, None, Some, codes}
 use Rattle.implib.specs.Worked.Digits.{hex}
 use Rattle.implib_read.specs.Classes.{AnAlias, DelayImport, NotUnderstood, Other}
-use Rattle.implib_read.specs.WorkedLibraries.{member, worked_ld, worked_llvm}
+use Rattle.implib_read.specs.WorkedLibraries.{member, worked_ld}
 use Rattle.implib_read.specs.declared.import.ImportKind.TheVariants.{Code, CodeOrConst, Const, Data}
 use Rattle.implib_read.specs.declared.import.ImportKind.TheVariants.{Delayed}
-use Rattle.implib_c_calls.specs.Imports.{Row, alias_row, encoded_row, encoded_rows, kind_number}
+use Rattle.implib_c_calls.specs.Imports.{Row, alias_row, encoded_rows, kind_number}
 use Rattle.implib_c_calls.specs.Imports.{other_row, row_of, rows_in, rows_of}
 
 -- a row of an import of foo.dll for AMD64
@@ -58,25 +57,14 @@ old_row_bytes =
 unfoldable pub two_rows_bytes : List ℕ
 two_rows_bytes = hex "02 00 00 00 00 00 00 00" ++ (bar_row_bytes ++ old_row_bytes)
 
--- the rows of libraries, and what has none
+-- the rows of a library, and of other members
 pub record WorkedRows : Type 0 where
-  pub llvm : rows_of worked_llvm ≡ Some (
-      other_row 6 8
-      ∷ other_row 6 426
-      ∷ other_row 6 614
-      ∷ bar_row
-      ∷ row_of_foo 2 926 (codes "baz") 1 (codes "baz") 0
-      ∷ row_of_foo 1 1018 (codes "qux") 0 [] 5 ∷ []
-      )
   pub ld : rows_of worked_ld ≡ Some (
       other_row 6 164
       ∷ other_row 6 478
       ∷ row_of_foo 4 850 (codes "qux") 0 [] 5
       ∷ row_of_foo 4 1350 (codes "bar") 1 (codes "bar") 3 ∷ []
       )
-  pub no_members : rows_of (codes "!<arch>\n") ≡ Some []
-  pub thin : rows_of (codes "!<thin>\n") ≡ None
-  pub no_bytes : rows_of [] ≡ None
   pub an_alias : row_of (member (codes "a.o") 0x1234
       (AnAlias (record { weak = codes "old"; target = codes "new" }))) ≡ old_row
   pub delayed : row_of (member (codes "a.o") 8 DelayImport) ≡ other_row 7 8
@@ -91,17 +79,9 @@ pub record WorkedKinds : Type 0 where
   pub code_or_constant : kind_number CodeOrConst ≡ 4
   pub delayed : kind_number Delayed ≡ 10
 
--- the encodings, and what is read of bytes that are none
+-- an encoding, and what is read of bytes that are none
 pub record WorkedRowBytes : Type 0 where
-  pub none : encoded_rows [] ≡ hex "00 00 00 00 00 00 00 00"
-  pub bar : encoded_row bar_row ≡ bar_row_bytes
-  pub bar_length : length bar_row_bytes ≡ 77
-  pub old : encoded_row old_row ≡ old_row_bytes
-  pub old_length : length old_row_bytes ≡ 70
   pub two : encoded_rows (bar_row ∷ old_row ∷ []) ≡ two_rows_bytes
-  pub two_read : rows_in two_rows_bytes ≡ Some (bar_row ∷ old_row ∷ [], [])
-  pub two_read_before_others : rows_in (two_rows_bytes ++ hex "ff 00")
-      ≡ Some (bar_row ∷ old_row ∷ [], hex "ff 00")
   pub row_missing : rows_in (hex "01 00 00 00 00 00 00 00") ≡ None
 
 -- all of them

@@ -1,5 +1,5 @@
 -- Lines and columns for C, and byte order marks, worked by hand.
-use Rattle.std.specs.Prelude.{◌≡◌, [], codes}
+use Rattle.std.specs.Prelude.{◌≡◌, codes}
 use Rattle.implib.specs.Text.Position.{line_and_column}
 use Rattle.implib.specs.Worked.Digits.{hex}
 use Rattle.implib_c_calls.specs.LibraryWith.{mark_length}
@@ -9,21 +9,14 @@ use Rattle.implib_c_calls.specs.Place.{text_before}
 -- `c`; in a comment in Latin-1, and after it; after a byte order mark, and in it; and in a letter
 -- of two bytes, `é`; and how many bytes are a byte order mark.
 pub record WorkedPlaces : Type 0 where
-  pub beginning : line_and_column (text_before (codes "a\nbc") 0) ≡ (1, 1)
   pub line_feed : line_and_column (text_before (codes "a\nbc") 1) ≡ (1, 2)
   pub second_line : line_and_column (text_before (codes "a\nbc") 2) ≡ (2, 1)
   pub end : line_and_column (text_before (codes "a\nbc") 4) ≡ (2, 3)
   pub behind_the_end : line_and_column (text_before (codes "a\nbc") 5) ≡ (2, 3)
-  pub no_text : line_and_column (text_before [] 7) ≡ (1, 1)
-  pub bad_byte : line_and_column (text_before (hex "61 0a 62 ff 63") 3) ≡ (2, 2)
-  pub behind_a_bad_byte : line_and_column (text_before (hex "61 0a 62 ff 63") 5) ≡ (2, 4)
   pub in_a_comment : line_and_column (text_before (hex "3b e9 20 e4 0a 61 62") 3) ≡ (1, 4)
-  pub after_a_comment : line_and_column (text_before (hex "3b e9 20 e4 0a 61 62") 6) ≡ (2, 2)
-  pub after_a_mark : line_and_column (text_before (hex "ef bb bf 61 62") 4) ≡ (1, 2)
   pub in_a_mark : line_and_column (text_before (hex "ef bb bf 61 62") 2) ≡ (1, 1)
   pub lines_after_a_mark : line_and_column (text_before (hex "ef bb bf 61 0a 62 ff") 6) ≡ (2, 2)
   pub marked : mark_length (hex "ef bb bf 4e 41") ≡ 3
   pub mark_alone : mark_length (hex "ef bb bf") ≡ 3
   pub half_a_mark : mark_length (hex "ef bb") ≡ 0
   pub unmarked : mark_length (codes "NAME a") ≡ 0
-  pub within_a_letter : line_and_column (text_before (hex "c3 a9") 1) ≡ (1, 2)

@@ -1,40 +1,12 @@
--- Encodings of warnings worked by hand, buffers that are read, and the numbers of include/implib.h.
-use Rattle.std.specs.Prelude.{◌≡◌, ℕ, List, [], ◌∷◌, ◌++◌, None, Some, codes, length}
+-- The numbers of kinds of warnings in include/implib.h, places, and a buffer that is read, by hand.
+use Rattle.std.specs.Prelude.{◌≡◌, ℕ, List, [], ◌∷◌, None}
 use Rattle.implib.specs.Worked.Digits.{hex}
 use Rattle.implib_rules.specs.declared.warnings.words.Attribute.{Attribute}
 use Rattle.implib_rules.specs.Warnings as rules
-use Rattle.implib_c_calls.specs.Warnings.{AreSaid, Said, encoded_warnings, kind_number, warnings_in}
+use Rattle.implib_c_calls.specs.Warnings.{AreSaid, kind_number, warnings_in}
 
--- two warnings
-unfoldable pub two_warnings : List Said
-two_warnings =
-    record { warned = record { kind = 1; offset = 3; line = 1; column = 1 }; words = codes "a" }
-    ∷ record { warned = record { kind = 10; offset = 0x102; line = 7; column = 9 }; words = [] }
-    ∷ []
-
--- their encoding
-unfoldable pub two_warnings_bytes : List ℕ
-two_warnings_bytes =
-    hex "02 00 00 00 00 00 00 00"
-    ++ (hex "01 00 00 00 00 00 00 00"
-    ++ (hex "03 00 00 00 00 00 00 00"
-    ++ (hex "01 00 00 00 00 00 00 00"
-    ++ (hex "01 00 00 00 00 00 00 00"
-    ++ (hex "01 00 00 00 00 00 00 00 61"
-    ++ (hex "0a 00 00 00 00 00 00 00"
-    ++ (hex "02 01 00 00 00 00 00 00"
-    ++ (hex "07 00 00 00 00 00 00 00"
-    ++ (hex "09 00 00 00 00 00 00 00"
-    ++ hex "00 00 00 00 00 00 00 00")))))))))
-
--- the encodings, what is read of bytes that are none, and the numbers of kinds
+-- what is read of bytes that are none, places, and the numbers of kinds
 pub record WorkedWarnings : Type 0 where
-  pub none : encoded_warnings [] ≡ hex "00 00 00 00 00 00 00 00"
-  pub two : encoded_warnings two_warnings ≡ two_warnings_bytes
-  pub two_length : length two_warnings_bytes ≡ 89
-  pub two_read : warnings_in two_warnings_bytes ≡ Some (two_warnings, [])
-  pub two_read_before_others : warnings_in (two_warnings_bytes ++ hex "ff 00")
-      ≡ Some (two_warnings, hex "ff 00")
   pub warning_missing : warnings_in (hex "01 00 00 00 00 00 00 00") ≡ None
   -- behind a byte order mark the offset is greater by its length, and the column is not
   pub behind_mark : AreSaid 3

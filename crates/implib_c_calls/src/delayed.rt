@@ -10,7 +10,7 @@ ghost use Rattle.implib_c_calls.specs.Given.{failure_status, length_given, place
 ghost use Rattle.implib_c_calls.specs.Given.{status_given};
 ghost use Rattle.implib_c_calls.specs.LibraryWith.{given_options};
 ghost use Rattle.implib_c_calls.specs.Status.{status_number};
-ghost use Rattle.implib_delay_library.specs.Libraries.{position_of_undelayed};
+ghost use Rattle.implib_libraries.specs.Delayed.{position_of_undelayed};
 ghost use Rattle.implib_rules.specs.Options.{library_options_view};
 ghost use Rattle.std.specs.Prelude.{◌≡◌, Err};
 
@@ -18,7 +18,7 @@ use crate::library_with::{OptionsArguments, failure_in, mark_length, options_wit
 use crate::outcome::{Failure, NoDelay, pack_into};
 use implib::Flavor;
 use implib_archive::Kind;
-use implib_delay_library::{DelayRefusal, Undelayed, delayed_members_for};
+use implib_libraries::delayed::{DelayRefusal, Undelayed, delayed_members_for};
 use implib_rules::options::LibraryOptions;
 use std::alloc::Global;
 
@@ -65,7 +65,7 @@ fn put_delayed(
         (length_given result) (place_given result) (status_given result) }
 {
     match delayed_members_for(alloc, text, options) {
-        Ok(members) => pack_into(alloc, buffer, &members, Kind::Gnu),
+        Ok(delayed) => pack_into(alloc, buffer, &delayed.members, Kind::Gnu),
         Err(refusal) => Err(failure_delayed(text, refusal)),
     }
 }

@@ -53,8 +53,7 @@ pub fn warnings_read_back()
     ensures { (said : List Said) (rest : List ℕ) → ReadsWarningsBack said rest }
 {}
 
-/// Encodings of warnings, worked by hand, have these bytes, and are read so; kinds have these
-/// numbers.
+/// Kinds of warnings have these numbers, each written out.
 pub fn worked_warnings()
     ensures { WorkedWarnings }
 {}
@@ -74,7 +73,7 @@ pub fn dll_exports_read_back()
     ensures { (d : DllRows) (rest : List ℕ) → ReadsDllBack d rest }
 {}
 
-/// What DLLs export, worked by hand, is this, has these bytes, and is read so.
+/// An address outside of sections has this number, and bytes that are no encoding are not read.
 pub fn worked_dll_exports()
     ensures { WorkedDllExports }
 {}
@@ -114,13 +113,12 @@ pub fn places_are_of_refusals()
     ensures { PlacesAreOfRefusals }
 {}
 
-/// Statuses, their texts, machines, flavours and the version have these numbers, each written out.
+/// Statuses have these numbers, each written out.
 pub fn worked_statuses()
     ensures { WorkedStatuses }
 {}
 
-/// Exports that were worked by hand are these in a definition, and calls with exports have these
-/// numbers and places.
+/// Flags of exports are these in a definition, and calls with exports have these numbers and places.
 pub fn worked_exports()
     ensures { WorkedExports }
 {}
@@ -142,8 +140,8 @@ pub fn puts_what_is_written()
     ensures { PutsWhatIsWritten }
 {}
 
-/// No status has a number between those of calls and those of faults, nor a much greater one; the
-/// flavours are 0 and 1, and not 2, 3 or a much greater number.
+/// No status has a number between those of calls and those of faults, nor a much greater one; some
+/// numbers are no flavour, no machine and no option.
 pub fn worked_gaps()
     ensures { WorkedGaps }
 {}

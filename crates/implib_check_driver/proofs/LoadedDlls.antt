@@ -75,11 +75,11 @@ through_same file here there check same = by (is_searching check) same
 
 -- the status of members through folders is theirs where forwarders are followed
 pub members_through : (file : List ℕ → List ℕ) (folders : List Listing) (check : CheckView) (e : Exports) (names : List (List ℕ))
-    (members : List MemberRead) (status : ℕ) → is_searching check ≡ true → names ≡ names_of check.dll check.definition e.dll
+    (members : List MemberRead) (status : ℕ) → is_searching check ≡ true → names ≡ names_of check.dll check.definition
     → OrFailed status (status ≡ held_status (judgements e names members) (ends_through (Some (content_at file folders)) e names members) (has_unread members))
     → OrFailed status (status ≡ members_against (through file folders check) check e members)
 members_through file folders check e names members status searching named written =
-    let own = names_of check.dll check.definition e.dll in
+    let own = names_of check.dll check.definition in
     subst (λ (s : Bool). OrFailed status (status ≡ held_status (judgements e own members)
     (ends_through (cond s (Some (content_at file folders)) None) e own members) (has_unread members))) (sym searching)
     (subst (λ (n : List (List ℕ)). OrFailed status (status ≡ held_status (judgements e n members)

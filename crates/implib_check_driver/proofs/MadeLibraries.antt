@@ -47,7 +47,7 @@ use Rattle.implib_compare.specs.Comparison.{has_other, has_unread, verdict}
 use Rattle.implib_check_driver.specs.OwnExportAs.{IsMadeBy, MadeLibrariesAreTheSame, MeantIsMade, SameSaysTheMade, SaysWhatIsMade, has_third_text, imports_by_texts, imports_made}
 use Rattle.implib_check_driver.specs.OwnLibraries.{MeantIsDefined, imports_meant, meanings_read}
 use Rattle.implib_check_driver.proofs.LaterMeanings.{ThirdMeans, WeakForText, aliases_after, aliases_named, all_later, cut, first_imports, imports_then, kept_symbol_name, later_aliases, later_meanings, length_imports, means_alias, public_kept, text_imports}
-use Rattle.implib_check_driver.proofs.MeantLibraries.{one_library}
+use Rattle.implib_rules.proofs.OneDefinition.{one_library}
 use Rattle.implib_check_driver.proofs.OwnLibraries.{HasHeader, after_header, files_plain, files_read, header_read, says}
 use Rattle.implib_check_driver.proofs.SameLibraries.{verdict_itself}
 use Rattle.implib_check_driver.proofs.ThirdTexts.{asks_by_text, text_means}

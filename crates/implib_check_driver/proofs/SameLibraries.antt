@@ -7,7 +7,7 @@ use Rattle.implib_compare.specs.Comparison.{Rearranged, differing, has_other, ha
 use Rattle.implib_compare.specs.Facts.{Fact, both_tell, facts_of}
 use Rattle.implib_check_driver.specs.OwnLibraries.{MeantIsDefined, OwnLibrariesAreTheSame, SameSaysTheDefined}
 use Rattle.implib_compare.proofs.Matching.{left_differs}
-use Rattle.implib_check_driver.proofs.MeantLibraries.{one_library}
+use Rattle.implib_rules.proofs.OneDefinition.{one_library}
 
 -- facts are themselves in another order
 same_facts : (facts : List Fact) → Rearranged facts facts

@@ -29,10 +29,6 @@ leads_symbol : IndexesLead (with_entry (codes "a") 0x48)
 unfolding before_nul bytes_at entries_from first_index_in short_import_found u16_at u32_at
 leads_symbol = record { contents = _; first = refl; leads = refl; second_leads = λ others there. absurd (none-some others there) }
 
-leads_address : IndexesLead (with_entry (codes "__imp_a") 0x48)
-unfolding before_nul bytes_at entries_from first_index_in short_import_found u16_at u32_at
-leads_address = record { contents = _; first = refl; leads = refl; second_leads = λ others there. absurd (none-some others there) }
-
 -- one entry that misleads is not none
 one_misleads : (a : Archive) (contents : List ℕ) (e : IndexEntry) → linker_member 0 a.parts ≡ Some contents → first_misleads a.members contents ≡ Some (e ∷ []) → IndexesLead a → ⊥
 one_misleads a contents e first wrong leads =
@@ -44,28 +40,16 @@ text_is_no_symbol : IndexesLead (with_entry (codes "b") 0x48) → ⊥
 unfolding before_nul bytes_at entries_from first_index_in short_import_found u16_at u32_at
 text_is_no_symbol = one_misleads (with_entry (codes "b") 0x48) _ (record { symbol = codes "b"; place = 0x48 }) refl refl
 
-elsewhere : IndexesLead (with_entry (codes "a") 0x49) → ⊥
-unfolding before_nul bytes_at entries_from first_index_in short_import_found u16_at u32_at
-elsewhere = one_misleads (with_entry (codes "a") 0x49) _ (record { symbol = codes "a"; place = 0x49 }) refl refl
-
 pub worked_export_as : WorkedExportAs
 worked_export_as = record {
   msvc = refl;
   aliases = refl;
   gnu = refl;
-  without = refl;
-  without_aliases = refl;
   says = record { imports = refl; aliases = refl; read = refl; alone = refl };
   other_order = λ says. absurd (true≢false (sym (ap second_is_b says.imports)));
   own_name = λ says. absurd (true≢false (sym (ap second_is_b says.imports)));
   not_read = λ says. absurd (true≢false says.read);
-  works = refl;
-  no_thunk = refl;
-  two_dlls = refl;
-  unread = refl;
   leads = leads_symbol;
-  leads_address = leads_address;
   text_is_no_symbol = text_is_no_symbol;
-  elsewhere = elsewhere;
   no_index = λ leads. absurd (none-some leads.contents leads.first);
 }

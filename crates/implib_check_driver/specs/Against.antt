@@ -37,11 +37,9 @@ is_library bytes = starts_with nat_eq bytes (codes "!<arch>\n")
 abbrev pub begins_archive : List ℕ → Bool
 begins_archive bytes = is_library bytes || starts_with nat_eq bytes (codes "!<thin>\n")
 
--- The names by which loaders know a DLL: the one that a call gives, or else that of its export
--- directory and that of its file.
-abbrev pub names_of : Option (List ℕ) → List ℕ → List ℕ → List (List ℕ)
-names_of (Some given) path own = loader_name (last_part given) ∷ []
-names_of None path own = loader_name own ∷ loader_name (last_part path) ∷ []
+-- The names by which loaders know a DLL: the one that a call gives, or else that of its file.
+abbrev pub names_of : Option (List ℕ) → List ℕ → List (List ℕ)
+names_of given path = loader_name (last_part (unwrap_or given path)) ∷ []
 
 -- The status of what imports come to: 1 where one is lost, 4 where a member may import what is not
 -- read, and 1 where there is no import.
@@ -57,7 +55,7 @@ held_status found ends unread = if list_any is_stop ends then 1 else against_sta
 -- the status of members in a DLL, and through it in others
 abbrev pub members_against : Through → CheckView → Exports → List MemberRead → ℕ
 members_against others check e members =
-    let names = names_of check.dll check.definition e.dll in
+    let names = names_of check.dll check.definition in
     held_status (judgements e names members) (ends_through others e names members)
     (has_unread members)
 

@@ -1,13 +1,13 @@
 -- The text of the definition that `--def` writes of a library: a line for each import and alias, in
 -- the order of the library (this project's choice; docs/CHECK.md, "The definition of a library").
 use Rattle.std.specs.Prelude.{ℕ, ◌==◌, Bool, not, ◌&&◌, ◌||◌, List, [], ◌∷◌, ◌++◌, bytes_eq, codes}
-use Rattle.std.specs.Prelude.{decimal, if◌then◌else◌, nat_le, take, unwrap_or}
+use Rattle.std.specs.Prelude.{decimal, drop, false, if◌then◌else◌, nat_le, take, unwrap_or}
 use Rattle.std.specs.List.{list_all, list_any}
 use Rattle.implib.specs.declared.flavor.Flavor.{Flavor}
 use Rattle.implib.specs.declared.flavor.Flavor.TheVariants.{Gnu, Msvc}
 use Rattle.implib.specs.declared.machine.MachineType.{MachineType}
 use Rattle.implib.specs.declared.machine.MachineType.TheVariants.{AMD64, ARM64, ARMNT, I386}
-use Rattle.implib.specs.Ascii.{at_sign, begins_with, underscore}
+use Rattle.implib.specs.Ascii.{at_sign, begins_with, question_mark, underscore}
 use Rattle.implib.specs.Import.{Alias, Ask, Name, Ordinal}
 use Rattle.implib.specs.Machine.{has_leading_underscore}
 use Rattle.implib_read.specs.Classes.{Class, AnImport, AnAlias, Descriptor, NullDescriptor}
@@ -19,6 +19,7 @@ use Rattle.implib_read.specs.declared.import.ImportKind.TheVariants.{Delayed}
 use Rattle.implib_rules.specs.Linked.{NamingView, keeps_word}
 use Rattle.implib_rules.specs.Options.{LibraryOptionsView}
 use Rattle.implib_compare.specs.Facts.{tells_constants}
+use Rattle.implib_dll_check.specs.Imports.{is_of_data}
 use Rattle.implib_read.specs.Identity.{dll_of}
 use Rattle.implib_read.specs.Symbols.{linked_symbol, without_imp}
 
@@ -105,16 +106,35 @@ export_text hints word i =
     ++ (asked_text hints word i.imports.ask
     ++ (kind_text i.kind ++ (hint_text hints i.imports.ask ++ 10 ∷ []))))
 
--- an import
+-- whether a symbol is the name that is asked for behind this byte
+abbrev pub is_behind : ℕ → List ℕ → Ask → Bool
+is_behind first symbol (Ordinal ordinal) = false
+is_behind first symbol (Name name hint) = bytes_eq symbol (first ∷ name)
+
+-- whether an import is one that aliases lead to: the name that it asks for stands in its symbol
+-- behind a question mark, or behind an `@` where it is of data
+abbrev pub is_of_aliases : Imported → Bool
+is_of_aliases i =
+    is_behind (if is_of_data i.kind then at_sign else question_mark)
+    (linked_symbol i.imports.declared) i.imports.ask
+
+-- an import, unless the aliases that lead to it say it
 abbrev pub import_text : Bool → MachineType → NamingView → Imported → List ℕ
 import_text hints machine naming i =
-    export_text hints (word_of_symbol machine naming (linked_symbol i.imports.declared)) i
+    if is_of_aliases i then []
+    else export_text hints (word_of_symbol machine naming (linked_symbol i.imports.declared)) i
+
+-- what an alias's line says of the symbol that it is weak for
+abbrev pub word_of_target : MachineType → NamingView → List ℕ → List ℕ
+word_of_target machine naming symbol =
+    if begins_with question_mark symbol || begins_with at_sign symbol then drop 1 symbol
+    else word_of_symbol machine naming symbol
 
 -- an alias of one symbol for another, and what it is of
 abbrev pub weak_text : MachineType → NamingView → List ℕ → List ℕ → List ℕ → List ℕ
 weak_text machine naming weak target of =
     codes "    " ++ (name_text (word_of_symbol machine naming weak)
-    ++ (codes " == " ++ (name_text (word_of_symbol machine naming target) ++ (of ++ 10 ∷ []))))
+    ++ (codes " == " ++ (name_text (word_of_target machine naming target) ++ (of ++ 10 ∷ []))))
 
 -- An alias, given the weak symbol of the member before it. That of an address has no line of its
 -- own behind that of the symbol, and else it is of data.

@@ -13,9 +13,9 @@ use Rattle.implib_archive.specs.declared.error.Fault.{Fault}
 use Rattle.implib_dll.specs.Exports.{Exports, exports_in}
 use Rattle.implib_dll.specs.Outcome.{Read}
 use Rattle.implib_dll.specs.declared.section.Layout.TheVariants.{File}
-use Rattle.implib_dll_library.specs.Members.{IsUnmade, MembersOfDll}
-use Rattle.implib_dll_library.specs.declared.members.Unmade.{Unmade}
-use Rattle.implib_dll_library.specs.declared.members.Unmade.TheVariants as unmade
+use Rattle.implib_libraries.specs.OfDll.Members.{IsUnmade, MembersOfDll}
+use Rattle.implib_libraries.specs.declared.of_dll.members.Unmade.{Unmade}
+use Rattle.implib_libraries.specs.declared.of_dll.members.Unmade.TheVariants as unmade
 use Rattle.implib_rules.specs.Additions.{no_additions}
 use Rattle.implib_rules.specs.Library.{kind_of}
 use Rattle.implib_rules.specs.Options.{LibraryOptionsView}

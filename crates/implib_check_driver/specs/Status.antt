@@ -4,7 +4,7 @@ use Rattle.std.specs.declared.io.ErrorKind.{ErrorKind}
 use Rattle.std.specs.declared.io.ErrorKind.TheVariants as io
 use Rattle.implib_check_driver.specs.declared.report.Failure.{Failure}
 use Rattle.implib_check_driver.specs.declared.report.Failure.TheVariants as failed
-use Rattle.implib_arm64ec_library.specs.declared.library.Arm64ecRefusal.TheVariants as arm64ec
+use Rattle.implib_libraries.specs.declared.arm64ec.Arm64ecRefusal.TheVariants as arm64ec
 use Rattle.implib_compare.specs.declared.meant.Arm64ecFault.{Arm64ecFault}
 use Rattle.implib_compare.specs.declared.meant.Arm64ecFault.TheVariants.{OfArchive, OfTexts}
 use Rattle.implib_compare.specs.declared.compare.Verdict.{Verdict}

@@ -4,18 +4,14 @@ use Rattle.implib.specs.declared.def.position.Position.{Position}
 use Rattle.implib.specs.declared.flavor.Flavor.TheVariants.{Gnu, Msvc}
 use Rattle.implib.specs.declared.machine.MachineType.TheVariants.{AMD64, ARM64}
 use Rattle.implib_archive.specs.declared.error.Fault.TheVariants.{TooManyMembers}
-use Rattle.implib_arm64ec_library.specs.declared.library.Arm64ecRefusal.TheVariants.{OfDefinition}
-use Rattle.implib_arm64ec_library.specs.declared.library.Arm64ecRefusal.TheVariants.{OfImports}
-use Rattle.implib_arm64ec_library.specs.declared.library.Arm64ecRefusal.TheVariants.{OfNative}
-use Rattle.implib_arm64ec_library.specs.declared.library.Arm64ecRefusal.TheVariants.{OutOfMemory}
-use Rattle.implib_arm64ec_library.specs.declared.library.Unimported.{Unimported}
+use Rattle.implib_libraries.specs.declared.arm64ec.Arm64ecRefusal.TheVariants.{OfNative}
+use Rattle.implib_libraries.specs.declared.arm64ec.Arm64ecRefusal.TheVariants.{OutOfMemory}
 use Rattle.implib_compare.specs.Worked.{import_on, member}
 use Rattle.implib_compare.specs.declared.meant.Arm64ecFault.TheVariants.{OfArchive, OfTexts}
 use Rattle.implib_read.specs.Classes.{Descriptor, Head}
 use Rattle.implib_read.specs.declared.import.ImportKind.TheVariants.{Code}
 use Rattle.implib_rules.specs.declared.library.Refusal.TheVariants as refusal
-use Rattle.implib_check_driver.specs.Against.{has_options}
-use Rattle.implib_check_driver.specs.Answers.{asks_for_arm64ec, native_seen}
+use Rattle.implib_check_driver.specs.Answers.{asks_for_arm64ec}
 use Rattle.implib_check_driver.specs.Calls.{CheckView, check_called, define_called}
 use Rattle.implib_check_driver.specs.Status.{arm64ec_status}
 use Rattle.implib_check_driver.specs.Targets.{has_arm64ec, is_for_arm64ec, is_unfit}
@@ -27,15 +23,6 @@ ec_check = record plain_check { machine = Some ARM64; arm64ec = true }
 
 -- Calls, what libraries are compared as, and statuses.
 pub record WorkedArm64ec : Type 0 where
-  pub named : check_called (codes "a.lib" ∷ codes "a.def" ∷ codes "-m" ∷ codes "arm64ec" ∷ [])
-      ≡ Some ec_check
-  pub native : check_called
-      (codes "-N" ∷ codes "n.def" ∷ codes "a.lib" ∷ codes "a.def" ∷ codes "--machine"
-      ∷ codes "arm64ec" ∷ [])
-      ≡ Some (record ec_check { native = Some (codes "n.def") })
-  pub native_by_long_name : check_called
-      (codes "a.lib" ∷ codes "a.def" ∷ codes "--input-native-def" ∷ codes "n.def" ∷ [])
-      ≡ Some (record plain_check { native = Some (codes "n.def") })
   -- the last machine counts
   pub other : check_called
       (codes "a.lib" ∷ codes "a.def" ∷ codes "-m" ∷ codes "arm64ec" ∷ codes "-m" ∷ codes "arm64"
@@ -46,40 +33,25 @@ pub record WorkedArm64ec : Type 0 where
   pub no_native : check_called (codes "a.lib" ∷ codes "a.def" ∷ codes "-N" ∷ []) ≡ None
   pub no_definition : define_called (codes "a.lib" ∷ codes "-m" ∷ codes "arm64ec" ∷ []) ≡ None
   pub no_native_definition : define_called (codes "a.lib" ∷ codes "-N" ∷ codes "n.def" ∷ []) ≡ None
-  -- what a library is compared as: by the machine that is named, and else by its imports
+  -- what a library is compared as
   pub some : has_arm64ec (member Descriptor ∷ import_on Code 0xAA64 ∷ import_on Code 0xA641 ∷ [])
       ≡ true
   pub none : has_arm64ec (member Head ∷ import_on Code 0xAA64 ∷ import_on Code 0xA64E ∷ []) ≡ false
-  pub by_imports : is_for_arm64ec plain_check (import_on Code 0xA641 ∷ []) ≡ true
   pub without_imports : is_for_arm64ec plain_check [] ≡ false
-  pub as_named : is_for_arm64ec ec_check (import_on Code 0xAA64 ∷ []) ≡ true
   pub as_other : is_for_arm64ec (record plain_check { machine = Some AMD64 })
       (import_on Code 0xA641 ∷ []) ≡ false
   -- what it is not made with
   pub fit : is_unfit (record ec_check { native = Some (codes "n.def"); flavor = Some Msvc }) []
       ≡ false
-  pub for_gnu : is_unfit (record ec_check { flavor = Some Gnu }) [] ≡ true
-  pub with_older_symbols : is_unfit (record plain_check { older_symbols = true })
-      (import_on Code 0xA641 ∷ []) ≡ true
   pub older_elsewhere : is_unfit (record plain_check { older_symbols = true; flavor = Some Gnu })
       (import_on Code 0xAA64 ∷ []) ≡ false
-  pub native_elsewhere : is_unfit (record plain_check { native = Some (codes "n.def") })
-      (import_on Code 0xAA64 ∷ []) ≡ true
   -- beside a DLL
-  pub option : has_options (record plain_check { native = Some (codes "n.def") }) ≡ true
-  pub asked : asks_for_arm64ec ec_check ≡ true
   pub asked_by_native : asks_for_arm64ec (record plain_check { native = Some (codes "n.def") })
       ≡ true
   pub not_asked : asks_for_arm64ec (record plain_check { machine = Some ARM64 }) ≡ false
   -- statuses
-  pub refused : arm64ec_status (OfTexts (OfDefinition refusal.NoName)) ≡ 1
-  pub no_imports : (why : Unimported) → arm64ec_status (OfTexts (OfImports why)) ≡ 1
   pub no_text : (position : Position) →
       arm64ec_status (OfTexts (OfNative (refusal.NotUtf8 position))) ≡ 1
   pub native_memory : arm64ec_status (OfTexts (OfNative refusal.OutOfMemory)) ≡ 3
   pub no_memory : arm64ec_status (OfTexts OutOfMemory) ≡ 3
   pub no_archive : arm64ec_status (OfArchive (refusal.Archive TooManyMembers)) ≡ 1
-  -- what is known of the native definition
-  pub none_given : native_seen (λ path. None) None ≡ Some None
-  pub unknown : native_seen (λ path. None) (Some (codes "n.def")) ≡ None
-  pub known : native_seen (λ path. Some path) (Some (codes "n.def")) ≡ Some (Some (codes "n.def"))

@@ -1,23 +1,17 @@
 -- Calls that compare a library with a definition, and what a definition's library is made for,
 -- worked by hand.
-use Rattle.std.specs.Prelude.{◌≡◌, true, false, [], ◌∷◌, None, Option, Some, codes}
-use Rattle.std.specs.declared.io.ErrorKind.TheVariants as io
-use Rattle.implib_check_driver.specs.declared.report.Failure.TheVariants as failed
-use Rattle.implib.specs.declared.def.position.Position.{Position}
-use Rattle.implib.specs.declared.flavor.Flavor.{Flavor}
+use Rattle.std.specs.Prelude.{◌≡◌, true, false, [], ◌∷◌, None, Some, codes}
 use Rattle.implib.specs.declared.flavor.Flavor.TheVariants.{Gnu, Msvc}
-use Rattle.implib.specs.declared.machine.MachineType.{MachineType}
 use Rattle.implib.specs.declared.machine.MachineType.TheVariants.{AMD64, ARM64, ARMNT, I386}
 use Rattle.implib_read.specs.Classes.{Descriptor, Head}
 use Rattle.implib_read.specs.declared.import.ImportKind.TheVariants.{Code}
-use Rattle.implib_rules.specs.declared.library.Refusal.TheVariants.{NoName, NotUtf8, OutOfMemory}
-use Rattle.implib_rules.specs.Additions.{no_additions}
-use Rattle.implib_rules.specs.Machines.{machine_called}
-use Rattle.implib_check_driver.specs.Calls.{CheckView, DefineView, check_called, define_called}
-use Rattle.implib_check_driver.specs.OfDlls.{options_for_dll}
-use Rattle.implib_check_driver.specs.Status.{IsFailureOf, refusal_status}
+use Rattle.implib_rules.specs.declared.library.Refusal.TheVariants.{OutOfMemory}
+use Rattle.implib_rules.specs.WorkedExportAs.{exporting}
+use Rattle.implib_rules.specs.WorkedNames.{decorated, plain_and_killing, usual}
+use Rattle.implib_check_driver.specs.Calls.{CheckView, check_called, define_called}
+use Rattle.implib_check_driver.specs.Status.{refusal_status}
 use Rattle.implib_check_driver.specs.Targets.{machine_of, options_for}
-use Rattle.implib_check_driver.specs.Tasks.{Checks, Compares, call_named, task_named}
+use Rattle.implib_check_driver.specs.Tasks.{Checks, call_named, task_named}
 use Rattle.implib_compare.specs.Worked.{import_on, member}
 
 -- a library beside a definition, with no option
@@ -30,12 +24,7 @@ plain_check = record {
   native = None;
   flavor = None;
   dll = None;
-  naming = record {
-    is_plain = false;
-    kills_at = false;
-    exports_as = false;
-    keeps_decorated = false;
-  };
+  naming = usual;
   older_symbols = false;
   lists_unasked = false;
   folders = [];
@@ -51,7 +40,7 @@ full_check = record {
   native = None;
   flavor = Some Gnu;
   dll = Some (codes "d/zoo.dll");
-  naming = record { is_plain = true; kills_at = true; exports_as = false; keeps_decorated = false };
+  naming = plain_and_killing;
   older_symbols = false;
   lists_unasked = false;
   folders = [];
@@ -59,7 +48,6 @@ full_check = record {
 
 -- What calls say, and some that say nothing.
 pub record WorkedChecks : Type 0 where
-  pub plain : check_called (codes "a.lib" ∷ codes "a.def" ∷ []) ≡ Some plain_check
   pub full : check_called
       (codes "a.lib" ∷ codes "a.def" ∷ codes "-m" ∷ codes "i386" ∷ codes "-k"
       ∷ codes "--no-leading-underscore" ∷ codes "-D" ∷ codes "d/zoo.dll"
@@ -70,21 +58,10 @@ pub record WorkedChecks : Type 0 where
       ∷ codes "d/zoo.dll" ∷ codes "a.def" ∷ codes "--no-leading-underscore"
       ∷ codes "--flavor" ∷ codes "gnu" ∷ codes "--machine" ∷ codes "x86" ∷ []) ≡ Some full_check
   pub export_as : check_called (codes "a.lib" ∷ codes "--export-as" ∷ codes "a.def" ∷ [])
-      ≡ Some (record plain_check {
-        naming = record {
-          is_plain = false;
-          kills_at = false;
-          exports_as = true;
-          keeps_decorated = false;
-        };
-      })
+      ≡ Some (record plain_check { naming = exporting })
   pub lib : check_called
       (codes "a.lib" ∷ codes "--lib" ∷ codes "a.def" ∷ codes "-m" ∷ codes "x86" ∷ [])
-      ≡ Some (record plain_check {
-        machine = Some I386;
-        naming =
-            record { is_plain = false; kills_at = false; exports_as = true; keeps_decorated = true };
-      })
+      ≡ Some (record plain_check { machine = Some I386; naming = decorated })
   -- older symbols, which GNU's flavour alone has
   pub older : check_called (codes "-C" ∷ codes "a.lib" ∷ codes "a.def" ∷ [])
       ≡ Some (record plain_check { older_symbols = true })
@@ -96,18 +73,12 @@ pub record WorkedChecks : Type 0 where
       (codes "a.lib" ∷ codes "a.def" ∷ codes "--flavor" ∷ codes "msvc" ∷ codes "-C" ∷ []) ≡ None
   pub no_definition_of_lib : define_called (codes "a.lib" ∷ codes "--lib" ∷ []) ≡ None
   pub no_definition_of_export_as : define_called (codes "a.lib" ∷ codes "--export-as" ∷ []) ≡ None
-  pub task : task_named (codes "a.lib" ∷ codes "a.def" ∷ []) ≡ Some (Checks plain_check)
   pub task_of_more : task_named
       (codes "a.lib" ∷ codes "a.def" ∷ codes "--flavour" ∷ codes "msvc" ∷ [])
       ≡ Some (Checks (record plain_check { flavor = Some Msvc }))
-  pub same : task_named (codes "--same" ∷ codes "a.lib" ∷ codes "b.lib" ∷ [])
-      ≡ Some (Compares (codes "a.lib") (codes "b.lib"))
   -- in JSON
-  pub json : call_named (codes "a.lib" ∷ codes "--json" ∷ codes "a.def" ∷ [])
-      ≡ Some (Checks plain_check)
   pub json_is_no_value : call_named
       (codes "a.lib" ∷ codes "a.def" ∷ codes "-D" ∷ codes "--json" ∷ []) ≡ None
-  pub no_word : check_called [] ≡ None
   pub no_definition : check_called (codes "a.lib" ∷ codes "-k" ∷ []) ≡ None
   pub three_files : check_called (codes "a.lib" ∷ codes "a.def" ∷ codes "b.def" ∷ []) ≡ None
   pub no_value : check_called (codes "a.lib" ∷ codes "a.def" ∷ codes "-m" ∷ []) ≡ None
@@ -118,95 +89,14 @@ pub record WorkedChecks : Type 0 where
   pub no_dll : check_called (codes "a.lib" ∷ codes "a.def" ∷ codes "-D" ∷ codes "d/" ∷ []) ≡ None
   pub no_option : check_called (codes "a.lib" ∷ codes "a.def" ∷ codes "-x" ∷ []) ≡ None
   pub listed : check_called (codes "--list" ∷ codes "a.lib" ∷ codes "a.def" ∷ []) ≡ None
-  -- the machines that have names
-  pub i386 : machine_called (codes "i386") ≡ Some I386
-  pub amd64 : machine_called (codes "i386:x86-64") ≡ Some AMD64
-  pub arm : machine_called (codes "arm") ≡ Some ARMNT
-  pub aarch64 : machine_called (codes "aarch64") ≡ Some ARM64
-  -- a definition that is refused has no library, so none is the same; want of memory is another
-  -- matter
-  pub refused : refusal_status NoName ≡ 1
-  pub not_text : (position : Position) → refusal_status (NotUtf8 position) ≡ 1
   pub no_memory : refusal_status OutOfMemory ≡ 3
 
--- a DLL whose definition is asked for, with a machine and a flavour or without
-abbrev pub define_of : Option MachineType → Option Flavor → DefineView
-define_of machine flavor = record {
-  library = codes "w.dll";
-  machine = machine;
-  flavor = flavor;
-  is_plain = false;
-  older_symbols = false;
-}
-
--- The machine of libraries, and what a definition's library is made for.
+-- The machine of libraries, and the flavour that older symbols ask for.
 pub record WorkedTargets : Type 0 where
   pub first : machine_of (member Descriptor ∷ import_on Code 0x14C ∷ import_on Code 0x8664 ∷ [])
       ≡ I386
   pub known : machine_of (import_on Code 0xA641 ∷ import_on Code 0xAA64 ∷ []) ≡ ARM64
   pub arm : machine_of (import_on Code 0x1C4 ∷ []) ≡ ARMNT
   pub no_import : machine_of (member Head ∷ []) ≡ AMD64
-  pub told : options_for plain_check (import_on Code 0xAA64 ∷ []) ≡ record {
-    machine = ARM64;
-    flavor = Msvc;
-    dll = None;
-    naming = record {
-      is_plain = false;
-      kills_at = false;
-      exports_as = false;
-      keeps_decorated = false;
-    };
-    additions = no_additions;
-  }
-  pub named : options_for full_check (import_on Code 0xAA64 ∷ []) ≡ record {
-    machine = I386;
-    flavor = Gnu;
-    dll = Some (codes "d/zoo.dll");
-    naming = record {
-      is_plain = true;
-      kills_at = true;
-      exports_as = false;
-      keeps_decorated = false;
-    };
-    additions = no_additions;
-  }
-  pub older_for_gnu : options_for (record plain_check { older_symbols = true })
-      (import_on Code 0xAA64 ∷ []) ≡ record {
-        machine = ARM64;
-        flavor = Gnu;
-        dll = None;
-        naming = record {
-          is_plain = false;
-          kills_at = false;
-          exports_as = false;
-          keeps_decorated = false;
-        };
-        additions = no_additions;
-      }
-  -- of a DLL: for Microsoft's linker, or as it is named
-  pub of_dll : options_for_dll (define_of None None) ARM64 ≡ record {
-    machine = ARM64;
-    flavor = Msvc;
-    dll = None;
-    naming = record {
-      is_plain = false;
-      kills_at = false;
-      exports_as = false;
-      keeps_decorated = false;
-    };
-    additions = no_additions;
-  }
-  pub of_dll_named : options_for_dll (define_of (Some I386) (Some Gnu)) I386 ≡ record {
-    machine = I386;
-    flavor = Gnu;
-    dll = None;
-    naming = record {
-      is_plain = false;
-      kills_at = false;
-      exports_as = false;
-      keeps_decorated = false;
-    };
-    additions = no_additions;
-  }
-  pub memory : IsFailureOf io.OutOfMemory failed.OutOfMemory
-  pub full : IsFailureOf io.StorageFull failed.Writing
+  pub older_for_gnu : (options_for (record plain_check { older_symbols = true })
+      (import_on Code 0xAA64 ∷ [])).flavor ≡ Gnu

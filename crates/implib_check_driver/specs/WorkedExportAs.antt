@@ -1,6 +1,6 @@
 -- What definitions mean with `--export-as`, worked by hand, and a library beside its definition,
 -- with its index.
-use Rattle.std.specs.Prelude.{◌≡◌, ℕ, List, [], ◌∷◌, ◌++◌, codes, false, length, true}
+use Rattle.std.specs.Prelude.{◌≡◌, ℕ, List, [], ◌∷◌, ◌++◌, codes, true}
 use Rattle.implib.specs.declared.flavor.Flavor.{Flavor}
 use Rattle.implib.specs.declared.flavor.Flavor.TheVariants.{Gnu, Msvc}
 use Rattle.implib.specs.declared.machine.MachineType.TheVariants.{AMD64}
@@ -9,17 +9,11 @@ use Rattle.implib.specs.Import.{Import, Name}
 use Rattle.implib_read.specs.Archives.{Archive, StoredMember}
 use Rattle.implib_read.specs.Classes.{AnImport, Class, Descriptor, MemberRead, NotUnderstood}
 use Rattle.implib_read.specs.Classes.{NullDescriptor, NullThunk}
-use Rattle.implib_read.specs.Identity.{dlls_of}
 use Rattle.implib_read.specs.MemberNames.{LinkerMember}
 use Rattle.implib_read.specs.declared.import.ImportKind.TheVariants.{Code}
 use Rattle.implib_rules.specs.Linked.{NamingView, linked}
 use Rattle.implib_rules.specs.WorkedExportAs.{exporting}
-use Rattle.implib_rules.specs.WorkedNames.{line, usual}
-use Rattle.implib_compare.specs.Comparison.{has_unread}
-use Rattle.implib_compare.specs.Flavors.{flavor_of}
-use Rattle.implib_compare.specs.Working.{has_whole_tables, works_of}
-use Rattle.implib_compare.specs.declared.working.Working.{Working}
-use Rattle.implib_compare.specs.declared.working.Working.TheVariants.{Broken, NotDecided, Works}
+use Rattle.implib_rules.specs.WorkedNames.{line}
 use Rattle.implib_check_driver.specs.OwnExportAs.{SaysWhatIsMade, imports_made}
 use Rattle.implib_check_driver.specs.OwnIndexes.{IndexesLead}
 use Rattle.implib_check_driver.specs.OwnLibraries.{aliases_meant}
@@ -74,23 +68,6 @@ bar = import_of (codes "__imp_bar" ∷ codes "bar" ∷ []) (codes "bar")
 abbrev pub a_as_b : Class
 a_as_b = import_of (codes "__imp_a" ∷ codes "a" ∷ []) (codes "b")
 
--- an import of another DLL
-abbrev pub of_another : Class
-of_another = AnImport (record {
-  imports = record {
-    dll = codes "bar.dll";
-    declared = codes "a" ∷ [];
-    ask = Name (codes "b") 0;
-  };
-  kind = Code;
-  machine = 0x8664;
-})
-
--- whether members work, where no index misleads
-abbrev pub working : List MemberRead → Working
-working members = works_of false (has_unread members) (length (dlls_of members))
-    (has_whole_tables (flavor_of members) members)
-
 -- The short import of a from foo.dll on AMD64, with the third text b, and its header at 0x48. It
 -- declares `__imp_a` and a.
 abbrev pub third_text : StoredMember
@@ -123,13 +100,6 @@ pub record WorkedExportAs : Type 0 where
   pub gnu : imports_on exporting Gnu two
       ≡ of_foo (codes "__imp_a" ∷ codes "a" ∷ []) (codes "b") 0
       ∷ of_foo (codes "__imp_bar" ∷ codes "bar" ∷ []) (codes "bar") 0 ∷ []
-  -- without the option a is weak for b, which is an import of its own
-  pub without : imports_on usual Msvc two
-      ≡ of_foo (codes "__imp_bar" ∷ codes "bar" ∷ []) (codes "bar") 0
-      ∷ of_foo (codes "__imp_b" ∷ codes "b" ∷ []) (codes "b") 0 ∷ []
-  pub without_aliases : aliases_meant Msvc (linked AMD64 usual Msvc two)
-      ≡ record { weak = codes "a"; target = codes "b" }
-      ∷ record { weak = codes "__imp_a"; target = codes "__imp_b" } ∷ []
   -- a library of the two exports; not so in their order, where a asks for its own name, and where
   -- it is not read
   pub says : TwoSay (with_two bar a_as_b)
@@ -137,17 +107,7 @@ pub record WorkedExportAs : Type 0 where
   pub own_name : TwoSay (with_two bar (import_of (codes "__imp_a" ∷ codes "a" ∷ []) (codes "a"))) →
       ⊥
   pub not_read : TwoSay (with_two bar NotUnderstood) → ⊥
-  -- it works; not without a part of its tables, and that is open where an import is of another DLL,
-  -- or is not read
-  pub works : working (with_two bar a_as_b) ≡ Works
-  pub no_thunk : working
-      (member Descriptor ∷ member NullDescriptor ∷ member bar ∷ member a_as_b ∷ []) ≡ Broken
-  pub two_dlls : working (with_two bar of_another) ≡ NotDecided
-  pub unread : working (with_two bar NotUnderstood) ≡ NotDecided
-  -- an index that leads the symbols of a short import with a third text; the text is none, and the
-  -- offset is its own
+  -- an index that leads a symbol of a short import with a third text; the text is none
   pub leads : IndexesLead (with_entry (codes "a") 0x48)
-  pub leads_address : IndexesLead (with_entry (codes "__imp_a") 0x48)
   pub text_is_no_symbol : IndexesLead (with_entry (codes "b") 0x48) → ⊥
-  pub elsewhere : IndexesLead (with_entry (codes "a") 0x49) → ⊥
   pub no_index : IndexesLead (record { parts = []; members = third_text ∷ [] }) → ⊥

@@ -1,9 +1,8 @@
 -- What libraries do to each other in one link, worked by hand.
-use Rattle.std.specs.Prelude.{◌≡◌, ℕ, true, false, List, [], ◌∷◌, ◌++◌, None, Some, codes}
+use Rattle.std.specs.Prelude.{◌≡◌, ℕ, List, [], ◌∷◌, ◌++◌, None, Some, codes}
 use Rattle.implib.specs.Import.{Ask, Name, Ordinal}
 use Rattle.implib_read.specs.Classes.{Head, MemberRead}
 use Rattle.implib_read.specs.declared.import.ImportKind.TheVariants.{Code, CodeOrConst}
-use Rattle.implib_check_driver.specs.Status.{together_status}
 use Rattle.implib_check_driver.specs.Tasks.{Joins, task_named}
 use Rattle.implib_check_driver.specs.Together.{ClaimView, claims_from, clashes}
 use Rattle.implib_compare.specs.Worked.{alias, feed, member, of_dll}
@@ -19,8 +18,6 @@ feed_of dll ask = of_dll dll feed ask Code 0x8664
 -- Which claims clash, statuses and calls.
 pub record WorkedTogether : Type 0 where
   -- another DLL: both symbols of the second library clash with those of the first
-  pub other_dll : clashes (both_claims (feed_of (codes "zoo.dll") (Ordinal 1))
-      (feed_of (codes "bar.dll") (Ordinal 1))) ≡ None ∷ None ∷ Some 0 ∷ Some 1 ∷ []
   pub other_ordinal : clashes
       (both_claims (feed_of (codes "zoo.dll") (Ordinal 1)) (feed_of (codes "zoo.dll") (Ordinal 2)))
       ≡ None ∷ None ∷ Some 0 ∷ Some 1 ∷ []
@@ -33,9 +30,6 @@ pub record WorkedTogether : Type 0 where
   -- an alias of one, an import of the other
   pub an_alias : clashes (both_claims (feed_of (codes "zoo.dll") (Ordinal 1))
       (alias (codes "feed") (codes "food"))) ≡ None ∷ None ∷ Some 1 ∷ []
-  pub other_target : clashes
-      (both_claims (alias (codes "feed") (codes "food")) (alias (codes "feed") (codes "fodder")))
-      ≡ None ∷ Some 0 ∷ []
   -- near misses: the same but for hints, capitals of the DLL and the kind; another symbol; one
   -- library with itself
   pub same : clashes (both_claims (feed_of (codes "zoo.dll") (Name (codes "feed") 0))
@@ -53,12 +47,6 @@ pub record WorkedTogether : Type 0 where
       ++ claims_from 2 0 (alias (codes "feed") (codes "fodder") ∷ [])
       ++ claims_from 3 0 (alias (codes "feed") (codes "food") ∷ []))
       ≡ None ∷ Some 0 ∷ None ∷ []
-  pub unread : together_status true true ≡ 4
-  pub clash : together_status false true ≡ 1
-  pub none : together_status false false ≡ 0
-  pub task : task_named (codes "--together" ∷ codes "a.lib" ∷ codes "b.lib" ∷ [])
-      ≡ Some (Joins (codes "a.lib" ∷ codes "b.lib" ∷ []))
   pub three : task_named (codes "--together" ∷ codes "a.lib" ∷ codes "b.lib" ∷ codes "c.lib" ∷ [])
       ≡ Some (Joins (codes "a.lib" ∷ codes "b.lib" ∷ codes "c.lib" ∷ []))
   pub one_alone : task_named (codes "--together" ∷ codes "a.lib" ∷ []) ≡ None
-  pub no_library : task_named (codes "--together" ∷ []) ≡ None

@@ -1,10 +1,9 @@
 //! What the imports of a library, or of a definition, come to in a DLL.
 //!
-//! A loader knows a DLL by the name of its file. A copy under another name is still told by that of
-//! its export directory, so an import of either is of the DLL, unless the call gives a name. That a
-//! loader searches for a name, since its hint is off, changes nothing but time: it is told, and no
-//! fault. An export that no import asks for is told with `--all`, and a forwarder that leads to
-//! nothing with `--search`.
+//! A loader knows a DLL by the name of its file, whatever its export directory calls it; a call says
+//! of a copy what its file is called elsewhere. That a loader searches for a name, since its hint is
+//! off, changes nothing but time: it is told, and no fault. An export that no import asks for is
+//! told with `--all`, and a forwarder that leads to nothing with `--search`.
 
 ghost use Rattle.implib_check_driver.specs.Against.{against_status, begins_archive, begins_dll};
 ghost use Rattle.implib_check_driver.specs.Against.{has_options, held_status, is_library, names_of};
@@ -74,25 +73,13 @@ pub fn has_options(check: &Check) -> bool
         || naming.keeps_decorated
 }
 
-/// The names by which loaders know the DLL of a file: the one that is given, or else its own and
-/// that of the file.
-pub fn names_of(
-    alloc: Global,
-    given: Option<&str>,
-    path: &str,
-    own: &[u8],
-) -> Result<Vec<Vec<u8>>, AllocError>
+/// The names by which loaders know the DLL of a file: one, the given or the file's.
+pub fn names_of(alloc: Global, given: Option<&str>, path: &str) -> Result<Vec<Vec<u8>>, AllocError>
     ensures { IfOk result (λ names. map (λ name. name.items) names.items
-        ≡ names_of (option_map (λ text. text.now) given.entry) path.now own.now) }
+        ≡ names_of (option_map (λ text. text.now) given.entry) path.now) }
 {
     let mut names = Vec::new(alloc);
-    match given {
-        Some(dll) => names.push(loader_name(alloc, last_part(dll).as_bytes())?)?,
-        None => {
-            names.push(loader_name(alloc, own)?)?;
-            names.push(loader_name(alloc, last_part(path).as_bytes())?)?;
-        }
-    }
+    names.push(loader_name(alloc, last_part(given.unwrap_or(path)).as_bytes())?)?;
     Ok(names)
 }
 

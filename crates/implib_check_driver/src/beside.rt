@@ -236,7 +236,7 @@ fn members_against<S: Shelf, O: Write, E: Write>(
         (through file (map folder_view folders.now) (check_view check.now))
         (check_view check.now) (exports_view exports.entry) (map member_read_view members.now)) }
 {
-    let Ok(names) = names_of(form.alloc, check.dll, check.definition, exports.dll) else {
+    let Ok(names) = names_of(form.alloc, check.dll, check.definition) else {
         return complain(faults, NAME, "out of memory", 3);
     };
     doubt(faults, source.file().path(), members, false);

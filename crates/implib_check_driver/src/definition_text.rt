@@ -6,6 +6,8 @@ ghost use Rattle.implib_check_driver.specs.DefinitionText.{alias_text, asked_tex
 ghost use Rattle.implib_check_driver.specs.DefinitionText.{export_text, first_dll, hint_ordinal};
 ghost use Rattle.implib_check_driver.specs.DefinitionText.{other_text, flavor_text, head_text};
 ghost use Rattle.implib_check_driver.specs.DefinitionText.{hint_text, import_text, is_address};
+ghost use Rattle.implib_check_driver.specs.DefinitionText.{is_behind, is_of_aliases};
+ghost use Rattle.implib_check_driver.specs.DefinitionText.{word_of_target};
 ghost use Rattle.implib_check_driver.specs.DefinitionText.{is_capital_or_digit, is_name_byte};
 ghost use Rattle.implib_check_driver.specs.DefinitionText.{is_name_sign, is_plain_name};
 ghost use Rattle.implib_check_driver.specs.DefinitionText.{is_small_letter, kind_text};
@@ -222,7 +224,28 @@ fn push_export(
     Ok(())
 }
 
-// Adds the line of an import.
+// Whether a symbol is the name that is asked for behind this byte.
+fn is_behind(first: u8, symbol: &[u8], ask: AskFound) -> bool
+    ensures { result ≡ is_behind first symbol.now (ask_view ask.entry) }
+{
+    match (symbol, ask) {
+        ([byte, rest @ ..], AskFound::Name(name, _)) => *byte == first && rest == name,
+        _ => false,
+    }
+}
+
+// Whether an import is one that aliases lead to.
+fn is_of_aliases(import: &ImportFound) -> bool
+    ensures { result ≡ is_of_aliases (imported_view import.now) }
+{
+    let first = match import.kind {
+        ImportKind::Data | ImportKind::Const => b'@',
+        ImportKind::Code | ImportKind::CodeOrConst | ImportKind::Delayed => b'?',
+    };
+    is_behind(first, linked_symbol(&import.declared), import.ask)
+}
+
+// Adds the line of an import, unless the aliases that lead to it say it.
 fn push_import(
     text: &mut Vec<u8>,
     hints: bool,
@@ -234,8 +257,21 @@ fn push_import(
         (text.new.items ≡ text.old.items
         ++ import_text hints machine (naming_view naming) (imported_view import.now)) }
 {
+    if is_of_aliases(import) {
+        return Ok(());
+    }
     let word = word_of_symbol(machine, naming, linked_symbol(&import.declared));
     push_export(text, hints, word, import)
+}
+
+// What an alias's line says of the symbol that it is weak for.
+fn word_of_target(machine: MachineType, naming: Naming, symbol: &[u8]) -> &[u8]
+    ensures { result.now ≡ word_of_target machine (naming_view naming) symbol.now }
+{
+    match symbol {
+        [b'?' | b'@', rest @ ..] => rest,
+        _ => word_of_symbol(machine, naming, symbol),
+    }
 }
 
 // Adds the line of an alias of one symbol for another, with what it is of.
@@ -253,7 +289,7 @@ fn push_weak(
     text.extend_from_slice(b"    ")?;
     push_name(text, word_of_symbol(machine, naming, symbols.0))?;
     text.extend_from_slice(b" == ")?;
-    push_name(text, word_of_symbol(machine, naming, symbols.1))?;
+    push_name(text, word_of_target(machine, naming, symbols.1))?;
     text.extend_from_slice(of)?;
     text.push(b'\n')?;
     Ok(())

@@ -6,7 +6,7 @@ ghost use Rattle.implib_check_driver.specs.OwnIndexes.{OwnIndexesLead};
 ghost use Rattle.implib_check_driver.specs.OwnLibraries.{MeantIsDefined, OwnLibrariesAreTheSame};
 ghost use Rattle.implib_check_driver.specs.OwnLibraries.{SameSaysTheDefined};
 ghost use Rattle.implib_check_driver.specs.OwnTables.{OwnTablesAreWhole};
-ghost use Rattle.implib_check_driver.specs.Worked.{WorkedIdentities, WorkedStatuses, WorkedTasks};
+ghost use Rattle.implib_check_driver.specs.Worked.{WorkedStatuses, WorkedTasks};
 ghost use Rattle.implib_check_driver.specs.WorkedArm64ec.{WorkedArm64ec};
 ghost use Rattle.implib_check_driver.specs.WorkedAgainst.{WorkedAgainst};
 ghost use Rattle.implib_check_driver.specs.WorkedChecks.{WorkedChecks, WorkedTargets};
@@ -71,11 +71,6 @@ pub fn own_tables_are_whole()
     own_gnu_libraries();
     meant_is_made();
 }
-
-/// Which DLLs libraries have, worked by hand.
-pub fn worked_identities()
-    ensures { WorkedIdentities }
-{}
 
 /// The exit statuses, as numbers.
 pub fn worked_statuses()

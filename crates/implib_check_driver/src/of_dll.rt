@@ -14,7 +14,7 @@ ghost use Rattle.implib_check_driver.specs.OfDlls.{HasNoLibrary, HaveNoLibrary, 
 ghost use Rattle.implib_check_driver.specs.OfDlls.{IsLibraryOfDll, IsLibraryOfExports};
 ghost use Rattle.implib_check_driver.specs.OfDlls.{IsMachineFor, IsUnkept, options_for_dll};
 ghost use Rattle.implib_dll.specs.Views.{exports_view};
-ghost use Rattle.implib_dll_library.specs.Members.{MembersOfDll};
+ghost use Rattle.implib_libraries.specs.OfDll.Members.{MembersOfDll};
 ghost use Rattle.implib_rules.specs.Library.{kind_of};
 ghost use Rattle.implib_rules.specs.Options.{library_options_view};
 
@@ -23,7 +23,7 @@ use crate::call::Define;
 use crate::console::{NAME, complain};
 use implib::{Flavor, MachineType};
 use implib_dll::Exports;
-use implib_dll_library::{Unmade, members_of_dll};
+use implib_libraries::of_dll::{Unmade, members_of_dll};
 use implib_rules::additions::Additions;
 use implib_rules::library::{Refusal, archive_for};
 use implib_rules::linked::Naming;

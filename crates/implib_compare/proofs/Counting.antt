@@ -1,10 +1,10 @@
 -- How many of some keys are one, as a loop counts them.
-use Rattle.std.proofs.Common.{◌≡◌, ◌∙◌, ℕ, ◌+◌, ◌-◌, ◌<◌, ◌≤◌, Bool, true, false, not, ◌&&◌, List, [], ◌∷◌, ◌++◌, Option, Some, ap, append_assoc, arith, bytes_eq, drop, get_or, length, map, nat_le, nat_lt, refl, sym, take, if◌then◌else◌}
+use Rattle.std.proofs.Common.{◌≡◌, ◌∙◌, ℕ, ◌+◌, ◌-◌, ◌<◌, Bool, true, false, not, ◌&&◌, List, [], ◌∷◌, ◌++◌, Option, Some, ap, append_assoc, arith, bytes_eq, drop, get_or, length, map, nat_le, nat_lt, refl, sym, take, if◌then◌else◌}
 use Rattle.std.specs.Option.{unwrap_or}
 use Rattle.std.proofs.lemmas.Bool.{true≢false}
 use Rattle.std.proofs.lemmas.Slice.Eq.{bytes_eq-Decides}
-use Rattle.std.proofs.lemmas.List.{drop_more, length-map, length-take-le, map-append, take_more}
-use Rattle.std.proofs.lemmas.List.Sums.{count_by-le-length, sum_by_push}
+use Rattle.std.proofs.lemmas.List.{drop_more, map-append, take_more}
+use Rattle.std.proofs.lemmas.List.Sums.{sum_by_push}
 use Rattle.implib_compare.specs.Partners.{has_no_byte, how_many, lack_partners, lacks_partner}
 
 -- 1 for a key that is this one
@@ -22,19 +22,6 @@ pub how_many_more : {A : Type 0} (view : A → List ℕ) (items : List A) (i : �
 how_many_more view items i d key within =
     ap (how_many key) (keys_more view items i d within)
     ∙ sum_by_push (one_if key) (map view (take i items)) (view (get_or items i d))
-
--- a key is no oftener among the keys of the first items than there are of these
-pub how_many-below : {A : Type 0} (view : A → List ℕ) (items : List A) (i : ℕ) (key : List ℕ) → i ≤ length items
-    → how_many key (map view (take i items)) ≤ i
-how_many-below view items i key within =
-    omega (arith, count_by-le-length (λ k. bytes_eq key k) (map view (take i items)), length-map (take i items) view, length-take-le i items within)
-
--- a step of counting
-pub counted-more : {A : Type 0} (view : A → List ℕ) (items : List A) (i : ℕ) (d : A) (key noted : List ℕ) (before after : ℕ) → i < length items
-    → noted ≡ view (get_or items i d) → before ≡ how_many key (map view (take i items)) → after ≡ before + one_if key noted
-    → after ≡ how_many key (map view (take (i + 1) items))
-counted-more view items i d key noted before after within is was step =
-    step ∙ ap (λ b. b + one_if key noted) was ∙ ap (λ k. how_many key (map view (take i items)) + one_if key k) is ∙ sym (how_many_more view items i d key within)
 
 -- a step of taking away
 pub taken-more : {A : Type 0} (view : A → List ℕ) (items : List A) (i : ℕ) (d : A) (key noted : List ℕ) (all before after : ℕ) → i < length items

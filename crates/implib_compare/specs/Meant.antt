@@ -2,8 +2,7 @@
 use Rattle.std.specs.Prelude.{◌≡◌, ℕ, Bool, true, false, List, None, Option, Some, map}
 use Rattle.implib_arm64ec.specs.Archive.{ec_archive, library_refusal}
 use Rattle.implib_arm64ec.specs.Library.{LibraryView, members_of}
-use Rattle.implib_arm64ec_library.specs.Libraries.{IsLibraryOfTexts, IsRefusalOfArchive}
-use Rattle.implib_arm64ec_library.specs.Libraries.{IsRefusalOfTexts}
+use Rattle.implib_libraries.specs.Arm64ec.{IsLibraryOfTexts, IsRefusalOfArchive, IsRefusalOfTexts}
 use Rattle.implib_read.specs.Classes.{MemberRead, library_in}
 use Rattle.implib_read.specs.OwnLibraries.{member_bytes_in}
 use Rattle.implib_rules.specs.Library.{IsLibrary, IsRefusalOfBytes}

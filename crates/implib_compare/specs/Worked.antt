@@ -2,8 +2,8 @@
 use Rattle.std.specs.Prelude.{◌≡◌, ℕ, true, false, List, [], ◌∷◌, codes}
 use Rattle.implib.specs.declared.flavor.Flavor.TheVariants.{Gnu, Msvc}
 use Rattle.implib.specs.Import.{Ask, Name, Ordinal}
-use Rattle.implib_read.specs.Classes.{Class, AnImport, AnAlias, Descriptor, NullDescriptor}
-use Rattle.implib_read.specs.Classes.{NullThunk, Head, Tail, DelayImport, Other, NotUnderstood}
+use Rattle.implib_read.specs.Classes.{Class, AnImport, AnAlias, Descriptor}
+use Rattle.implib_read.specs.Classes.{Head, Tail, DelayImport, Other}
 use Rattle.implib_read.specs.Classes.{MemberRead}
 use Rattle.implib_read.specs.declared.import.ImportKind.{ImportKind}
 use Rattle.implib_read.specs.declared.import.ImportKind.TheVariants.{Code, CodeOrConst, Const, Data}
@@ -42,18 +42,11 @@ zoo = member Descriptor ∷ feed_of_zoo Code ∷ alias (codes "nourish") (codes 
 
 -- Which libraries are the same as `zoo`.
 pub record WorkedComparisons : Type 0 where
-  pub itself : verdict zoo zoo ≡ Same
   pub empty : verdict [] [] ≡ Same
-  -- in another order, with other members of import tables
-  pub order : verdict zoo
-      (alias (codes "nourish") (codes "feed") ∷ feed_of_zoo Code ∷ member NullThunk ∷ []) ≡ Same
   -- with a DLL's name in capitals, and another hint
   pub capitals : verdict (feed_of_zoo Code ∷ [])
       (of_dll (codes "ZOO.DLL") feed (Name (codes "feed") 0) Code 0x8664 ∷ []) ≡ Same
-  pub hint : verdict (feed_of_zoo Code ∷ [])
-      (of_dll (codes "zoo.dll") feed (Name (codes "feed") 7) Code 0x8664 ∷ []) ≡ Same
   -- code and a constant are as one that is not told
-  pub untold : verdict (feed_of_zoo Code ∷ []) (feed_of_zoo CodeOrConst ∷ []) ≡ Same
   pub untold_constant : verdict (feed_of_zoo CodeOrConst ∷ []) (feed_of_zoo Const ∷ []) ≡ Same
   pub constant : verdict (feed_of_zoo Code ∷ []) (feed_of_zoo Const ∷ []) ≡ Different
   pub constant_data : verdict (feed_of_zoo Const ∷ []) (feed_of_zoo Data ∷ []) ≡ Different
@@ -64,8 +57,6 @@ pub record WorkedComparisons : Type 0 where
   pub delayed_code : verdict (feed_of_zoo Code ∷ []) (feed_of_zoo Delayed ∷ []) ≡ Different
   pub delayed_untold : verdict (feed_of_zoo Delayed ∷ []) (feed_of_zoo CodeOrConst ∷ []) ≡ Different
   -- another DLL, symbols, name, ordinal, machine
-  pub dll : verdict (feed_of_zoo Code ∷ [])
-      (of_dll (codes "zoo.dl") feed (Name (codes "feed") 0) Code 0x8664 ∷ []) ≡ Different
   pub symbols : verdict (feed_of_zoo Code ∷ [])
       (of_dll (codes "zoo.dll") (codes "__imp_feed" ∷ []) (Name (codes "feed") 0) Code 0x8664 ∷ [])
       ≡ Different
@@ -73,24 +64,16 @@ pub record WorkedComparisons : Type 0 where
       (of_dll (codes "zoo.dll") feed (Name (codes "Feed") 0) Code 0x8664 ∷ []) ≡ Different
   pub by_ordinal : verdict (feed_of_zoo Code ∷ [])
       (of_dll (codes "zoo.dll") feed (Ordinal 0) Code 0x8664 ∷ []) ≡ Different
-  pub ordinal : verdict (of_dll (codes "zoo.dll") feed (Ordinal 7) Code 0x8664 ∷ [])
-      (of_dll (codes "zoo.dll") feed (Ordinal 263) Code 0x8664 ∷ []) ≡ Different
-  pub machine : verdict (feed_of_zoo Code ∷ [])
-      (of_dll (codes "zoo.dll") feed (Name (codes "feed") 0) Code 0x8665 ∷ []) ≡ Different
   -- another alias, the same twice, none
   pub weak : verdict (alias (codes "a") (codes "b") ∷ []) (alias (codes "c") (codes "b") ∷ [])
       ≡ Different
-  pub target : verdict (alias (codes "a") (codes "b") ∷ []) (alias (codes "a") (codes "c") ∷ [])
-      ≡ Different
   pub parted : verdict (alias (codes "ab") (codes "c") ∷ []) (alias (codes "a") (codes "bc") ∷ [])
       ≡ Different
-  pub twice : verdict zoo (feed_of_zoo Code ∷ zoo) ≡ Different
   pub none : verdict zoo [] ≡ Different
   -- another object leaves it open where the imports are the same, and one that is not understood
   -- always
   pub other : verdict zoo (member Other ∷ zoo) ≡ NotDecided
   pub other_differs : verdict (member Other ∷ []) zoo ≡ Different
-  pub not_understood : verdict zoo (member NotUnderstood ∷ zoo) ≡ NotDecided
   pub delayed_part : verdict (member DelayImport ∷ []) zoo ≡ NotDecided
   -- which members differ: of two that are equal the second, where the other library has one
   pub flags : differing true
@@ -103,12 +86,9 @@ import_on kind machine = of_dll (codes "zoo.dll") feed (Ordinal 1) kind machine
 
 -- The flavour of libraries.
 pub record WorkedFlavors : Type 0 where
-  pub msvc : flavor_of (member Descriptor ∷ member NullDescriptor ∷ member NullThunk
-      ∷ import_on Code 0x8664 ∷ []) ≡ Msvc
   pub tables : flavor_of (member Descriptor ∷ import_on Data 0x8664 ∷ []) ≡ Msvc
   pub code : flavor_of (import_on Code 0x8664 ∷ []) ≡ Msvc
   pub constant : flavor_of (import_on Data 0x8664 ∷ import_on Const 0x8664 ∷ []) ≡ Msvc
-  pub gnu : flavor_of (member Tail ∷ member Head ∷ import_on CodeOrConst 0x8664 ∷ []) ≡ Gnu
   pub delayed : flavor_of (member Tail ∷ member Head ∷ import_on Delayed 0x8664 ∷ []) ≡ Gnu
   pub data_alone : flavor_of
       (import_on Data 0x8664 ∷ alias (codes "a") (codes "b") ∷ member Other ∷ []) ≡ Gnu

@@ -8,7 +8,7 @@ ghost use Rattle.implib_rules.specs.Library.{IsLibrary, IsRefusalOfBytes};
 ghost use Rattle.implib_rules.specs.Older.{IsLibraryAsked, IsRefusalOfBytesAsked};
 ghost use Rattle.implib_rules.specs.Options.{library_options_view};
 
-use implib_arm64ec_library::{Arm64ecRefusal, arm64ec_archive, arm64ec_library_for};
+use implib_libraries::arm64ec::{Arm64ecRefusal, arm64ec_archive, arm64ec_library_for};
 use implib_rules::library::{LibraryError, Refusal, archive_for, members_asked, write_library};
 use implib_rules::options::LibraryOptions;
 use std::alloc::Global;

@@ -25,7 +25,7 @@ use Rattle.implib.proofs.Formats.Table.{CanBeHeld-from_sound, LieWithin}
 use Rattle.implib.proofs.Members.GnuObjects.{filled_text, holds-mangled_name}
 use Rattle.implib.proofs.Members.MsvcObjects.{plain_section_fits, relocation_fits}
 use Rattle.implib_delay.specs.Names.{handle_symbol, helper_symbol, name_symbol, tail_symbol}
-use Rattle.implib_delay.specs.Objects.{address_kind, export_object, export_symbols, head_object, jump_kind, mode_of, relocated, read_only_flags, stub_relocations, tail_object, tail_relocations, unbound_entry, unwind_codes, unwound_function, word_kind}
+use Rattle.implib_delay.specs.Objects.{export_object, export_symbols, head_object, mode_of, relocated, read_only_flags, stub_relocations, tail_object, tail_relocations, unbound_entry, unwind_codes, unwound_function, word_kind}
 
 -- Names.
 
@@ -98,18 +98,6 @@ thunk_flags_fit ARM64 = omega arith
 
 fits : (offset index kind : ℕ) → offset < 2 ^ 32 → index < 2 ^ 32 → kind < 2 ^ 16 → FitsRelocation (relocated offset index kind)
 fits offset index kind one two three = record { offset = one; symbol = two; kind = three }
-
-jump_kind_fits : (machine : MachineType) → jump_kind machine < 2 ^ 16
-jump_kind_fits I386 = omega arith
-jump_kind_fits ARMNT = omega arith
-jump_kind_fits AMD64 = omega arith
-jump_kind_fits ARM64 = omega arith
-
-address_kind_fits : (machine : MachineType) → address_kind machine < 2 ^ 16
-address_kind_fits I386 = omega arith
-address_kind_fits ARMNT = omega arith
-address_kind_fits AMD64 = omega arith
-address_kind_fits ARM64 = omega arith
 
 word_kind_fits : (machine : MachineType) → word_kind machine < 2 ^ 16
 word_kind_fits I386 = omega arith

@@ -1,7 +1,7 @@
 -- A writer that takes a table row by row.
-use Rattle.std.proofs.Common.{◌≡◌, ℕ, zero, suc, ◌+◌, ◌<◌, ◌≤◌, List, [], ◌∷◌, ◌++◌, IsSomeAnd, length, map, take, drop, get_or, refl, sym, ap, subst, ◌∙◌, append_assoc, arith, length-append}
+use Rattle.std.proofs.Common.{◌≡◌, ℕ, zero, suc, ◌+◌, ◌<◌, ◌≤◌, List, [], ◌∷◌, ◌++◌, IsSomeAnd, length, map, take, drop, get_or, refl, ap, subst, ◌∙◌, arith, length-append}
 use Rattle.std.specs.List.{AllByRecursion}
-use Rattle.std.proofs.lemmas.List.{append-nil, drop_all, map-append, take_all, take_more}
+use Rattle.std.proofs.lemmas.List.{append-nil, drop_all, take_all}
 use Rattle.std.proofs.lemmas.List.Concat.{flat_map-append}
 use Rattle.std.proofs.lemmas.List.Folds.{flat_map-map, length-flat_map-take}
 use Rattle.implib_delay.specs.declared.table.SectionRow.{SectionRow}
@@ -64,13 +64,6 @@ row_has_room symbols (row ∷ rows) zero d all within = all.0
 row_has_room symbols (row ∷ rows) (suc i) d all within = row_has_room symbols rows i d all.1 (omega (arith, within))
 
 -- the symbols
-
--- the rows so far and one more
-pub rows_more : {X Y : Type 0} (f : X → Y) (ys : List Y) (xs : List X) (i : ℕ) (d : X) → i < length xs →
-    (ys ++ map f (take i xs)) ++ f (get_or xs i d) ∷ [] ≡ ys ++ map f (take (i + 1) xs)
-rows_more f ys xs i d within =
-    append_assoc ys (map f (take i xs)) (f (get_or xs i d) ∷ [])
-    ∙ ap (λ x. ys ++ x) (sym (map-append f (take i xs) (get_or xs i d ∷ [])) ∙ ap (map f) (sym (take_more xs i d within)))
 
 -- the next symbol can be added
 pub next_can_be_added : (count : ℕ) (rows : List SymbolRow) (i : ℕ) (d : SymbolRow) → AllByRecursion (CanBeAdded count) (map symbol_row rows) → i < length rows →

@@ -1,11 +1,11 @@
 -- The calls that were worked by hand.
-use Rattle.std.proofs.Common.{◌≡◌, ◌≢◌, ap, true, false, ℕ, ◌+◌, refl, arith, ◌∙◌}
+use Rattle.std.proofs.Common.{◌≡◌, ◌≢◌, ℕ, ◌+◌, refl, arith, ◌∙◌}
 use Rattle.implib.specs.Worked.Digits.{bytes_of_digits}
 use Rattle.implib_delay.specs.Processor.{with_value}
 use Rattle.implib_delay.specs.Code.{tail_code}
 use Rattle.implib_delay.specs.Decoding.{run_bytes}
 use Rattle.implib_delay.specs.WorkedCode.{WorkedCode, WorkedLinkedCode}
-use Rattle.implib_delay.specs.WorkedCalls.{WorkedCalls, WorkedPremises, WorkedAnswers, NearFieldsLead, NearBegins, NearAnswers}
+use Rattle.implib_delay.specs.WorkedCalls.{WorkedCalls, WorkedPremises, WorkedAnswers}
 use Rattle.implib_delay.proofs.Words.{value_elsewhere}
 
 pub worked_code : WorkedCode
@@ -35,13 +35,9 @@ worked_calls = record {
 pub worked_premises : WorkedPremises
 worked_premises = record {
   program64_leads = record { jump = refl; entry = refl; descriptor = refl; tail = refl; helper = refl };
-  library64_leads = record { jump = refl; entry = refl; descriptor = refl; tail = refl; helper = refl };
   program32_leads = record { jump = refl; entry = refl; descriptor = refl; tail = refl; helper = refl };
-  library32_leads = record { jump = refl; entry = refl; descriptor = refl; tail = refl; helper = refl };
   program64_begins = record { pointer = refl; room = omega arith; within = omega arith; aligned = refl; unbound = refl; sound = refl };
-  library64_begins = record { pointer = refl; room = omega arith; within = omega arith; aligned = refl; unbound = refl; sound = refl };
   program32_begins = record { pointer = refl; room = omega arith; within = omega arith; aligned = refl; unbound = refl; sound = refl };
-  library32_begins = record { pointer = refl; room = omega arith; within = omega arith; aligned = refl; unbound = refl; sound = refl };
 }
 
 -- a word that is neither the entry nor the one above the return address stays
@@ -59,15 +55,6 @@ worked_answers = record {
     stack = λ q above below. stays s.words (s.registers 4 + 8) 0x14000A100 0x7FFE0000 q (λ e. omega arith) (λ e. omega arith);
     sound = refl;
   };
-  library64_answers = λ s pointer. record {
-    answer = refl;
-    written = refl;
-    pointer = refl;
-    registers = (refl, (refl, (refl, (refl, (refl, (refl, (refl, (refl, tt))))))));
-    vectors = (refl, (refl, (refl, (refl, (refl, (refl, (refl, (refl, (refl, (refl, tt))))))))));
-    stack = λ q above below. stays s.words (s.registers 4 + 8) 0x180003010 0x7FFE1230 q (λ e. omega arith) (λ e. omega arith);
-    sound = refl;
-  };
   program32_answers = λ s pointer. record {
     answer = refl;
     written = refl;
@@ -77,47 +64,4 @@ worked_answers = record {
     stack = λ q above below. stays s.words (s.registers 4 + 8) 0x40A0E0 0x6B001234 q (λ e. omega arith) (λ e. omega arith);
     sound = refl;
   };
-  library32_answers = λ s pointer. record {
-    answer = refl;
-    written = refl;
-    pointer = refl;
-    registers = (refl, (refl, (refl, (refl, tt))));
-    vectors = tt;
-    stack = λ q above below. stays s.words (s.registers 4 + 8) 0x10003010 0x75001000 q (λ e. omega arith) (λ e. omega arith);
-    sound = refl;
-  };
-}
-
--- the two truth values differ
-false_is_not_true : false ≡ true → ⊥
-false_is_not_true same = cc
-
-pub near_fields_lead : NearFieldsLead
-near_fields_lead = record {
-  jump = λ h. omega (arith, h.jump);
-  entry = λ h. omega (arith, h.entry);
-  descriptor = λ h. omega (arith, h.descriptor);
-  tail = λ h. omega (arith, h.tail);
-  helper = λ h. omega (arith, h.helper);
-}
-
-pub near_begins : NearBegins
-near_begins = record {
-  pointer = λ h. omega (arith, h.pointer);
-  room = λ h. omega (arith, h.room);
-  within = λ h. omega (arith, h.within);
-  aligned = λ h. omega (arith, h.aligned);
-  unbound = λ h. omega (arith, h.unbound);
-  sound = λ h. false_is_not_true h.sound;
-}
-
-pub near_answers : NearAnswers
-near_answers = record {
-  answer = λ h. omega (arith, h.answer);
-  written = λ h. omega (arith, h.written);
-  pointer = λ h. omega (arith, h.pointer);
-  registers = λ h. omega (arith, h.registers.1.1.1.1.1.1.1.0);
-  vectors = λ h. let low : 0 ≡ 0x1016 = ap (λ v. v.low) h.vectors.0 in omega arith;
-  stack = λ h. omega (arith, h.stack 0x7FF008 (omega arith) (omega arith));
-  sound = λ h. false_is_not_true h.sound;
 }

@@ -37,13 +37,8 @@ worked_names = record { head = refl; tail = refl; first = refl; later = refl }
 pub worked_refusals : WorkedRefusals
 unfolding input_refusal
 worked_refusals = record {
-  none = refl;
   arm64 = refl;
   armnt = refl;
-  names = refl;
   nul = refl;
-  data_of_two = refl;
-  constant = refl;
-  private_data = refl;
   alias = refl;
 }

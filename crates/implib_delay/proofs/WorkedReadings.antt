@@ -4,15 +4,13 @@ use Rattle.implib.specs.Formats.Layout.{entries_of, name_text, object_of}
 use Rattle.implib.specs.Formats.Object.{before_nul, u16_at, u32_at}
 use Rattle.implib.specs.Worked.Digits.{bytes_of_digits}
 use Rattle.implib_delay.specs.Reader.{delayed_ask, delayed_dll, delayed_symbols, is_delayed}
-use Rattle.implib_delay.specs.WorkedObjects.{by_name32, by_name64, by_ordinal32, by_ordinal64, head32, head64, tail32, tail64}
+use Rattle.implib_delay.specs.WorkedObjects.{by_name64, by_ordinal32, head32, head64, tail32, tail64}
 use Rattle.implib_delay.specs.WorkedReadings.{WorkedReadings}
 
 pub worked_readings : WorkedReadings
-unfolding bytes_of_digits object_of entries_of name_text before_nul u16_at u32_at delayed_ask delayed_dll delayed_symbols is_delayed by_name32 by_name64 by_ordinal32 by_ordinal64 head32 head64 tail32 tail64
+unfolding bytes_of_digits object_of entries_of name_text before_nul u16_at u32_at delayed_ask delayed_dll delayed_symbols is_delayed by_name64 by_ordinal32 head32 head64 tail32 tail64
 worked_readings = record {
   name_on_amd64 = refl;
-  ordinal_on_amd64 = refl;
-  name_on_i386 = refl;
   ordinal_on_i386 = refl;
   of_addresses = refl;
   bound_entry = refl;

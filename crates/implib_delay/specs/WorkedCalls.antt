@@ -1,5 +1,5 @@
--- Delayed calls worked by hand: what premises hold of places and states, what does not, and what
--- comes of code that is wrong.
+-- Delayed calls worked by hand: premises hold of places and states; and what comes of code that is
+-- wrong.
 use Rattle.std.specs.Prelude.{◌≡◌, ℕ, ◌+◌, ◌==◌, nat_le, ◌||◌, true, false, List, [], ◌∷◌, Option}
 use Rattle.std.specs.Prelude.{Some, if◌then◌else◌}
 use Rattle.std.specs.Option.{option_and_then, option_map}
@@ -9,7 +9,7 @@ use Rattle.implib_delay.specs.Decoding.{Left, run}
 use Rattle.implib_delay.specs.Code.{linked_stub, linked_tail}
 use Rattle.implib_delay.specs.Calls.{Placement, FieldsLead, Begins, Answers, dropped_size}
 use Rattle.implib_delay.specs.Calls.{first_argument, second_argument}
-use Rattle.implib_delay.specs.WorkedCode.{field, program64, library64, program32, library32}
+use Rattle.implib_delay.specs.WorkedCode.{program64, program32}
 
 -- an xmm register of two numbers
 abbrev pub vector : ℕ → ℕ → Vector
@@ -149,77 +149,14 @@ pub record WorkedCalls : Type 0 where
 -- places and states of which the premises hold
 pub record WorkedPremises : Type 0 where
   pub program64_leads : FieldsLead Bits64 program64
-  pub library64_leads : FieldsLead Bits64 library64
   pub program32_leads : FieldsLead Bits32 program32
-  pub library32_leads : FieldsLead Bits32 library32
   pub program64_begins : Begins Bits64 program64 0x7FF100 (at_call program64 0x7FF008 0x1000)
-  pub library64_begins : Begins Bits64 library64 0x2000 (at_call library64 0x1FD8 7)
   pub program32_begins : Begins Bits32 program32 0x1A0000 (at_call program32 0x19FF70 0x1000)
-  pub library32_begins : Begins Bits32 library32 0x1008 (at_call library32 0x1000 7)
 
 -- what a helper that keeps as little as it may answers, from any state that the stack's pointer of
 -- these has
 pub record WorkedAnswers : Type 0 where
   pub program64_answers : (s : State) → s.registers 4 ≡ 0x7FEF78 →
       Answers Bits64 program64 0x7FF100 0x7FFE0000 s (helped Bits64 program64 0x7FFE0000 s)
-  pub library64_answers : (s : State) → s.registers 4 ≡ 0x1F48 →
-      Answers Bits64 library64 0x2000 0x7FFE1230 s (helped Bits64 library64 0x7FFE1230 s)
   pub program32_answers : (s : State) → s.registers 4 ≡ 0x19FF58 →
       Answers Bits32 program32 0x1A0000 0x6B001234 s (helped Bits32 program32 0x6B001234 s)
-  pub library32_answers : (s : State) → s.registers 4 ≡ 0xFE8 →
-      Answers Bits32 library32 0x1008 0x75001000 s (helped Bits32 library32 0x75001000 s)
-
--- fields of which one does not lead where it should
-pub record NearFieldsLead : Type 0 where
-  pub jump : FieldsLead Bits64
-      (record program64 { fields = record program64.fields { jump = field 0xDB 0x89 0 0 } }) → ⊥
-  pub entry : FieldsLead Bits64
-      (record program64 { fields = record program64.fields { entry = field 0xDA 0x89 0 0 } }) → ⊥
-  pub descriptor : FieldsLead Bits64
-      (record program64 { fields = record program64.fields { descriptor = field 0xCC 0x88 0 1 } }) →
-      ⊥
-  pub tail : FieldsLead Bits64
-      (record program64 { fields = record program64.fields { tail = field 0x57 0 0 0x80 } }) → ⊥
-  pub helper : FieldsLead Bits64 (record program64 { helper_field = field 0xC0 0x12 0 0 }) → ⊥
-
--- states in which one premise of a call does not hold
-pub record NearBegins : Type 0 where
-  pub pointer : Begins Bits64 program64 0x7FF100 (at_call program64 0x7FF000 0x1000) → ⊥
-  pub room : Begins Bits64 program64 0x7FF100 (at_call program64 0x88 0x1000) → ⊥
-  pub within : Begins Bits64 program64 0x7FF028 (at_call program64 0x7FF008 0x1000) → ⊥
-  pub aligned : Begins Bits64 (record program64 { entry = 0x14000A104 }) 0x7FF100
-      (at_call (record program64 { entry = 0x14000A104 }) 0x7FF008 0x1000) → ⊥
-  pub unbound : Begins Bits64 program64 0x7FF100
-      (record (at_call program64 0x7FF008 0x1000) { words = λ q. q }) → ⊥
-  pub sound : Begins Bits64 program64 0x7FF100
-      (record (at_call program64 0x7FF008 0x1000) { is_sound = false }) → ⊥
-
--- the state at the helper of `program64`, as far as its answer tells
-abbrev pub at_helper64 : State
-at_helper64 = at_call program64 0x7FEF78 0x1000
-
--- states where the helper returns in which it has not done one thing
-pub record NearAnswers : Type 0 where
-  pub answer : Answers Bits64 program64 0x7FF100 0x7FFE0000 at_helper64
-      (record (helped Bits64 program64 0x7FFE0000 at_helper64) {
-        registers = with_value (helped Bits64 program64 0x7FFE0000 at_helper64).registers 0 1;
-      }) → ⊥
-  pub written : Answers Bits64 program64 0x7FF100 0x7FFE0000 at_helper64
-      (record (helped Bits64 program64 0x7FFE0000 at_helper64) { words = at_helper64.words }) → ⊥
-  pub pointer : Answers Bits64 program64 0x7FF100 0x7FFE0000 at_helper64
-      (record (helped Bits64 program64 0x7FFE0000 at_helper64) {
-        registers = with_value (helped Bits64 program64 0x7FFE0000 at_helper64).registers 4
-            0x7FEF78;
-      }) → ⊥
-  pub registers : Answers Bits64 program64 0x7FF100 0x7FFE0000 at_helper64
-      (record (helped Bits64 program64 0x7FFE0000 at_helper64) {
-        registers = with_value (helped Bits64 program64 0x7FFE0000 at_helper64).registers 15 0;
-      }) → ⊥
-  pub vectors : Answers Bits64 program64 0x7FF100 0x7FFE0000 at_helper64
-      (record (helped Bits64 program64 0x7FFE0000 at_helper64) { vectors = λ v. vector 0 0 }) → ⊥
-  pub stack : Answers Bits64 program64 0x7FF100 0x7FFE0000 at_helper64
-      (record (helped Bits64 program64 0x7FFE0000 at_helper64) {
-        words = with_value (helped Bits64 program64 0x7FFE0000 at_helper64).words 0x7FF008 0;
-      }) → ⊥
-  pub sound : Answers Bits64 program64 0x7FF100 0x7FFE0000 at_helper64
-      (record (helped Bits64 program64 0x7FFE0000 at_helper64) { is_sound = false }) → ⊥

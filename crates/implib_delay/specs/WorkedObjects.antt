@@ -1,9 +1,9 @@
 -- Objects of delayed imports worked by hand: those of foo.dll with all their numbers, on both
 -- machines, the names of their members, and definitions that are refused.
-use Rattle.std.specs.Prelude.{◌≡◌, ℕ, List, [], ◌∷◌, ◌++◌, None, Some, codes, true}
+use Rattle.std.specs.Prelude.{◌≡◌, ℕ, List, [], ◌∷◌, ◌++◌, Some, codes, true}
 use Rattle.implib.specs.declared.machine.MachineType.TheVariants.{I386, ARMNT, AMD64, ARM64}
 use Rattle.implib.specs.Definition.{DefinitionView, ExportView, empty_definition, empty_export}
-use Rattle.implib.specs.Fault.{EmptyImportName, NulInExport}
+use Rattle.implib.specs.Fault.{NulInExport}
 use Rattle.implib.specs.Formats.Layout.{InRecord, InStringTable, ObjectLayout}
 use Rattle.implib.specs.Formats.Writer.{layout_of}
 use Rattle.implib.specs.LibraryName.{own_names}
@@ -12,7 +12,7 @@ use Rattle.implib.specs.Worked.Machines.{at}
 use Rattle.implib.specs.Worked.Objects.{section, symbol, zeros}
 use Rattle.implib_delay.specs.Names.{export_name, head_name, tail_name}
 use Rattle.implib_delay.specs.Objects.{export_object, head_object, tail_object}
-use Rattle.implib_delay.specs.Refusal.{IsAlias, IsData, NoMachine, OfNames, input_refusal}
+use Rattle.implib_delay.specs.Refusal.{IsAlias, NoMachine, OfNames, input_refusal}
 
 -- the head of foo.dll on AMD64
 unfoldable pub head64 : ObjectLayout
@@ -239,25 +239,10 @@ of_dll name exports = record empty_definition { import_name = name; exports = ex
 
 -- what is refused first
 pub record WorkedRefusals : Type 0 where
-  pub none : input_refusal (of_dll (codes "foo.dll") (numbered (codes "bar") ∷ [])) AMD64 ≡ None
   pub arm64 : input_refusal (of_dll (codes "foo.dll") []) ARM64 ≡ Some NoMachine
   pub armnt : input_refusal (of_dll [] []) ARMNT ≡ Some NoMachine
-  pub names : input_refusal (of_dll [] []) I386 ≡ Some (OfNames EmptyImportName)
   pub nul : input_refusal (of_dll (codes "foo.dll") (numbered (0x61 ∷ 0 ∷ []) ∷ [])) AMD64
       ≡ Some (OfNames (NulInExport 0))
-  pub data_of_two : input_refusal
-      (of_dll (codes "foo.dll")
-      (numbered (codes "bar") ∷ record empty_export { name = codes "e"; is_data = true } ∷ []))
-      AMD64
-      ≡ Some (IsData 1)
-  pub constant : input_refusal
-      (of_dll (codes "foo.dll") (record empty_export { name = codes "e"; constant = true } ∷ []))
-      I386
-      ≡ Some (IsData 0)
-  pub private_data : input_refusal
-      (of_dll (codes "foo.dll")
-      (record empty_export { name = codes "e"; is_data = true; private = true } ∷ [])) AMD64
-      ≡ None
   pub alias : input_refusal
       (of_dll (codes "foo.dll")
       (record empty_export { name = codes "e"; alias_target = codes "f" } ∷ [])) AMD64

@@ -7,7 +7,7 @@ use Rattle.implib.specs.Formats.Object.{ObjectSection}
 use Rattle.implib.specs.Import.{Import, Name, Ordinal}
 use Rattle.implib.specs.Worked.Objects.{zeros}
 use Rattle.implib_delay.specs.Reader.{delayed_import}
-use Rattle.implib_delay.specs.WorkedObjects.{by_name32, by_name64, by_ordinal32, by_ordinal64}
+use Rattle.implib_delay.specs.WorkedObjects.{by_name64, by_ordinal32}
 use Rattle.implib_delay.specs.WorkedObjects.{head32, head64, tail32, tail64}
 
 -- a section with other bytes, if it has this name
@@ -38,16 +38,6 @@ pub record WorkedReadings : Type 0 where
   pub name_on_amd64 : read64 by_name64 ≡ Some (record {
     dll = codes "foo.dll";
     declared = codes "__imp_bar" ∷ codes "bar" ∷ [];
-    ask = Name (codes "bar") 258;
-  })
-  pub ordinal_on_amd64 : read64 by_ordinal64 ≡ Some (record {
-    dll = codes "foo.dll";
-    declared = codes "__imp_bar" ∷ codes "bar" ∷ [];
-    ask = Ordinal 258;
-  })
-  pub name_on_i386 : read32 by_name32 ≡ Some (record {
-    dll = codes "foo.dll";
-    declared = codes "__imp__bar" ∷ codes "_bar" ∷ [];
     ask = Name (codes "bar") 258;
   })
   pub ordinal_on_i386 : read32 by_ordinal32 ≡ Some (record {

@@ -7,7 +7,6 @@ ghost use Rattle.implib.specs.Renaming.{renamed};
 ghost use Rattle.implib_delay.specs.Members.{AreDelayedMembersOf};
 ghost use Rattle.implib_delay.specs.Reader.{DelayedReadBack};
 ghost use Rattle.implib_delay.specs.Processor.{Mode, State, word_size};
-ghost use Rattle.implib_delay.specs.WorkedCalls.{NearAnswers, NearBegins, NearFieldsLead};
 ghost use Rattle.implib_delay.specs.WorkedCalls.{WorkedAnswers, WorkedCalls, WorkedPremises};
 ghost use Rattle.implib_delay.specs.WorkedCode.{WorkedCode, WorkedLinkedCode};
 ghost use Rattle.implib_delay.specs.WorkedObjects.{WorkedNames, WorkedObjects, WorkedRefusals};
@@ -39,14 +38,10 @@ pub fn worked_code()
     ensures calls { WorkedCalls }
 {}
 
-/// Places and states that were worked by hand meet the premises of these laws, and those that
-/// differ in one thing do not.
+/// Places and states that were worked by hand meet the premises of these laws.
 pub fn worked_premises()
     ensures premises { WorkedPremises }
     ensures answers { WorkedAnswers }
-    ensures near_fields { NearFieldsLead }
-    ensures near_begins { NearBegins }
-    ensures near_answers { NearAnswers }
 {}
 
 /// The objects of foo.dll, which was worked by hand, are these on both machines; the members have

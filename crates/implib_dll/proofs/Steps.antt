@@ -13,16 +13,6 @@ with_front front read = read >>= λ found. Ok (front ++ found.0, found.1)
 pub record Reads {X S : Type 0} (step : ℕ → S → Read (X × S)) (whole : Read (List X × S)) (front : List X) (index count : ℕ) (state : S) : Type 0 where
   pub so_far : with_front front (each_from step index (count - index) state) ≡ whole
 
-with_nothing : {X S : Type 0} (read : Read (List X × S)) → with_front [] read ≡ read
-with_nothing (Ok found) = refl
-with_nothing (Err fault) = refl
-
-pub reads-start : {X S : Type 0} (step : ℕ → S → Read (X × S)) (count : ℕ) (state : S)
-    → Reads step (each_from step 0 count state) [] 0 count state
-reads-start step count state =
-    let all : count - 0 ≡ count = omega arith in
-    record { so_far = with_nothing (each_from step 0 (count - 0) state) ∙ ap (λ left. each_from step 0 left state) all }
-
 regrouped : {X S : Type 0} (front : List X) (x : X) (read : Read (List X × S))
     → with_front front (read >>= λ others. Ok (x ∷ others.0, others.1)) ≡ with_front (front ++ x ∷ []) read
 regrouped front x (Ok found) = ap (λ items. Ok (items, found.1)) (sym (append_assoc front (x ∷ []) found.0))

@@ -4,8 +4,6 @@ use Rattle.std.proofs.lemmas.Grind.{common_steps}
 use Rattle.std.proofs.lemmas.Bool.{ne_eqb}
 use Rattle.std.specs.List.{list_any, prefix_len}
 use Rattle.std.specs.Option.{option_and_then, option_map, option_map_or}
-use Rattle.implib_dll.specs.Exports.{Exports}
-use Rattle.implib_dll.specs.Lookup.{by_ordinal, ordinal_index, target_at}
 use Rattle.implib_dll_check.specs.DllName.{loader_name}
 use Rattle.implib_dll_check.specs.Forwarding.{Beside, Content, End, Holds, Stops, Step, On, Ends, end_by, end_of, end_of_member, ends, forwarder_of, in_content, in_known, is_digit, is_unknown, known_by, longer, most_forwarders, next_step, split_last, then_on, with_digit}
 use Rattle.implib_dll_check.specs.Imports.{import_in, is_of_data}
@@ -84,11 +82,6 @@ number_more text i number next whole low digit same is =
     ∙ ap (λ (n : ℕ). take n (get_or text i 0 ∷ back)) more) in
     rw add-one (digits_same rest next (with_digit number (get_or text i 0)) same
     ∙ (ap (λ (d : List ℕ). fold with_digit number d % 2 ^ 32) (sym cut) ∙ is))
-
-pub ordinal_same : (e : Exports) (n : ℕ) → by_ordinal e (n % 2 ^ 32) ≡ by_ordinal e n
-ordinal_same e n =
-    let same : ordinal_index e.base (n % 2 ^ 32) ≡ ordinal_index e.base n = omega arith in
-    ap (λ index. target_at e.targets index) same
 
 -- a forwarder that is followed: to another one, to an end, or no further
 pub followed_on : (left : ℕ) (known : List ℕ → Option Content) (machine : ℕ) (is_data : Bool) (text next : List ℕ) (whole : End) → 0 < left

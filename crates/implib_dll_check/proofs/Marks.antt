@@ -1,6 +1,5 @@
 -- What is missing, one index at a time.
-use Rattle.std.proofs.Common.{◌≡◌, ℕ, suc, ◌+◌, ◌<◌, Bool, true, false, cond, ◌||◌, List, [], ◌∷◌, ◌++◌, length, map, take, get_or, refl, ap, ◌∙◌, sym, append_assoc, append-nil, arith}
-use Rattle.std.specs.List.{list_any}
+use Rattle.std.proofs.Common.{◌≡◌, ℕ, suc, ◌+◌, ◌<◌, Bool, cond, List, [], ◌∷◌, ◌++◌, length, map, take, get_or, ap, ◌∙◌, sym, append_assoc, append-nil, arith}
 use Rattle.std.proofs.lemmas.List.{length-map, length-take, map-append, take_more}
 use Rattle.implib.specs.Import.{Ask}
 use Rattle.implib_dll.specs.declared.target.Target.{Target as BorrowedTarget}
@@ -8,19 +7,6 @@ use Rattle.implib_dll.specs.declared.target.Target.TheVariants.{Empty}
 use Rattle.implib_dll.specs.Exports.{Exports, Target}
 use Rattle.implib_dll.specs.Views.{target_view}
 use Rattle.implib_dll_check.specs.Missing.{is_missing, missing_from}
-
--- one more
-pub list_any-push : {X : Type 0} (p : X → Bool) (xs : List X) (x : X) → list_any p (xs ++ x ∷ []) ≡ (list_any p xs || p x)
-list_any-push p [] x = or_false (p x)
-  where
-    or_false : (b : Bool) → (b || false) ≡ b
-    or_false true = refl
-    or_false false = refl
-list_any-push p (y ∷ xs) x = by_first (p y) (list_any-push p xs x)
-  where
-    by_first : (b : Bool) → list_any p (xs ++ x ∷ []) ≡ (list_any p xs || p x) → (b || list_any p (xs ++ x ∷ [])) ≡ ((b || list_any p xs) || p x)
-    by_first true is = refl
-    by_first false is = is
 
 -- the index of one more target, if it is missing
 pub missing_from-append : (e : Exports) (asks : List Ask) (targets : List Target) (t : Target) (index : ℕ)

@@ -6,8 +6,8 @@ use Rattle.std.proofs.lemmas.List.Elements.{All-weaker}
 use Rattle.implib.proofs.Members.GnuReadings.{same_bytes}
 use Rattle.implib.specs.Import.{Ask, Name, Ordinal}
 use Rattle.implib_dll.specs.Exports.{Exports}
-use Rattle.implib_from_dll.proofs.Found.{asks_are_found}
-use Rattle.implib_from_dll.specs.Laws.{IsFoundAtOnce, asks_of}
+use Rattle.implib_libraries.proofs.FromDll.Found.{asks_are_found}
+use Rattle.implib_libraries.specs.FromDll.Laws.{IsFoundAtOnce, asks_of}
 use Rattle.implib_dll_check.specs.Laws.{OwnAsksPass, Passes}
 
 bytes_eq-itself : (bytes : List ℕ) → bytes_eq bytes bytes ≡ true

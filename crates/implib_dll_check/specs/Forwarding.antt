@@ -12,7 +12,7 @@ use Rattle.implib_dll_check.specs.Imports.{import_in, is_called, is_of_data}
 use Rattle.implib_dll_check.specs.Verdict.{fits_kind}
 use Rattle.implib_dll_check.specs.declared.forwarder.Stop.{Stop}
 use Rattle.implib_dll_check.specs.declared.forwarder.Stop.TheVariants as stop
-use Rattle.implib_from_dll.specs.Laws.{found}
+use Rattle.implib_libraries.specs.FromDll.Laws.{found}
 use Rattle.implib_read.specs.Classes.{Imported, MemberRead}
 
 -- what is before the last full stop of a text, and what is behind it

@@ -15,7 +15,7 @@ use Rattle.implib_dll_check.specs.Forwarding.{found_behind, known_by, most_forwa
 use Rattle.implib_dll_check.specs.Laws.{Extends}
 use Rattle.implib_dll_check.specs.declared.forwarder.Stop.{Stop}
 use Rattle.implib_dll_check.specs.declared.forwarder.Stop.TheVariants as stop
-use Rattle.implib_from_dll.specs.Laws.{ask_of, found}
+use Rattle.implib_libraries.specs.FromDll.Laws.{ask_of, found}
 
 -- the text of an export of a DLL that is a forwarder there
 abbrev pub forwarder_in : Exports → ExportView → Option (List ℕ)

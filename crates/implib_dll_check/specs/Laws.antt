@@ -4,7 +4,7 @@ use Rattle.std.specs.List.{list_any}
 use Rattle.std.specs.Option.{is_some}
 use Rattle.implib.specs.Import.{Ask}
 use Rattle.implib_dll.specs.Exports.{Exports}
-use Rattle.implib_from_dll.specs.Laws.{Fits, asks_of}
+use Rattle.implib_libraries.specs.FromDll.Laws.{Fits, asks_of}
 use Rattle.implib_dll_check.specs.Forwarding.{Beside, Content, ends, is_unknown}
 use Rattle.implib_dll_check.specs.Verdict.{verdict_of}
 use Rattle.implib_read.specs.Classes.{MemberRead}

@@ -6,7 +6,7 @@ use Rattle.std.specs.Option.{is_some}
 use Rattle.implib.specs.Import.{Ask}
 use Rattle.implib_dll.specs.Exports.{Exports, Target}
 use Rattle.implib_dll.specs.Lookup.{target_at}
-use Rattle.implib_from_dll.specs.Laws.{index_found}
+use Rattle.implib_libraries.specs.FromDll.Laws.{index_found}
 
 -- whether an index is found
 abbrev pub is_index : ℕ → Option ℕ → Bool

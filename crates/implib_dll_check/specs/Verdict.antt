@@ -9,7 +9,7 @@ use Rattle.implib_dll.specs.Views.{target_view}
 use Rattle.implib_dll_check.specs.declared.verdict.Ask.{Ask}
 use Rattle.implib_dll_check.specs.declared.verdict.Ask.TheVariants as ask
 use Rattle.implib_dll_check.specs.declared.verdict.Verdict.{Verdict}
-use Rattle.implib_from_dll.specs.Laws.{found}
+use Rattle.implib_libraries.specs.FromDll.Laws.{found}
 
 -- the view of an ask of the program
 abbrev pub ask_view : Ask → Asked

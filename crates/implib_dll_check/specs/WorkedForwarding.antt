@@ -9,13 +9,12 @@ use Rattle.implib_dll.specs.WorkedFiles.{named, worked_exports}
 use Rattle.implib_dll.specs.declared.section.AddressKind.TheVariants.{Code as OfCode}
 use Rattle.implib_dll.specs.declared.section.AddressKind.TheVariants.{Data as OfData}
 use Rattle.implib_dll_check.specs.Forwarding.{NoFile, Refused, NoExports, Holds, End, Arrives}
-use Rattle.implib_dll_check.specs.Forwarding.{Stops, Unknown, Beside, Known, end_by, end_of, ends}
-use Rattle.implib_dll_check.specs.Forwarding.{found_behind, is_stop, is_unknown, known_by, known_in}
+use Rattle.implib_dll_check.specs.Forwarding.{Stops, Unknown, Beside, Known, end_by, end_of}
+use Rattle.implib_dll_check.specs.Forwarding.{found_behind, known_by, known_in}
 use Rattle.implib_dll_check.specs.Forwarding.{number_of, split_last}
-use Rattle.implib_dll_check.specs.WorkedImports.{import_of, known, member_of, members}
+use Rattle.implib_dll_check.specs.WorkedImports.{import_of, known}
 use Rattle.implib_dll_check.specs.declared.forwarder.Stop.TheVariants as stop
-use Rattle.implib_read.specs.Classes.{AnImport, Descriptor}
-use Rattle.implib_read.specs.declared.import.ImportKind.TheVariants.{Code, Data}
+use Rattle.implib_read.specs.declared.import.ImportKind.TheVariants.{Code}
 
 abbrev pub k_exports : Exports
 k_exports = record worked_exports {
@@ -74,56 +73,28 @@ pub record WorkedForwarding : Type 0 where
   pub no_stop : split_last (codes "abc") ≡ None
   pub number : number_of (codes "107x") ≡ 107
   pub no_number : number_of (codes "x") ≡ 0
-  -- what is asked for: by an ordinal, by a name, and by names that are almost ordinals
+  -- what is asked for: by an ordinal, and by names that are almost ordinals
   pub by_ordinal : found_behind deep_exports (codes "#7") ≡ Some (Address 0x1040 OfCode)
-  pub by_name : found_behind worked_exports (codes "beta") ≡ Some (Address 0x1000 OfCode)
   pub hole : found_behind deep_exports (codes "#6") ≡ None
   pub past : found_behind deep_exports (codes "#9") ≡ None
   pub no_hash : found_behind deep_exports (codes "7") ≡ None
   pub nothing : found_behind deep_exports [] ≡ None
-  -- a forwarder that leads to a function, through one DLL and through two; to its own DLL, in
-  -- letters of any case
-  pub through_one : for_code 1 (codes "DEEP.NAME.DRV.#7") ≡ Arrives
+  -- a forwarder that leads to a function through two DLLs, and to its own DLL, in letters of any
+  -- case
   pub through_two : for_code 2 (codes "K.f") ≡ Arrives
   pub through_three : for_code 3 (codes "round.c") ≡ Arrives
   pub to_itself : for_code 1 (codes "W.alpha") ≡ Arrives
   pub through_itself : for_code 3 (codes "w.dll.gamma") ≡ Arrives
   -- too few are followed
   pub one_of_two : for_code 1 (codes "K.f") ≡ Stops (codes "Deep.Name.drv.#7") stop.Endless
-  -- data as data, and as a function
+  -- data as data, and a function as data
   pub to_data : for_data 1 (codes "deep.name.drv.#8") ≡ Arrives
-  pub data_as_code : for_code 1 (codes "deep.name.drv.#8")
-      ≡ Stops (codes "deep.name.drv.#8") stop.DataAsFunction
   pub code_as_data : for_data 2 (codes "K.f") ≡ Arrives
   -- to nothing
   pub circle : for_code 50 (codes "round.a") ≡ Stops (codes "ROUND.a") stop.Endless
-  pub no_full_stop : for_code 9 (codes "k") ≡ Stops (codes "k") stop.NoFullStop
-  pub missing : for_code 9 (codes "Gone.fly") ≡ Stops (codes "Gone.fly") stop.NoFile
-  pub refused : for_code 9 (codes "bad.f") ≡ Stops (codes "bad.f") stop.Refused
-  pub empty : for_code 9 (codes "empty.f") ≡ Stops (codes "empty.f") stop.NoExports
-  pub other_machine : for_code 9 (codes "other.f") ≡ Stops (codes "other.f") stop.OtherMachine
-  pub no_such_name : for_code 9 (codes "k.g") ≡ Stops (codes "k.g") stop.NotExported
   pub no_such_ordinal : for_code 9 (codes "k.#2") ≡ Stops (codes "k.#2") stop.NotExported
   pub to_hole : for_code 9 (codes "w.#7") ≡ Stops (codes "w.#7") stop.NotExported
   -- another ending is another DLL, of which nothing is known
   pub unknown : for_code 9 (codes "k.drv.f") ≡ Unknown (codes "k.drv")
-  -- of imports: one at the forwarder; one at a function; of another DLL, and for another machine
-  pub at_forwarder : end_of beside (import_of (codes "W.dll") (Ordinal 8) Code 0x14C) ≡ Some Arrives
-  pub by_its_name : end_of beside (import_of (codes "w") (Name (codes "gamma") 7) Data 0x14C)
-      ≡ Some Arrives
-  pub at_function : end_of beside (import_of (codes "w.dll") (Ordinal 5) Code 0x14C) ≡ None
-  pub of_other_dll : end_of beside (import_of (codes "v.dll") (Ordinal 8) Code 0x14C) ≡ None
-  pub for_other_machine : end_of beside (import_of (codes "w.dll") (Ordinal 8) Code 0x8664) ≡ None
   pub not_known : end_of beside_none (import_of (codes "w.dll") (Ordinal 8) Code 0x14C)
       ≡ Some (Unknown (codes "K"))
-  pub of_members : ends beside
-      (member_of Descriptor
-      ∷ member_of (AnImport (import_of (codes "w.dll") (Ordinal 8) Code 0x14C)) ∷ [])
-      ≡ None ∷ Some Arrives ∷ []
-  pub of_none : ends beside members ≡ None ∷ None ∷ None ∷ None ∷ None ∷ []
-  -- kinds of ends
-  pub stops : is_stop (Some (Stops (codes "k.g") stop.NotExported)) ≡ true
-  pub arrives : is_stop (Some Arrives) ≡ false
-  pub no_forwarder : is_stop None ≡ false
-  pub is_open : is_unknown (Some (Unknown (codes "k"))) ≡ true
-  pub not_open : is_unknown (Some (Stops (codes "k.g") stop.NotExported)) ≡ false

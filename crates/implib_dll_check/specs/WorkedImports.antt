@@ -4,12 +4,11 @@
 use Rattle.std.specs.Prelude.{◌≡◌, ℕ, true, false, List, [], ◌∷◌, codes}
 use Rattle.implib.specs.Import.{Ask, Ordinal, Name}
 use Rattle.implib_dll.specs.WorkedFiles.{worked_exports}
-use Rattle.implib_dll_check.specs.Imports.{asks_in, is_called, is_import, is_lost, is_searched}
-use Rattle.implib_dll_check.specs.Imports.{judged, judgements}
+use Rattle.implib_dll_check.specs.Imports.{asks_in, is_called}
+use Rattle.implib_dll_check.specs.Imports.{judged}
 use Rattle.implib_dll_check.specs.Worked.{falling}
-use Rattle.implib_dll_check.specs.declared.import.Judgement.TheVariants.{NoImport, Reached}
-use Rattle.implib_dll_check.specs.declared.import.Judgement.TheVariants.{Searched, Lost}
-use Rattle.implib_dll_check.specs.declared.import.Loss.TheVariants.{OtherDll, OtherMachine}
+use Rattle.implib_dll_check.specs.declared.import.Judgement.TheVariants.{Reached}
+use Rattle.implib_dll_check.specs.declared.import.Judgement.TheVariants.{Lost}
 use Rattle.implib_dll_check.specs.declared.import.Loss.TheVariants.{NotFound, DataAsFunction}
 use Rattle.implib_read.specs.Classes.{Class, AnImport, Descriptor, Head, Imported, MemberRead}
 use Rattle.implib_read.specs.declared.import.ImportKind.{ImportKind}
@@ -44,43 +43,22 @@ members =
 
 -- What imports come to.
 pub record WorkedImports : Type 0 where
-  pub at_hint : judged worked_exports known
-      (import_of (codes "w.dll") (Name (codes "beta") 1) Code 0x14C) ≡ Reached
-  pub by_search : judged worked_exports known
-      (import_of (codes "w.dll") (Name (codes "beta") 0) Code 0x14C) ≡ Searched
-  pub by_ordinal : judged worked_exports known
-      (import_of (codes "w.dll") (Ordinal 9) CodeOrConst 0x14C) ≡ Reached
-  pub forwarder : judged worked_exports known (import_of (codes "w.dll") (Ordinal 8) Code 0x14C)
-      ≡ Reached
-  -- no such name, a hole, an ordinal past the table, and a name that a search misses
-  pub no_name : judged worked_exports known
-      (import_of (codes "w.dll") (Name (codes "bet") 1) Code 0x14C) ≡ Lost NotFound
-  pub hole : judged worked_exports known (import_of (codes "w.dll") (Ordinal 7) Code 0x14C)
-      ≡ Lost NotFound
+  -- an ordinal past the table, and a name that a search misses
   pub past : judged worked_exports known (import_of (codes "w.dll") (Ordinal 10) Data 0x14C)
       ≡ Lost NotFound
   pub missed : judged falling known (import_of (codes "w.dll") (Name (codes "alpha") 0) Data 0x14C)
       ≡ Lost NotFound
   pub not_missed : judged falling known
       (import_of (codes "w.dll") (Name (codes "alpha") 1) Data 0x14C) ≡ Reached
-  -- a variable as each kind, and a function as data
-  pub as_data : judged worked_exports known (import_of (codes "w.dll") (Ordinal 6) Data 0x14C)
-      ≡ Reached
+  -- a variable as other kinds, and a function as data
   pub as_constant : judged worked_exports known (import_of (codes "w.dll") (Ordinal 6) Const 0x14C)
       ≡ Reached
-  pub as_function : judged worked_exports known (import_of (codes "w.dll") (Ordinal 6) Code 0x14C)
-      ≡ Lost DataAsFunction
   pub as_either : judged worked_exports known
       (import_of (codes "w.dll") (Ordinal 6) CodeOrConst 0x14C) ≡ Lost DataAsFunction
   pub as_delayed : judged worked_exports known (import_of (codes "w.dll") (Ordinal 6) Delayed 0x14C)
       ≡ Lost DataAsFunction
   pub code_as_data : judged worked_exports known (import_of (codes "w.dll") (Ordinal 5) Data 0x14C)
       ≡ Reached
-  -- another DLL, and another machine, each where all else fits
-  pub other_dll : judged worked_exports known
-      (import_of (codes "v.dll") (Name (codes "beta") 1) Code 0x14C) ≡ Lost OtherDll
-  pub other_machine : judged worked_exports known
-      (import_of (codes "w.dll") (Name (codes "beta") 1) Code 0x8664) ≡ Lost OtherMachine
   -- names of the DLL
   pub capitals : is_called known (codes "W.dll") ≡ true
   pub no_ending : is_called known (codes "w") ≡ true
@@ -88,15 +66,6 @@ pub record WorkedImports : Type 0 where
   pub second : is_called (codes "v.dll" ∷ known) (codes "w") ≡ true
   pub of_none : is_called [] (codes "w") ≡ false
   -- of members
-  pub all : judgements worked_exports known members
-      ≡ NoImport ∷ Searched ∷ Lost OtherDll ∷ Reached ∷ NoImport ∷ []
   pub asked : asks_in known members ≡ Name (codes "alpha") 7 ∷ Ordinal 9 ∷ []
   pub asked_of_both : asks_in (codes "v.dll" ∷ known) members
       ≡ Name (codes "alpha") 7 ∷ Ordinal 5 ∷ Ordinal 9 ∷ []
-  -- kinds of judgements
-  pub lost : is_lost (Lost NotFound) ≡ true
-  pub not_lost : is_lost Searched ≡ false
-  pub searched : is_searched Searched ≡ true
-  pub not_searched : is_searched Reached ≡ false
-  pub an_import : is_import (Lost OtherDll) ≡ true
-  pub no_import : is_import NoImport ≡ false

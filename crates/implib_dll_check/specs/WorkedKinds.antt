@@ -6,14 +6,13 @@ use Rattle.std.specs.Prelude.{map}
 use Rattle.implib_dll.specs.Exports.{Address, Exports, Forwarder}
 use Rattle.implib_dll.specs.WorkedFiles.{named, worked_exports}
 use Rattle.implib_dll.specs.declared.section.AddressKind.TheVariants.{Code, Data}
-use Rattle.implib_dll_check.specs.Forwarding.{Beside, Holds, Known, Stops, Unknown, end_by}
+use Rattle.implib_dll_check.specs.Forwarding.{Beside, Holds, Known, end_by}
 use Rattle.implib_dll_check.specs.Forwarding.{known_by, known_in}
-use Rattle.implib_dll_check.specs.Kinds.{is_astray, is_data_end, is_data_target, is_stray_end}
+use Rattle.implib_dll_check.specs.Kinds.{is_astray, is_data_end}
 use Rattle.implib_dll_check.specs.Kinds.{kinds_followed, last_target, unknown_dlls}
 use Rattle.implib_dll_check.specs.WorkedForwarding.{others}
-use Rattle.implib_dll_check.specs.declared.forwarder.Stop.TheVariants as stop
-use Rattle.implib_from_dll.specs.Definition.{exports_of}
-use Rattle.implib_from_dll.specs.Worked.{export}
+use Rattle.implib_libraries.specs.FromDll.Definition.{exports_of}
+use Rattle.implib_libraries.specs.FromDll.Worked.{export}
 
 abbrev pub f_exports : Exports
 f_exports = record worked_exports {
@@ -65,17 +64,6 @@ is_data text =
     map (λ x. x.is_data) (kinds_followed (forwarding text) (exports_of (forwarding text).exports))
 
 pub record WorkedKinds : Type 0 where
-  -- as the DLL alone says it, forwarders are code
-  pub alone : exports_of f_exports ≡
-      export (codes "code") 0 false false
-      ∷ export (codes "own") 1 false true
-      ∷ export (codes "to_code") 2 false false
-      ∷ export (codes "to_data") 3 false false
-      ∷ export (codes "through") 4 false false
-      ∷ export (codes "to_none") 5 false false
-      ∷ export (codes "to_nothing") 6 false false
-      ∷ export (codes "to_own") 7 false false
-      ∷ export (codes "ord_9") 9 true false ∷ []
   -- beside the others
   pub followed : kinds_followed beside (exports_of f_exports) ≡
       export (codes "code") 0 false false
@@ -89,7 +77,6 @@ pub record WorkedKinds : Type 0 where
       ∷ export (codes "ord_9") 9 true true ∷ []
   -- two are forwarded to nothing: to a DLL that is not there, and to a name that one does not have
   pub astray : count_by (is_astray beside) (exports_of f_exports) ≡ 2
-  pub none_left : unknown_dlls beside (exports_of f_exports) ≡ []
   -- where nothing is known of others, one is to the DLL itself
   pub by_itself : map (λ x. x.is_data) (kinds_followed beside_none (exports_of f_exports))
       ≡ false ∷ true ∷ false ∷ false ∷ false ∷ false ∷ false ∷ true ∷ false ∷ []
@@ -100,18 +87,10 @@ pub record WorkedKinds : Type 0 where
   pub other_machine : is_data (codes "other.f") ≡ false ∷ []
   pub refused : is_data (codes "bad.f") ≡ false ∷ []
   pub hole : is_data (codes "deep.name.drv.#6") ≡ false ∷ []
-  pub to_data : is_data (codes "deep.name.drv.#8") ≡ true ∷ []
   -- the last target, through two DLLs, and no further than one; none; and another kind of it
   pub last : last_target 2 (known_by beside) 0x14C (codes "G.variable") ≡ Some (Address 0x2000 Data)
   pub one_of_two : last_target 1 (known_by beside) 0x14C (codes "G.variable") ≡ None
-  pub no_last : last_target 9 (known_by beside) 0x14C (codes "gone.variable") ≡ None
-  pub is_data_last : is_data_target (Some (Address 0x2000 Data)) ≡ true
-  pub code_is_none : is_data_target (Some (Address 0x1000 Code)) ≡ false
   -- a circle, and its end; and ends that are no data
   pub in_circle : is_data_end (Some (end_by 50 (known_by beside) 0x14C false (codes "round.a")))
       ≡ false
   pub circle_last : last_target 50 (known_by beside) 0x14C (codes "round.a") ≡ None
-  pub circle : is_data_end (Some (Stops (codes "round.b") stop.Endless)) ≡ false
-  pub circle_astray : is_stray_end (Some (Stops (codes "round.b") stop.Endless)) ≡ true
-  pub data_not_astray : is_stray_end (Some (Stops (codes "d.x") stop.DataAsFunction)) ≡ false
-  pub unknown_not_data : is_data_end (Some (Unknown (codes "d"))) ≡ false

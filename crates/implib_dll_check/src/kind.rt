@@ -12,7 +12,7 @@ ghost use Rattle.implib_dll_check.specs.Kinds.{is_stray_end, kinds_followed, unk
 ghost use Rattle.implib_dll_check.specs.Kinds.{unknown_in};
 ghost use Rattle.implib_dll_check.specs.Kinds.{with_kind};
 ghost use Rattle.implib_dll_check.specs.Verdict.{ask_view};
-ghost use Rattle.implib_from_dll.specs.Laws.{ask_of};
+ghost use Rattle.implib_libraries.specs.FromDll.Laws.{ask_of};
 ghost use Rattle.std.specs.Option.{option_map};
 ghost use Rattle.std.specs.Prelude.{◌≡◌, IfOk, OnOk, count_by, map};
 
@@ -100,7 +100,7 @@ fn mark(alloc: Global, beside: &Beside<'_, '_>, export: &mut ShortExport) -> Res
 ///
 /// An allocation failed; then some exports may be as they were.
 ///
-/// [`exports_of`]: implib_from_dll::exports_of
+/// [`exports_of`]: implib_libraries::from_dll::exports_of
 pub fn mark_followed(
     alloc: Global,
     beside: &Beside<'_, '_>,

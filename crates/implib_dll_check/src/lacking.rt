@@ -3,7 +3,7 @@
 ghost use Rattle.implib_dll.specs.Views.{exports_view};
 ghost use Rattle.implib_dll_check.specs.Missing.{is_index, is_reached, is_unmarked, missing};
 ghost use Rattle.implib_dll_check.specs.Verdict.{ask_view};
-ghost use Rattle.implib_from_dll.specs.Laws.{index_found};
+ghost use Rattle.implib_libraries.specs.FromDll.Laws.{index_found};
 ghost use Rattle.std.specs.Prelude.{◌≡◌, ℕ, ◌||◌, ◌<◌, false, get_or, IfOk, length, map};
 
 use crate::verdict::Ask;

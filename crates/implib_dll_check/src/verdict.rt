@@ -3,7 +3,7 @@
 ghost use Rattle.implib_dll.specs.Views.{exports_view, name_view, target_view};
 ghost use Rattle.implib_dll_check.specs.Verdict.{ask_view, fits_kind, needs_no_search, stands_at};
 ghost use Rattle.implib_dll_check.specs.Verdict.{verdict_of, verdict_view};
-ghost use Rattle.implib_from_dll.specs.Laws.{found};
+ghost use Rattle.implib_libraries.specs.FromDll.Laws.{found};
 ghost use Rattle.std.specs.Option.{option_map};
 ghost use Rattle.std.specs.Prelude.{◌≡◌, map};
 

@@ -1,10 +1,10 @@
 -- Reading LIB's words, one after another.
-use Rattle.std.proofs.Common.{◌≡◌, ◌<◌, Bool, false, List, [], ◌∷◌, ℕ, Option, Ok, Err, length, get_or, ap, refl, sym, ◌∙◌, arith}
+use Rattle.std.proofs.Common.{◌≡◌, ◌<◌, Bool, false, List, [], ◌∷◌, ℕ, Ok, Err, length, get_or, ap, refl, sym, ◌∙◌, arith}
 use Rattle.std.specs.Prelude.{◌==◌}
 use Rattle.std.specs.Str.{IsCharBoundary, IsUtf8}
 use Rattle.std.proofs.lemmas.Str.{IsCharBoundary-after_ascii}
 use Rattle.implib_driver.specs.Arguments.{OccurrenceView, Reading, WordFaultView, with_front}
-use Rattle.implib_driver.specs.LibWords.{LibWordView, completed, lack_of, lib_stepped, lib_word_of, read_each, unless_lacking}
+use Rattle.implib_driver.specs.LibWords.{LibWordView, completed, lib_stepped, lib_word_of, read_each}
 
 -- bytes that are not empty
 pub some : (bytes : List ℕ) (is : Bool) → is ≡ (length bytes == 0) → is ≡ false → 0 < length bytes
@@ -33,10 +33,6 @@ pub passed : (all : Reading) (read : List OccurrenceView) (word : List ℕ) (wor
 passed all read word words left next before split is =
     before ∙ ap (λ (w : List (List ℕ)). with_front read (read_each w)) split ∙ ap (with_front read) (read_each-cons word left)
     ∙ ap (λ (s : LibWordView). with_front read (lib_stepped s (read_each left))) is
-
--- options that lack nothing, or something
-pub completes : (all : Reading) (options : List OccurrenceView) (lack : Option WordFaultView) → all ≡ Ok options → lack ≡ lack_of options → completed all ≡ unless_lacking options lack
-completes all options lack is lacks = ap completed is ∙ ap (unless_lacking options) (sym lacks)
 
 -- words that are refused
 pub refused : (all : Reading) (fault : WordFaultView) → all ≡ Err fault → completed all ≡ Err fault

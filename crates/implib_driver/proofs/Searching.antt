@@ -23,10 +23,6 @@ right_more file folders (l ∷ loaded) next before here =
     (All-head (IsRight file folders) (loaded_view l) (map loaded_view loaded) before)
     (right_more file folders loaded next (All-tail (IsRight file folders) (loaded_view l) (map loaded_view loaded) before) here)
 
--- none, where their views are none
-pub none_viewed : {X : Type 0} (view : X → List ℕ) (names : List X) (seen : List (List ℕ)) → map view names ≡ seen → names ≡ [] → seen ≡ []
-none_viewed view names seen is none = cc
-
 -- kinds through the DLLs that were loaded are those through the folders
 pub followed_through : (file : List ℕ → List ℕ) (folders : List Listing) (dlls : List Known) (names : List (List ℕ)) (e : Exports)
     (before after : List ExportView) (astray : ℕ) → KnownDllsDecideKinds → RightDllsExtend → All (IsRight file folders) dlls

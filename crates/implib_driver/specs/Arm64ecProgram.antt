@@ -4,10 +4,9 @@ use Rattle.std.specs.Prelude.{◌≡◌, ◌==◌, ◌&&◌, ◌⊎◌, ℕ, Boo
 use Rattle.std.specs.Prelude.{Some, IfSome, if◌then◌else◌, is_some, length, unwrap_or}
 use Rattle.implib_arm64ec.specs.Archive.{ec_archive, library_refusal}
 use Rattle.implib_arm64ec.specs.Library.{LibraryView}
-use Rattle.implib_arm64ec_library.specs.declared.library.Arm64ecRefusal.{Arm64ecRefusal}
-use Rattle.implib_arm64ec_library.specs.declared.library.Arm64ecRefusal.TheVariants as refusal
-use Rattle.implib_arm64ec_library.specs.Libraries.{IsLibraryOfTexts, IsRefusalOfArchive}
-use Rattle.implib_arm64ec_library.specs.Libraries.{IsRefusalOfTexts}
+use Rattle.implib_libraries.specs.declared.arm64ec.Arm64ecRefusal.{Arm64ecRefusal}
+use Rattle.implib_libraries.specs.declared.arm64ec.Arm64ecRefusal.TheVariants as refusal
+use Rattle.implib_libraries.specs.Arm64ec.{IsLibraryOfTexts, IsRefusalOfArchive, IsRefusalOfTexts}
 use Rattle.implib_driver.specs.Disk.{DiskView, KeepsFiles, definition_in}
 use Rattle.implib_driver.specs.Placing.{IsPut, IsUnplaced}
 use Rattle.implib_driver.specs.Reports.{Complains, Line, OfSystem, OfUnimported, OfUtf16, OfWriting}

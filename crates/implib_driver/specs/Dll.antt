@@ -19,9 +19,9 @@ use Rattle.implib_driver.specs.declared.dll.DllRefusal.TheVariants.{OutOfMemory}
 use Rattle.implib_driver.specs.declared.dll.DllCallError.{DllCallError}
 use Rattle.implib_driver.specs.declared.dll.DllCallError.TheVariants.{Call, Dll}
 use Rattle.implib_driver.specs.Request.{Asked, CallFaultView, RequestView, call_fault_view}
-use Rattle.implib_dll_library.specs.Members as library
-use Rattle.implib_from_dll.specs.Unsaid.{IsUnsaid}
-use Rattle.implib_dll_library.specs.declared.members.Unmade.TheVariants as unmade
+use Rattle.implib_libraries.specs.OfDll.Members as library
+use Rattle.implib_libraries.specs.FromDll.Unsaid.{IsUnsaid}
+use Rattle.implib_libraries.specs.declared.of_dll.members.Unmade.TheVariants as unmade
 
 -- whether bytes begin as an image does ("MS-DOS Stub": IMAGE_DOS_SIGNATURE)
 abbrev pub begins_dll : List ℕ → Bool

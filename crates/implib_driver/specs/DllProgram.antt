@@ -24,12 +24,13 @@ use Rattle.implib_driver.specs.Request.{Asked, ReplacesSearched, RequestView, ca
 use Rattle.implib_driver.specs.Search.{IsSearched, TakesDll}
 use Rattle.implib_driver.specs.Stubs.{has_failing_stub}
 use Rattle.implib_driver.specs.Verdicts.{answer_status, verdict}
-use Rattle.implib_dll_library.specs.declared.decorations.NotDecorations.{NotDecorations}
-use Rattle.implib_dll_library.specs.declared.decorations.NotDecorations.TheVariants.{NoLibrary}
-use Rattle.implib_dll_library.specs.declared.decorations.NotDecorations.TheVariants.{Text}
-use Rattle.implib_dll_library.specs.Decorated.{is_missing, with_symbols}
-use Rattle.implib_dll_library.specs.Decorations.{AreDecorations, DecorationView, HasNoDecorations}
-use Rattle.implib_from_dll.specs.Definition.{exports_of}
+use Rattle.implib_libraries.specs.declared.of_dll.decorations.NotDecorations.{NotDecorations}
+use Rattle.implib_libraries.specs.declared.of_dll.decorations.NotDecorations.TheVariants.{NoLibrary}
+use Rattle.implib_libraries.specs.declared.of_dll.decorations.NotDecorations.TheVariants.{Text}
+use Rattle.implib_libraries.specs.OfDll.Decorated.{is_missing, with_symbols}
+use Rattle.implib_libraries.specs.OfDll.Decorations.{AreDecorations, DecorationView}
+use Rattle.implib_libraries.specs.OfDll.Decorations.{HasNoDecorations}
+use Rattle.implib_libraries.specs.FromDll.Definition.{exports_of}
 use Rattle.implib_rules.specs.Library.{status_of}
 use Rattle.implib_rules.specs.Names.{last_part}
 

@@ -16,13 +16,13 @@ use Rattle.implib_driver.specs.Disk.{DiskView}
 use Rattle.implib_driver.specs.declared.identity.NotIdentified.{NotIdentified}
 use Rattle.implib_driver.specs.declared.identity.Wanted.{Wanted}
 use Rattle.implib_driver.specs.Identity.{identified}
-use Rattle.implib_delay_library.specs.declared.library.DelayRefusal.{DelayRefusal}
-use Rattle.implib_delay_library.specs.declared.library.DelayRefusal.TheVariants.{Refused}
-use Rattle.implib_delay_library.specs.declared.library.DelayRefusal.TheVariants.{Undelayed as CannotDelay}
-use Rattle.implib_delay_library.specs.Libraries.{IsDelayedLibrary, IsRefusalOfDelayed}
+use Rattle.implib_libraries.specs.declared.delayed.DelayRefusal.{DelayRefusal}
+use Rattle.implib_libraries.specs.declared.delayed.DelayRefusal.TheVariants.{Refused}
+use Rattle.implib_libraries.specs.declared.delayed.DelayRefusal.TheVariants.{Undelayed as CannotDelay}
+use Rattle.implib_libraries.specs.Delayed.{IsDelayedLibrary, IsRefusalOfDelayed, LeavesOut}
 use Rattle.implib_driver.specs.Placing.{Answer, Answers, IsPlaced, IsUnplaced}
 use Rattle.implib_driver.specs.Reports.{ComplaintView, Complains, Line, OfArgument, OfCall}
-use Rattle.implib_driver.specs.Reports.{OfIdentity, OfMemory, OfStub, OfSystem}
+use Rattle.implib_driver.specs.Reports.{OfIdentity, OfLeftOut, OfMemory, OfStub, OfSystem}
 use Rattle.implib_driver.specs.Reports.{OfUndelayed, OfWord}
 use Rattle.implib_driver.specs.Reports.{OfWriting, Refuses, Says}
 use Rattle.implib_driver.specs.LibWords.{words_read}
@@ -185,12 +185,23 @@ FinishesDelayed known bytes path file request disk put before after status =
     ⊎ FailsToDelay known bytes path request disk put before after status
     ⊎ StopsBefore known bytes request disk put before after status
 
+-- how many exports a library of delayed imports leaves out, and the first, was said, if it does any
+abbrev pub SaysLeftOut : List (List ℕ) → List ℕ → Option (List Line) → Option (List Line) → Type 0
+SaysLeftOut [] path before after = after ≡ before
+SaysLeftOut (first ∷ rest) path before after =
+    Says before after (Complains path (OfLeftOut (length (first ∷ rest)) first) ∷ [])
+
 -- the definition has a library of delayed imports, and this was done with it
 pub record HasDelayed (known : Bool) (bytes path : List ℕ) (request : RequestView)
     (disk put : DiskView) (before after : Option (List Line)) (status : ℕ) : Type 0 where
   pub file : List ℕ
   pub is_library : IsDelayedLibrary bytes request.library file
-  pub finishes : FinishesDelayed known bytes path file request disk put before after status
+  -- what it leaves out was said first
+  pub left : List (List ℕ)
+  pub leaves : LeavesOut bytes request.library left
+  pub warned : Option (List Line)
+  pub says : SaysLeftOut left request.definition before warned
+  pub finishes : FinishesDelayed known bytes path file request disk put warned after status
 
 -- the definition has none, which was said, and nothing was put
 pub record HasNoDelayed (bytes : List ℕ) (request : RequestView) (disk put : DiskView)

@@ -1,8 +1,8 @@
 -- What the program says on standard error, as what it says and of what; the words of a line are not
 -- stated.
 use Rattle.std.specs.Prelude.{◌≡◌, ℕ, List, ◌++◌, Option, None, Some}
-use Rattle.implib_arm64ec_library.specs.declared.library.Unimported.{Unimported}
-use Rattle.implib_delay_library.specs.declared.library.Undelayed.{Undelayed}
+use Rattle.implib_libraries.specs.declared.arm64ec.Unimported.{Unimported}
+use Rattle.implib_libraries.specs.declared.delayed.Undelayed.{Undelayed}
 use Rattle.implib_driver.specs.declared.dll.DllRefusal.{DllRefusal}
 use Rattle.implib_driver.specs.declared.identity.NotIdentified.{NotIdentified}
 use Rattle.implib_driver.specs.declared.reporter.Complaint.{Complaint}
@@ -34,6 +34,8 @@ pub data ComplaintView : Type 0 where
   OfUtf16 : ComplaintView
   -- a definition that has no library of delayed imports
   OfUndelayed : Undelayed → ComplaintView
+  -- exports that a library of delayed imports leaves out: how many, and the first
+  OfLeftOut : ℕ → List ℕ → ComplaintView
   -- a definition that has no short imports for ARM64EC
   OfUnimported : Unimported → ComplaintView
   -- a DLL that has no library
@@ -59,6 +61,7 @@ complaint_view (complaint.Identity fault) = OfIdentity fault
 complaint_view complaint.FailingStub = OfStub
 complaint_view complaint.Utf16 = OfUtf16
 complaint_view (complaint.Undelayed why) = OfUndelayed why
+complaint_view (complaint.LeftOut count first) = OfLeftOut count first.now
 complaint_view (complaint.Unimported why) = OfUnimported why
 complaint_view (complaint.Dll refusal) = OfDll refusal
 complaint_view complaint.NoLibrary = OfNoLibrary

@@ -1,72 +1,34 @@
 -- Calls for libraries for ARM64EC, worked by hand.
-use Rattle.std.specs.Prelude.{◌≡◌, ℕ, List, [], ◌∷◌, Option, true, false, None, Some, Ok, Err}
-use Rattle.std.specs.Prelude.{codes, map}
+use Rattle.std.specs.Prelude.{◌≡◌, ℕ, List, [], ◌∷◌, Option, false, None, Some, Ok, Err}
+use Rattle.std.specs.Prelude.{codes}
 use Rattle.implib.specs.declared.def.position.Position.{Position}
-use Rattle.implib.specs.declared.error.Fault.TheVariants.{EmptyLibraryName, EmptyName}
-use Rattle.implib.specs.declared.flavor.Flavor.TheVariants.{Gnu, Msvc}
+use Rattle.implib.specs.declared.error.Fault.TheVariants.{EmptyLibraryName}
+use Rattle.implib.specs.declared.flavor.Flavor.TheVariants.{Msvc}
 use Rattle.implib.specs.declared.machine.MachineType.TheVariants.{AMD64, ARM64}
-use Rattle.implib_arm64ec_library.specs.declared.library.Arm64ecRefusal.TheVariants as refusal
-use Rattle.implib_arm64ec_library.specs.declared.library.Unimported.{Unimported}
+use Rattle.implib_libraries.specs.declared.arm64ec.Arm64ecRefusal.TheVariants as refusal
 use Rattle.implib_driver.specs.declared.dll.DllRefusal.TheVariants as dll
 use Rattle.implib_driver.specs.declared.machine.LibraryMachine.TheVariants.{Arm64ec, Ordinary}
-use Rattle.implib_driver.specs.declared.options.Setting.TheVariants.{Assembler, Definition}
+use Rattle.implib_driver.specs.declared.options.Setting.TheVariants.{Definition}
 use Rattle.implib_driver.specs.declared.options.Setting.TheVariants.{DelayedOutput, Dll, Input}
 use Rattle.implib_driver.specs.declared.options.Setting.TheVariants.{Flavor as FlavorSetting}
 use Rattle.implib_driver.specs.declared.options.Setting.TheVariants.{Machine, NativeDefinition}
 use Rattle.implib_driver.specs.declared.options.Setting.TheVariants.{Output}
-use Rattle.implib_driver.specs.declared.options.Switch.TheVariants.{CompatImplib, ExportAs}
-use Rattle.implib_driver.specs.declared.options.Switch.TheVariants.{KeepsDecorated, KillAt}
-use Rattle.implib_driver.specs.Arguments.{Given, LacksValue, OccurrenceView, Switched, read_words}
+use Rattle.implib_driver.specs.declared.options.Switch.TheVariants.{CompatImplib}
+use Rattle.implib_driver.specs.Arguments.{Given, OccurrenceView, Switched}
 use Rattle.implib_driver.specs.Arm64ecProgram.{arm64ec_lines, arm64ec_status}
-use Rattle.implib_driver.specs.Arm64ecProgram.{native_path, utf16_file}
+use Rattle.implib_driver.specs.Arm64ecProgram.{utf16_file}
 use Rattle.implib_driver.specs.Dll.{dll_status}
-use Rattle.implib_driver.specs.LibWords.{read_lib_words}
-use Rattle.implib_driver.specs.Reports.{Complains, OfUnimported, Refuses}
+use Rattle.implib_driver.specs.Reports.{Refuses}
 use Rattle.implib_driver.specs.Request.{Asked, Asks, HasEmptyNative, HasNativeElsewhere}
-use Rattle.implib_driver.specs.Request.{HasNoDelay, HasNoOlderSymbols, HasOneInput, IsArm64ecForGnu}
+use Rattle.implib_driver.specs.Request.{HasNoDelay, HasNoOlderSymbols, IsArm64ecForGnu}
 use Rattle.implib_driver.specs.Request.{IsUnknownFlavor, IsUnknownMachine, LacksDefinition}
 use Rattle.implib_driver.specs.Request.{GoesToStandard, RequestView, TaskView}
 use Rattle.implib_driver.specs.Request.{arm64ec_in, caller_of, native_or, request_for, task_of}
 use Rattle.implib_driver.specs.WorkedCalls.{itself}
-use Rattle.implib_rules.specs.declared.library.Refusal.TheVariants.{Members, NoName, OutOfMemory}
+use Rattle.implib_rules.specs.declared.library.Refusal.TheVariants.{Members, OutOfMemory}
 use Rattle.implib_rules.specs.Additions.{no_additions}
 use Rattle.implib_rules.specs.Linked.{NamingView}
-use Rattle.implib_rules.specs.WorkedNames.{decorated, killing, usual}
-
--- as mingw-w64's Makefile.am calls a dlltool for ARM64EC
-abbrev pub mingw_words : List (List ℕ)
-mingw_words =
-    codes "-k" ∷ codes "--as=arm64ec-w64-mingw32-as" ∷ codes "--output-lib" ∷ codes "libX.a"
-    ∷ codes "-m" ∷ codes "arm64ec" ∷ codes "--input-def" ∷ codes "X.def" ∷ []
-
-abbrev pub mingw_options : List OccurrenceView
-mingw_options =
-    Switched KillAt ∷ Given Assembler (codes "arm64ec-w64-mingw32-as")
-    ∷ Given Output (codes "libX.a") ∷ Given Machine (codes "arm64ec")
-    ∷ Given Definition (codes "X.def") ∷ []
-
--- as winebuild does, with a native definition
-abbrev pub wine_words : List (List ℕ)
-wine_words =
-    codes "-k" ∷ codes "-l" ∷ codes "X.a" ∷ codes "-d" ∷ codes "X.def" ∷ codes "-N"
-    ∷ codes "native.def" ∷ codes "-m" ∷ codes "arm64ec" ∷ []
-
-abbrev pub wine_options : List OccurrenceView
-wine_options =
-    Switched KillAt ∷ Given Output (codes "X.a") ∷ Given Definition (codes "X.def")
-    ∷ Given NativeDefinition (codes "native.def") ∷ Given Machine (codes "arm64ec") ∷ []
-
--- as LIB is called for both kinds of programs
-abbrev pub lib_words : List (List ℕ)
-lib_words =
-    codes "/machine:ARM64X" ∷ codes "/def:X.def" ∷ codes "/defArm64Native:native.def"
-    ∷ codes "/out:X.lib" ∷ []
-
-abbrev pub lib_options : List OccurrenceView
-lib_options =
-    Given FlavorSetting (codes "msvc") ∷ Switched ExportAs ∷ Switched KeepsDecorated
-    ∷ Given Machine (codes "arm64ec") ∷ Given Definition (codes "X.def")
-    ∷ Given NativeDefinition (codes "native.def") ∷ Given Output (codes "X.lib") ∷ []
+use Rattle.implib_rules.specs.WorkedNames.{usual}
 
 -- what is asked for of a definition, for a library in a file
 abbrev pub asked_for : List ℕ → Option (List ℕ) → NamingView → Option (List ℕ) → RequestView
@@ -101,17 +63,6 @@ native = Given NativeDefinition (codes "n")
 
 -- what is asked for where a library for ARM64EC is, and what is said of a refusal
 pub record Arm64ecAsked : Type 0 where
-  pub mingw_read : read_words mingw_words ≡ Ok mingw_options
-  pub mingw : task_of (caller_of (codes "x86_64-linux-gnu-dlltool")) mingw_options
-      ≡ Ok (Asks (asked_for (codes "X.def") (Some (codes "libX.a")) killing None))
-  pub wine_read : read_words wine_words ≡ Ok wine_options
-  pub wine : task_of itself wine_options
-      ≡ Ok (Asks (asked_for (codes "X.def") (Some (codes "X.a")) killing
-      (Some (codes "native.def"))))
-  pub lib_read : read_lib_words lib_words ≡ Ok lib_options
-  pub lib : task_of itself lib_options
-      ≡ Ok (Asks (asked_for (codes "X.def") (Some (codes "X.lib")) decorated
-      (Some (codes "native.def"))))
   -- the machine of the program's name, and one that is named beside it
   pub by_name : task_of (caller_of (codes "arm64ec-w64-mingw32-dlltool"))
       (Given Definition (codes "a") ∷ native ∷ [])
@@ -122,23 +73,16 @@ pub record Arm64ecAsked : Type 0 where
       ≡ Ok (Asks (asked_for (codes "a") (Some (codes "b.a")) usual None))
   pub last_native : ask (native ∷ Given NativeDefinition (codes "o") ∷ [])
       ≡ Ok (Asks (asked_for (codes "a") None usual (Some (codes "o"))))
-  pub lacks_value : read_words (codes "-N" ∷ []) ≡ Err (LacksValue NativeDefinition)
-  pub bundled : read_words (codes "-kNn" ∷ []) ≡ Ok (Switched KillAt ∷ native ∷ [])
   -- what has no such library, or no native definition
-  pub for_gnu : ask (Given FlavorSetting (codes "gnu") ∷ []) ≡ Err IsArm64ecForGnu
   pub delayed : ask (Given DelayedOutput (codes "y") ∷ []) ≡ Err HasNoDelay
   pub older : ask (Switched CompatImplib ∷ []) ≡ Err HasNoOlderSymbols
-  pub native_alone : ask_other (native ∷ []) ≡ Err HasNativeElsewhere
   pub native_for_arm64 : ask_other (native ∷ Given Machine (codes "arm64") ∷ [])
       ≡ Err HasNativeElsewhere
   pub arm64x : ask_other (Given Machine (codes "arm64x") ∷ [])
       ≡ Err (IsUnknownMachine (codes "arm64x"))
   -- files of the native definition: none, standard input alone and beside the definition, and the
   -- definition's own
-  pub empty : ask (Given NativeDefinition [] ∷ []) ≡ Err HasEmptyNative
-  pub one_input : native_or (codes "-") (Some (codes "-")) ≡ Err HasOneInput
   pub input : native_or (codes "a") (Some (codes "-")) ≡ Ok (Some (codes "-"))
-  pub beside_input : native_or (codes "-") (Some (codes "n")) ≡ Ok (Some (codes "n"))
   pub same_file : native_or (codes "a") (Some (codes "a")) ≡ Ok (Some (codes "a"))
   -- of two faults the first
   pub definition_first :
@@ -165,24 +109,11 @@ pub record Arm64ecAsked : Type 0 where
       ≡ Ok (asked_for (codes "a.dll") None usual None)
   pub dll_refused : dll_status dll.Arm64ec ≡ 1
   -- what is said, of which file, and with which status
-  pub native_file : native_path (asked_for (codes "a") None usual (Some (codes "n"))) ≡ codes "n"
-  pub no_native_file : native_path (asked_for (codes "a") None usual None) ≡ codes "a"
-  pub definition_said : arm64ec_lines (codes "a") (codes "n") (refusal.OfDefinition NoName)
-      ≡ Refuses (codes "a") NoName ∷ []
-  pub imports_said : (why : Unimported)
-      → arm64ec_lines (codes "a") (codes "n") (refusal.OfImports why)
-      ≡ Complains (codes "a") (OfUnimported why) ∷ []
-  pub native_said : (at : Position)
-      → arm64ec_lines (codes "a") (codes "n") (refusal.OfNative (Members (EmptyName 0) at))
-      ≡ Refuses (codes "n") (Members (EmptyName 0) at) ∷ []
   pub dll_name_said : (at : Position)
       → arm64ec_lines (codes "a") (codes "n") (refusal.OfNative (Members EmptyLibraryName at))
       ≡ Refuses (codes "a") (Members EmptyLibraryName at) ∷ []
   pub no_memory_said : arm64ec_lines (codes "a") (codes "n") refusal.OutOfMemory
       ≡ Refuses (codes "a") OutOfMemory ∷ []
-  pub refused : arm64ec_status (refusal.OfDefinition NoName) ≡ 1
-  pub refused_imports : (why : Unimported) → arm64ec_status (refusal.OfImports why) ≡ 1
-  pub refused_native : arm64ec_status (refusal.OfNative NoName) ≡ 1
   pub no_memory : arm64ec_status refusal.OutOfMemory ≡ 3
   pub no_memory_there : arm64ec_status (refusal.OfNative OutOfMemory) ≡ 3
   pub utf16 : utf16_file (codes "a") (codes "n") (0xFF ∷ 0xFE ∷ []) (0xFE ∷ 0xFF ∷ [])

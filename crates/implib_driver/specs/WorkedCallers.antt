@@ -7,7 +7,7 @@ use Rattle.implib.specs.declared.machine.MachineType.TheVariants.{I386, ARMNT, A
 use Rattle.implib_driver.specs.declared.machine.LibraryMachine.{LibraryMachine}
 use Rattle.implib_driver.specs.declared.machine.LibraryMachine.TheVariants.{Arm64ec, Ordinary}
 use Rattle.implib_driver.specs.declared.options.Setting.TheVariants.{Assembler, AssemblerFlags}
-use Rattle.implib_driver.specs.declared.options.Setting.TheVariants.{Definition, Dll}
+use Rattle.implib_driver.specs.declared.options.Setting.TheVariants.{Definition, DelayedOutput, Dll}
 use Rattle.implib_driver.specs.declared.options.Setting.TheVariants.{Flavor as FlavorSetting}
 use Rattle.implib_driver.specs.declared.options.Setting.TheVariants.{Machine, Output}
 use Rattle.implib_driver.specs.declared.options.Setting.TheVariants.{TemporaryPrefix, FurtherPrefix}
@@ -22,19 +22,19 @@ use Rattle.implib_driver.specs.declared.options.Switch.TheVariants.{AddStdcallAl
 use Rattle.implib_driver.specs.declared.request.CalledAs.{CalledAs}
 use Rattle.implib_driver.specs.declared.request.CalledAs.TheVariants as called
 use Rattle.implib_driver.specs.Arguments.{Given, OccurrenceView, Switched}
-use Rattle.implib_driver.specs.declared.identity.NotIdentified.TheVariants.{NoDll, NoLibrary}
+use Rattle.implib_driver.specs.declared.identity.NotIdentified.TheVariants.{NoLibrary}
 use Rattle.implib_driver.specs.declared.identity.NotIdentified.TheVariants.{SeveralDlls}
 use Rattle.implib_driver.specs.Identity.{fault_of, lines_unless, named_of}
 use Rattle.implib_driver.specs.Request.{Asked, AsksHelp, AsksIdentity, AsksVersion, GoesToStandard}
-use Rattle.implib_driver.specs.Request.{HasEmptyDll, HasEmptyOutput, HasNoOlderSymbols}
+use Rattle.implib_driver.specs.Request.{HasEmptyDll, HasEmptyOutput}
 use Rattle.implib_driver.specs.Request.{HasNoUnderscore, IsOtherArchitecture}
 use Rattle.implib_driver.specs.Request.{IsUnknownFlavor, IsUnknownMachine, LacksDefinition}
 use Rattle.implib_driver.specs.Request.{caller_of, default_flavor, flavor_in, machine_in, naming_in}
-use Rattle.implib_driver.specs.Request.{additions_in, older_symbols_in, task_of}
+use Rattle.implib_driver.specs.Request.{additions_in, task_of}
 use Rattle.implib_driver.specs.WorkedCalls.{itself}
 use Rattle.implib_rules.specs.WorkedNames.{plain, usual}
 use Rattle.implib_rules.specs.Additions.{no_additions}
-use Rattle.implib_rules.specs.WorkedExportAs.{exporting, killing_and_exporting}
+use Rattle.implib_rules.specs.WorkedExportAs.{killing_and_exporting}
 
 -- the machine of a program's name
 abbrev pub machine_for : List ℕ → Option LibraryMachine
@@ -97,7 +97,6 @@ flavor_with option = flavor_in called.Itself AMD64 (Some (codes "a.lib")) (optio
 
 -- which flavour is made where none is given, and where one is
 pub record FlavorsChosen : Type 0 where
-  pub own_lib : default_flavor called.Itself AMD64 false (Some (codes "a.lib")) ≡ Msvc
   pub own_capitals : default_flavor called.Itself I386 false (Some (codes "A.LIB")) ≡ Msvc
   pub own_archive : default_flavor called.Itself I386 false (Some (codes "lib.a")) ≡ Gnu
   pub own_mixed : default_flavor called.Itself AMD64 false (Some (codes "a.lib.a")) ≡ Gnu
@@ -115,8 +114,7 @@ pub record FlavorsChosen : Type 0 where
   pub assembler : flavor_with (Given Assembler (codes "as")) ≡ Ok Gnu
   pub flags : flavor_with (Given AssemblerFlags (codes "--64")) ≡ Ok Gnu
   pub prefix : flavor_with (Given TemporaryPrefix (codes "p")) ≡ Ok Gnu
-  pub dll : flavor_with (Given Dll (codes "a.dll")) ≡ Ok Msvc
-  pub named : flavor_in called.Llvm ARM64 None (Given FlavorSetting (codes "gnu") ∷ []) ≡ Ok Gnu
+  pub delay : flavor_with (Given DelayedOutput (codes "y")) ≡ Ok Gnu
 
 -- a definition that is given
 abbrev pub given : OccurrenceView
@@ -128,8 +126,6 @@ pub record FaultsOrdered : Type 0 where
   pub version_before_faults : task_of itself (Switched Version ∷ []) ≡ Ok AsksVersion
   pub version_before_identity : task_of itself (Given Identify (codes "a") ∷ Switched Version ∷ [])
       ≡ Ok AsksVersion
-  pub identity_asked : task_of itself (Given Identify (codes "a") ∷ Given Identify (codes "b") ∷ [])
-      ≡ Ok (AsksIdentity (codes "b") Dlls)
   pub identity_strict : task_of itself (Switched IdentifyStrict ∷ Given Identify (codes "b") ∷ [])
       ≡ Ok (AsksIdentity (codes "b") OneDll)
   pub identity_before_a_library : task_of itself (given ∷ Given Identify (codes "b") ∷ [])
@@ -139,8 +135,6 @@ pub record FaultsOrdered : Type 0 where
       ≡ Ok (0x61 ∷ 0x2E ∷ 0x64 ∷ 0x6C ∷ 0x6C ∷ 0x0A ∷ 0x62 ∷ 0x2E ∷ 0x64 ∷ 0x6C ∷ 0x6C ∷ 0x0A ∷ [])
   pub two_dlls_strictly : lines_unless (codes "a.dll" ∷ codes "b.dll" ∷ []) (fault_of true 2)
       ≡ Err SeveralDlls
-  pub one_dll_strictly : lines_unless (codes "a" ∷ []) (fault_of true 1) ≡ Ok (0x61 ∷ 0x0A ∷ [])
-  pub no_dll : lines_unless [] (fault_of false 0) ≡ Err NoDll
   pub no_library : named_of false None ≡ Err NoLibrary
   pub definition_first : task_of itself (Given Output (codes "-") ∷ []) ≡ Err LacksDefinition
   pub empty_output : task_of itself (given ∷ Given Output [] ∷ Given Machine (codes "mips") ∷ [])
@@ -154,18 +148,10 @@ pub record FaultsOrdered : Type 0 where
       ≡ Err (IsUnknownFlavor (codes "x"))
   pub dll_first : task_of itself (given ∷ Switched LeadingUnderscore ∷ Given Dll [] ∷ [])
       ≡ Err HasEmptyDll
-  pub no_underscore : task_of itself (given ∷ Switched LeadingUnderscore ∷ []) ≡ Err HasNoUnderscore
   pub underscore_first : task_of itself
       (given ∷ Switched CompatImplib ∷ Given FlavorSetting (codes "msvc")
       ∷ Switched LeadingUnderscore ∷ [])
       ≡ Err HasNoUnderscore
-  pub no_older_symbols : task_of itself
-      (given ∷ Given FlavorSetting (codes "msvc") ∷ Switched CompatImplib ∷ [])
-      ≡ Err HasNoOlderSymbols
-  pub no_older_symbols_by_ending : task_of itself
-      (Switched CompatImplib ∷ given ∷ Given Output (codes "b.lib") ∷ []) ≡ Err HasNoOlderSymbols
-  pub no_older_symbols_by_machine : task_of itself
-      (given ∷ Switched CompatImplib ∷ Given Machine (codes "arm64") ∷ []) ≡ Err HasNoOlderSymbols
   pub other_architecture : machine_in None [] ≡ Err IsOtherArchitecture
   pub named_machine : machine_in None (Given Machine (codes "arm64") ∷ []) ≡ Ok (Ordinary ARM64)
   pub plain_by_the_last : naming_in I386
@@ -174,7 +160,6 @@ pub record FaultsOrdered : Type 0 where
       (Switched NoLeadingUnderscore ∷ Switched LeadingUnderscore ∷ []) ≡ Ok usual
   pub plain_elsewhere : naming_in AMD64
       (Switched LeadingUnderscore ∷ Switched NoLeadingUnderscore ∷ []) ≡ Ok plain
-  pub usual_elsewhere : naming_in ARMNT [] ≡ Ok usual
   pub prefix_added : additions_in
       (Given FurtherPrefix (codes "p") ∷ Given FurtherPrefix (codes "q") ∷ [])
       ≡ record { prefix = Some (codes "q"); underscore = false; stdcall_underscore = false }
@@ -183,10 +168,5 @@ pub record FaultsOrdered : Type 0 where
   pub stdcall_underscore_added : additions_in (Switched AddStdcallUnderscore ∷ [])
       ≡ record { prefix = None; underscore = false; stdcall_underscore = true }
   pub nothing_added : additions_in (Switched AddStdcallAlias ∷ []) ≡ no_additions
-  pub older_symbols : map (λ flavor. older_symbols_in flavor (Switched CompatImplib ∷ []))
-      (Msvc ∷ Gnu ∷ []) ≡ Err HasNoOlderSymbols ∷ Ok true ∷ []
-  pub no_symbols_more : map (λ flavor. older_symbols_in flavor (Switched ExportAs ∷ []))
-      (Msvc ∷ Gnu ∷ []) ≡ Ok false ∷ Ok false ∷ []
-  pub exports_as_anywhere : naming_in AMD64 (Switched ExportAs ∷ []) ≡ Ok exporting
   pub exports_as_and_kills : naming_in I386 (Switched ExportAs ∷ Switched KillAt ∷ [])
       ≡ Ok killing_and_exporting

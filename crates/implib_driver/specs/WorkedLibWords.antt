@@ -1,26 +1,22 @@
 -- LIB's words, and the names by which the program is called as LIB is, worked by hand.
-use Rattle.std.specs.Prelude.{◌≡◌, ℕ, List, [], ◌∷◌, true, false, None, Some, Ok, Err, codes, map}
+use Rattle.std.specs.Prelude.{◌≡◌, ℕ, List, [], ◌∷◌, true, false, Some, Ok, Err, codes, map}
 use Rattle.std.specs.Str.{bytes_eq}
-use Rattle.implib.specs.declared.flavor.Flavor.TheVariants.{Msvc}
 use Rattle.implib_driver.specs.declared.machine.LibraryMachine.{LibraryMachine}
-use Rattle.implib.specs.declared.machine.MachineType.TheVariants.{I386, ARM64}
-use Rattle.implib_driver.specs.declared.options.Setting.TheVariants.{Definition, Identify}
+use Rattle.implib.specs.declared.machine.MachineType.TheVariants.{I386}
+use Rattle.implib_driver.specs.declared.options.Setting.TheVariants.{Definition}
 use Rattle.implib_driver.specs.declared.options.Setting.TheVariants.{NativeDefinition, Output}
 use Rattle.implib_driver.specs.declared.options.Setting.TheVariants.{Machine, Dll}
 use Rattle.implib_driver.specs.declared.options.Setting.TheVariants.{Flavor as FlavorSetting}
 use Rattle.implib_driver.specs.declared.options.Switch.TheVariants.{ExportAs, Help, KeepsDecorated}
 use Rattle.implib_driver.specs.declared.options.Switch.TheVariants.{ListsMembers, Verbose}
-use Rattle.implib_driver.specs.declared.identity.Wanted.TheVariants.{Members}
-use Rattle.implib_driver.specs.Arguments.{Given, IsFile, IsFurther, IsUnknown, IsUnsupported}
-use Rattle.implib_driver.specs.Arguments.{LacksValueIn, ListsDefinition, NamesNoMachine}
-use Rattle.implib_driver.specs.Arguments.{OccurrenceView, Reading, Switched, WantsDefinition}
-use Rattle.implib_driver.specs.Arguments.{WantsLibrary, WantsOutput, read_words}
-use Rattle.implib_driver.specs.LibWords.{Adds, Nothing, Refuses, is_lib_name, lib_word_of}
+use Rattle.implib_driver.specs.Arguments.{Given, IsFile, IsUnknown, IsUnsupported}
+use Rattle.implib_driver.specs.Arguments.{LacksValueIn, NamesNoMachine}
+use Rattle.implib_driver.specs.Arguments.{OccurrenceView, Reading, Switched}
+use Rattle.implib_driver.specs.Arguments.{read_words}
+use Rattle.implib_driver.specs.LibWords.{Adds, Refuses, is_lib_name, lib_word_of}
 use Rattle.implib_driver.specs.LibWords.{machine_text, read_lib_words, words_read}
-use Rattle.implib_driver.specs.Request.{Asked, Asks, AsksHelp, AsksIdentity, TaskView, caller_of}
+use Rattle.implib_driver.specs.Request.{Asked, AsksHelp, TaskView, caller_of}
 use Rattle.implib_driver.specs.Request.{machine_named, task_of}
-use Rattle.implib_rules.specs.Additions.{no_additions}
-use Rattle.implib_rules.specs.WorkedNames.{decorated}
 
 -- each option, with either mark and in letters of any case
 abbrev pub said : List (List ℕ)
@@ -87,10 +83,6 @@ unknown =
     ∷ codes "-d" ∷ codes "--lib" ∷ codes "/out=a.lib" ∷ codes "/out=d/a.lib" ∷ codes "-home/a.obj"
     ∷ codes "/defArm64Natives:b.def" ∷ codes "/defArm64" ∷ []
 
--- paths that begin as an option does
-abbrev pub paths : List (List ℕ)
-paths = codes "/home/a.obj" ∷ codes "/a.obj" ∷ codes "//a" ∷ []
-
 -- options that lack their colon or their value
 abbrev pub lacking : List (List ℕ)
 lacking =
@@ -102,10 +94,6 @@ lacking =
 abbrev pub no_machines : List (List ℕ)
 no_machines = codes "/machine:i386:x86-64" ∷ codes "/machine:x86_64" ∷ codes "/machine:armnt"
     ∷ codes "/machine:aarch64" ∷ codes "/machine:x" ∷ codes "/machine:arm64xx" ∷ []
-
--- what begins with neither mark
-abbrev pub files : List (List ℕ)
-files = codes "a.lib" ∷ codes "a@b" ∷ codes "def:a.def" ∷ [] ∷ []
 
 -- words for a library of a definition
 abbrev pub usual_words : List (List ℕ)
@@ -145,92 +133,28 @@ pub record LibWordsRead : Type 0 where
   pub machines : map lib_word_of machine_words ≡ map Adds machines_added
   pub machines_are_named : (machine : LibraryMachine) →
       machine_named (machine_text machine) ≡ Some machine
-  pub ignored : map lib_word_of (codes "/nologo" ∷ codes "-NoLogo" ∷ []) ≡ Nothing ∷ Nothing ∷ []
   pub refused : map lib_word_of unsupported ≡ map (λ word. Refuses (IsUnsupported word)) unsupported
   pub near_misses : map lib_word_of unknown ≡ map (λ word. Refuses (IsUnknown word)) unknown
   pub without_values : map lib_word_of lacking ≡ map (λ word. Refuses (LacksValueIn word)) lacking
   pub without_machines : map lib_word_of no_machines
       ≡ map (λ word. Refuses (NamesNoMachine word)) no_machines
-  pub no_options : map lib_word_of files ≡ map (λ word. Adds (Given Identify word)) files
-  pub paths_are_files : map lib_word_of paths ≡ map (λ word. Adds (Given Identify word)) paths
   pub file_of_words : lib_word_of (codes "@words") ≡ Refuses (IsFile (codes "@words"))
   pub usual : read_lib_words usual_words ≡ Ok usual_options
   pub first_fault : read_lib_words (codes "/def:a" ∷ codes "/wx" ∷ codes "@b" ∷ [])
       ≡ Err (IsUnsupported (codes "/wx"))
   pub fault_before_file : read_lib_words (codes "a.obj" ∷ codes "/wx" ∷ [])
       ≡ Err (IsUnsupported (codes "/wx"))
-  pub first_file : read_lib_words
-      (codes "/def:a" ∷ codes "/b.obj" ∷ codes "c.obj" ∷ codes "/out:d" ∷ [])
-      ≡ Err (IsFile (codes "/b.obj"))
-  pub file_before_lack : read_lib_words (codes "b.obj" ∷ []) ≡ Err (IsFile (codes "b.obj"))
   pub fault_before_help : read_lib_words (codes "/help" ∷ codes "/x" ∷ [])
       ≡ Err (IsUnknown (codes "/x"))
-  pub no_words : read_lib_words [] ≡ Err WantsDefinition
-  pub no_definition : read_lib_words (codes "/out:a.lib" ∷ []) ≡ Err WantsDefinition
-  pub no_output : read_lib_words (codes "/def:a" ∷ codes "/machine:x64" ∷ []) ≡ Err WantsOutput
-  pub listed : read_lib_words (codes "a.lib" ∷ codes "/out:b" ∷ codes "/LIST" ∷ [])
-      ≡ Ok (Given FlavorSetting (codes "msvc") ∷ Switched ExportAs ∷ Switched KeepsDecorated
-      ∷ Given Identify (codes "a.lib") ∷ Given Output (codes "b") ∷ Switched ListsMembers ∷ [])
-  pub no_library : read_lib_words (codes "/list" ∷ codes "/out:b" ∷ []) ≡ Err WantsLibrary
-  pub further_library : read_lib_words (codes "a" ∷ codes "/list" ∷ codes "b" ∷ codes "c" ∷ [])
-      ≡ Err (IsFurther (codes "b"))
-  pub definition_listed : read_lib_words
-      (codes "/def:a" ∷ codes "/list" ∷ codes "b" ∷ codes "/out:c" ∷ []) ≡ Err ListsDefinition
-  pub list_asked : asked_by (codes "lib")
-      (read_lib_words (codes "/nologo" ∷ codes "/list" ∷ codes "/d/a.lib" ∷ []))
-      ≡ Ok (AsksIdentity (codes "/d/a.lib") Members)
-  pub help_before_list : asked_by (codes "lib") (read_lib_words (codes "/list" ∷ codes "-?" ∷ []))
-      ≡ Ok AsksHelp
   pub help_lacks_nothing : asked_by (codes "lib") (read_lib_words (codes "/?" ∷ [])) ≡ Ok AsksHelp
-  -- the flavour is Microsoft's, whatever the ending
-  pub asked : asked_by (codes "implib_dlltool") (read_lib_words usual_words) ≡ Ok (Asks (record {
-    definition = codes "a.def";
-    output = Some (codes "b.a");
-    delayed = None;
-    library = record {
-      machine = I386;
-      flavor = Msvc;
-      dll = Some (codes "zoo.dll");
-      naming = decorated;
-      additions = no_additions;
-    };
-    arm64ec = None;
-    decorations = None;
-    search = [];
-    older_symbols = false;
-    is_verbose = false;
-  }))
   -- without a machine it is that of the program's name
-  pub by_name : asked_by (codes "aarch64-pc-windows-msvc-lib")
-      (words_read (codes "aarch64-pc-windows-msvc-lib")
-      (codes "/def:a" ∷ codes "/out:b" ∷ codes "/verbose" ∷ [])) ≡ Ok (Asks (record {
-        definition = codes "a";
-        output = Some (codes "b");
-        delayed = None;
-        library = record {
-          machine = ARM64;
-          flavor = Msvc;
-          dll = None;
-          naming = decorated;
-          additions = no_additions;
-        };
-        arm64ec = None;
-        decorations = None;
-        search = [];
-        older_symbols = false;
-        is_verbose = true;
-      }))
   pub called : map is_lib_name lib_names ≡ map (λ name. true) lib_names
   pub not_called : map is_lib_name other_names ≡ map (λ name. false) other_names
-  pub after_the_word : words_read (codes "implib_dlltool") (codes "--lib" ∷ usual_words)
-      ≡ Ok usual_options
   pub word_and_name : words_read (codes "lib") (codes "--lib" ∷ usual_words) ≡ Ok usual_options
   pub word_later : words_read (codes "implib_dlltool") (codes "-k" ∷ codes "--lib" ∷ [])
       ≡ Err (IsUnknown (codes "--lib"))
   pub word_in_capitals : words_read (codes "implib_dlltool") (codes "--LIB" ∷ usual_words)
       ≡ Err (IsUnknown (codes "--LIB"))
-  pub lib_has_no_letters : words_read (codes "lib") (codes "-d" ∷ codes "a" ∷ [])
-      ≡ Err (IsUnknown (codes "-d"))
   -- all else is read as before
   pub as_before : (program word : List ℕ) (words : List (List ℕ)) → is_lib_name program ≡ false →
       bytes_eq word (codes "--lib") ≡ false

@@ -1,5 +1,5 @@
 -- Every option, machine and flavour by each of its names, written out by hand.
-use Rattle.std.specs.Prelude.{◌≡◌, ℕ, Bool, true, false, List, [], ◌∷◌, None, Some, Ok, Err, codes}
+use Rattle.std.specs.Prelude.{◌≡◌, ℕ, List, [], ◌∷◌, None, Some, Ok, Err, codes}
 use Rattle.std.specs.Prelude.{map}
 use Rattle.implib.specs.declared.flavor.Flavor.TheVariants.{Msvc, Gnu}
 use Rattle.implib.specs.declared.machine.MachineType.TheVariants.{I386, ARMNT, AMD64, ARM64}
@@ -10,8 +10,7 @@ use Rattle.implib_driver.specs.declared.options.Setting.TheVariants.{Assembler, 
 use Rattle.implib_driver.specs.declared.options.Setting.TheVariants.{TemporaryPrefix, FurtherPrefix}
 use Rattle.implib_driver.specs.declared.options.Setting.TheVariants.{Identify, Input, Decorations}
 use Rattle.implib_driver.specs.declared.options.Setting.TheVariants.{Search, NativeDefinition}
-use Rattle.implib_driver.specs.declared.options.Switch.{Switch}
-use Rattle.implib_driver.specs.declared.options.Switch.TheVariants.{KeepsDecorated, KillAt}
+use Rattle.implib_driver.specs.declared.options.Switch.TheVariants.{KillAt}
 use Rattle.implib_driver.specs.declared.options.Switch.TheVariants.{NoLeadingUnderscore}
 use Rattle.implib_driver.specs.declared.options.Switch.TheVariants.{LeadingUnderscore}
 use Rattle.implib_driver.specs.declared.options.Switch.TheVariants.{DeterministicLibraries}
@@ -22,10 +21,9 @@ use Rattle.implib_driver.specs.declared.options.Switch.TheVariants.{AddUnderscor
 use Rattle.implib_driver.specs.declared.options.Switch.TheVariants.{AddStdcallUnderscore}
 use Rattle.implib_driver.specs.declared.options.Switch.TheVariants.{AddStdcallAlias, IdentifyStrict}
 use Rattle.implib_driver.specs.declared.options.Switch.TheVariants.{CompatImplib, ListedAlone}
-use Rattle.implib_driver.specs.declared.options.Switch.TheVariants.{ListsMembers}
 use Rattle.implib.specs.Conversions.{flavor_named}
-use Rattle.implib_driver.specs.Arguments.{OccurrenceView, Given, Switched, IsUnsupported, all_given}
-use Rattle.implib_driver.specs.Arguments.{is_switched, last_given, read_words}
+use Rattle.implib_driver.specs.Arguments.{OccurrenceView, Given, Switched, IsUnsupported}
+use Rattle.implib_driver.specs.Arguments.{read_words}
 use Rattle.implib_driver.specs.Request.{machine_named}
 
 -- each option with a value, by its letter and by its long name
@@ -106,94 +104,12 @@ unsupported =
     ∷ codes "--exclude-symbols" ∷ codes "--no-default-excludes"
     ∷ codes "--use-nul-prefixed-import-tables" ∷ []
 
--- the options without a value
-abbrev pub switches : List Switch
-switches =
-    KillAt ∷ NoLeadingUnderscore ∷ DeterministicLibraries ∷ Verbose ∷ Help ∷ Version
-    ∷ LeadingUnderscore
-    ∷ NonDeterministicLibraries ∷ NoDelete ∷ ExportAs ∷ AddUnderscore ∷ AddStdcallUnderscore
-    ∷ AddStdcallAlias
-    ∷ IdentifyStrict ∷ KeepsDecorated ∷ CompatImplib ∷ ListedAlone ∷ ListsMembers ∷ []
-
--- which of them is switched where this one alone stands
-abbrev pub told_of : Switch → List Bool
-told_of switch = map (λ s. is_switched s (Switched switch ∷ [])) switches
-
--- the names of options, machines and flavours; and that no two options are equal
+-- the names of options, machines and flavours
 pub record OptionsNamed : Type 0 where
   pub values : read_words words_with_values ≡ Ok given
   pub no_values : read_words words_of_switches ≡ Ok switched
   pub refused : map (λ word. read_words (word ∷ [])) unsupported
       ≡ map (λ word. Err (IsUnsupported word)) unsupported
-  pub definition : last_given Definition given ≡ Some (codes "u")
-  pub input : last_given Input given ≡ Some (codes "v")
-  pub output : last_given Output given ≡ Some (codes "d")
-  pub delayed_output : last_given DelayedOutput given ≡ Some (codes "x")
-  pub machine : last_given Machine given ≡ Some (codes "f")
-  pub dll : last_given Dll given ≡ Some (codes "h")
-  pub flavor : last_given Flavor given ≡ Some (codes "i")
-  pub assembler : last_given Assembler given ≡ Some (codes "k")
-  pub flags : last_given AssemblerFlags given ≡ Some (codes "m")
-  pub prefix : last_given TemporaryPrefix given ≡ Some (codes "o")
-  pub further_prefix : last_given FurtherPrefix given ≡ Some (codes "r")
-  pub identify : last_given Identify given ≡ Some (codes "t")
-  pub decorations : last_given Decorations given ≡ Some (codes "z")
-  pub search : all_given Search given ≡ codes "A" ∷ codes "B" ∷ []
-  pub native_definition : last_given NativeDefinition given ≡ Some (codes "F")
-  pub kill_at : told_of KillAt
-      ≡ true ∷ false ∷ false ∷ false ∷ false ∷ false ∷ false ∷ false ∷ false ∷ false ∷ false ∷ false
-      ∷ false ∷ false ∷ false ∷ false ∷ false ∷ false ∷ []
-  pub no_leading_underscore : told_of NoLeadingUnderscore
-      ≡ false ∷ true ∷ false ∷ false ∷ false ∷ false ∷ false ∷ false ∷ false ∷ false ∷ false ∷ false
-      ∷ false ∷ false ∷ false ∷ false ∷ false ∷ false ∷ []
-  pub deterministic : told_of DeterministicLibraries
-      ≡ false ∷ false ∷ true ∷ false ∷ false ∷ false ∷ false ∷ false ∷ false ∷ false ∷ false ∷ false
-      ∷ false ∷ false ∷ false ∷ false ∷ false ∷ false ∷ []
-  pub verbose : told_of Verbose
-      ≡ false ∷ false ∷ false ∷ true ∷ false ∷ false ∷ false ∷ false ∷ false ∷ false ∷ false ∷ false
-      ∷ false ∷ false ∷ false ∷ false ∷ false ∷ false ∷ []
-  pub help : told_of Help
-      ≡ false ∷ false ∷ false ∷ false ∷ true ∷ false ∷ false ∷ false ∷ false ∷ false ∷ false ∷ false
-      ∷ false ∷ false ∷ false ∷ false ∷ false ∷ false ∷ []
-  pub version : told_of Version
-      ≡ false ∷ false ∷ false ∷ false ∷ false ∷ true ∷ false ∷ false ∷ false ∷ false ∷ false ∷ false
-      ∷ false ∷ false ∷ false ∷ false ∷ false ∷ false ∷ []
-  pub leading_underscore : told_of LeadingUnderscore
-      ≡ false ∷ false ∷ false ∷ false ∷ false ∷ false ∷ true ∷ false ∷ false ∷ false ∷ false ∷ false
-      ∷ false ∷ false ∷ false ∷ false ∷ false ∷ false ∷ []
-  pub non_deterministic : told_of NonDeterministicLibraries
-      ≡ false ∷ false ∷ false ∷ false ∷ false ∷ false ∷ false ∷ true ∷ false ∷ false ∷ false ∷ false
-      ∷ false ∷ false ∷ false ∷ false ∷ false ∷ false ∷ []
-  pub no_delete : told_of NoDelete
-      ≡ false ∷ false ∷ false ∷ false ∷ false ∷ false ∷ false ∷ false ∷ true ∷ false ∷ false ∷ false
-      ∷ false ∷ false ∷ false ∷ false ∷ false ∷ false ∷ []
-  pub export_as : told_of ExportAs
-      ≡ false ∷ false ∷ false ∷ false ∷ false ∷ false ∷ false ∷ false ∷ false ∷ true ∷ false ∷ false
-      ∷ false ∷ false ∷ false ∷ false ∷ false ∷ false ∷ []
-  pub add_underscore : told_of AddUnderscore
-      ≡ false ∷ false ∷ false ∷ false ∷ false ∷ false ∷ false ∷ false ∷ false ∷ false ∷ true ∷ false
-      ∷ false ∷ false ∷ false ∷ false ∷ false ∷ false ∷ []
-  pub add_stdcall_underscore : told_of AddStdcallUnderscore
-      ≡ false ∷ false ∷ false ∷ false ∷ false ∷ false ∷ false ∷ false ∷ false ∷ false ∷ false ∷ true
-      ∷ false ∷ false ∷ false ∷ false ∷ false ∷ false ∷ []
-  pub add_stdcall_alias : told_of AddStdcallAlias
-      ≡ false ∷ false ∷ false ∷ false ∷ false ∷ false ∷ false ∷ false ∷ false ∷ false ∷ false
-      ∷ false ∷ true ∷ false ∷ false ∷ false ∷ false ∷ false ∷ []
-  pub identify_strict : told_of IdentifyStrict
-      ≡ false ∷ false ∷ false ∷ false ∷ false ∷ false ∷ false ∷ false ∷ false ∷ false ∷ false
-      ∷ false ∷ false ∷ true ∷ false ∷ false ∷ false ∷ false ∷ []
-  pub keeps_decorated : told_of KeepsDecorated
-      ≡ false ∷ false ∷ false ∷ false ∷ false ∷ false ∷ false ∷ false ∷ false ∷ false ∷ false
-      ∷ false ∷ false ∷ false ∷ true ∷ false ∷ false ∷ false ∷ []
-  pub compat_implib : told_of CompatImplib
-      ≡ false ∷ false ∷ false ∷ false ∷ false ∷ false ∷ false ∷ false ∷ false ∷ false ∷ false
-      ∷ false ∷ false ∷ false ∷ false ∷ true ∷ false ∷ false ∷ []
-  pub listed_alone : told_of ListedAlone
-      ≡ false ∷ false ∷ false ∷ false ∷ false ∷ false ∷ false ∷ false ∷ false ∷ false ∷ false
-      ∷ false ∷ false ∷ false ∷ false ∷ false ∷ true ∷ false ∷ []
-  pub lists_members : told_of ListsMembers
-      ≡ false ∷ false ∷ false ∷ false ∷ false ∷ false ∷ false ∷ false ∷ false ∷ false ∷ false
-      ∷ false ∷ false ∷ false ∷ false ∷ false ∷ false ∷ true ∷ []
   pub i386 : map machine_named (codes "i386" ∷ codes "I386" ∷ codes "x86" ∷ [])
       ≡ Some (Ordinary I386) ∷ Some (Ordinary I386) ∷ Some (Ordinary I386) ∷ []
   pub amd64 : map machine_named

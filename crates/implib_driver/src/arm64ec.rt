@@ -19,7 +19,7 @@ use crate::reporter::{Complaint, Reporter};
 use crate::request::Request;
 use crate::telling::{give_up, refusal_status};
 use crate::warned::{Counted, warn};
-use implib_arm64ec_library::{
+use implib_libraries::arm64ec::{
     Arm64ecLibrary, Arm64ecRefusal, arm64ec_archive, arm64ec_library_for,
 };
 use implib_rules::library::Refusal;

@@ -4,12 +4,14 @@ ghost use Rattle.implib_archive.specs.Archive.{archive_of};
 ghost use Rattle.implib_driver.specs.Program.{Finishes, FinishesDelayed, FinishesDelaying};
 ghost use Rattle.implib_driver.specs.Program.{FinishesFailing, FinishesText, FinishesWith};
 ghost use Rattle.implib_driver.specs.Program.{FinishesWithout, KeepsFiles, begins_utf16};
-ghost use Rattle.implib_driver.specs.Program.{definition_in, delay_lines, delay_status};
+ghost use Rattle.implib_driver.specs.Program.{SaysLeftOut, definition_in, delay_lines};
+ghost use Rattle.implib_driver.specs.Program.{delay_status};
 ghost use Rattle.implib_driver.specs.Program.{members_counted};
 ghost use Rattle.implib_driver.specs.Reports.{Says};
 ghost use Rattle.implib_driver.specs.Request.{request_view};
-ghost use Rattle.std.specs.Prelude.{◌≡◌, IfOk, IfSome, None, OnErr, OnOk, codes, false};
+ghost use Rattle.std.specs.Prelude.{◌≡◌, IfOk, IfSome, None, OnErr, OnOk, codes, false, map};
 ghost use Rattle.std.specs.Str.{bytes_eq};
+ghost use Rattle.std.specs.String.{string_bytes};
 
 use crate::disk::Disk;
 use crate::placing::{place, put};
@@ -21,7 +23,7 @@ use crate::warned::{Counted, is_bare, warn};
 use implib::Flavor;
 use implib_archive::Archive;
 use implib_delay::DelayedMembers;
-use implib_delay_library::{DelayRefusal, delayed_archive, delayed_members_for};
+use implib_libraries::delayed::{DelayRefusal, delayed_archive, delayed_members_for};
 use implib_rules::library::{LibraryError, Refusal, members_asked};
 use implib_rules::members::LibraryMembers;
 use std::alloc::Global;
@@ -228,6 +230,16 @@ fn finish_delayed<D: Disk, T: Reporter>(
     }
 }
 
+// Says how many exports a library of delayed imports leaves out, and the first, if it does any.
+fn say_left_out<T: Reporter>(reporter: &mut T, path: &str, symbols: &[String])
+    ensures { SaysLeftOut (map string_bytes symbols.now) path.now
+        (T.said reporter.old) (T.said reporter.new) }
+{
+    if let Some(first) = symbols.first() {
+        reporter.complain(path, Complaint::LeftOut(symbols.len(), first.as_str()));
+    }
+}
+
 // Puts the libraries of a definition that is read, of which that of delayed imports is for this
 // path, and gives the exit status. Nothing is put unless both can be made.
 fn answer_delaying<D: Disk, T: Reporter>(
@@ -246,12 +258,13 @@ fn answer_delaying<D: Disk, T: Reporter>(
         reporter.complain(request.definition, Complaint::Utf16);
         return 1;
     }
-    let members = match delayed_members_for(alloc, bytes, &request.library) {
-        Ok(members) => members,
+    let made = match delayed_members_for(alloc, bytes, &request.library) {
+        Ok(made) => made,
         Err(refusal) => return refuse_delay(reporter, request.definition, refusal),
     };
-    match delayed_archive(alloc, &members) {
+    match delayed_archive(alloc, &made.members) {
         Ok(archive) => {
+            say_left_out(reporter, request.definition, made.left_out.as_slice());
             let delayed = Delayed { path, archive };
             finish_delayed(alloc, bytes, disk, &delayed, request, reporter)
         }

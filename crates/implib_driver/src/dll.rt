@@ -5,14 +5,14 @@ ghost use Rattle.implib_dll.specs.Views.{exports_view};
 ghost use Rattle.implib_driver.specs.Dll.{IsRefusalOfReading, IsUnlisted, IsUnmade, IsUnsuited};
 ghost use Rattle.implib_driver.specs.Dll.{MembersOfDll, ReadsDll, SuitsDll, begins_dll, dll_status};
 ghost use Rattle.implib_driver.specs.Request.{request_view};
-ghost use Rattle.implib_from_dll.specs.Definition.{exports_of};
+ghost use Rattle.implib_libraries.specs.FromDll.Definition.{exports_of};
 ghost use Rattle.std.specs.Prelude.{◌≡◌, IfErr, IfOk, OnOk, map};
 
 use crate::request::{CallFault, Request};
 use implib::def::ShortExport;
 use implib_dll::{Exports, Fault, ReadError};
-use implib_dll_library::{Unmade, members_of_list};
-use implib_from_dll::{Unsaid, exports_of};
+use implib_libraries::from_dll::{Unsaid, exports_of};
+use implib_libraries::of_dll::{Unmade, members_of_list};
 use implib_rules::members::LibraryMembers;
 use std::alloc::Global;
 

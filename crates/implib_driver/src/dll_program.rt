@@ -11,7 +11,7 @@ ghost use Rattle.implib_driver.specs.DllProgram.{is_renamed, tells, undecorated_
 ghost use Rattle.implib_driver.specs.DllProgram.{undecorated_status};
 ghost use Rattle.implib_driver.specs.Reports.{Complains, OfDll, Says, complaint_view};
 ghost use Rattle.implib_driver.specs.Request.{request_for, request_view};
-ghost use Rattle.implib_from_dll.specs.Definition.{exports_of};
+ghost use Rattle.implib_libraries.specs.FromDll.Definition.{exports_of};
 ghost use Rattle.std.specs.Prelude.{◌≡◌, [], ◌∷◌, IfErr, IfOk, None, Some, map, true};
 
 use crate::arguments::{Occurrence, is_given};
@@ -28,8 +28,8 @@ use crate::telling::{complain, conclude, refusal_status};
 use implib::def::ShortExport;
 use implib_dll::Exports;
 use implib_dll_check::loader_name;
-use implib_dll_library::{NotDecorations, count_missing, decorate, decorations_in};
-use implib_from_dll::machine_of;
+use implib_libraries::from_dll::machine_of;
+use implib_libraries::of_dll::{NotDecorations, count_missing, decorate, decorations_in};
 use implib_rules::members::LibraryMembers;
 use implib_rules::name::last_part;
 use std::alloc::{AllocError, Global};

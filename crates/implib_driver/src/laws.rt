@@ -3,31 +3,24 @@
 ghost use Rattle.implib_driver.specs.Worked.{CallsRead};
 ghost use Rattle.implib_driver.specs.WorkedArm64ec.{Arm64ecAsked};
 ghost use Rattle.implib_driver.specs.WorkedCallers.{CallersNamed, FaultsOrdered, FlavorsChosen};
-ghost use Rattle.implib_driver.specs.WorkedCalls.{AnswersTold, CallsAnswered};
+ghost use Rattle.implib_driver.specs.WorkedCalls.{AnswersTold};
 ghost use Rattle.implib_driver.specs.WorkedDelays.{DelaysAsked};
 ghost use Rattle.implib_driver.specs.WorkedDlls.{DllsAsked};
 ghost use Rattle.implib_driver.specs.WorkedLibWords.{LibWordsRead};
 ghost use Rattle.implib_driver.specs.Stubs.{StubsTold};
 ghost use Rattle.implib_driver.specs.WorkedOptions.{OptionsNamed};
 
-/// Command lines as rustc and mingw-w64 write them, and wrong ones, are read as was worked by hand.
+/// Command lines, and wrong ones, are read as was worked by hand.
 pub fn calls_read()
     ensures { CallsRead }
 {}
 
-/// Every option, machine and flavour has the names that were worked by hand, and equals no other.
+/// Every option, machine and flavour has the names that were worked by hand.
 pub fn options_named()
     ensures { OptionsNamed }
 {}
 
-/// Command lines ask for what was worked by hand: the library, its flavour and its names, or they
-/// are refused.
-pub fn calls_answered()
-    ensures { CallsAnswered }
-{}
-
-/// The right bytes are read, the right lines counted, and of each answer the right thing is said,
-/// with its exit status.
+/// Of answers the right thing is said, with its exit status.
 pub fn answers_told()
     ensures { AnswersTold }
 {}
@@ -60,22 +53,19 @@ pub fn stubs_told()
     ensures { StubsTold }
 {}
 
-/// Which bytes are a DLL's, which file is made a library of, what is asked for by the machine of a
-/// DLL, and the name that it has are as was worked by hand.
+/// What is asked for by the machine of a DLL, and the name that it has, are as was worked by hand.
 pub fn dlls_asked()
     ensures { DllsAsked }
 {}
 
-/// Calls for libraries of delayed imports, as QEMU and mingw-w64 write them, ask for what was
-/// worked by hand, or are refused, and of two faults the right one comes first; of a refusal the
-/// right thing is said.
+/// Calls for libraries of delayed imports are refused as was worked by hand, and of two faults the
+/// right one comes first; of a refusal the right thing is said.
 pub fn delays_asked()
     ensures { DelaysAsked }
 {}
 
-/// Calls for libraries for ARM64EC, as mingw-w64, winebuild and users of LIB write them, ask for
-/// what was worked by hand, or are refused, and of two faults the right one comes first; of a
-/// refusal the right thing is said, of the right file.
+/// Calls for libraries for ARM64EC ask for what was worked by hand, or are refused, and of two
+/// faults the right one comes first; of a refusal the right thing is said, of the right file.
 pub fn arm64ec_asked()
     ensures { Arm64ecAsked }
 {}

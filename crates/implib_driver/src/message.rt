@@ -9,8 +9,8 @@ use crate::request::CallFault;
 use implib::Fault;
 use implib::def::Position;
 use implib_arm64ec::ImportsFault;
-use implib_arm64ec_library::Unimported;
-use implib_delay_library::Undelayed;
+use implib_libraries::arm64ec::Unimported;
+use implib_libraries::delayed::Undelayed;
 use implib_rules::{FaultMessage, Shown};
 use std::fmt;
 
@@ -356,6 +356,17 @@ impl<'a> fmt::Display for Complaint<'a> {
                  the DLL; -D gives the library the file's",
             ),
             Complaint::Undelayed(why) => f.write_str(undelayed_text(why)),
+            Complaint::LeftOut(1, first) => write!(
+                f,
+                "warning: {} is data, which no first call loads, and is left out of -y's library",
+                Shown(first)
+            ),
+            Complaint::LeftOut(count, first) => write!(
+                f,
+                "warning: {count} exports are data, which no first call loads, and are left out \
+                 of -y's library; the first is {}",
+                Shown(first)
+            ),
             Complaint::Unimported(why) => write!(f, "{}", UnimportedMessage(why)),
             Complaint::Utf16 => f.write_str("the definition is UTF-16; expected UTF-8"),
             Complaint::FailingStub => f.write_str(

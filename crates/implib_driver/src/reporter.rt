@@ -10,8 +10,8 @@ use crate::dll::DllRefusal;
 use crate::identity::NotIdentified;
 use crate::request::CallFault;
 use implib_archive::WriteError;
-use implib_arm64ec_library::Unimported;
-use implib_delay_library::Undelayed;
+use implib_libraries::arm64ec::Unimported;
+use implib_libraries::delayed::Undelayed;
 use implib_rules::library::Refusal;
 use implib_rules::warnings::Warning;
 use std::io;
@@ -39,6 +39,9 @@ pub enum Complaint<'a> {
     Utf16,
     /// A definition has no library of delayed imports.
     Undelayed(Undelayed),
+    /// A library of delayed imports leaves so many exports out, since they are data, and this one
+    /// first: a warning.
+    LeftOut(usize, &'a str),
     /// A definition has no short imports for ARM64EC.
     Unimported(Unimported),
     /// A DLL has no library.

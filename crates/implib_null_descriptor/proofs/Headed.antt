@@ -6,7 +6,6 @@ use Rattle.std.proofs.lemmas.List.{length-map, map-append}
 use Rattle.implib.specs.declared.flavor.Flavor.{Flavor}
 use Rattle.implib.specs.declared.flavor.Flavor.TheVariants.{Msvc}
 use Rattle.implib.specs.declared.machine.MachineType.{MachineType}
-use Rattle.implib.specs.declared.machine.MachineType.TheVariants.{AMD64}
 use Rattle.implib.specs.Definition.{DefinitionView}
 use Rattle.implib.specs.Import.{holds}
 use Rattle.implib.specs.LibraryName.{NamesOfDll, linked_dll, names_for}
@@ -18,26 +17,15 @@ use Rattle.implib.specs.Members.MsvcMembers.{descriptor_spec, header_specs, null
 use Rattle.implib.specs.Members.MsvcObjects.{descriptor_symbol, null_thunk_symbol}
 use Rattle.implib.specs.Renaming.{renamed}
 use Rattle.implib.proofs.Members.NotRefused.{linked_is_free}
-use Rattle.implib.proofs.Text.HeardNames.{heard_once}
-use Rattle.implib.proofs.Text.OneReading.{one_definition}
 use Rattle.implib_archive.specs.Sources.{member_at, symbol_at}
 use Rattle.implib_rules.specs.ExportAs.{definition_made, kept_definition, specs_made}
-use Rattle.implib_rules.specs.Library.{DefinitionFor, MembersFor, definition_for, definition_text}
+use Rattle.implib_rules.specs.Library.{DefinitionFor, MembersFor, definition_text}
 use Rattle.implib_rules.specs.Linked.{NamingView}
-use Rattle.implib_rules.specs.Names.{is_program, own_name}
 use Rattle.implib_rules.specs.Options.{LibraryOptionsView}
 use Rattle.implib_rules.proofs.Made.{found_in}
+use Rattle.implib_rules.proofs.OneDefinition.{one_for}
 use Rattle.implib_null_descriptor.specs.Libraries.{AreHeadersFor, NamedMembersFor, with_named_null}
 use Rattle.implib_null_descriptor.specs.Named.{named_specs}
-
--- a text means one definition for options
-pub one_for : (text : List ℕ) (options : LibraryOptionsView) (definition other : DefinitionView) → IsUtf8 text → DefinitionFor text options definition
-    → DefinitionFor text options other → definition ≡ other
-one_for text options definition other utf8 first second =
-    first.is
-    ∙ ap (λ d. definition_for options d (own_name first.heard) (is_program first.heard)) (one_definition text utf8 AMD64 first.parsed second.parsed first.parses second.parses)
-    ∙ ap (λ h. definition_for options second.parsed (own_name h) (is_program h)) (heard_once text first.heard second.heard utf8 first.is_heard second.is_heard)
-    ∙ sym second.is
 
 -- members that begin with those of a DLL
 pub record Headed (machine : MachineType) (dll : NamesOfDll) (members : List MemberView) : Type 0 where

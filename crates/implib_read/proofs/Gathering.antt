@@ -10,10 +10,6 @@ use Rattle.implib.specs.Formats.Object.{each_at}
 abbrev pub Gathers : {X : Type 0} → Option (List X) → List X → Option (List X) → Type 0
 Gathers whole done rest = whole ≡ option_map (λ more. done ++ more) rest
 
-pub gathers-start : {X : Type 0} (whole : Option (List X)) → Gathers whole [] whole
-gathers-start None = refl
-gathers-start (Some xs) = refl
-
 pub gathers-more : {X : Type 0} (whole rest : Option (List X)) (done : List X) (x : X) (later : Option (List X))
     → Gathers whole done rest → rest ≡ option_map (λ xs. x ∷ xs) later → Gathers whole (done ++ x ∷ []) later
 gathers-more {X} whole rest done x later so_far step =

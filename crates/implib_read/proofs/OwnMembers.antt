@@ -19,7 +19,7 @@ use Rattle.implib.specs.LibraryName.{NamesOfDll, names_for}
 use Rattle.implib.specs.Machine.{machine_number, has_leading_underscore}
 use Rattle.implib.specs.Members.Members.{member_specs}
 use Rattle.implib.specs.Members.MemberSpec.{MemberSpec}
-use Rattle.implib.specs.Members.Msvc.{import_type_of, name_type_asking, name_type_of, short_import_of, short_import_symbol}
+use Rattle.implib.specs.Members.Msvc.{import_type_of, is_cut_alike, name_type_asking, name_type_of, short_import_of, short_import_symbol}
 use Rattle.implib.specs.Members.MsvcMembers.{descriptor_spec, export_specs, header_specs, null_descriptor_spec, null_thunk_spec, short_import_spec, weak_specs}
 use Rattle.implib.specs.Members.MsvcObjects.{descriptor, null_descriptor, null_thunk}
 use Rattle.implib.specs.Members.ReadBack.{file_of}
@@ -200,8 +200,9 @@ either_name_type false x y first second = second
 
 asking_plain : (machine : MachineType) (symbol name : List ℕ) → (name_type_asking machine symbol name == 4) ≡ false
 asking_plain machine symbol name =
-    let prefix = bytes_eq (without_prefix symbol) name in
-    either_name_type (not (has_leading_underscore machine) || bytes_eq symbol name) 1 (if prefix then 2 else 3) refl (either_name_type prefix 2 3 refl refl)
+    let cut = is_cut_alike machine symbol && bytes_eq (without_prefix symbol) name in
+    let last : ℕ = if has_leading_underscore machine then 3 else 1 in
+    either_name_type (bytes_eq symbol name) 1 (if cut then 2 else last) refl (either_name_type cut 2 last refl (either_name_type (has_leading_underscore machine) 3 1 refl refl))
 
 name_type_plain : (machine : MachineType) (e : ExportView) → (name_type_of machine e == 4) ≡ false
 name_type_plain machine e =
@@ -333,8 +334,9 @@ import_type_low e = either_at_most e.is_data 1 (if e.constant then 2 else 0) 2 r
 
 asking_low : (machine : MachineType) (symbol name : List ℕ) → nat_le (name_type_asking machine symbol name) 3 ≡ true
 asking_low machine symbol name =
-    let prefix = bytes_eq (without_prefix symbol) name in
-    either_at_most (not (has_leading_underscore machine) || bytes_eq symbol name) 1 (if prefix then 2 else 3) 3 refl (either_at_most prefix 2 3 3 refl refl)
+    let cut = is_cut_alike machine symbol && bytes_eq (without_prefix symbol) name in
+    let last : ℕ = if has_leading_underscore machine then 3 else 1 in
+    either_at_most (bytes_eq symbol name) 1 (if cut then 2 else last) 3 refl (either_at_most cut 2 last 3 refl (either_at_most (has_leading_underscore machine) 3 1 3 refl refl))
 
 name_type_low : (machine : MachineType) (e : ExportView) → nat_le (name_type_of machine e) 3 ≡ true
 name_type_low machine e =

@@ -1,67 +1,55 @@
--- The targets that aliases add are not refused.
-use Rattle.std.proofs.Common.{◌≡◌, ℕ, Bool, true, false, List, ◌∷◌, Some, None, bytes_eq, if◌then◌else◌, inl, inr, refl, sym}
-use Rattle.std.specs.Prelude.{◌&&◌, not}
-use Rattle.std.proofs.lemmas.Bool.{cases_Bool, true≢false}
+-- The imports that aliases lead to are not refused.
+use Rattle.std.proofs.Common.{◌≡◌, ℕ, Bool, true, false, ◌||◌, List, ◌∷◌, Some, None, bytes_eq, if◌then◌else◌, inl, inr, refl}
+use Rattle.std.specs.Prelude.{not}
+use Rattle.std.proofs.lemmas.Bool.{cases_Bool}
 use Rattle.std.proofs.lemmas.Slice.Eq.{bytes_eq-Decides}
 use Rattle.implib.specs.declared.flavor.Flavor.TheVariants.{Msvc}
 use Rattle.implib.specs.declared.machine.MachineType.{MachineType}
-use Rattle.implib.specs.declared.machine.MachineType.TheVariants.{I386, ARMNT, AMD64, ARM64}
-use Rattle.implib.specs.Ascii.{holds, underscore}
+use Rattle.implib.specs.Ascii.{at_sign, holds, question_mark}
 use Rattle.implib.specs.Definition.{ExportView, empty_export}
 use Rattle.implib.specs.Fault.{Cause, EmptyAskedName, EmptyName, NoNameType, NulInExport}
+use Rattle.implib.specs.Formats.ShortImport.{asked_by_name_type, without_prefix}
 use Rattle.implib.specs.Import.{is_empty_text}
 use Rattle.implib.specs.Machine.{has_leading_underscore}
-use Rattle.implib.specs.Members.Msvc.{asked_by_short_import}
+use Rattle.implib.specs.Members.MemberLists.{has_code}
+use Rattle.implib.specs.Members.Msvc.{asked_by_short_import, is_cut_alike, name_type_asking}
 use Rattle.implib.specs.Members.NameRules.{holds_nul, name_refusal}
-use Rattle.implib_rules.specs.Linked.{NamingView, gets_underscore, keeps_word, target_import}
+use Rattle.implib_rules.specs.Linked.{target_import}
 
-none_applies : (a b c d : Bool) (w x y z : Cause) → a ≡ false → b ≡ false → c ≡ false → d ≡ false
-    → (if a then Some w else if b then Some x else if c then Some y else if d then Some z else None) ≡ None
-none_applies a b c d w x y z p q r s = rw (p, q, r, s) refl
+none_applies : (b c d : Bool) (x y z : Cause) → b ≡ false → c ≡ false → d ≡ false
+    → (if b then Some x else if c then Some y else if d then Some z else None) ≡ None
+none_applies b c d x y z q r s = rw (q, r, s) refl
 
--- the import of a word under this symbol
-abbrev import_under : List ℕ → List ℕ → Bool → Bool → ExportView
-import_under symbol word is_data is_constant = record empty_export { name = symbol; asked_name = Some word; is_data = is_data; constant = is_constant }
+or_true : (b : Bool) → (b || true) ≡ true
+or_true true = refl
+or_true false = refl
 
-same_word : (word : List ℕ) → bytes_eq word word ≡ true
-same_word word = (bytes_eq-Decides word word).1 refl
+-- the import of a word under the symbol of code or of data
+abbrev import_of : Bool → List ℕ → Bool → Bool → ExportView
+import_of code word is_data is_constant =
+    record empty_export { name = (if code then question_mark else at_sign) ∷ word; asked_name = Some word; is_data = is_data; constant = is_constant }
 
--- by the name type name, or on I386 by no prefix
-asks_for_word : (b : Bool) (machine : MachineType) (word : List ℕ) (is_data is_constant : Bool) → (b ≡ true → has_leading_underscore machine ≡ true)
-    → not (bytes_eq (asked_by_short_import machine (import_under (if b then underscore ∷ word else word) word is_data is_constant)) word) ≡ false
-asks_for_word false I386 word is_data is_constant led = rw (same_word word) (rw (same_word word) refl)
-asks_for_word false ARMNT word is_data is_constant led = rw (same_word word) refl
-asks_for_word false AMD64 word is_data is_constant led = rw (same_word word) refl
-asks_for_word false ARM64 word is_data is_constant led = rw (same_word word) refl
-asks_for_word true ARMNT word is_data is_constant led = absurd (true≢false (sym (led refl)))
-asks_for_word true AMD64 word is_data is_constant led = absurd (true≢false (sym (led refl)))
-asks_for_word true ARM64 word is_data is_constant led = absurd (true≢false (sym (led refl)))
-asks_for_word true I386 word is_data is_constant led =
-    let same = same_word word in
-    elim (cases_Bool (bytes_eq (underscore ∷ word) word)) [
-      | inl whole ↦ rw whole (rw whole refl)
-      | inr other ↦ rw (other, same) (rw same refl)
+-- a symbol that linkers cut alike asks for what is left
+asks_for_rest : (machine : MachineType) (symbol word : List ℕ) → is_cut_alike machine symbol ≡ true → without_prefix symbol ≡ word
+    → asked_by_name_type (name_type_asking machine symbol word) symbol ≡ word
+asks_for_rest machine symbol word alike rest =
+    elim (cases_Bool (bytes_eq symbol word)) [
+      | inl whole ↦ rw whole ((bytes_eq-Decides symbol word).0 whole)
+      | inr other ↦ rw (other, alike, (bytes_eq-Decides (without_prefix symbol) word).1 rest) rest
     ]
 
-accepted : (b : Bool) (machine : MachineType) (word : List ℕ) (is_data is_constant : Bool) (index : ℕ) → (b ≡ true → has_leading_underscore machine ≡ true) → is_empty_text word ≡ false → holds 0 word ≡ false
-    → name_refusal Msvc machine index (import_under (if b then underscore ∷ word else word) word is_data is_constant) ≡ None
-accepted true machine word is_data is_constant index led filled free =
-    let nul : holds_nul (import_under (underscore ∷ word) word is_data is_constant) ≡ false = rw free refl in
-    none_applies false (holds_nul (import_under (underscore ∷ word) word is_data is_constant)) (is_empty_text word) _ (EmptyName index) (NulInExport index) (EmptyAskedName index) (NoNameType index)
-    refl nul filled (asks_for_word true machine word is_data is_constant led)
-accepted false machine word is_data is_constant index led filled free =
-    let nul : holds_nul (import_under word word is_data is_constant) ≡ false = rw free refl in
-    none_applies (is_empty_text word) (holds_nul (import_under word word is_data is_constant)) (is_empty_text word) _ (EmptyName index) (NulInExport index) (EmptyAskedName index) (NoNameType index)
-    filled nul filled (asks_for_word false machine word is_data is_constant led)
+asks_for_word : (machine : MachineType) (code : Bool) (word : List ℕ) (is_data is_constant : Bool) → asked_by_short_import machine (import_of code word is_data is_constant) ≡ word
+asks_for_word machine true word is_data is_constant = asks_for_rest machine (question_mark ∷ word) word (or_true (has_leading_underscore machine)) refl
+asks_for_word machine false word is_data is_constant = asks_for_rest machine (at_sign ∷ word) word (or_true (has_leading_underscore machine)) refl
 
--- a symbol gets an underscore on I386 alone
-first_of_three : (a b c : Bool) → (a && b && c) ≡ true → a ≡ true
-first_of_three true b c is = refl
-first_of_three false b c is = absurd (true≢false (sym is))
+without_nul : (code : Bool) (word : List ℕ) (is_data is_constant : Bool) → holds 0 word ≡ false → holds_nul (import_of code word is_data is_constant) ≡ false
+without_nul true word is_data is_constant free = rw free refl
+without_nul false word is_data is_constant free = rw free refl
 
--- a target is not refused where its word is not empty and has no NUL
-pub target_accepted : (machine : MachineType) (naming : NamingView) (index : ℕ) (e : ExportView) → is_empty_text e.alias_target ≡ false → holds 0 e.alias_target ≡ false
-    → name_refusal Msvc machine index (target_import machine naming e) ≡ None
-target_accepted machine naming index e filled free =
-    accepted (gets_underscore machine naming e.alias_target) machine e.alias_target e.is_data e.constant index
-    (first_of_three (has_leading_underscore machine) (not naming.is_plain) (not (keeps_word naming e.alias_target))) filled free
+-- such an import is not refused where its word is not empty and has no NUL
+pub target_accepted : (machine : MachineType) (index : ℕ) (e : ExportView) → is_empty_text e.alias_target ≡ false → holds 0 e.alias_target ≡ false
+    → name_refusal Msvc machine index (target_import e) ≡ None
+target_accepted machine index e filled free =
+    none_applies (holds_nul (target_import e)) (is_empty_text e.alias_target) _ (NulInExport index) (EmptyAskedName index) (NoNameType index)
+    (without_nul (has_code e) e.alias_target e.is_data e.constant free) filled
+    (rw ((bytes_eq-Decides (asked_by_short_import machine (target_import e)) e.alias_target).1 (asks_for_word machine (has_code e) e.alias_target e.is_data e.constant)) refl)

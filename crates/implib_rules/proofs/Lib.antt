@@ -14,6 +14,8 @@ pub mod PlainPlaces
 pub mod PlainStays
 pub mod PlainWords
 pub mod Made
+pub mod OneDefinition
+pub mod ByOrdinal
 pub mod ExportedAs
 pub mod ExportAsRead
 pub mod OfExports

@@ -25,6 +25,7 @@ use Rattle.implib_rules.specs.Library.{DefinitionFor}
 use Rattle.implib_rules.specs.LibraryLaws.{IsFoundByGnu}
 use Rattle.implib_rules.specs.LibraryName.{exports_taken, gnu_library_name, has_gnu_linker, if_filled, library_name_for, msvc_library_name, with_library_name, without_ending}
 use Rattle.implib_rules.specs.Linked.{linked}
+use Rattle.implib_rules.specs.Nameless.{with_ordinals}
 use Rattle.implib_rules.specs.Names.{dll_name, is_program, own_name}
 use Rattle.implib_rules.specs.Repeats.{without_repeats}
 use Rattle.implib_rules.specs.Options.{LibraryOptionsView}
@@ -54,7 +55,7 @@ named_of machine flavor d whole msvc links is text =
 pub found_of_text : (text : List ℕ) (options : LibraryOptionsView) (d : DefinitionView) → DefinitionFor text options d → options.flavor ≡ Msvc
     → has_gnu_linker options.machine ≡ true → is_empty_text (without_ending d.import_name) ≡ false → IsFoundByGnu d
 found_of_text text options d meant msvc links filled =
-    let plain = record meant.parsed { import_name = dll_name options.dll (own_name meant.heard) (is_program meant.heard) } in
+    let plain = record (with_ordinals meant.parsed) { import_name = dll_name options.dll (own_name meant.heard) (is_program meant.heard) } in
     let before = linked options.machine options.naming options.flavor (without_repeats (extended options.machine options.naming options.additions plain)) in
     found_named d (without_ending d.import_name) (named_of options.machine options.flavor before d msvc links meant.is filled) refl
 

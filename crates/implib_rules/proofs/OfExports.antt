@@ -15,6 +15,7 @@ use Rattle.implib_rules.specs.Library.{MembersFor, definition_for, kind_of, defi
 use Rattle.implib_rules.specs.LibraryLaws.{LibrariesAreOfExports}
 use Rattle.implib_rules.specs.LibraryName.{gnu_library_name, with_library_name}
 use Rattle.implib_rules.specs.Linked.{NamingView, linked}
+use Rattle.implib_rules.specs.Nameless.{with_ordinals}
 use Rattle.implib_rules.specs.Names.{dll_name, is_program, lacks_name, own_name, part_after_last}
 use Rattle.implib_rules.specs.Options.{LibraryOptionsView}
 use Rattle.implib_rules.specs.Additions.{AdditionsView, extended}
@@ -41,7 +42,7 @@ given_name_is (Some name) own program named = refl
 given_name_is None own program named = cc
 
 same_members : (text : List ℕ) (options : LibraryOptionsView) (parsed : DefinitionView) (members others : List MemberView) → Parses (definition_text text) AMD64 parsed
-    → MembersFor text options members → MembersOfExports parsed.exports options others → members ≡ others
+    → MembersFor text options members → MembersOfExports (with_ordinals parsed).exports options others → members ≡ others
 same_members text options parsed members others parses first second =
     let meant = first.of_text in
     let own = own_name meant.heard in
@@ -49,9 +50,9 @@ same_members text options parsed members others parses first second =
     let specs = specs_named options.machine options.naming options.additions options.flavor in
     let once = one_definition (definition_text text) first.utf8 AMD64 meant.parsed parsed meant.parses parses in
     first.made_for.is
-    ∙ ap (λ (d : DefinitionView). map member_of (specs_made options.naming options.machine options.flavor (renamed d))) (meant.is ∙ ap (λ (d : DefinitionView). definition_for options d own program) once)
-    ∙ ap (λ name. map member_of (specs parsed name)) (given_name_is options.dll own program second.of_exports.named)
-    ∙ ap (map member_of) (of_their_exports options.machine options.naming options.additions options.flavor parsed (dll_name options.dll [] false))
+    ∙ ap (λ (d : DefinitionView). map member_of (specs_made options.naming options.machine options.flavor (renamed d))) (meant.is ∙ ap (λ (d : DefinitionView). definition_for options (with_ordinals d) own program) once)
+    ∙ ap (λ name. map member_of (specs (with_ordinals parsed) name)) (given_name_is options.dll own program second.of_exports.named)
+    ∙ ap (map member_of) (of_their_exports options.machine options.naming options.additions options.flavor (with_ordinals parsed) (dll_name options.dll [] false))
     ∙ sym (second.made_for.is ∙ ap (λ (d : DefinitionView). map member_of (specs_made options.naming options.machine options.flavor (renamed d))) second.of_exports.is)
 
 pub libraries_are_of_exports : LibrariesAreOfExports

@@ -15,7 +15,8 @@ use Rattle.implib.proofs.Text.SymbolNames.{parsed_lacks}
 use Rattle.implib_rules.specs.Library.{DefinitionFor, definition_for}
 use Rattle.implib.specs.Ascii.{underscore}
 use Rattle.implib_rules.specs.Additions.{AdditionsView, all_prefixed, extended_exports, gets_one, prefixed, underscored}
-use Rattle.implib_rules.specs.Linked.{NamingView, adds_target, alias_symbol, has_target, is_among, linked_export, linked_to, new_target, symbol_of, target_import, targets_added, targets_beside, with_target, word_asked, word_of}
+use Rattle.implib_rules.specs.Linked.{NamingView, adds_target, alias_symbol, has_target, is_among, linked_export, linked_to, new_target, own_symbol, target_import, targets_added, targets_beside, with_target, word_asked, word_of}
+use Rattle.implib_rules.specs.Nameless.{asking, ordinal_asked, with_ordinals}
 use Rattle.implib_rules.specs.Names.{is_program, own_name}
 use Rattle.implib_rules.specs.Repeats.{left_out, left_out_by, repeats_behind, without_repeated}
 use Rattle.implib_rules.specs.Options.{LibraryOptionsView}
@@ -39,7 +40,7 @@ module _ (machine : MachineType) (naming : NamingView) (all : List ExportView) w
       let parts = and_parts (is_empty_text e.symbol_name) (list_all (λ (x : ExportView). is_empty_text x.symbol_name) exports) plain in
       (either (alias_symbol machine naming flavor all e) e (empty_text e.symbol_name parts.0), plain_linked flavor exports parts.1)
 
-  plain_target : (b : Bool) (e : ExportView) → AllByRecursion IsPlain (if b then target_import machine naming e ∷ [] else [])
+  plain_target : (b : Bool) (e : ExportView) → AllByRecursion IsPlain (if b then target_import e ∷ [] else [])
   plain_target true e = (refl, tt)
   plain_target false e = tt
 
@@ -47,7 +48,7 @@ module _ (machine : MachineType) (naming : NamingView) (all : List ExportView) w
   plain_beside symbols [] = tt
   plain_beside symbols (e ∷ exports) =
       all_append IsPlain (new_target machine naming all symbols e) (targets_beside machine naming all (with_target machine naming all symbols e) exports)
-      (plain_target (adds_target machine naming all e && not (is_among symbols (symbol_of machine naming e.alias_target))) e)
+      (plain_target (adds_target machine naming all e && not (is_among symbols (own_symbol e))) e)
       (plain_beside (with_target machine naming all symbols e) exports)
 
   plain_added : (flavor : Flavor) → AllByRecursion IsPlain (targets_added machine naming flavor all)
@@ -129,8 +130,21 @@ plain_for options parsed own program lacks =
     (plain_added options.machine options.naming exports options.flavor) in
     plain_public (linked ++ targets) plain
 
+plain_asking : (ordinal : Option ℕ) (e : ExportView) → is_empty_text (asking ordinal e).symbol_name ≡ is_empty_text e.symbol_name
+plain_asking None e = refl
+plain_asking (Some number) e = refl
+
+plain_ordinals : (all exports : List ExportView) → list_all (λ e. is_empty_text e.symbol_name) exports ≡ true
+    → list_all (λ e. is_empty_text e.symbol_name) (map (λ e. asking (ordinal_asked all e) e) exports) ≡ true
+plain_ordinals all [] plain = plain
+plain_ordinals all (e ∷ exports) plain =
+    let parts = and_parts (is_empty_text e.symbol_name) (list_all (λ (x : ExportView). is_empty_text x.symbol_name) exports) plain in
+    ap (λ b. b && list_all (λ (x : ExportView). is_empty_text x.symbol_name) (map (λ x. asking (ordinal_asked all x) x) exports)) (plain_asking (ordinal_asked all e) e ∙ parts.0)
+    ∙ plain_ordinals all exports parts.1
+
 -- so of the definition of a text
 pub plain_of : (text : List ℕ) (options : LibraryOptionsView) (d : DefinitionView) → DefinitionFor text options d → AllByRecursion IsPlain (public_exports (renamed d))
 plain_of text options d meant =
     subst (λ (x : DefinitionView). AllByRecursion IsPlain (public_exports (renamed x))) (sym meant.is)
-    (plain_for options meant.parsed (own_name meant.heard) (is_program meant.heard) (parsed_lacks text AMD64 meant.parsed meant.parses).parsed)
+    (plain_for options (with_ordinals meant.parsed) (own_name meant.heard) (is_program meant.heard)
+    (plain_ordinals meant.parsed.exports meant.parsed.exports (parsed_lacks text AMD64 meant.parsed meant.parses).parsed))

@@ -2,7 +2,7 @@
 use Rattle.std.proofs.Common.{◌≡◌, ◌∙◌, ℕ, Bool, true, false, ◌||◌, List, [], ◌∷◌, ◌++◌, Option, None, Some, ap, bytes_eq, cond, if◌then◌else◌, map, refl, sym}
 use Rattle.std.specs.Prelude.{not, ◌&&◌, is_some, slice_get, suc}
 use Rattle.std.specs.List.{find, list_any}
-use Rattle.std.specs.Option.{option_and_then, option_map, option_or}
+use Rattle.std.specs.Option.{option_and_then, option_map}
 use Rattle.std.proofs.lemmas.Bool.{true≢false}
 use Rattle.std.proofs.lemmas.List.{map-append}
 use Rattle.std.proofs.lemmas.Option.{slice_get-map}
@@ -12,7 +12,7 @@ use Rattle.implib.specs.declared.machine.MachineType.{MachineType}
 use Rattle.implib.specs.declared.def.definition.ShortExport.{ShortExport}
 use Rattle.implib.specs.Definition.{ExportView, export_view}
 use Rattle.implib_rules.specs.Firsts.{first_asking, first_where}
-use Rattle.implib_rules.specs.Linked.{NamingView, adds_target, alias_symbol, asks_for, has_target, is_among, is_apart, is_asked, is_taken, linked_export, linked_to, makes, new_target, symbol_asking, symbol_linked, symbol_of, target_import, target_symbol, targets_beside, with_symbol, with_target}
+use Rattle.implib_rules.specs.Linked.{NamingView, adds_target, alias_symbol, asks_for, has_target, is_among, is_declared, linked_export, linked_to, makes, new_target, own_symbol, symbol_asking, symbol_linked, target_import, target_symbol, targets_beside, with_symbol, with_target}
 use Rattle.implib_rules.specs.Views.{linked_by}
 
 -- neither of two tests passes
@@ -55,19 +55,6 @@ pub find-first : {A : Type 0} (test : A → Bool) (items : List A) → find test
 find-first test [] = refl
 find-first test (item ∷ items) = found_here (test item) item items (find test items) (first_where test items) (find-first test items)
 
-is_some-mapped : {A B : Type 0} (f : A → B) (o : Option A) → is_some (option_map f o) ≡ is_some o
-is_some-mapped f None = refl
-is_some-mapped f (Some x) = refl
-
-found_any : {A : Type 0} (is any : Bool) (item : A) (found : Option A) → is_some found ≡ any → is_some (cond is (Some item) found) ≡ (is || any)
-found_any true any item found same = refl
-found_any false any item found same = same
-
--- one item passes exactly where one is found
-some-found : {A : Type 0} (test : A → Bool) (items : List A) → is_some (find test items) ≡ list_any test items
-some-found test [] = refl
-some-found test (item ∷ items) = found_any (test item) (list_any test items) item (find test items) (some-found test items)
-
 any_here : (is any : Bool) (found : Option ℕ) → is_some found ≡ any → is_some (if is then Some 0 else option_map suc found) ≡ (is || any)
 any_here true any found same = refl
 any_here false any None same = same
@@ -101,41 +88,6 @@ module _ (machine : MachineType) (naming : NamingView) where
       sym (symbol_at (map export_view items) word (Some index) is
       ∙ ap (option_map (symbol_linked machine naming)) (slice_get-map export_view items index ∙ ap (option_map export_view) there))
 
-  -- a word is asked for exactly where the table has an import for it
-  pub asked-first : (exports : List ExportView) (word : List ℕ) → is_some (first_asking machine naming word exports) ≡ is_asked machine naming exports word
-  asked-first exports word =
-      some-first (asks_for machine naming word) exports ∙ sym (some-found (asks_for machine naming word) exports)
-      ∙ sym (is_some-mapped (symbol_linked machine naming) (find (asks_for machine naming word) exports))
-
-  -- an alias whose word is asked for adds no target
-  pub adds_unless_asked : (exports : List ExportView) (e : ExportView) → is_asked machine naming exports e.alias_target ≡ true → false ≡ adds_target machine naming exports e
-  adds_unless_asked exports e asked =
-      sym (ap (λ b. is_apart machine naming e && (not b && not (is_taken naming exports e.alias_target))) asked ∙ and_false (is_apart machine naming e))
-
-  -- nor one whose word has no import of its own
-  pub adds_unless_taken : (exports : List ExportView) (e : ExportView) → is_taken naming exports e.alias_target ≡ true → false ≡ adds_target machine naming exports e
-  adds_unless_taken exports e declared =
-      sym (ap (λ b. is_apart machine naming e && (not (is_asked machine naming exports e.alias_target) && not b)) declared
-      ∙ ap (λ b. is_apart machine naming e && b) (and_false (not (is_asked machine naming exports e.alias_target))) ∙ and_false (is_apart machine naming e))
-
-  -- every other does
-  pub adds_else : (exports : List ExportView) (e : ExportView) → is_asked machine naming exports e.alias_target ≡ false → is_taken naming exports e.alias_target ≡ false → is_apart machine naming e ≡ adds_target machine naming exports e
-  adds_else exports e unasked undeclared =
-      sym (ap (λ b. is_apart machine naming e && (not b && not (is_taken naming exports e.alias_target))) unasked
-      ∙ ap (λ b. is_apart machine naming e && not b) undeclared ∙ and_true (is_apart machine naming e))
-
-  -- a word that no import asks for, and that is taken
-  pub target_taken : (exports : List ExportView) (word : List ℕ) → symbol_asking machine naming exports word ≡ None → is_taken naming exports word ≡ true → None ≡ target_symbol machine naming exports word
-  target_taken exports word none declared =
-      sym (ap (λ o. option_or o (if is_taken naming exports word then None else Some (symbol_of machine naming word))) none
-      ∙ ap (λ b. if b then None else Some (symbol_of machine naming word)) declared)
-
-  -- or that is free
-  pub target_free : (exports : List ExportView) (word : List ℕ) → symbol_asking machine naming exports word ≡ None → is_taken naming exports word ≡ false → Some (symbol_of machine naming word) ≡ target_symbol machine naming exports word
-  target_free exports word none free =
-      sym (ap (λ o. option_or o (if is_taken naming exports word then None else Some (symbol_of machine naming word))) none
-      ∙ ap (λ b. if b then None else Some (symbol_of machine naming word)) free)
-
   -- symbols for all exports that these are weak for, each by a test of its own
   pub linked_by-all : (symbol : ExportView → Option (List ℕ)) (exports : List ExportView)
       → linked_by machine naming (map symbol exports) exports ≡ map (λ e. linked_to machine naming (symbol e) e) exports
@@ -149,11 +101,11 @@ module _ (machine : MachineType) (naming : NamingView) where
 
   -- an export without a word after `==` is no alias
   plain : (all : List ExportView) (e : ExportView) → has_target e ≡ false → alias_symbol machine naming Msvc all e ≡ None
-  plain all e none = ap (λ b. if b && (not e.private && (not e.no_name && not (makes machine (symbol_linked machine naming e) e.alias_target))) then target_symbol machine naming all e.alias_target else None) none
+  plain all e none = ap (λ b. if b && (not e.private && (not e.no_name && not (makes machine (symbol_linked machine naming e) e.alias_target))) then target_symbol machine naming all e else None) none
 
   -- nor adds it a target
   adds_none : (all : List ExportView) (e : ExportView) → has_target e ≡ false → adds_target machine naming all e ≡ false
-  adds_none all e none = ap (λ b. (b && (not e.private && (not e.no_name && not (makes machine (symbol_linked machine naming e) e.alias_target)))) && (not (is_asked machine naming all e.alias_target) && not (is_taken naming all e.alias_target))) none
+  adds_none all e none = ap (λ b. (b && (not e.private && (not e.no_name && not (makes machine (symbol_linked machine naming e) e.alias_target)))) && (not naming.exports_as && not (is_declared all (own_symbol e)))) none
 
   -- without a word after `==` each export is an import
   pub linked_by-plain : (all exports : List ExportView) → list_any has_target exports ≡ false → linked_by machine naming [] exports ≡ map (linked_export machine naming Msvc all) exports
@@ -170,9 +122,9 @@ module _ (machine : MachineType) (naming : NamingView) where
       let parts = neither (has_target e) (list_any has_target exports) none in
       let adds = adds_none all e parts.0 in
       let first : new_target machine naming all symbols e ≡ [] =
-      ap (λ b. if b && not (is_among symbols (symbol_of machine naming e.alias_target)) then target_import machine naming e ∷ [] else []) adds in
+      ap (λ b. if b && not (is_among symbols (own_symbol e)) then target_import e ∷ [] else []) adds in
       let same : with_target machine naming all symbols e ≡ symbols =
-      ap (λ b. if b then with_symbol symbols (symbol_of machine naming e.alias_target) else symbols) adds in
+      ap (λ b. if b then with_symbol symbols (own_symbol e) else symbols) adds in
       ap (λ t. t ++ targets_beside machine naming all (with_target machine naming all symbols e) exports) first
       ∙ (ap (λ k. targets_beside machine naming all k exports) same
       ∙ targets_beside-plain all symbols exports parts.1)

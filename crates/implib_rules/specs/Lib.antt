@@ -1,6 +1,7 @@
 pub mod Options
 pub mod Machines
 pub mod Names
+pub mod Nameless
 pub mod Linked
 pub mod Additions
 pub mod Firsts

@@ -36,6 +36,7 @@ use Rattle.implib_rules.specs.declared.library.Refusal.TheVariants.{Members, Arc
 use Rattle.implib_rules.specs.Additions.{extended}
 use Rattle.implib_rules.specs.LibraryName.{with_library_name}
 use Rattle.implib_rules.specs.Linked.{linked}
+use Rattle.implib_rules.specs.Nameless.{with_ordinals}
 use Rattle.implib_rules.specs.Names.{dll_name, is_program, lacks_name, own_name}
 use Rattle.implib_rules.specs.ExportAs.{AreMadeFor, refusal_made}
 use Rattle.implib_rules.specs.Forms.{IsFormed, IsMisplacedAt, IsOpenAt, open_quote}
@@ -77,9 +78,9 @@ definition_for options parsed own program =
 
 -- The definition of a text for these options: what the text means with its words as they are
 -- written, which is what it means on AMD64, under the name of the DLL, which is the one given or
--- that of the first heading with one; with what options add to its exports; of the exports of one
--- word the first alone, each as it is linked on the machine; and with the name of its library for
--- the linker.
+-- that of the first heading with one; aliases of exports without names by ordinal; with what
+-- options add to its exports; of the exports of one word the first alone, each as it is linked on
+-- the machine; and with the name of its library for the linker.
 pub record DefinitionFor (text : List ℕ) (options : LibraryOptionsView)
     (definition : DefinitionView) : Type 0 where
   pub parsed : DefinitionView
@@ -89,7 +90,8 @@ pub record DefinitionFor (text : List ℕ) (options : LibraryOptionsView)
   -- its quotes are closed in their lines, and its ordinals are ordinals
   pub formed : IsFormed text heard
   pub named : lacks_name options.dll (own_name heard) ≡ false
-  pub is : definition ≡ definition_for options parsed (own_name heard) (is_program heard)
+  pub is : definition
+      ≡ definition_for options (with_ordinals parsed) (own_name heard) (is_program heard)
 
 -- the text is a definition, but neither has it a name of the DLL nor is one given
 pub record LacksName (text : List ℕ) (options : LibraryOptionsView) : Type 0 where

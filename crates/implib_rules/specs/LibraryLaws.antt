@@ -14,6 +14,7 @@ use Rattle.implib_rules.specs.Exports.{IsLibraryOfExports}
 use Rattle.implib_rules.specs.Library.{DefinitionFor, IsLibrary, definition_text}
 use Rattle.implib_rules.specs.LibraryName.{gnu_library_name, has_gnu_linker, with_library_name}
 use Rattle.implib_rules.specs.LibraryName.{without_ending}
+use Rattle.implib_rules.specs.Nameless.{with_ordinals}
 use Rattle.implib_rules.specs.Options.{LibraryOptionsView}
 
 -- GNU `ld` finds a library of Microsoft's: its members are named `B.dll` and its import descriptor
@@ -42,9 +43,11 @@ GnuLibrariesAreApart =
     (member_prefix (with_library_name machine Gnu second)) → ⊥
 
 -- Where a text has a library, and the exports of the definition that it means have one for the same
--- options, the two are the same bytes. Exports have one only where the name of the DLL is given.
+-- options, once aliases of exports without names are by ordinal, the two are the same bytes. Exports
+-- have one only where the name of the DLL is given.
 abbrev pub LibrariesAreOfExports : Type 0
 LibrariesAreOfExports =
     (text : List ℕ) (options : LibraryOptionsView) (parsed : DefinitionView) (file other : List ℕ) →
     Parses (definition_text text) AMD64 parsed →
-    IsLibrary text options file → IsLibraryOfExports parsed.exports options other → file ≡ other
+    IsLibrary text options file →
+    IsLibraryOfExports (with_ordinals parsed).exports options other → file ≡ other

@@ -1,10 +1,10 @@
 -- By which symbols exports are linked, and what they ask the DLL for: the rules of GNU dlltool and
 -- llvm-dlltool (docs/DECISIONS.md). A word is one of the definition as it is written.
 use Rattle.std.specs.Prelude.{ℕ, ◌≡◌, ◌==◌, Bool, true, false, not, ◌&&◌, ◌||◌, List, [], ◌∷◌, ◌++◌}
-use Rattle.std.specs.Prelude.{Option, Some, None, if◌then◌else◌, bytes_eq, is_some, length, map}
+use Rattle.std.specs.Prelude.{Option, Some, None, if◌then◌else◌, bytes_eq, length, map}
 use Rattle.std.specs.Prelude.{codes, drop, nat_eq, nat_lt, suc}
 use Rattle.std.specs.Char.{is_ascii_digit}
-use Rattle.std.specs.Option.{option_map, option_or}
+use Rattle.std.specs.Option.{option_map}
 use Rattle.implib.specs.declared.flavor.Flavor.{Flavor}
 use Rattle.implib.specs.declared.flavor.Flavor.TheVariants.{Msvc, Gnu}
 use Rattle.implib.specs.declared.machine.MachineType.{MachineType}
@@ -13,6 +13,7 @@ use Rattle.implib.specs.Definition.{DefinitionView, ExportView, empty_export}
 use Rattle.implib.specs.Formats.ShortImport.{before_at_sign, without_prefix}
 use Rattle.implib.specs.Import.{is_empty_text, name_asked}
 use Rattle.implib.specs.Machine.{has_leading_underscore}
+use Rattle.implib.specs.Members.MemberLists.{has_code}
 use Rattle.implib.specs.Renaming.{name_to_link}
 use Rattle.std.specs.List.{after_first, before_first, before_last, ends_with, find, list_all}
 use Rattle.std.specs.List.{list_any, position_or_len}
@@ -164,7 +165,7 @@ AsksAsLinked =
 -- Whether a name type, which is name, no prefix or undecorate, makes a name of the symbol,
 -- whichever linker reads it.
 -- For example, on I386 they make `_f@8`, `f@8` and f of `_f@8`. On other machines, where linkers do
--- not take off the same prefixes, only name is used.
+-- not take off the same prefixes, only name is used for a word of a definition.
 abbrev pub makes : MachineType → List ℕ → List ℕ → Bool
 makes machine symbol name =
     bytes_eq symbol name
@@ -203,24 +204,22 @@ abbrev pub symbol_asking : MachineType → NamingView → List ExportView → Li
 symbol_asking machine naming exports word =
     option_map (symbol_linked machine naming) (find (asks_for machine naming word) exports)
 
--- whether an import by name asks for a word
-abbrev pub is_asked : MachineType → NamingView → List ExportView → List ℕ → Bool
-is_asked machine naming exports word = is_some (symbol_asking machine naming exports word)
+-- The symbol of the import that an alias leads to: the word after `==` behind a question mark, or,
+-- where the alias declares no code, behind an `@`. No prefix takes either off, so the DLL is asked
+-- for the word; and no compiler names anything so, whatever else a program calls by the word. For
+-- example, `a == b` leads to `?b`, and `a DATA == b` to `@b`.
+abbrev pub own_symbol : ExportView → List ℕ
+own_symbol e = (if has_code e then question_mark else at_sign) ∷ e.alias_target
 
--- whether a word that no import asks for has no import of its own: a short import can have it as
--- its third text, or an export declares it
-abbrev pub is_taken : NamingView → List ExportView → List ℕ → Bool
-is_taken naming exports word = naming.exports_as || is_declared exports word
-
--- The symbol by which the DLL is asked for a word: that of the first import by name that asks for
--- it; if there is none, the word's own, unless an export, which asks for something else, declares
--- the word. For example, under `-k` on I386 that of f is `_f@8` beside an export `f@8`, and `f@8`
--- has none. Where a short import can have the name as its third text, a word that no import asks
--- for has none.
-abbrev pub target_symbol : MachineType → NamingView → List ExportView → List ℕ → Option (List ℕ)
-target_symbol machine naming exports word =
-    option_or (symbol_asking machine naming exports word)
-    (if is_taken naming exports word then None else Some (symbol_of machine naming word))
+-- The symbol by which the DLL is asked for the word after an alias's `==`: the alias's own, unless
+-- an export declares that. Where short imports can have third texts it is that of the first import
+-- by name that asks for the word, if there is one, as llvm-dlltool has it.
+abbrev pub target_symbol : MachineType → NamingView → List ExportView → ExportView →
+    Option (List ℕ)
+target_symbol machine naming exports e =
+    if naming.exports_as then symbol_asking machine naming exports e.alias_target
+    else if is_declared exports (own_symbol e) then None
+    else Some (own_symbol e)
 
 -- The symbol that an export among others is weak for in a flavour, if it is an alias. One that is
 -- apart and whose word after `==` has no symbol stays an import, which Microsoft's flavour refuses,
@@ -229,7 +228,7 @@ abbrev pub alias_symbol : MachineType → NamingView → Flavor → List ExportV
     Option (List ℕ)
 alias_symbol machine naming Gnu exports e = None
 alias_symbol machine naming Msvc exports e =
-    if is_apart machine naming e then target_symbol machine naming exports e.alias_target else None
+    if is_apart machine naming e then target_symbol machine naming exports e else None
 
 -- An alias: its symbol is weak for its target's. What it asks for is its own symbol, so that no
 -- rule on names refuses what no member asks for.
@@ -252,10 +251,10 @@ abbrev pub linked_export : MachineType → NamingView → Flavor → List Export
 linked_export machine naming flavor exports e =
     linked_to machine naming (alias_symbol machine naming flavor exports e) e
 
--- the import of an alias's target, which asks for the word after `==` as it is written
-abbrev pub target_import : MachineType → NamingView → ExportView → ExportView
-target_import machine naming e = record empty_export {
-  name = symbol_of machine naming e.alias_target;
+-- the import that an alias leads to, which asks for the word after `==` as it is written
+abbrev pub target_import : ExportView → ExportView
+target_import e = record empty_export {
+  name = own_symbol e;
   asked_name = Some e.alias_target;
   is_data = e.is_data;
   constant = e.constant;
@@ -269,28 +268,24 @@ is_among symbols symbol = list_any (bytes_eq symbol) symbols
 abbrev pub with_symbol : List (List ℕ) → List ℕ → List (List ℕ)
 with_symbol symbols symbol = if is_among symbols symbol then symbols else symbols ++ symbol ∷ []
 
--- whether an alias wants an import of its word after `==`, since no export asks for it or declares
--- it, and no short import can have it as its third text
+-- whether an export is an alias that leads to an import of its own
 abbrev pub adds_target : MachineType → NamingView → List ExportView → ExportView → Bool
 adds_target machine naming exports e =
     is_apart machine naming e
-    && (not (is_asked machine naming exports e.alias_target)
-    && not (is_taken naming exports e.alias_target))
+    && (not naming.exports_as && not (is_declared exports (own_symbol e)))
 
--- the symbols of the targets that are added, with that of an alias's target
+-- the symbols of the imports that are added, with that of an alias
 abbrev pub with_target : MachineType → NamingView → List ExportView → List (List ℕ) → ExportView →
     List (List ℕ)
 with_target machine naming exports symbols e =
-    if adds_target machine naming exports e
-    then with_symbol symbols (symbol_of machine naming e.alias_target) else symbols
+    if adds_target machine naming exports e then with_symbol symbols (own_symbol e) else symbols
 
--- the import of an alias's target, if it is to be added and its symbol is not among these
+-- the import of an alias, if it is to be added and its symbol is not among these
 abbrev pub new_target : MachineType → NamingView → List ExportView → List (List ℕ) → ExportView →
     List ExportView
 new_target machine naming exports symbols e =
-    if adds_target machine naming exports e
-    && not (is_among symbols (symbol_of machine naming e.alias_target))
-    then target_import machine naming e ∷ [] else []
+    if adds_target machine naming exports e && not (is_among symbols (own_symbol e))
+    then target_import e ∷ [] else []
 
 -- the imports that some of the exports add, in the order of their first use, if their symbols are
 -- not among these
@@ -301,8 +296,8 @@ targets_beside machine naming exports symbols (e ∷ rest) =
     new_target machine naming exports symbols e
     ++ targets_beside machine naming exports (with_target machine naming exports symbols e) rest
 
--- The imports that aliases add in a flavour: of each word once, if no export asks for it or
--- declares it. For example, `a == b` and `c == b` add b.
+-- The imports that aliases add in a flavour, each once. For example, `a == b` and `c == b` add one
+-- that asks for b.
 abbrev pub targets_added : MachineType → NamingView → Flavor → List ExportView → List ExportView
 targets_added machine naming Gnu exports = []
 targets_added machine naming Msvc exports = targets_beside machine naming exports [] exports

@@ -36,17 +36,17 @@ abbrev pub rise_from : List ℕ → List ExportView → Bool
 rise_from last [] = true
 rise_from last (e ∷ exports) = comes_before last (word_of e) && rise_from (word_of e) exports
 
--- the first of some symbols, if there is one and it is given
-abbrev pub first_symbol : List (Option (List ℕ)) → Option (List ℕ)
-first_symbol [] = None
-first_symbol (symbol ∷ symbols) = symbol
+-- the first of some values, if there is one and it is given
+abbrev pub first_given : {A : Type 0} → List (Option A) → Option A
+first_given [] = None
+first_given (value ∷ values) = value
 
 -- exports as they are linked, each weak for its symbol, if that is given
 abbrev pub linked_by : MachineType → NamingView → List (Option (List ℕ)) → List ExportView →
     List ExportView
 linked_by machine naming symbols [] = []
 linked_by machine naming symbols (e ∷ exports) =
-    linked_to machine naming (first_symbol symbols) e
+    linked_to machine naming (first_given symbols) e
     ∷ linked_by machine naming (drop 1 symbols) exports
 
 -- with these symbols to be weak for the exports are as they are linked in a flavour, and these are

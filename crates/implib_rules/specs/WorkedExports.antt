@@ -38,8 +38,8 @@ pub record ExportsWorked : Type 0 where
   pub target : DefinitionOfExports (line (codes "a") (codes "b") ∷ [])
       (for_msvc AMD64 usual (Some (codes "zoo.drv")))
       (of_dll (codes "zoo.drv") (Some (codes "zoo"))
-      (record (line (codes "a") (codes "b")) { asked_name = Some (codes "a") }
-      ∷ record (line (codes "b") []) { asked_name = Some (codes "b") } ∷ []))
+      (record (line (codes "a") (codes "?b")) { asked_name = Some (codes "a") }
+      ∷ record (line (codes "?b") []) { asked_name = Some (codes "b") } ∷ []))
   pub underscored : DefinitionOfExports (record (line (codes "f@8") []) { ordinal = 7 } ∷ [])
       (for_msvc I386 killing (Some (codes ".dll")))
       (of_dll (codes ".dll") None

@@ -24,7 +24,6 @@ opened = said Other KwExports (codes "EXPORTS") 0 ∷ said Name Identifier (code
 
 -- the quotes that are not closed in their lines, and the ordinals that are wrong
 pub record MalformedWorked : Type 0 where
-  pub heading : open_quote (codes "LIBRARY " ++ quote ++ codes "zoo\nEXPORTS\nopen\n") ≡ Some 8
   pub closed_later : open_quote (codes "EXPORTS\n" ++ quote ++ codes "a\nb" ++ quote) ≡ Some 8
   pub at_the_end : open_quote (codes "EXPORTS\na\n" ++ quote ++ codes "b") ≡ Some 10
   pub closed : open_quote (codes "LIBRARY " ++ quote ++ codes "zoo" ++ quote ++ codes "\nEXPORTS\n"
@@ -34,32 +33,11 @@ pub record MalformedWorked : Type 0 where
   pub in_comment : open_quote (codes "; " ++ quote ++ codes "\nEXPORTS\na") ≡ None
   pub in_word : open_quote (codes "EXPORTS\na" ++ quote ++ codes "b\n") ≡ None
   pub after_nul : open_quote (codes "EXPORTS a " ++ 0 ∷ quote) ≡ None
-  -- `f @65536`, `f @0x10000`, and the first in the next line, which is an export
-  pub too_large : misplaced_in (codes "EXPORTS\nf @65536")
-      (opened ++ said Name Identifier (codes "@65536") 10 ∷ [])
-      ≡ Some (record { problem = NoOrdinal; word = codes "@65536"; at = 10 })
-  pub in_hexadecimal : misplaced_in (codes "EXPORTS\nf @0x10000")
-      (opened ++ said Name Identifier (codes "@0x10000") 10 ∷ [])
-      ≡ Some (record { problem = NoOrdinal; word = codes "@0x10000"; at = 10 })
-  pub next_line : misplaced_in (codes "EXPORTS\nf\n@65536")
-      (opened ++ said Name Identifier (codes "@65536") 10 ∷ []) ≡ None
   pub after_attribute : misplaced_in (codes "EXPORTS\nf DATA @65536")
       (opened ++ said Other KwData (codes "DATA") 10 ∷ said Name Identifier (codes "@65536") 15
       ∷ [])
       ≡ Some (record { problem = NoOrdinal; word = codes "@65536"; at = 15 })
-  -- `f @seven`, and `f @g@8`, which is an export
-  pub word : misplaced_in (codes "EXPORTS\nf @seven")
-      (opened ++ said Name Identifier (codes "@seven") 10 ∷ [])
-      ≡ Some (record { problem = NoOrdinal; word = codes "@seven"; at = 10 })
-  pub fastcall : misplaced_in (codes "EXPORTS\nf @g@8")
-      (opened ++ said Name Identifier (codes "@g@8") 10 ∷ []) ≡ None
-  pub first_name : misplaced_in (codes "EXPORTS @65536")
-      (said Other KwExports (codes "EXPORTS") 0 ∷ said Name Identifier (codes "@65536") 8 ∷ [])
-      ≡ None
-  -- `f @1 @2`, `f @ 1 @2`, `f @1` and `g @2`, `f == @1 @2`
-  pub twice : misplaced_in (codes "EXPORTS\nf @1 @2")
-      (opened ++ said Other Identifier (codes "@1") 10 ∷ said Other Identifier (codes "@2") 13 ∷ [])
-      ≡ Some (record { problem = SecondOrdinal; word = codes "@2"; at = 13 })
+  -- `f @ 1 @2`, `f @1` and `g @2`, `f == @1 @2`
   pub apart : misplaced_in (codes "EXPORTS\nf @ 1 @2")
       (opened ++ said Other Identifier (codes "@") 10 ∷ said Other Identifier (codes "1") 12
       ∷ said Other Identifier (codes "@2") 14 ∷ [])

@@ -14,6 +14,7 @@ use Rattle.implib.specs.Text.Heard.{Heard}
 use Rattle.implib_rules.specs.Linked.{NamingView, linked, linked_export, linked_exports}
 use Rattle.implib_rules.specs.Linked.{symbol_linked}
 use Rattle.implib_rules.specs.Machines.{machine_called}
+use Rattle.implib_rules.specs.Nameless.{with_ordinals}
 use Rattle.implib_rules.specs.Names.{dll_name, is_program, lacks_name, own_name}
 use Rattle.implib_rules.specs.Order.{library_specs}
 
@@ -114,71 +115,53 @@ an_alias symbol target =
 -- what exports with `==` are linked as, and what they add
 pub record AliasesLinked : Type 0 where
   pub target_added : linked_exports AMD64 usual Msvc (line (codes "a") (codes "b") ∷ [])
-      ≡ an_alias (codes "a") (codes "b") ∷ an_import (codes "b") (codes "b") ∷ []
+      ≡ an_alias (codes "a") (codes "?b") ∷ an_import (codes "?b") (codes "b") ∷ []
   pub underscored : linked_exports I386 usual Msvc
       (line (codes "strcasecmp") (codes "_stricmp") ∷ [])
-      ≡ an_alias (codes "_strcasecmp") (codes "__stricmp")
-      ∷ an_import (codes "__stricmp") (codes "_stricmp") ∷ []
+      ≡ an_alias (codes "_strcasecmp") (codes "?_stricmp")
+      ∷ an_import (codes "?_stricmp") (codes "_stricmp") ∷ []
   pub killed : linked_exports I386 killing Msvc (line (codes "a@4") (codes "F@8") ∷ [])
-      ≡ an_alias (codes "_a@4") (codes "_F@8") ∷ an_import (codes "_F@8") (codes "F@8") ∷ []
+      ≡ an_alias (codes "_a@4") (codes "?F@8") ∷ an_import (codes "?F@8") (codes "F@8") ∷ []
+  -- whatever else asks for the name, under its own word or another
   pub exported : linked_exports AMD64 usual Msvc
       (line (codes "a") (codes "b") ∷ line (codes "b") [] ∷ [])
-      ≡ an_alias (codes "a") (codes "b") ∷ a_plain_import (codes "b") ∷ []
-  pub asked_killed : linked_exports I386 killing Msvc
-      (line (codes "a@4") (codes "F") ∷ line (codes "F@8") [] ∷ [])
-      ≡ an_alias (codes "_a@4") (codes "_F@8") ∷ an_import (codes "_F@8") (codes "F") ∷ []
-  pub asked_first : linked_exports I386 killing Msvc
+      ≡ an_alias (codes "a") (codes "?b") ∷ a_plain_import (codes "b")
+      ∷ an_import (codes "?b") (codes "b") ∷ []
+  pub exchanged : linked_exports AMD64 usual Msvc
+      (line (codes "a") (codes "b") ∷ line (codes "b") (codes "a") ∷ [])
+      ≡ an_alias (codes "a") (codes "?b") ∷ an_alias (codes "b") (codes "?a")
+      ∷ an_import (codes "?b") (codes "b") ∷ an_import (codes "?a") (codes "a") ∷ []
+  pub shared : linked_exports AMD64 usual Msvc
+      (line (codes "a") (codes "b") ∷ line (codes "c") (codes "b") ∷ [])
+      ≡ an_alias (codes "a") (codes "?b") ∷ an_alias (codes "c") (codes "?b")
+      ∷ an_import (codes "?b") (codes "b") ∷ []
+  -- an export has the symbol
+  pub taken : linked_exports ARMNT usual Msvc
+      (line (codes "a") (codes "b") ∷ line (codes "?b") [] ∷ [])
+      ≡ an_import (codes "a") (codes "b") ∷ a_plain_import (codes "?b") ∷ []
+  pub external : linked_exports AMD64 usual Msvc
+      (record (line (codes "x") (codes "b")) { ext_name = Some (codes "a") } ∷ [])
+      ≡ an_alias (codes "a") (codes "?b") ∷ an_import (codes "?b") (codes "b") ∷ []
+  -- data has another symbol than code
+  pub of_data : linked_exports AMD64 usual Msvc
+      (record (line (codes "a") (codes "b")) { is_data = true; ordinal = 3 } ∷ [])
+      ≡ record (an_alias (codes "a") (codes "@b")) { is_data = true; ordinal = 3 }
+      ∷ record (an_import (codes "@b") (codes "b")) { is_data = true } ∷ []
+  pub of_constant : linked_exports AMD64 usual Msvc
+      (record (line (codes "a") (codes "b")) { constant = true } ∷ [])
+      ≡ record (an_alias (codes "a") (codes "@b")) { constant = true }
+      ∷ record (an_import (codes "@b") (codes "b")) { constant = true } ∷ []
+  pub shared_with_data : linked_exports AMD64 usual Msvc
+      (line (codes "a") (codes "b") ∷ record (line (codes "c") (codes "b")) { is_data = true } ∷ [])
+      ≡ an_alias (codes "a") (codes "?b")
+      ∷ record (an_alias (codes "c") (codes "@b")) { is_data = true }
+      ∷ an_import (codes "?b") (codes "b")
+      ∷ record (an_import (codes "@b") (codes "b")) { is_data = true } ∷ []
+  -- where short imports can have third texts, the first import by name that asks for the word
+  pub asked_first : linked_exports I386 (record killing { exports_as = true }) Msvc
       (line (codes "F@4") [] ∷ line (codes "a") (codes "F") ∷ line (codes "F@8") [] ∷ [])
       ≡ an_import (codes "_F@4") (codes "F") ∷ an_alias (codes "_a") (codes "_F@4")
       ∷ an_import (codes "_F@8") (codes "F") ∷ []
-  pub asked_by_name_type : linked_exports I386 usual Msvc
-      (line (codes "a") (codes "_swab") ∷ line (codes "swab") (codes "_swab") ∷ [])
-      ≡ an_alias (codes "_a") (codes "_swab") ∷ an_import (codes "_swab") (codes "_swab") ∷ []
-  pub taken_killed : linked_exports I386 killing Msvc
-      (line (codes "a") (codes "F@8") ∷ line (codes "F@8") [] ∷ [])
-      ≡ an_import (codes "_a") (codes "F@8") ∷ an_import (codes "_F@8") (codes "F") ∷ []
-  pub taken_by_ordinal : linked_exports AMD64 usual Msvc
-      (line (codes "a") (codes "b") ∷ record (line (codes "b") []) { no_name = true; ordinal = 5 }
-      ∷ [])
-      ≡ an_import (codes "a") (codes "b")
-      ∷ record (a_plain_import (codes "b")) { no_name = true; ordinal = 5 } ∷ []
-  pub external : linked_exports AMD64 usual Msvc
-      (record (line (codes "x") (codes "b")) { ext_name = Some (codes "a") } ∷ [])
-      ≡ an_alias (codes "a") (codes "b") ∷ an_import (codes "b") (codes "b") ∷ []
-  pub exported_by_external_name : linked_exports AMD64 usual Msvc
-      (line (codes "a") (codes "b") ∷ record (line (codes "x") []) { ext_name = Some (codes "b") }
-      ∷ [])
-      ≡ an_alias (codes "a") (codes "b") ∷ a_plain_import (codes "b") ∷ []
-  pub of_plain_names : linked_exports I386 plain Msvc (line (codes "a") (codes "b") ∷ [])
-      ≡ an_alias (codes "a") (codes "b") ∷ an_import (codes "b") (codes "b") ∷ []
-  pub shared : linked_exports AMD64 usual Msvc
-      (line (codes "a") (codes "b") ∷ line (codes "c") (codes "b") ∷ [])
-      ≡ an_alias (codes "a") (codes "b") ∷ an_alias (codes "c") (codes "b")
-      ∷ an_import (codes "b") (codes "b") ∷ []
-  pub chained : linked_exports AMD64 usual Msvc
-      (line (codes "a") (codes "b") ∷ line (codes "b") (codes "c") ∷ [])
-      ≡ an_import (codes "a") (codes "b") ∷ an_alias (codes "b") (codes "c")
-      ∷ an_import (codes "c") (codes "c") ∷ []
-  pub exchanged : linked_exports AMD64 usual Msvc
-      (line (codes "a") (codes "b") ∷ line (codes "b") (codes "a") ∷ [])
-      ≡ an_import (codes "a") (codes "b") ∷ an_import (codes "b") (codes "a") ∷ []
-  pub private_target : linked_exports AMD64 usual Msvc
-      (line (codes "a") (codes "b") ∷ record (line (codes "b") []) { private = true } ∷ [])
-      ≡ an_alias (codes "a") (codes "b") ∷ record (a_plain_import (codes "b")) { private = true }
-      ∷ an_import (codes "b") (codes "b") ∷ []
-  pub of_data : linked_exports AMD64 usual Msvc
-      (record (line (codes "a") (codes "b")) { is_data = true; ordinal = 3 } ∷ [])
-      ≡ record (an_alias (codes "a") (codes "b")) { is_data = true; ordinal = 3 }
-      ∷ record (an_import (codes "b") (codes "b")) { is_data = true } ∷ []
-  pub of_constant : linked_exports AMD64 usual Msvc
-      (record (line (codes "a") (codes "b")) { constant = true } ∷ [])
-      ≡ record (an_alias (codes "a") (codes "b")) { constant = true }
-      ∷ record (an_import (codes "b") (codes "b")) { constant = true } ∷ []
-  pub shared_with_data : linked_exports AMD64 usual Msvc
-      (line (codes "a") (codes "b") ∷ record (line (codes "c") (codes "b")) { is_data = true } ∷ [])
-      ≡ an_alias (codes "a") (codes "b")
-      ∷ record (an_alias (codes "c") (codes "b")) { is_data = true }
-      ∷ an_import (codes "b") (codes "b") ∷ []
   pub itself : linked_exports AMD64 usual Msvc (line (codes "X") (codes "X") ∷ [])
       ≡ a_plain_import (codes "X") ∷ []
   pub without_prefix : linked_exports I386 usual Msvc (line (codes "f@8") (codes "f@8") ∷ [])
@@ -186,16 +169,14 @@ pub record AliasesLinked : Type 0 where
   pub undecorated : linked_exports I386 usual Msvc (line (codes "X@4") (codes "X") ∷ [])
       ≡ an_import (codes "_X@4") (codes "X") ∷ []
   pub not_undecorated : linked_exports I386 usual Msvc (line (codes "X@4") (codes "_X") ∷ [])
-      ≡ an_alias (codes "_X@4") (codes "__X") ∷ an_import (codes "__X") (codes "_X") ∷ []
-  -- a name type cuts on I386 alone; on other machines `__f` is weak for the import of `_f`
+      ≡ an_alias (codes "_X@4") (codes "?_X") ∷ an_import (codes "?_X") (codes "_X") ∷ []
+  -- a name type cuts a word's symbol on I386 alone
   pub cut_on_i386 : linked_exports I386 plain Msvc (line (codes "__f") (codes "_f") ∷ [])
       ≡ an_import (codes "__f") (codes "_f") ∷ []
   pub uncut_on_armnt : linked_exports ARMNT usual Msvc (line (codes "__f") (codes "_f") ∷ [])
-      ≡ an_alias (codes "__f") (codes "_f") ∷ an_import (codes "_f") (codes "_f") ∷ []
-  pub uncut_on_amd64 : linked_exports AMD64 usual Msvc (line (codes "__f") (codes "_f") ∷ [])
-      ≡ an_alias (codes "__f") (codes "_f") ∷ an_import (codes "_f") (codes "_f") ∷ []
+      ≡ an_alias (codes "__f") (codes "?_f") ∷ an_import (codes "?_f") (codes "_f") ∷ []
   pub uncut_on_arm64 : linked_exports ARM64 usual Msvc (line (codes "f@8") (codes "f") ∷ [])
-      ≡ an_alias (codes "f@8") (codes "f") ∷ an_import (codes "f") (codes "f") ∷ []
+      ≡ an_alias (codes "f@8") (codes "?f") ∷ an_import (codes "?f") (codes "f") ∷ []
   pub as_symbol : linked_exports I386 usual Msvc (line (codes "swab") (codes "_swab") ∷ [])
       ≡ an_import (codes "_swab") (codes "_swab") ∷ []
   pub by_ordinal : linked_exports AMD64 usual Msvc
@@ -206,6 +187,18 @@ pub record AliasesLinked : Type 0 where
       ≡ record (an_import (codes "a") (codes "b")) { private = true } ∷ []
   pub gnu : linked_exports AMD64 usual Gnu (line (codes "a") (codes "b") ∷ [])
       ≡ an_import (codes "a") (codes "b") ∷ []
+  -- an alias of an export without a name, first or last, and one of an export of both
+  pub of_ordinals : (with_ordinals (record empty_definition {
+    exports = line (codes "g") (codes "f")
+        ∷ record (line (codes "f") []) { no_name = true; ordinal = 5 }
+        ∷ record (line (codes "h") (codes "f")) { is_data = true } ∷ line (codes "i") (codes "j")
+        ∷ line (codes "j") [] ∷ record (line (codes "j") []) { no_name = true; ordinal = 6 } ∷ [];
+  })).exports
+      ≡ record (line (codes "g") []) { no_name = true; ordinal = 5 }
+      ∷ record (line (codes "f") []) { no_name = true; ordinal = 5 }
+      ∷ record (line (codes "h") []) { no_name = true; ordinal = 5; is_data = true }
+      ∷ line (codes "i") (codes "j") ∷ line (codes "j") []
+      ∷ record (line (codes "j") []) { no_name = true; ordinal = 6 } ∷ []
 
 -- a definition with an alias of an export, one of a name that is none, and one of data
 abbrev pub with_aliases : DefinitionView
@@ -232,8 +225,9 @@ pub record MembersInOrder : Type 0 where
       ∷ ((0x7F ∷ codes "zoo_NULL_THUNK_DATA") ∷ [])
       ∷ (codes "__imp_b" ∷ codes "b" ∷ [])
       ∷ (codes "__imp_e" ∷ codes "e" ∷ [])
-      ∷ (codes "__imp_c" ∷ codes "c" ∷ [])
-      ∷ (codes "__imp_g" ∷ [])
+      ∷ (codes "__imp_?b" ∷ codes "?b" ∷ [])
+      ∷ (codes "__imp_?c" ∷ codes "?c" ∷ [])
+      ∷ (codes "__imp_@g" ∷ [])
       ∷ (codes "a" ∷ [])
       ∷ (codes "__imp_a" ∷ [])
       ∷ (codes "d" ∷ [])
@@ -246,7 +240,7 @@ pub record MembersInOrder : Type 0 where
       ∷ (codes "__NULL_IMPORT_DESCRIPTOR" ∷ [])
       ∷ ((0x7F ∷ codes "zoo_NULL_THUNK_DATA") ∷ [])
       ∷ (codes "__imp_c" ∷ codes "c" ∷ [])
-      ∷ (codes "__imp_b" ∷ codes "b" ∷ [])
+      ∷ (codes "__imp_@b" ∷ codes "@b" ∷ [])
       ∷ (codes "__imp_a" ∷ [])
       ∷ []
 

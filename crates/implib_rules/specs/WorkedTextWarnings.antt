@@ -2,7 +2,7 @@
 use Rattle.std.specs.Prelude.{◌≡◌, ℕ, [], ◌∷◌, ◌++◌, codes}
 use Rattle.implib.specs.Definition.{empty_export}
 use Rattle.implib_rules.specs.TextWarnings.{none_warnings, text_warnings}
-use Rattle.implib_rules.specs.Warnings.{EndsEarly, HasNoExport, IsCommentLike, IsLate, IsSkipped}
+use Rattle.implib_rules.specs.Warnings.{EndsEarly, IsLate, IsSkipped}
 use Rattle.implib_rules.specs.Warnings.{NoticeView, StandsAlone, WarningView}
 use Rattle.implib_rules.specs.WorkedWarnings.{at_line}
 
@@ -31,8 +31,6 @@ pub record TextWarningsWorked : Type 0 where
   pub ended_last : text_warnings (codes "a " ++ 0 ∷ []) ≡ []
   pub in_a_comment : text_warnings (codes ";" ++ 0 ∷ 10 ∷ []) ≡ []
   -- an attribute behind the name of EXPORTAS
-  pub late : text_warnings (codes "EXPORTS\nmydata EXPORTAS expdata DATA")
-      ≡ at (IsLate (codes "DATA")) 15 2 8 ∷ []
   pub late_after_quotes : text_warnings
       (codes "EXPORTS\nf EXPORTAS " ++ (34 ∷ []) ++ codes "a b" ++ (34 ∷ []) ++ codes " PRIVATE")
       ≡ at (IsLate (codes "PRIVATE")) 10 2 3 ∷ []
@@ -43,13 +41,7 @@ pub record TextWarningsWorked : Type 0 where
   pub late_noname : text_warnings (codes "EXPORTS\nf EXPORTAS g NONAME")
       ≡ at (IsLate (codes "NONAME")) 10 2 3 ∷ []
   pub not_late : text_warnings (codes "EXPORTS\nf DATA EXPORTAS g\nDATABASE") ≡ []
-  -- comments of other tools
-  pub comments : text_warnings (codes "EXPORTS\n// note\n# note\na // b\n/c")
-      ≡ at (IsCommentLike (codes "//")) 8 2 1 ∷ at (IsCommentLike (codes "#")) 16 3 1 ∷ []
   -- no export, asked for or not
-  pub nothing_follows : none_warnings (codes "LIBRARY a\nEXPORTS\n \t\r\n") [] ≡ []
-  pub comment_follows : none_warnings (codes "LIBRARY a\n EXPORTS ;b") []
-      ≡ at HasNoExport 0 1 1 ∷ []
   pub export_follows : none_warnings (codes "EXPORTS b") (empty_export ∷ []) ≡ []
   pub no_exports : none_warnings (codes "LIBRARY EXPORTS\nHEAPSIZE 1\nEXPORTSb") [] ≡ []
   pub marked : text_warnings (0xEF ∷ 0xBB ∷ 0xBF ∷ codes "STUB:a") ≡ at IsSkipped 0 1 1 ∷ []

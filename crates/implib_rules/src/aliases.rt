@@ -3,8 +3,8 @@
 ghost use Rattle.implib.specs.Definition.{export_view};
 ghost use Rattle.implib.specs.declared.flavor.Flavor.TheVariants.{Msvc};
 ghost use Rattle.implib_rules.specs.Firsts.{AreFirstAsking, AreFirstDeclared};
-ghost use Rattle.implib_rules.specs.Linked.{adds_target, alias_symbol, has_target, is_among};
-ghost use Rattle.implib_rules.specs.Linked.{is_taken};
+ghost use Rattle.implib_rules.specs.Linked.{alias_symbol, has_target, is_among};
+ghost use Rattle.implib_rules.specs.Linked.{is_declared, own_symbol};
 ghost use Rattle.implib_rules.specs.Linked.{linked_exports, naming_view, new_target};
 ghost use Rattle.implib_rules.specs.Linked.{symbol_asking, target_import, target_symbol};
 ghost use Rattle.implib_rules.specs.Linked.{targets_added, with_symbol, with_target};
@@ -14,7 +14,7 @@ ghost use Rattle.std.specs.Prelude.{◌≡◌, ◌++◌, IfOk, OnOk, map, not, o
 ghost use Rattle.std.specs.String.{string_bytes};
 
 use crate::firsts::{first_asking, first_declared};
-use crate::linked::{Naming, is_apart, link_exports, symbol_linked, symbol_of};
+use crate::linked::{Naming, is_apart, link_exports, symbol_linked};
 use implib::def::ShortExport;
 use implib::{Flavor, MachineType};
 use indexmap::IndexSet;
@@ -55,29 +55,42 @@ fn symbol_asking(
     }
 }
 
-// Whether a word that no import asks for has no import of its own.
-fn is_taken(lookups: &Lookups<'_>, word: &str) -> bool
-    ensures { result ≡ is_taken (naming_view lookups.now.naming)
-        (map export_view lookups.now.exports.now) word.now }
+// The symbol of the import that an alias leads to.
+fn own_symbol(alloc: Global, export: &ShortExport) -> Result<String, AllocError>
+    ensures { IfOk result (λ symbol. string_bytes symbol ≡ own_symbol (export_view export.now)) }
 {
-    lookups.naming.exports_as || lookups.declared.contains_key(word)
+    let has_code = !export.is_data && !export.constant;
+    let mut symbol = String::new(alloc);
+    symbol.push(if has_code { '?' } else { '@' })?;
+    symbol.push_str(export.alias_target.as_str())?;
+    Ok(symbol)
 }
 
-// The symbol by which the DLL is asked for a word, if there is one.
+// Whether an export declares a word.
+fn is_declared(lookups: &Lookups<'_>, word: &str) -> bool
+    ensures { result ≡ is_declared (map export_view lookups.now.exports.now) word.now }
+{
+    lookups.declared.contains_key(word)
+}
+
+// The symbol by which the DLL is asked for the word after an alias's `==`, if there is one.
 fn target_symbol(
     alloc: Global,
     lookups: &Lookups<'_>,
-    word: &str,
+    export: &ShortExport,
 ) -> Result<Option<String>, AllocError>
     ensures { IfOk result (λ symbol. option_map string_bytes symbol
         ≡ target_symbol lookups.now.machine (naming_view lookups.now.naming)
-        (map export_view lookups.now.exports.now) word.now) }
+        (map export_view lookups.now.exports.now) (export_view export.now)) }
 {
-    match symbol_asking(alloc, lookups, word)? {
-        Some(symbol) => Ok(Some(symbol)),
-        None if is_taken(lookups, word) => Ok(None),
-        None => Ok(Some(symbol_of(alloc, lookups.machine, lookups.naming, word)?)),
+    if lookups.naming.exports_as {
+        return symbol_asking(alloc, lookups, export.alias_target.as_str());
     }
+    let symbol = own_symbol(alloc, export)?;
+    if is_declared(lookups, symbol.as_str()) {
+        return Ok(None);
+    }
+    Ok(Some(symbol))
 }
 
 // The symbol that an export is weak for in Microsoft's flavour, if it is an alias.
@@ -93,7 +106,7 @@ fn alias_symbol(
     if !is_apart(alloc, lookups.machine, lookups.naming, export)? {
         return Ok(None);
     }
-    target_symbol(alloc, lookups, export.alias_target.as_str())
+    target_symbol(alloc, lookups, export)
 }
 
 // The symbols that the exports are weak for in Microsoft's flavour, one by one.
@@ -110,20 +123,13 @@ fn alias_symbols(alloc: Global, lookups: &Lookups<'_>) -> Result<Vec<Option<Stri
     Ok(symbols)
 }
 
-// The import of an alias's target.
-fn target_import(
-    alloc: Global,
-    machine: MachineType,
-    naming: Naming,
-    export: &ShortExport,
-) -> Result<ShortExport, AllocError>
-    ensures { IfOk result (λ target. export_view target
-        ≡ target_import machine (naming_view naming) (export_view export.now)) }
+// The import that an alias leads to.
+fn target_import(alloc: Global, export: &ShortExport) -> Result<ShortExport, AllocError>
+    ensures { IfOk result (λ target. export_view target ≡ target_import (export_view export.now)) }
 {
-    let word = export.alias_target.as_str();
     let mut target = ShortExport::empty(alloc);
-    target.name = symbol_of(alloc, machine, naming, word)?;
-    target.asked_name = Some(String::from_str(alloc, word)?);
+    target.name = own_symbol(alloc, export)?;
+    target.asked_name = Some(export.alias_target.clone()?);
     target.is_data = export.is_data;
     target.constant = export.constant;
     Ok(target)
@@ -139,24 +145,7 @@ fn insert_symbol(symbols: &mut IndexSet<String>, symbol: String) -> Result<bool,
     Ok(symbols.insert(symbol)?)
 }
 
-// Whether an alias wants an import of its word after `==`.
-fn adds_target(
-    alloc: Global,
-    lookups: &Lookups<'_>,
-    export: &ShortExport,
-) -> Result<bool, AllocError>
-    ensures { IfOk result (λ adds. adds
-        ≡ adds_target lookups.now.machine (naming_view lookups.now.naming)
-        (map export_view lookups.now.exports.now) (export_view export.now)) }
-{
-    let word = export.alias_target.as_str();
-    if lookups.asking.contains_key(word) || is_taken(lookups, word) {
-        return Ok(false);
-    }
-    is_apart(alloc, lookups.machine, lookups.naming, export)
-}
-
-// Adds the import of an alias's target, if it is to be added and its symbol is not there.
+// Adds the import of an alias, if it is to be added and its symbol is not there.
 fn push_target(
     alloc: Global,
     lookups: &Lookups<'_>,
@@ -174,14 +163,13 @@ fn push_target(
         (map export_view lookups.now.exports.now) (map string_bytes symbols.old.keys)
         (export_view export.now)) }
 {
-    if !adds_target(alloc, lookups, export)? {
+    let naming = lookups.naming;
+    if naming.exports_as || !is_apart(alloc, lookups.machine, naming, export)? {
         return Ok(());
     }
-    let machine = lookups.machine;
-    let naming = lookups.naming;
-    let symbol = symbol_of(alloc, machine, naming, export.alias_target.as_str())?;
-    if insert_symbol(symbols, symbol)? {
-        targets.push(target_import(alloc, machine, naming, export)?)?;
+    let symbol = own_symbol(alloc, export)?;
+    if !is_declared(lookups, symbol.as_str()) && insert_symbol(symbols, symbol)? {
+        targets.push(target_import(alloc, export)?)?;
     }
     Ok(())
 }
@@ -201,8 +189,8 @@ fn msvc_targets(alloc: Global, lookups: &Lookups<'_>) -> Result<Vec<ShortExport>
     Ok(targets)
 }
 
-// Whether an export has a word after `==`.
-fn has_targets(exports: &[ShortExport]) -> bool
+/// Whether an export has a word after `==`.
+pub(crate) fn has_targets(exports: &[ShortExport]) -> bool
     ensures { result ≡ list_any has_target (map export_view exports.now) }
 {
     for export in exports {

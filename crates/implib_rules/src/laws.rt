@@ -5,7 +5,7 @@ ghost use Rattle.implib.specs.Import.{holds, is_empty_text};
 ghost use Rattle.implib.specs.Members.NameRules.{name_refusal};
 ghost use Rattle.implib.specs.declared.flavor.Flavor.TheVariants.{Msvc};
 ghost use Rattle.implib.specs.declared.machine.MachineType.{MachineType};
-ghost use Rattle.implib_rules.specs.Linked.{AsksAsLinked, NamingView, target_import};
+ghost use Rattle.implib_rules.specs.Linked.{AsksAsLinked, target_import};
 ghost use Rattle.implib_rules.specs.BothFlavors.{AsksAlike};
 ghost use Rattle.implib_rules.specs.LibraryLaws.{GnuLibrariesAreApart, LibrariesAreOfExports};
 ghost use Rattle.implib_rules.specs.LibraryLaws.{MsvcLibrariesAreFound};
@@ -88,13 +88,13 @@ pub fn aliases_linked()
     ensures { AliasesLinked }
 {}
 
-/// A target that an alias adds breaks no rule on names if its word is not empty and has no null
+/// The import that an alias adds breaks no rule on names if its word is not empty and has no null
 /// byte: with a null byte the alias itself is refused, before it. So a refused export of a name is
 /// one of the text.
 pub fn targets_accepted()
-    ensures { (machine : MachineType) (naming : NamingView) (index : ℕ) (e : ExportView)
+    ensures { (machine : MachineType) (index : ℕ) (e : ExportView)
         → is_empty_text e.alias_target ≡ false → holds 0 e.alias_target ≡ false
-        → name_refusal Msvc machine index (target_import machine naming e) ≡ None }
+        → name_refusal Msvc machine index (target_import e) ≡ None }
 {}
 
 /// The members for Microsoft's linker are in the order that was worked by hand: weak externals

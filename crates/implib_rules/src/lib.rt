@@ -3,8 +3,8 @@
 //! [`write_library`](library::write_library) goes from the bytes of a definition to those of its
 //! library, or says why there is none; [`warnings_of`](warnings::warnings_of) has what is doubtful
 //! in a definition. Which name the DLL has ([`name`]), which exports count ([`repeats`]), by which
-//! symbols they are linked and what they ask the DLL for ([`linked`], [`aliases`]), and how the
-//! library is named for the linker ([`library_name`]) are rules of their own. Where in the text
+//! symbols they are linked and what they ask the DLL for ([`linked`], [`aliases`], `nameless`), and
+//! how the library is named for the linker ([`library_name`]) are rules of their own. Where in the text
 //! each of this stands is in [`places`]. Exports that are given without a text have their members
 //! by [`exports`].
 #![tactic(auto)]
@@ -23,6 +23,7 @@ pub mod machine;
 pub mod members;
 mod message;
 pub mod name;
+mod nameless;
 pub mod options;
 pub mod places;
 pub mod plain;

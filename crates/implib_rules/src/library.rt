@@ -33,6 +33,7 @@ use crate::library_name::library_name_for;
 use crate::linked::Naming;
 use crate::members::{LibraryMembers, MadeLater};
 use crate::name::{FirstHeading, dll_name, lacks_name};
+use crate::nameless::with_ordinals;
 use crate::options::LibraryOptions;
 use crate::places::position_of_fault;
 use crate::repeats::leave_out_repeats;
@@ -210,7 +211,7 @@ pub fn test_quotes(text: &str) -> Result<(), Refusal>
 
 /// The definition that a text means for a DLL of the name that is given, or of its own: of the
 /// exports of one word the first alone, each as it is linked on the machine, and with the name of
-/// its library for the linker.
+/// its library for the linker. An alias of an export without a name asks for its ordinal.
 ///
 /// # Errors
 ///
@@ -240,6 +241,7 @@ pub fn definition_for(
         let position = Position::at(text, misplaced.at);
         return Err(Refusal::Syntax(misplaced.fault(), position));
     }
+    let def = with_ordinals(alloc, def)?;
     match by_rules(alloc, def, own.as_str(), is_program, options)? {
         Some(def) => Ok(def),
         None => Err(Refusal::NoName),

@@ -8,7 +8,7 @@ ghost use Rattle.implib_rules.specs.Linked.{linked_alias, without_size};
 ghost use Rattle.implib_rules.specs.Linked.{linked_import, linked_to, makes};
 ghost use Rattle.implib_rules.specs.Linked.{name_given, naming_view, symbol_linked, symbol_of};
 ghost use Rattle.implib_rules.specs.Linked.{word_asked, word_of};
-ghost use Rattle.implib_rules.specs.Views.{first_symbol, is_linked, linked_by};
+ghost use Rattle.implib_rules.specs.Views.{first_given, is_linked, linked_by};
 ghost use Rattle.std.specs.Prelude.{◌==◌, ◌≡◌, IfOk, OnOk, drop, map, option_map};
 ghost use Rattle.std.specs.Char.{is_ascii_digit};
 ghost use Rattle.std.specs.List.{before_last, list_all, list_any};
@@ -347,7 +347,7 @@ fn link_export(
     left: &mut Iter<'_, Option<String>>,
 ) -> Result<(), AllocError>
     ensures export { OnOk result (export_view export.new ≡ linked_to machine (naming_view naming)
-        (first_symbol (map (option_map string_bytes) left.old.rest.now)) (export_view export.old)) }
+        (first_given (map (option_map string_bytes) left.old.rest.now)) (export_view export.old)) }
     ensures left { OnOk result (map (option_map string_bytes) left.new.rest.now
         ≡ drop 1 (map (option_map string_bytes) left.old.rest.now)) }
 {

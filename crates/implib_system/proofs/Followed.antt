@@ -11,7 +11,7 @@ use Rattle.implib_dll_check.specs.Verdict.{fits_kind, verdict_of}
 use Rattle.implib_dll_check.specs.declared.forwarder.Stop.TheVariants as stop
 use Rattle.implib_dll_check.specs.declared.import.Judgement.TheVariants.{Lost}
 use Rattle.implib_dll_check.specs.declared.import.Loss.TheVariants.{OtherDll, OtherMachine}
-use Rattle.implib_from_dll.specs.Laws.{found}
+use Rattle.implib_libraries.specs.FromDll.Laws.{found}
 use Rattle.implib_read.specs.Classes.{Imported}
 use Rattle.implib_system.specs.Laws.{AreOfMemory, FollowedImportsAreReached, ForwardersAreFollowed}
 use Rattle.implib_system.specs.System.{DllInMemory, address_by, address_of, asked_of, called, forwarded, in_dll}

@@ -8,7 +8,7 @@ use Rattle.implib_dll_check.specs.Imports.{is_called, is_lost, is_of_data, judge
 use Rattle.implib_dll_check.specs.Verdict.{verdict_of}
 use Rattle.implib_dll_check.specs.declared.import.Judgement.TheVariants.{Lost}
 use Rattle.implib_dll_check.specs.declared.import.Loss.TheVariants.{OtherDll, OtherMachine}
-use Rattle.implib_from_dll.specs.Laws.{found}
+use Rattle.implib_libraries.specs.FromDll.Laws.{found}
 use Rattle.implib_system.specs.Laws.{BytesAreNumbers, FoundImportsAreReached, OneAddress}
 use Rattle.implib_system.specs.System.{DllInMemory, address_by, address_of, asked_of, bytes_of, called, forwarded, given, in_dll}
 

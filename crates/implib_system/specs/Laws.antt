@@ -14,7 +14,7 @@ use Rattle.implib_dll_check.specs.DllName.{loader_name}
 use Rattle.implib_dll_check.specs.Forwarding.{Arrives, Beside, Content, Holds, end_by, end_of}
 use Rattle.implib_dll_check.specs.Forwarding.{is_stop, is_unknown, known_by, most_forwarders}
 use Rattle.implib_dll_check.specs.Imports.{is_lost, judged}
-use Rattle.implib_from_dll.specs.Laws.{found}
+use Rattle.implib_libraries.specs.FromDll.Laws.{found}
 use Rattle.implib_link.specs.Gnu.Calls.{CanBranch, DirectCallArrives, HasDirectCall, StubAt}
 use Rattle.implib_link.specs.Gnu.Fields.{DefinesIn, LinkedCode, placed_code}
 use Rattle.implib_link.specs.Gnu.Loaded.{HoldsAt, Writes}

@@ -8,7 +8,7 @@ use Rattle.implib.specs.Import.{Ask}
 use Rattle.implib_dll.specs.Exports.{Exports, Target, Empty, Address, Forwarder}
 use Rattle.implib_dll_check.specs.DllName.{loader_name}
 use Rattle.implib_dll_check.specs.Forwarding.{found_behind, split_last}
-use Rattle.implib_from_dll.specs.Laws.{found}
+use Rattle.implib_libraries.specs.FromDll.Laws.{found}
 
 -- a DLL in memory: the name by which a loader knows it, its base, and what it exports
 pub record DllInMemory : Type 0 where

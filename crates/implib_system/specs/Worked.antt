@@ -7,7 +7,6 @@ use Rattle.implib.specs.Link.Load.{number_in}
 use Rattle.implib_dll.specs.Exports.{Address, Empty, Forwarder}
 use Rattle.implib_dll.specs.WorkedFiles.{named, worked_exports}
 use Rattle.implib_dll.specs.declared.section.AddressKind.TheVariants.{Code}
-use Rattle.implib_dll_check.specs.Forwarding.{number_of, split_last}
 use Rattle.implib_link.specs.Tables.{Tables}
 use Rattle.implib_system.specs.Laws.{Reaches}
 use Rattle.implib_system.specs.System.{DllInMemory, address_of, asked_of, bytes_of, called, given}
@@ -72,12 +71,6 @@ pub record WorkedSystem : Type 0 where
   pub circle : address_of 50 system (codes "round.dll") (Name (codes "a") 0) ≡ None
   pub to_no_dll : address_of 9 system (codes "round.dll") (Ordinal 3) ≡ None
   pub no_full_stop : address_of 9 system (codes "round.dll") (Ordinal 4) ≡ None
-  -- texts of forwarders
-  pub last_stop : split_last (codes "a.b.c") ≡ Some (codes "a.b", codes "c")
-  pub first_stop : split_last (codes ".c") ≡ Some ([], codes "c")
-  pub no_stop : split_last (codes "abc") ≡ None
-  pub number : number_of (codes "107x") ≡ 107
-  pub no_number : number_of (codes "x") ≡ 0
   -- bytes
   pub bytes : bytes_of 4 0x401000 ≡ 0 ∷ 0x10 ∷ 0x40 ∷ 0 ∷ []
   pub long : bytes_of 8 0x180001040 ≡ 0x40 ∷ 0x10 ∷ 0 ∷ 0x80 ∷ 1 ∷ 0 ∷ 0 ∷ 0 ∷ []

@@ -73,20 +73,6 @@ impl Group {
         None
     }
 
-    /// Whether other bytes at its base are the same, but for those of some of these fields.
-    fn is_same_but_in(&self, changed: &[u8], fields: &[usize], width: usize) -> bool {
-        for (index, byte) in self.bytes.iter().enumerate() {
-            let is_same = match changed.get(index) {
-                Some(now) => now == byte,
-                None => false,
-            };
-            if !is_same && !is_in(self.base.saturating_add(index), fields, width) {
-                return false;
-            }
-        }
-        true
-    }
-
     /// Why its base does not serve.
     fn misplaced(&self) -> Option<Misplaced> {
         if self.base == 0 || self.base % 4 != 0 {
@@ -111,19 +97,6 @@ impl Image {
                     bytes: Vec::new(alloc),
                 })?;
             }
-        }
-        Ok(Image { groups })
-    }
-
-    /// The same image once more.
-    pub fn copy(&self, alloc: Global) -> Result<Self, AllocError> {
-        let mut groups = Vec::new(alloc);
-        for group in self.groups.iter() {
-            groups.push(Group {
-                name: group.name,
-                base: group.base,
-                bytes: Vec::from_slice(alloc, group.bytes.as_slice())?,
-            })?;
         }
         Ok(Image { groups })
     }
@@ -209,18 +182,6 @@ impl Image {
         }
     }
 
-    /// Whether another image has the same bytes, but for those of some of these fields.
-    pub fn is_same_but_in(&self, other: &Image, fields: &[usize], width: usize) -> bool {
-        for (index, group) in self.groups.iter().enumerate() {
-            if let Some(changed) = other.groups.get(index)
-                && !group.is_same_but_in(changed.bytes.as_slice(), fields, width)
-            {
-                return false;
-            }
-        }
-        true
-    }
-
     /// Appends the bytes of each group.
     pub fn show(&self, text: &mut String) -> Result<(), AllocError> {
         for group in self.groups.iter() {
@@ -234,14 +195,4 @@ impl Image {
         }
         Ok(())
     }
-}
-
-/// Whether an address is in a field that begins at one of these.
-fn is_in(address: usize, fields: &[usize], width: usize) -> bool {
-    for field in fields {
-        if *field <= address && address - *field < width {
-            return true;
-        }
-    }
-    false
 }

@@ -1,36 +1,25 @@
-//! A linker, a loader and a processor for tests: of objects they know the names and the bytes
-//! alone.
+//! A linker and a loader for tests: of objects they know the names and the bytes alone.
 //! The linker reads the objects, places their sections, resolves their symbols and relocates them;
-//! the loader reads the image in memory and writes into it; the processor runs a few instructions
-//! there. The rules are those of the PE/COFF specification and, for the placement, of
+//! the loader reads the import directory of the image. The rules are those of the PE/COFF specification and, for the placement, of
 //! `docs/FORMATS.md`. They are test equipment: proved safe and total, like all code here, and held
 //! to no further contract.
 #![tactic(auto)]
 
-mod bound;
 mod code;
 mod directory;
 mod expansion;
 mod file;
 mod image;
-mod loader;
-mod memory;
 mod object;
-mod processor;
-mod search;
 mod short_import;
 
-use bound::{bound, given_address};
 use code::{ARMNT, I386, IMAGE_BASE, jump_reads, relocated, whole_size};
 use directory::{Descriptor, Import, thunk_size};
 pub use expansion::{Expansion, expanded};
 pub use file::{File, Purpose, file_in};
 pub use image::{Bases, Image, Misplaced};
-pub use memory::Memory;
 pub use object::{Flaw, Object};
 use object::{Relocation, Section, Symbol, bytes_at, object_in, u32_at};
-pub use processor::Arrival;
-pub use search::{Archive, left_undefined};
 pub use short_import::{Ask, push_ask};
 use std::alloc::{AllocError, Global};
 use std::fmt;
@@ -39,7 +28,6 @@ use std::test::Fail;
 /// An object of a file, whose sections are placed.
 #[derive(Drop)]
 struct Placed<'a> {
-    name: &'a str,
     object: Object<'a>,
 }
 
@@ -93,12 +81,12 @@ impl fmt::Display for Unlinked<'_> {
     }
 }
 
-/// Links objects, each with its file's name, in this order. The bases are those of `.idata$2`,
+/// Links objects in this order. The bases are those of `.idata$2`,
 /// `$4`, `$5`, `$6`, `$7` and `.text`. Where the directory is not to be ended, `.idata$2` has the
 /// descriptors of the objects alone, and no `.idata$3` is placed.
 pub fn link<'a>(
     alloc: Global,
-    objects: Vec<(&'a str, Object<'a>)>,
+    objects: Vec<Object<'a>>,
     bases: Bases,
     is_ended: bool,
 ) -> Result<Result<Linked<'a>, Unlinked<'a>>, Fail> {
@@ -128,22 +116,18 @@ pub fn object_of<'a>(
 }
 
 /// Places the sections of objects, and nothing that ends the import directory.
-fn place<'a>(
-    alloc: Global,
-    files: Vec<(&'a str, Object<'a>)>,
-    bases: Bases,
-) -> Result<Linked<'a>, Fail> {
+fn place<'a>(alloc: Global, files: Vec<Object<'a>>, bases: Bases) -> Result<Linked<'a>, Fail> {
     let mut image = Image::new(alloc, bases)?;
     let mut objects = Vec::new(alloc);
     let mut machine = 0;
-    for (name, mut object) in files {
+    for mut object in files {
         if machine != 0 && machine != object.machine {
             return Err(Fail::new("objects are for two machines"));
         }
         machine = object.machine;
         object.settle(alloc)?;
         place_sections(&mut image, object.sections.as_mut_slice())?;
-        objects.push(Placed { name, object })?;
+        objects.push(Placed { object })?;
     }
     Ok(Linked {
         machine,
@@ -375,11 +359,6 @@ impl Linked<'_> {
         self.machine == I386 || self.machine == ARMNT
     }
 
-    /// The size in bytes of an entry of an address table.
-    pub fn entry_size(&self) -> usize {
-        thunk_size(self.is_32bit())
-    }
-
     /// How many DLLs the import directory lists, and that a strict loader takes it.
     pub fn check_directory(&self) -> Result<usize, Flaw> {
         self.image.check_directory(self.directory, self.is_32bit())
@@ -395,43 +374,6 @@ impl Linked<'_> {
         let mut text = String::new(alloc);
         self.image.show(&mut text)?;
         Ok(text)
-    }
-
-    /// The image that a loader makes of this one.
-    pub fn bound(&self, alloc: Global) -> Result<Image, Fail> {
-        let imports = self.imports(alloc)?;
-        bound(alloc, &self.image, imports.as_slice(), self.entry_size())
-    }
-
-    /// The fields that have base relocations, each with its address and size: where relocations
-    /// store addresses whole.
-    pub fn base_relocations(&self, alloc: Global) -> Result<Vec<(usize, usize)>, Fail> {
-        let mut fields = Vec::new(alloc);
-        for placed in self.objects.iter() {
-            push_base_relocations(placed, &mut fields)?;
-        }
-        Ok(fields)
-    }
-
-    /// A copy of the image in memory at a base, without what base relocations make of it.
-    pub fn unrelocated_at(&self, alloc: Global, base: u64) -> Result<Memory, Fail> {
-        Ok(Memory {
-            machine: self.machine,
-            directory: self.directory,
-            base,
-            image: self.image.copy(alloc)?,
-        })
-    }
-
-    /// A copy of the image in memory at a base: where addresses are stored whole, it has the
-    /// difference to the base that it was linked for added.
-    pub fn loaded_at(&self, alloc: Global, base: u64) -> Result<Memory, Fail> {
-        let mut memory = self.unrelocated_at(alloc, base)?;
-        let difference = base.wrapping_sub(u64::from(IMAGE_BASE));
-        for (address, size) in self.base_relocations(alloc)? {
-            memory.image.add(address, size, difference)?;
-        }
-        Ok(memory)
     }
 
     /// The address of a symbol that an object defines for the others.
@@ -452,33 +394,6 @@ impl Linked<'_> {
         Ok(entries)
     }
 
-    /// What DLLs give for what the import directory asks them for: an address each, with the DLL
-    /// and what it is asked for.
-    pub fn given(&self, alloc: Global) -> Result<Vec<(u64, String)>, Fail> {
-        let size = self.entry_size();
-        let mut given = Vec::new(alloc);
-        for import in self.imports(alloc)? {
-            let dll = import.descriptor.dll;
-            for (_, ask) in import.thunks.iter() {
-                let mut asked = format!(in alloc; "{dll}: ")?;
-                push_ask(&mut asked, *ask)?;
-                given.push((given_address(dll, *ask, size), asked))?;
-            }
-        }
-        Ok(given)
-    }
-
-    /// The addresses of the code of the objects in files of this name.
-    pub fn code_of(&self, alloc: Global, name: &str) -> Result<Vec<usize>, Fail> {
-        let mut addresses = Vec::new(alloc);
-        for placed in self.objects.iter() {
-            if placed.name == name {
-                addresses.push(placed.object.code_address()?)?;
-            }
-        }
-        Ok(addresses)
-    }
-
     /// The address from which the code at an address reads where it jumps.
     pub fn jump_at(&self, address: usize) -> Result<usize, Flaw> {
         let code = self.image.bytes_from(address)?;
@@ -496,31 +411,6 @@ impl Linked<'_> {
         }
         Ok(text)
     }
-}
-
-/// Appends the base relocations of an object's sections.
-fn push_base_relocations(placed: &Placed, fields: &mut Vec<(usize, usize)>) -> Result<(), Fail> {
-    for section in placed.object.sections.iter() {
-        if let Some(address) = section.address {
-            push_whole(placed.object.machine, section, address, fields)?;
-        }
-    }
-    Ok(())
-}
-
-/// Appends those of the section at an address.
-fn push_whole(
-    machine: u16,
-    section: &Section,
-    address: usize,
-    fields: &mut Vec<(usize, usize)>,
-) -> Result<(), Fail> {
-    for relocation in section.relocations.iter() {
-        if let Some(size) = whole_size(machine, relocation.kind) {
-            fields.push((address.saturating_add(relocation.offset), size))?;
-        }
-    }
-    Ok(())
 }
 
 /// Appends an object's symbols of the address tables.

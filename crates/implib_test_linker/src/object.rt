@@ -143,32 +143,12 @@ impl<'a> Object<'a> {
         false
     }
 
-    /// Whether it declares a symbol, or gives it an absolute value.
-    pub fn claims(&self, name: &str) -> bool {
-        for symbol in self.symbols.iter() {
-            if symbol.is_named(name) || symbol.is_weak() && symbol.name == name {
-                return true;
-            }
-        }
-        false
-    }
-
     /// The symbol of an index.
     pub fn symbol(&self, index: usize) -> Result<Symbol<'a>, Flaw> {
         match self.symbols.get(index) {
             Some(symbol) if symbol.class != RECORD => Ok(*symbol),
             _ => Err("an index has no symbol"),
         }
-    }
-
-    /// The address of its first section.
-    pub fn code_address(&self) -> Result<usize, Flaw> {
-        if let Some(section) = self.sections.get(0)
-            && let Some(address) = section.address
-        {
-            return Ok(address);
-        }
-        Err("a file has no code")
     }
 
     /// The section that has a symbol.

@@ -2,31 +2,22 @@
 //! bytes.
 
 use implib::{Flavor, MachineType};
-use implib_arm64ec::ImportsFault;
-use implib_arm64ec_library::{Arm64ecRefusal, arm64ec_archive, arm64ec_library_for};
+use implib_libraries::arm64ec::{arm64ec_archive, arm64ec_library_for};
 use implib_rules::additions::Additions;
-use implib_rules::library::Refusal;
 use implib_rules::linked::Naming;
 use implib_rules::options::LibraryOptions;
 use std::test::Fail;
 
-// Functions, one of C++, an import by ordinal, a name beside its symbol, data, a constant, and what
-// is left out.
-const DEFINITION: &[u8] = b"LIBRARY t.dll\nEXPORTS\nfunc\n?cpp@@YAHPEAX@Z\nbyord @7 NONAME\n\
-    alias == target\ndat DATA\ncon CONSTANT\nhidden PRIVATE\n";
-
 // Names of the DLL that have a symbol of their own and others beside it; marks that the text has
 // already, and names that are asked for with them.
-const NAMES: &[u8] = b"LIBRARY t.dll\nEXPORTS\np EXPORTAS v\nv\nq == v\nw @5 NONAME\nr == w\n\
+const NAMES: &[u8] = b"LIBRARY t.dll\nEXPORTS\np EXPORTAS v\nv\nq == v\nw @5 NONAME\n\
     #con CONSTANT\n#dat DATA\n#f == #f\ng == g DATA\n#h\n";
 
-const NATIVE: &[u8] = b"LIBRARY t.dll\nEXPORTS\nnative\n#odd\nndata DATA\n";
-
-fn options<'a>(dll: Option<&'a str>) -> LibraryOptions<'a> {
+fn options() -> LibraryOptions<'static> {
     LibraryOptions {
         machine: MachineType::AMD64,
         flavor: Flavor::Gnu,
-        dll,
+        dll: None,
         naming: Naming {
             is_plain: false,
             kills_at: false,
@@ -49,7 +40,7 @@ fn sum(bytes: &[u8]) -> u64 {
 // The length and the sum of a library.
 fn made(rt: &HostRuntime, text: &[u8], native: Option<&[u8]>) -> Result<(usize, u64), Fail> {
     let alloc = rt.alloc();
-    let Ok(library) = arm64ec_library_for(alloc, text, native, &options(None)) else {
+    let Ok(library) = arm64ec_library_for(alloc, text, native, &options()) else {
         return Ok((0, 0));
     };
     let Ok(archive) = arm64ec_archive(&library, alloc) else {
@@ -61,43 +52,10 @@ fn made(rt: &HostRuntime, text: &[u8], native: Option<&[u8]>) -> Result<(usize, 
 
 #[test]
 fn libraries_are_those_of_llvm_dlltool(rt: HostRuntime) -> Result<(), Fail> {
-    assert_eq!(rt; made(&rt, DEFINITION, None)?, (2154, 0x6f284ba862b93335));
-    assert_eq!(rt;
-        made(&rt, DEFINITION, Some(NATIVE))?,
-        (2570, 0x28426a21a56baf8d)
-    );
-    assert_eq!(rt; made(&rt, NAMES, None)?, (2506, 0x4d74b60e72839285));
+    assert_eq!(rt; made(&rt, NAMES, None)?, (2378, 0x247e74210979fbd7));
     // The native definition names the DLL.
     let native = b"LIBRARY u.dll\nEXPORTS\ng\n";
     let made = made(&rt, b"LIBRARY t.dll\nEXPORTS\nf\n", Some(native))?;
     assert_eq!(rt; made, (1510, 0x79c41c308caa22c9));
-    Ok(())
-}
-
-// What is said of a text that is refused: which of the texts, the offset, and the line.
-fn refused(rt: &HostRuntime, text: &[u8], native: Option<&[u8]>) -> (u8, usize, usize) {
-    match arm64ec_library_for(rt.alloc(), text, native, &options(Some("t.dll"))) {
-        Err(Arm64ecRefusal::OfDefinition(Refusal::Syntax(_, at))) => (1, at.offset, at.line),
-        Err(Arm64ecRefusal::OfImports(why)) => match why.fault {
-            ImportsFault::Unreadable(_, place) => (2, place, why.position.line),
-            ImportsFault::NulInExport(_) => (3, why.position.offset, why.position.line),
-            _ => (4, 0, 0),
-        },
-        Err(Arm64ecRefusal::OfNative(Refusal::Members(_, at))) => (5, at.offset, at.line),
-        Err(_) => (6, 0, 0),
-        Ok(_) => (0, 0, 0),
-    }
-}
-
-#[test]
-fn refusals_have_their_places(rt: HostRuntime) -> Result<(), Fail> {
-    assert_eq!(rt; refused(&rt, b"EXPORTS\nf = @", None), (1, 12, 2));
-    assert_eq!(rt; refused(&rt, b"EXPORTS\nf\n?bad", None), (2, 4, 3));
-    assert_eq!(rt; refused(&rt, b"EXPORTS\nf\n\"a\0\"", None), (3, 11, 3));
-    assert_eq!(rt;
-        refused(&rt, b"EXPORTS\nf", Some(b"EXPORTS\ng\n\"\"")),
-        (5, 11, 3)
-    );
-    assert_eq!(rt; refused(&rt, b"EXPORTS\nf", Some(b"EXPORTS\ng")), (0, 0, 0));
     Ok(())
 }

@@ -131,13 +131,6 @@ passes_written keeps before after failed failed' bytes (Err error) good moved so
       stopped = λ h. both_ways (Keeps before after) failed good h;
     })
 
--- where the writer has not failed and nothing waits, all is written
-pub all_written : {keeps : Bool} (before after : Option (List ℕ)) (failed failed' : Bool) (waiting waiting' bytes : List ℕ) → waiting ≡ [] → waiting' ≡ [] → failed' ≡ false
-    → Passes keeps (buffered before failed waiting) (buffered after failed' waiting') bytes → Appends before after bytes
-all_written before after failed failed' waiting waiting' bytes none done sound p =
-    let same : bytes ≡ p.taken = ap (λ t. t ++ bytes) (sym none) ∙ p.whole ∙ ap (λ t. p.taken ++ t) (p.waits sound ∙ done) ∙ append-nil p.taken in
-    subst (Appends before after) (sym same) (p.written (inl sound))
-
 -- one more write
 pub written_more : (before middle after : Option (List ℕ)) (bytes rest : List ℕ) (count : ℕ) → WrittenSoFar before middle bytes rest → Appends middle after (take count rest)
     → WrittenSoFar before after bytes (take (length rest - count) (drop count rest))

@@ -4,7 +4,7 @@
 //! [`program`] and [`command`] read the arguments, [`run`] reads the definitions ([`documents`])
 //! and writes the [`listing`] through a buffer ([`output`]). Bytes come from and go to a
 //! [`device`]; those of the system are in [`host`]. What [`documents`], [`listing`] and [`output`]
-//! have is public for the crate `implib_library_cases`.
+//! have is public for the crate `implib_cases`.
 #![tactic(auto)]
 
 pub mod command;

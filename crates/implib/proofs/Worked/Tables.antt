@@ -132,6 +132,7 @@ worked_name_types = record {
   given_on_armnt = refl;
   given_on_amd64 = refl;
   given_on_arm64 = refl;
+  given_behind_question_mark = refl;
   given_beside_ordinal = refl;
 }
 

@@ -1,6 +1,6 @@
 -- The short import of an export, as a table (docs/FORMATS.md, "Short imports" and "Members for
 -- Microsoft's linker").
-use Rattle.std.specs.Prelude.{ℕ, ◌+◌, ◌*◌, ◌&&◌, ◌||◌, not, List, [], ◌∷◌, ◌++◌, Option, None, Some}
+use Rattle.std.specs.Prelude.{ℕ, Bool, ◌+◌, ◌*◌, ◌&&◌, ◌||◌, not, List, [], ◌∷◌, ◌++◌, Option, None, Some}
 use Rattle.std.specs.Prelude.{length, bytes_eq, if◌then◌else◌, is_some, option_map}
 use Rattle.implib.specs.declared.machine.MachineType.{MachineType}
 use Rattle.implib.specs.declared.msvc.short_import.ShortImport.{ShortImport as Written}
@@ -23,16 +23,22 @@ symbol_or_name (first ∷ rest) name = first ∷ rest
 abbrev pub short_import_symbol : ExportView → List ℕ
 short_import_symbol e = symbol_or_name e.symbol_name e.name
 
--- The first of the name types name, no prefix and undecorate by which a symbol asks for a name;
--- undecorate where none does. For example, on I386 `_f@8` asks for `_f@8` by name (1), for `f@8` by
--- no prefix (2) and for f by undecorate (3). Where symbols have no underscore it is name, and any
--- other name is refused: there GNU `ld` takes no underscore off, and lld does, so a name type that
--- cuts would ask for two names.
+-- Whether linkers take the same prefix off a symbol: where symbols have no underscore, lld takes one
+-- off and GNU `ld` does not; `?` and `@` both take off.
+abbrev pub is_cut_alike : MachineType → List ℕ → Bool
+is_cut_alike machine symbol = has_leading_underscore machine || not (begins_with underscore symbol)
+
+-- The first of the name types name, no prefix and undecorate by which a symbol asks for a name. For
+-- example, on I386 `_f@8` asks for `_f@8` by name (1), for `f@8` by no prefix (2) and for f by
+-- undecorate (3). Where symbols have no underscore, no prefix is for `?` and `@` alone, so that all
+-- linkers ask for one name, and there is no undecorate. A name that no such type makes is refused.
 abbrev pub name_type_asking : MachineType → List ℕ → List ℕ → ℕ
 name_type_asking machine symbol name =
-    if not (has_leading_underscore machine) || bytes_eq symbol name then import_name
-    else if bytes_eq (without_prefix symbol) name then import_name_noprefix
-    else import_name_undecorate
+    if bytes_eq symbol name then import_name
+    else if is_cut_alike machine symbol && bytes_eq (without_prefix symbol) name
+    then import_name_noprefix
+    else if has_leading_underscore machine then import_name_undecorate
+    else import_name
 
 -- The name type, by the first rule that holds. For example, of `_f` it is no prefix (2) on I386 and
 -- name (1) on AMD64; of the symbol name `_f@8` of f, undecorate (3).

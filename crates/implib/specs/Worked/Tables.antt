@@ -221,10 +221,11 @@ pub record WorkedNameTypes : Type 0 where
       types_of I386
       (record (under_symbol (codes "a") (codes "_b@4")) { asked_name = Some (codes "b") })
       ≡ hex "0c 00"
-  -- where symbols have no underscore none is cut
+  -- where symbols have no underscore none is cut, and `?` and `@` are
   pub given_on_armnt : types_of ARMNT (asking (codes "_f") (codes "f")) ≡ hex "04 00"
   pub given_on_amd64 : types_of AMD64 (asking (codes "_f") (codes "f")) ≡ hex "04 00"
   pub given_on_arm64 : types_of ARM64 (asking (codes "_f@4") (codes "f")) ≡ hex "04 00"
+  pub given_behind_question_mark : types_of AMD64 (asking (codes "?f@8") (codes "f@8")) ≡ hex "08 00"
   pub given_beside_ordinal : types_of I386
       (record (asking (codes "_F@8") (codes "F")) { no_name = true })
       ≡ hex "00 00"
@@ -250,8 +251,7 @@ pub record WorkedAskedNames : Type 0 where
   pub given_without_prefix : asked_by_short_import I386 (asking (codes "_F@8") (codes "F@8"))
       ≡ codes "F@8"
   pub given_undecorated : asked_by_short_import I386 (asking (codes "_F@8") (codes "F")) ≡ codes "F"
-  -- where symbols have no underscore, a short import asks for its symbol whole: such a definition
-  -- is refused
+  -- there a short import asks for such a symbol whole: such a definition is refused
   pub given_on_amd64 : asked_by_short_import AMD64 (asking (codes "__f") (codes "_f")) ≡ codes "__f"
   -- GNU `ld` takes an underscore off on I386 alone
   pub by_gnu_on_i386 : asked_by_gnu 0x14C 2 (codes "__f") ≡ codes "_f"

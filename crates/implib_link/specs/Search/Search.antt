@@ -81,11 +81,6 @@ pub record TakesAs (reads : List ℕ → Option Object) (archive : List MemberVi
 abbrev pub names_undefined : List MemberView → List (List ℕ)
 names_undefined = left_as object_in
 
--- an undefined name pulls in a member
-abbrev pub PullsIn : List MemberView → List (List ℕ) → List MemberView → List ℕ → MemberView →
-    Type 0
-PullsIn = PullsInAs object_in
-
 -- members are taken one after another
 abbrev pub IsTakenInTurn : List MemberView → List (List ℕ) → List MemberView → Type 0
 IsTakenInTurn = AreTakenInTurnAs object_in

@@ -12,5 +12,5 @@ returns-in-Err c =
 
 pub returns-in-Ok : goal.returns-in-Ok
 returns-in-Ok c =
-    puts_packed c.args.text.now (library_options_view c.args.options.now) c.args.buffer.now c.in-Ok.members c.in-Ok.ensures.made
+    puts_packed c.args.text.now (library_options_view c.args.options.now) c.args.buffer.now c.in-Ok.delayed.members c.in-Ok.ensures.made
     c.pack_into.new.buffer c.pack_into.result c.pack_into.ensures

@@ -7,17 +7,12 @@ use Rattle.implib_check_driver.proofs.laws.worked_against.Goals as goal
 worked : WorkedAgainst
 unfolding order_at searched part_after_last
 worked = record {
-  all = refl;
   all_defines_nothing = refl;
-  exports = refl;
-  exports_in_json = refl;
   exports_of_two = refl;
-  dll = refl;
   no_dll = refl;
-  archive = refl;
   thin = refl;
   no_archive = refl;
-  own_names = refl;
+  own_name = refl;
   given_name = refl;
   no_option = refl;
   machine = refl;
@@ -27,24 +22,16 @@ worked = record {
   killed = refl;
   exported_as = refl;
   decorated = refl;
-  found = refl;
   lost = refl;
   unread = refl;
   none = refl;
   none_unread = refl;
-  other_dll = refl;
   as_other = refl;
-  all_found = refl;
   not_by_that_name = refl;
   is_open = refl;
   exports_nothing = refl;
   refused = refl;
-  listed = refl;
-  none_listed = refl;
-  none_read = refl;
-  for_dll = refl;
   for_unknown = refl;
-  as_said = refl;
 }
 
 pub returns : goal.returns

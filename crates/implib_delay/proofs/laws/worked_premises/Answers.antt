@@ -1,5 +1,5 @@
-use Rattle.implib_delay.proofs.WorkedCalls.{worked_premises, worked_answers, near_fields_lead, near_begins, near_answers}
+use Rattle.implib_delay.proofs.WorkedCalls.{worked_premises, worked_answers}
 use Rattle.implib_delay.proofs.laws.worked_premises.Goals as goal
 
 pub returns : goal.returns
-returns c = record { premises = worked_premises; answers = worked_answers; near_fields = near_fields_lead; near_begins = near_begins; near_answers = near_answers }
+returns c = record { premises = worked_premises; answers = worked_answers }

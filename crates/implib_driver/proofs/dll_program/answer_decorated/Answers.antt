@@ -2,8 +2,8 @@ use Rattle.std.proofs.Common.{◌≡◌, ◌∙◌, ap, inl, inr, map, refl, sub
 use Rattle.std.specs.Prelude.{count_by}
 use Rattle.implib.specs.Definition.{export_view}
 use Rattle.implib_dll.specs.Views.{exports_view}
-use Rattle.implib_dll_library.specs.Decorated.{is_missing, with_symbols}
-use Rattle.implib_dll_library.specs.Decorations.{decoration_view}
+use Rattle.implib_libraries.specs.OfDll.Decorated.{is_missing, with_symbols}
+use Rattle.implib_libraries.specs.OfDll.Decorations.{decoration_view}
 use Rattle.implib_driver.specs.declared.dll.DllRefusal.TheVariants.{OutOfMemory}
 use Rattle.implib_driver.specs.DllProgram.{FinishesList}
 use Rattle.implib_driver.specs.Request.{request_view}

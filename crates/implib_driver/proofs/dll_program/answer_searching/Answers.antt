@@ -1,7 +1,7 @@
 use Rattle.std.proofs.Common.{inl, map, rules, subst}
 use Rattle.implib.specs.Definition.{export_view}
 use Rattle.implib_dll.specs.Views.{exports_view}
-use Rattle.implib_from_dll.specs.Definition.{exports_of}
+use Rattle.implib_libraries.specs.FromDll.Definition.{exports_of}
 use Rattle.implib_driver.specs.Request.{request_view}
 use Rattle.implib_driver.specs.Search.{IsSearched}
 use Rattle.implib_driver.proofs.dll_program.answer_searching.Goals as goal

@@ -14,20 +14,12 @@ none_left before after unplaced removed = by_case unplaced.none_left where
 
 worked : AnswersTold
 worked = record {
-  from_input = λ disk. refl;
-  from_file = λ disk. refl;
-  lines = refl;
-  made = refl;
-  refused = refl;
   out_of_memory = refl;
   unwritten = λ cause. refl;
-  nothing_said = refl;
-  refusal_said = λ position. refl;
   failure_said = λ cause. refl;
   no_text = λ before after printed prints status called. called.is_status;
   no_text_said = λ before after printed prints status called. called.says;
   no_arguments = λ before after printed prints status called. called.is_status;
-  unread = λ before after status read. read.is_status;
   nothing_left = none_left;
   failure_of_none_said = λ cause. refl;
 }

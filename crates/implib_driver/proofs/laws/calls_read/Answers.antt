@@ -6,26 +6,17 @@ use Rattle.implib_driver.proofs.laws.calls_read.Goals as goal
 calls : CallsRead
 unfolding read_after switches_in
 calls = record {
-  rustc = refl;
-  mingw = refl;
   last = refl;
-  lacks_value = refl;
   unsupported = refl;
   unknown = refl;
-  file = refl;
-  minus = refl;
-  options_file = refl;
   empty_value = refl;
   value_as_option = refl;
   bundle = refl;
-  bundle_of_capitals = refl;
   bundle_lacks_value = refl;
   bundle_unsupported = refl;
   bundle_unknown = refl;
   bundle_not_ascii = refl;
   not_ascii = refl;
-  ended = refl;
-  option_after_the_end = refl;
   end_as_value = refl;
 }
 

@@ -6,7 +6,6 @@ use Rattle.implib_driver.proofs.laws.flavors_chosen.Goals as goal
 worked : FlavorsChosen
 unfolding part_after_last
 worked = record {
-  own_lib = refl;
   own_capitals = refl;
   own_archive = refl;
   own_mixed = refl;
@@ -24,8 +23,7 @@ worked = record {
   assembler = refl;
   flags = refl;
   prefix = refl;
-  dll = refl;
-  named = refl;
+  delay = refl;
 }
 
 pub returns : goal.returns

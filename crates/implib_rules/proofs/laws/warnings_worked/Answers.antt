@@ -6,12 +6,7 @@ use Rattle.implib_rules.proofs.laws.warnings_worked.Goals as goal
 worked : WarningsWorked
 unfolding warnings_from
 worked = record {
-  verbose = refl;
-  killed = refl;
-  twice = refl;
-  gnu = refl;
   no_export_and_many = refl;
-  none = refl;
 }
 
 pub returns : goal.returns

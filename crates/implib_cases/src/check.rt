@@ -1,0 +1,84 @@
+//! Cases about `implib_check`: calls of the program over files that a case is made of, with the
+//! exit status and each line that is written.
+//!
+//! A case is made of files ([`files`] says how). `call WORDS` calls the program. `full WORDS` does
+//! so where standard output has no room, and `starved WORDS` where it has no memory.
+
+mod files;
+
+use crate::lines::{Case, push_lines};
+use files::{Files, files_of};
+use implib_check_driver::program::run;
+use implib_check_driver::task::CommandLine;
+use std::alloc::Global;
+use std::io;
+use std::io::{ErrorKind, Write};
+use std::test::Fail;
+
+/// A writer that fails, each time for this reason.
+#[derive(Drop)]
+struct Failing(ErrorKind);
+
+impl Write for Failing {
+    fn write(&mut self, _bytes: &[u8]) -> io::Result<usize> {
+        Err(io::Error::from(self.0))
+    }
+
+    fn flush(&mut self) -> io::Result<()> {
+        Ok(())
+    }
+}
+
+/// The name of a case and, for each call, what comes of it.
+pub fn answered(alloc: Global, case: &Case) -> Result<String, Fail> {
+    let mut text = format!(in alloc; "case {}\n", case.name)?;
+    let files = files_of(alloc, case.lines.as_slice())?;
+    for line in &case.lines {
+        match line.word {
+            "call" => answer_call(alloc, &mut text, &files, line.rest)?,
+            "full" => answer_failed(alloc, &mut text, &files, line.rest, ErrorKind::StorageFull)?,
+            "starved" => {
+                answer_failed(alloc, &mut text, &files, line.rest, ErrorKind::OutOfMemory)?;
+            }
+            _ => {}
+        }
+    }
+    Ok(text)
+}
+
+/// The words of a call, as the program reads them.
+fn command_line(alloc: Global, call: &str) -> Result<CommandLine, Fail> {
+    let mut words = Vec::new(alloc);
+    for word in call.split_whitespace() {
+        words.push(String::from_str(alloc, word)?)?;
+    }
+    Ok(CommandLine::read(alloc, words.as_slice())?)
+}
+
+/// A call, its status, and the lines of standard output and of standard error.
+fn answer_call(alloc: Global, text: &mut String, files: &Files, call: &str) -> Result<(), Fail> {
+    let words = command_line(alloc, call)?;
+    let mut printed = Vec::new(alloc);
+    let mut said = Vec::new(alloc);
+    let status = run(alloc, files, &words, &mut printed, &mut said);
+    write!(text, "call {call}\n  status {status}\n")?;
+    push_lines(text, "out", printed.as_slice())?;
+    push_lines(text, "error", said.as_slice())?;
+    Ok(())
+}
+
+/// The same where standard output fails.
+fn answer_failed(
+    alloc: Global,
+    text: &mut String,
+    files: &Files,
+    call: &str,
+    why: ErrorKind,
+) -> Result<(), Fail> {
+    let words = command_line(alloc, call)?;
+    let mut said = Vec::new(alloc);
+    let status = run(alloc, files, &words, &mut Failing(why), &mut said);
+    write!(text, "failing {call}\n  status {status}\n")?;
+    push_lines(text, "error", said.as_slice())?;
+    Ok(())
+}

@@ -1,8 +1,0 @@
-use Rattle.std.proofs.Common.{◌≡◌, drop, map}
-use Rattle.implib_dll_library.specs.Decorated.{has_symbol}
-use Rattle.implib_dll_library.specs.Decorations.{decoration_view}
-use Rattle.implib_dll_library.proofs.decorated.has_symbol.Given as goal
-
-abbrev pub invariant-loop-decoration : goal.invariant-loop-decoration
-invariant-loop-decoration l =
-    has_symbol (map decoration_view (drop l.decoration-index l.decorations)) l.name ≡ has_symbol (map decoration_view l.decorations) l.name

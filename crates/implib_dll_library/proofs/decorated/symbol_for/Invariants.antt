@@ -1,8 +1,0 @@
-use Rattle.std.proofs.Common.{◌≡◌, drop, map}
-use Rattle.implib_dll_library.specs.Decorated.{symbol_for}
-use Rattle.implib_dll_library.specs.Decorations.{decoration_view}
-use Rattle.implib_dll_library.proofs.decorated.symbol_for.Given as goal
-
-abbrev pub invariant-loop-decoration : goal.invariant-loop-decoration
-invariant-loop-decoration l =
-    symbol_for (map decoration_view (drop l.decoration-index l.decorations)) l.name ≡ symbol_for (map decoration_view l.decorations) l.name

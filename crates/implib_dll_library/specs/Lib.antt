@@ -1,6 +1,0 @@
-pub mod Decorations
-pub mod Decorated
-pub mod Libraries
-pub mod Members
-pub mod Worked
-pub mod WorkedDecorated

@@ -1,4 +1,0 @@
-pub mod Definition
-pub mod Laws
-pub mod Unsaid
-pub mod Worked

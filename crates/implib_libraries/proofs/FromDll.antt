@@ -1,0 +1,3 @@
+-- Of DLLs: their exports as a definition has them.
+pub mod Found
+pub mod Parts

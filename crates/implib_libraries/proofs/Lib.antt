@@ -1,0 +1,4 @@
+pub mod FromDll
+pub mod OfDll
+mod Weak
+pub mod Refusals

@@ -1,0 +1,4 @@
+-- Of the libraries of DLLs.
+pub mod Words
+pub mod Symbols
+pub mod Libraries

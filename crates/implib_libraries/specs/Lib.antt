@@ -1,0 +1,4 @@
+pub mod FromDll
+pub mod OfDll
+pub mod Arm64ec
+pub mod Delayed
