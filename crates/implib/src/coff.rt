@@ -5,6 +5,7 @@ pub(crate) mod constants;
 pub(crate) mod layout;
 pub mod object;
 pub mod pass;
+pub mod table;
 pub mod writer;
 
 pub use constants::{characteristics, class, flags, machine, relocation, section_number, weak};

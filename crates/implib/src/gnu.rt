@@ -23,10 +23,9 @@ use std::marker::Model;
 
 mod export_objects;
 pub(crate) mod members;
-mod names;
-mod objects;
+pub mod names;
+pub mod objects;
 pub(crate) mod older;
-mod table;
 
 pub use crate::gnu::export_objects::ExportObjects;
 pub use crate::gnu::members::GnuMembers;

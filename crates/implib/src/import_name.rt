@@ -127,7 +127,7 @@ fn asked_by_short_import(export: &ShortExport, machine: MachineType) -> &[u8]
 }
 
 /// The name in the export's hint/name table entry.
-pub(crate) fn asked_by_hint_name(export: &ShortExport, machine: MachineType) -> &[u8]
+pub fn asked_by_hint_name(export: &ShortExport, machine: MachineType) -> &[u8]
     ensures { result.now ≡ name_asked machine (export_view export.now) }
 {
     match &export.asked_name {

@@ -24,7 +24,7 @@ pub(crate) mod descriptor {
 
 /// The flags of `.data` and of the import tables, without the alignment: initialised data that is
 /// read and written.
-pub(crate) const DATA: u32 = flags::CNT_INITIALIZED_DATA | flags::MEM_READ | flags::MEM_WRITE;
+pub const DATA: u32 = flags::CNT_INITIALIZED_DATA | flags::MEM_READ | flags::MEM_WRITE;
 
 // The prefix of the symbol of an import's address.
 const ADDRESS_PREFIX: &str = "__imp_";
@@ -43,21 +43,25 @@ fn image_relative(machine: MachineType) -> u16
 
 /// The size in bytes of a thunk, an entry of the address table or the lookup table (PE/COFF
 /// specification, "Import Lookup Table").
-pub(crate) fn thunk_width(machine: MachineType) -> usize
+pub fn thunk_width(machine: MachineType) -> usize
     ensures { result ≡ thunk_width machine }
 {
     if machine.is_32bit() { 4 } else { 8 }
 }
 
 /// `count` zero bytes.
-pub(crate) fn zeros(alloc: Global, count: usize) -> Result<Vec<u8>, AllocError>
+///
+/// # Errors
+///
+/// An allocation failed.
+pub fn zeros(alloc: Global, count: usize) -> Result<Vec<u8>, AllocError>
     ensures { IfOk result (λ bytes. bytes.items ≡ zeros count) }
 {
     Ok(vec![in alloc; 0; count]?)
 }
 
 /// An image-relative relocation at an offset in bytes, to the symbol of this index.
-pub(crate) fn image_relocation(machine: MachineType, offset: u32, symbol: u32) -> Relocation
+pub fn image_relocation(machine: MachineType, offset: u32, symbol: u32) -> Relocation
     ensures { result ≡ relocation machine offset symbol }
 {
     Relocation {
@@ -68,7 +72,11 @@ pub(crate) fn image_relocation(machine: MachineType, offset: u32, symbol: u32) -
 }
 
 /// The `__imp_` symbol of a symbol: the address that a loader fills in.
-pub(crate) fn imp_symbol(alloc: Global, symbol: &str) -> Result<String, AllocError>
+///
+/// # Errors
+///
+/// An allocation failed.
+pub fn imp_symbol(alloc: Global, symbol: &str) -> Result<String, AllocError>
     ensures { IfOk result (λ address. string_bytes address ≡ imp_symbol symbol.now) }
 {
     let length = symbol.len().saturating_add(ADDRESS_PREFIX.len());
@@ -79,7 +87,11 @@ pub(crate) fn imp_symbol(alloc: Global, symbol: &str) -> Result<String, AllocErr
 }
 
 /// The text, followed by a NUL.
-pub(crate) fn ended_by_nul(alloc: Global, text: &str) -> Result<Vec<u8>, AllocError>
+///
+/// # Errors
+///
+/// An allocation failed.
+pub fn ended_by_nul(alloc: Global, text: &str) -> Result<Vec<u8>, AllocError>
     ensures { IfOk result (λ bytes. bytes.items ≡ text.now ++ 0 ∷ []) }
 {
     let mut bytes = Vec::with_capacity(alloc, text.len().saturating_add(1))?;

@@ -22,7 +22,7 @@ use std::marker::Model;
 
 pub(crate) mod members;
 pub mod name_type;
-mod objects;
+pub mod objects;
 mod short_import;
 mod short_imports;
 

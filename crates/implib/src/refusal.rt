@@ -16,7 +16,7 @@ use crate::machine::MachineType;
 
 /// The first rule on names that the definition breaks: of the import name, of the library's name
 /// for the linker, then of each export that is not private, in order.
-pub(crate) fn names_fault(def: &ModuleDef, machine: MachineType, flavor: Flavor) -> Option<Fault>
+pub fn names_fault(def: &ModuleDef, machine: MachineType, flavor: Flavor) -> Option<Fault>
     ensures { option_map cause_of result
         ≡ definition_names_refusal (definition_view def.now) machine flavor }
 {

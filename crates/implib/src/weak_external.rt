@@ -30,7 +30,7 @@ const ALIAS: u8 = weak::SEARCH_ALIAS as u8;
 const WEAK_AUXILIARY: [u8; 18] = [2, 0, 0, 0, ALIAS, 0, 0, 0, 0, 0, 0, 0, 0, 0, 0, 0, 0, 0];
 
 /// Whether the alias target is non-empty and differs from the symbol.
-pub(crate) fn is_alias(target: &str, symbol: &str) -> bool
+pub fn is_alias(target: &str, symbol: &str) -> bool
     ensures { result ≡ is_alias target.now symbol.now }
 {
     !target.is_empty() && target != symbol

@@ -7,6 +7,7 @@ use Rattle.std.proofs.lemmas.List.{map-append, take_more}
 use Rattle.std.proofs.lemmas.List.Folds.{list_any-append}
 use Rattle.std.proofs.lemmas.List.Sums.{sum_by-append}
 use Rattle.std.proofs.lemmas.Slice.Eq.{bytes_eq-Decides}
+use Rattle.implib.specs.declared.coff.table.SymbolRow.{SymbolRow}
 use Rattle.implib.specs.declared.machine.MachineType.{MachineType}
 use Rattle.implib.specs.declared.machine.MachineType.TheVariants.{I386, ARMNT, AMD64, ARM64}
 use Rattle.implib.specs.Definition.{ExportView}
@@ -16,12 +17,12 @@ use Rattle.implib.specs.Formats.Writer.{AddedSymbol, is_long, layout_of, long_na
 use Rattle.implib.specs.Import.{name_asked}
 use Rattle.implib.specs.Members.Gnu.{hint_name, thunk}
 use Rattle.implib.specs.Members.ImportTables.{relocation, thunk_width, zeros}
+use Rattle.implib.specs.Views.Table.{symbol_row}
 use Rattle.implib.proofs.Formats.LongNames.{long_names-push}
 use Rattle.implib.proofs.Members.KeptLoop.{any_viewed}
-use Rattle.implib_delay.specs.declared.table.SymbolRow.{SymbolRow}
 use Rattle.implib_delay.specs.Code.{stub_code}
 use Rattle.implib_delay.specs.Objects.{export_object, export_sections, export_symbols, mode_of}
-use Rattle.implib_delay.specs.Table.{added_size, long_name_size, symbol_row}
+use Rattle.implib_delay.specs.Sizes.{added_size, long_name_size}
 
 -- The names in the string table.
 

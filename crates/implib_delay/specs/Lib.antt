@@ -4,7 +4,7 @@ pub mod Code
 pub mod Calls
 pub mod WorkedCode
 pub mod WorkedCalls
-pub mod Table
+pub mod Sizes
 pub mod Names
 pub mod Objects
 pub mod Refusal

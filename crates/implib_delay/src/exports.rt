@@ -16,9 +16,10 @@ ghost use Rattle.std.specs.Option.{option_map};
 ghost use Rattle.std.specs.Prelude.{◌≡◌, ◌<◌, ◌^◌, ◌∷◌, [], IfOk, OnOk, false, length};
 ghost use Rattle.std.specs.Prelude.{string_bytes, true};
 
-use crate::names::{export_name, handle_symbol, imp_symbol, name_symbol, tail_symbol};
+use crate::names::{export_name, handle_symbol, name_symbol, tail_symbol};
 use crate::objects::{export_object, export_size};
 use implib::def::ShortExport;
+use implib::import_tables::imp_symbol;
 use implib::{Error, Fault, MachineType};
 use std::alloc::{AllocError, Global};
 use std::marker::Model;

@@ -4,7 +4,6 @@
 //! `libdelayimp`.
 #![tactic(auto)]
 
-mod asked;
 mod error;
 mod exports;
 pub mod laws;
@@ -12,7 +11,7 @@ mod members;
 mod names;
 mod objects;
 mod refusal;
-mod table;
+mod sizes;
 
 pub use error::{DelayError, DelayFault};
 pub use members::{DelayedMembers, delayed_members};

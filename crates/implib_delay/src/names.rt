@@ -1,47 +1,16 @@
 //! The names of the members of delayed imports, and of their symbols.
 
-ghost use Rattle.implib.specs.Members.Gnu.{five_digits, mangled_name};
+ghost use Rattle.implib.specs.Members.Gnu.{mangled_name};
 ghost use Rattle.implib_delay.specs.Names.{export_name, handle_symbol, head_name, helper_symbol};
 ghost use Rattle.implib_delay.specs.Names.{name_symbol, tail_name, tail_symbol};
-ghost use Rattle.implib.specs.Import.{imp_symbol};
-ghost use Rattle.std.specs.List.{position};
-ghost use Rattle.std.specs.Prelude.{string_bytes, ◌++◌, ◌==◌, ◌≡◌, IfOk, OnOk};
+ghost use Rattle.std.specs.Prelude.{string_bytes, ◌++◌, ◌≡◌, IfOk};
 
 use implib::MachineType;
+use implib::gnu::names::{push_five_digits, push_mangled_name};
 use std::alloc::{AllocError, Global};
-use std::fmt::Write;
 
 // Room for what is before and behind the library's name.
 const BESIDE_NAME: usize = 24;
-
-// The position of the first full stop of a text.
-fn position_of_full_stop(text: &[u8]) -> Option<usize>
-    ensures { result ≡ position (λ byte. byte == 0x2E) text.now }
-{
-    text.iter().position(|byte| *byte == b'.')
-}
-
-// Appends the library's name with each full stop as an underscore.
-fn push_mangled_name(out: &mut String, library: &str) -> Result<(), AllocError>
-    ensures { OnOk result (string_bytes out.new ≡ string_bytes out.old
-        ++ mangled_name library.now) }
-{
-    let mut rest = library;
-    while let Some(position) = position_of_full_stop(rest.as_bytes()) {
-        out.push_str(&rest[..position])?;
-        out.push_str("_")?;
-        rest = &rest[position + 1..];
-    }
-    out.push_str(rest)?;
-    Ok(())
-}
-
-// Appends a number with at least five digits.
-fn push_five_digits(out: &mut String, number: usize) -> Result<(), AllocError>
-    ensures { OnOk result (string_bytes out.new ≡ string_bytes out.old ++ five_digits number) }
-{
-    write!(out, "{number:05}")
-}
 
 // The library's name with each full stop as an underscore, between two texts.
 fn around_name(
@@ -129,13 +98,4 @@ pub(crate) fn helper_symbol(machine: MachineType) -> &'static str
     } else {
         "__delayLoadHelper2"
     }
-}
-
-/// The `__imp_` symbol of a symbol: its entry in the address table.
-pub(crate) fn imp_symbol(alloc: Global, symbol: &str) -> Result<String, AllocError>
-    ensures { IfOk result (λ address. string_bytes address ≡ imp_symbol symbol.now) }
-{
-    let mut address = String::from_str(alloc, "__imp_")?;
-    address.push_str(symbol)?;
-    Ok(address)
 }

@@ -1,7 +1,6 @@
 //! The objects of delayed imports: the head, the tail, and the exports (docs/guarantees/delay.md).
 
 ghost use Rattle.implib.specs.Definition.{export_view};
-ghost use Rattle.implib.specs.Formats.Constants.{image_relative};
 ghost use Rattle.implib.specs.Formats.Layout.{contents_size, encoded_size};
 ghost use Rattle.implib.specs.Formats.Writer.{layout_of};
 ghost use Rattle.implib.specs.Import.{holds, imp_symbol, is_empty_text, name_asked};
@@ -9,7 +8,7 @@ ghost use Rattle.implib.specs.Machine.{is_32bit};
 ghost use Rattle.implib.specs.Members.Gnu.{added, hint_name, section, thunk};
 ghost use Rattle.implib.specs.Members.ImportTables.{relocation, thunk_flags, thunk_width, zeros};
 ghost use Rattle.implib.specs.Views.Making.{EncodesObject};
-ghost use Rattle.implib.specs.Views.Table.{CanBeHeld};
+ghost use Rattle.implib.specs.Views.Table.{CanBeHeld, section_row, symbol_row};
 ghost use Rattle.implib_delay.specs.Code.{stub_code, tail_code};
 ghost use Rattle.implib_delay.specs.Names.{handle_symbol, helper_symbol, name_symbol, tail_symbol};
 ghost use Rattle.implib_delay.specs.Objects.{export_object, export_sections, export_symbols};
@@ -17,25 +16,24 @@ ghost use Rattle.implib_delay.specs.Objects.{head_object, tail_relocations};
 ghost use Rattle.implib_delay.specs.Objects.{mode_of, object_with, stub_relocations, tail_object};
 ghost use Rattle.implib_delay.specs.Objects.{thunk_relocations, unbound_entry, unwind_sections};
 ghost use Rattle.implib_delay.specs.Objects.{unwind_symbols, word_kind};
-ghost use Rattle.implib_delay.specs.Table.{section_row, symbol_row};
 ghost use Rattle.std.specs.List.{sum_by};
 ghost use Rattle.std.specs.Prelude.{[], false, true, map, take, ◌++◌, ◌∷◌, ◌≡◌, IfOk};
 ghost use Rattle.std.specs.Prelude.{if◌then◌else◌};
 ghost use Rattle.std.specs.Prelude.{min};
 
-use crate::asked::asked_name;
 use crate::names::helper_symbol;
-use crate::table::{SectionRow, SymbolRow, names_size, write_table};
+use crate::sizes::names_size;
+use implib::coff::table::{SectionRow, SymbolRow, write_table};
 use implib::coff::{Place, Relocation, class, flags, relocation};
 use implib::def::ShortExport;
+use implib::gnu::objects::{entry_relocations, hint_name, section, symbol, thunk};
+use implib::import_name::asked_by_hint_name;
+use implib::import_tables::{DATA, ended_by_nul, image_relocation, thunk_width, zeros};
 use implib::{Error, MachineType};
-use std::alloc::{AllocError, Global};
+use std::alloc::Global;
 
 // The flags of code, without the alignment.
 const TEXT: u32 = flags::CNT_CODE | flags::MEM_EXECUTE | flags::MEM_READ;
-
-// The flags of data that is written, without the alignment.
-const DATA: u32 = flags::CNT_INITIALIZED_DATA | flags::MEM_READ | flags::MEM_WRITE;
 
 // The flags of tables: 0xC0300040.
 const TABLE_FLAGS: u32 = DATA | flags::ALIGN_4BYTES;
@@ -63,9 +61,6 @@ const UNWIND_CODES: [u8; 8] = [1, 7, 2, 0, 7, 1, 0x11, 0];
 
 // The tail's entry in `.pdata`: it ends at 0x97.
 const UNWOUND_FUNCTION: [u8; 12] = [0, 0, 0, 0, 0x97, 0, 0, 0, 0, 0, 0, 0];
-
-// The top bit of a thunk, in its last byte, marks an ordinal.
-const ORDINAL_BYTE: u8 = 0x80;
 
 // The indexes of an export's symbols: of the tail, of the DLL's name and of its handle.
 const TAIL: u32 = 2;
@@ -96,28 +91,6 @@ const HINT_SIZE: usize = 2;
 // the file and of five sections, ten symbols' records, and the size field of the string table.
 const EXPORT_HEADERS_SIZE: usize = 20 + 5 * 40 + 10 * 18 + 4;
 
-fn section<'a>(
-    name: [u8; 8],
-    flags: u32,
-    bytes: &'a [u8],
-    relocations: &'a [Relocation],
-) -> SectionRow<'a>
-    ensures { section_row result ≡ section name flags bytes.now relocations.now }
-{
-    SectionRow {
-        name,
-        flags,
-        bytes,
-        relocations,
-    }
-}
-
-fn symbol(name: &str, place: Place, class: u8) -> SymbolRow<'_>
-    ensures { symbol_row result ≡ added name.now place class }
-{
-    SymbolRow { name, place, class }
-}
-
 fn relocated(offset: u32, symbol: u32, kind: u16) -> Relocation
     ensures { result ≡ record { offset = offset; symbol = symbol; kind = kind } }
 {
@@ -126,24 +99,6 @@ fn relocated(offset: u32, symbol: u32, kind: u16) -> Relocation
         symbol,
         kind,
     }
-}
-
-// The type of an image-relative relocation.
-fn image_relative(machine: MachineType) -> u16
-    ensures { result ≡ image_relative machine }
-{
-    match machine {
-        MachineType::I386 => relocation::I386_DIR32NB,
-        MachineType::ARMNT => relocation::ARM_ADDR32NB,
-        MachineType::AMD64 => relocation::AMD64_ADDR32NB,
-        MachineType::ARM64 => relocation::ARM64_ADDR32NB,
-    }
-}
-
-fn image_relocation(machine: MachineType, offset: u32, symbol: u32) -> Relocation
-    ensures { result ≡ relocation machine offset symbol }
-{
-    relocated(offset, symbol, image_relative(machine))
 }
 
 // The type of the relocation of a word that holds an address.
@@ -157,14 +112,7 @@ fn word_kind(machine: MachineType) -> u16
     }
 }
 
-// The size in bytes of an entry of the address table or the name table.
-fn thunk_width(machine: MachineType) -> usize
-    ensures { result ≡ thunk_width machine }
-{
-    if machine.is_32bit() { 4 } else { 8 }
-}
-
-// The flags of sections of such entries.
+// The flags of sections of entries of the address table or the name table.
 fn thunk_flags(machine: MachineType) -> u32
     ensures { result ≡ thunk_flags machine }
 {
@@ -403,71 +351,11 @@ pub(crate) fn tail_object(
     write_table(alloc, machine, &sections, &symbols)
 }
 
-// `count` zero bytes.
-fn zeros(alloc: Global, count: usize) -> Result<Vec<u8>, AllocError>
-    ensures { IfOk result (λ bytes. bytes.items ≡ zeros count) }
-{
-    Ok(vec![in alloc; 0; count]?)
-}
-
-// The text, followed by a NUL.
-fn ended_by_nul(alloc: Global, text: &str) -> Result<Vec<u8>, AllocError>
-    ensures { IfOk result (λ bytes. bytes.items ≡ text.now ++ 0 ∷ []) }
-{
-    let mut bytes = Vec::with_capacity(alloc, text.len().saturating_add(1))?;
-    bytes.extend_from_slice(text.as_bytes())?;
-    bytes.push(0)?;
-    Ok(bytes)
-}
-
 // The entry of an export before its first call; only the first `thunk_width` bytes count.
 fn unbound_entry(machine: MachineType) -> [u8; 8]
     ensures { take (thunk_width machine) result ≡ unbound_entry machine }
 {
     [6, 0, 0, 0, 0, 0, 0, 0]
-}
-
-// The thunk of the export; only the first `thunk_width` bytes count.
-#[tactic(auto, unfolding(implib::specs::Members::Gnu::thunk, implib::specs::Formats::Bytes::u16_bytes))]
-fn thunk(export: &ShortExport, machine: MachineType) -> [u8; 8]
-    ensures { take (thunk_width machine) result ≡ thunk machine (export_view export.now) }
-{
-    if !export.no_name {
-        return [0; 8];
-    }
-    let [low, high] = export.ordinal.to_le_bytes();
-    if machine.is_32bit() {
-        [low, high, 0, ORDINAL_BYTE, 0, 0, 0, 0]
-    } else {
-        [low, high, 0, 0, 0, 0, 0, ORDINAL_BYTE]
-    }
-}
-
-// The relocations of a thunk; an ordinal has none.
-fn thunk_relocations<'a>(export: &ShortExport, by_name: &'a [Relocation]) -> &'a [Relocation]
-    ensures { result.now ≡ (if (export_view export.now).no_name then [] else by_name.now) }
-{
-    if export.no_name { &[] } else { by_name }
-}
-
-// The hint/name table entry of the export; empty for an ordinal.
-#[tactic(auto, unfolding(implib::specs::Members::Gnu::hint_name, implib::specs::Formats::Bytes::u16_bytes))]
-fn hint_name(
-    alloc: Global,
-    export: &ShortExport,
-    machine: MachineType,
-) -> Result<Vec<u8>, AllocError>
-    ensures { IfOk result (λ bytes. bytes.items ≡ hint_name machine (export_view export.now)) }
-{
-    if export.no_name {
-        return Ok(Vec::new(alloc));
-    }
-    let name = asked_name(export, machine);
-    let mut bytes = Vec::with_capacity(alloc, name.len().saturating_add(3))?;
-    bytes.extend_from_slice(&export.ordinal.to_le_bytes())?;
-    bytes.extend_from_slice(name)?;
-    bytes.push(0)?;
-    Ok(bytes)
 }
 
 // The symbols of an export, by those of the code that all stubs share, of the DLL's name and its
@@ -534,7 +422,7 @@ fn contents_size(export: &ShortExport, machine: MachineType) -> usize
     let by_name = if export.no_name {
         0
     } else {
-        RELOCATION_SIZE + HINT_SIZE + asked_name(export, machine).len() + 1
+        RELOCATION_SIZE + HINT_SIZE + asked_by_hint_name(export, machine).len() + 1
     };
     let stub = stub_code(machine).len() + 4 * RELOCATION_SIZE;
     let descriptor = DESCRIPTOR_SIZE + 4 * RELOCATION_SIZE;
@@ -587,7 +475,7 @@ fn write_export(
     ];
     let to_stub = [relocated(0, STUB, word_kind(machine))];
     let to_name = [image_relocation(machine, 0, HINT_NAME)];
-    let of_thunk = thunk_relocations(export, &to_name);
+    let of_thunk = entry_relocations(export, &to_name);
     let thunk = thunk(export, machine);
     let thunk = &thunk[..thunk_width(machine)];
     let entry = unbound_entry(machine);

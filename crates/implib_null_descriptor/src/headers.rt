@@ -1,6 +1,5 @@
 //! The import descriptor and the null descriptor, with a symbol that is named after the library.
 
-ghost use Rattle.implib.specs.Formats.Constants.{image_relative};
 ghost use Rattle.implib.specs.Formats.Writer.{IsPlaceAmong, IsSymbolIndex, all_entries, layout_of};
 ghost use Rattle.implib.specs.Formats.Writer.{with_relocation};
 ghost use Rattle.implib.specs.Formats.Writer.{HasRoomFor, with_section, with_symbol};
@@ -10,7 +9,7 @@ ghost use Rattle.implib.specs.Library.{member_view};
 ghost use Rattle.implib.specs.Members.Gnu.{added, section};
 ghost use Rattle.implib.specs.Members.ImportTables.{relocation};
 ghost use Rattle.implib.specs.Formats.Constants.{class_external};
-ghost use Rattle.implib.specs.Members.MsvcObjects.{base_name, descriptor_sections};
+ghost use Rattle.implib.specs.Members.MsvcObjects.{descriptor_sections};
 ghost use Rattle.implib.specs.Members.MsvcObjects.{descriptor_symbol};
 ghost use Rattle.implib.specs.Members.MsvcObjects.{null_descriptor_section, null_thunk_symbol};
 ghost use Rattle.implib.specs.declared.coff.object.Place.TheVariants.{Section as InSection};
@@ -19,12 +18,13 @@ ghost use Rattle.implib_null_descriptor.specs.Named.{descriptor_symbols, named_d
 ghost use Rattle.implib_null_descriptor.specs.Named.{named_descriptor_spec};
 ghost use Rattle.implib_null_descriptor.specs.Named.{named_null, named_null_spec};
 ghost use Rattle.implib_null_descriptor.specs.Named.{named_null_symbol, named_specs};
-ghost use Rattle.std.specs.List.{ends_with};
 ghost use Rattle.std.specs.Prelude.{[], nat_eq, IfErr, IfOk, IsSomeAnd, OnOk, alloc_error, false};
 ghost use Rattle.std.specs.Prelude.{length};
 ghost use Rattle.std.specs.Prelude.{string_bytes, ◌+◌, ◌++◌, ◌<◌, ◌^◌, ◌∷◌, ◌≡◌};
 
-use implib::coff::{ObjectWriter, Place, Relocation, Section, Symbol, class, flags, relocation};
+use implib::coff::{ObjectWriter, Place, Section, Symbol, class, flags};
+use implib::import_tables::{ended_by_nul, image_relocation};
+use implib::msvc::objects::base_name;
 use implib::{Error, MachineType, Member};
 use std::alloc::{AllocError, Global};
 
@@ -39,18 +39,6 @@ const TEXT_FLAGS: u32 = flags::CNT_INITIALIZED_DATA
     | flags::ALIGN_2BYTES
     | flags::MEM_READ
     | flags::MEM_WRITE;
-
-// The type of an image-relative relocation.
-fn image_relative(machine: MachineType) -> u16
-    ensures { result ≡ image_relative machine }
-{
-    match machine {
-        MachineType::I386 => relocation::I386_DIR32NB,
-        MachineType::ARMNT => relocation::ARM_ADDR32NB,
-        MachineType::AMD64 => relocation::AMD64_ADDR32NB,
-        MachineType::ARM64 => relocation::ARM64_ADDR32NB,
-    }
-}
 
 // Adds a section without relocations.
 fn add_section(
@@ -102,25 +90,7 @@ fn relocate(
         (writer.new ≡ with_relocation writer.old 1 (relocation machine offset symbol)) }
     ensures memory { IfErr result (λ e. e ≡ Error.OutOfMemory alloc_error) }
 {
-    let kind = image_relative(machine);
-    writer.add_relocation(
-        1,
-        Relocation {
-            offset,
-            symbol,
-            kind,
-        },
-    )
-}
-
-// The text, followed by a NUL.
-fn ended_by_nul(alloc: Global, text: &str) -> Result<Vec<u8>, AllocError>
-    ensures { IfOk result (λ bytes. bytes.items ≡ text.now ++ 0 ∷ []) }
-{
-    let mut bytes = Vec::with_capacity(alloc, text.len().saturating_add(1))?;
-    bytes.extend_from_slice(text.as_bytes())?;
-    bytes.push(0)?;
-    Ok(bytes)
+    writer.add_relocation(1, image_relocation(machine, offset, symbol))
 }
 
 // The symbols of the import descriptor.
@@ -199,25 +169,6 @@ fn null_object(alloc: Global, machine: MachineType, null: &str) -> Result<Vec<u8
     add_section(alloc, &mut writer, *b".idata$3", TABLE_FLAGS, &[0; 20])?;
     add_symbol(alloc, &mut writer, null, Place::Section(1), class::EXTERNAL)?;
     written(&writer)
-}
-
-#[tactic(auto, using(std::proofs::lemmas::Str::Pattern::ends_text))]
-fn ends_with(text: &str, suffix: &str) -> bool
-    ensures { result ≡ ends_with nat_eq text.now suffix.now }
-{
-    text.ends_with(suffix)
-}
-
-// The library's name without a trailing `.dll` or `.exe`.
-#[tactic(auto, unfolding(implib::specs::Members::MsvcObjects::base_name))]
-fn base_name(library: &str) -> &str
-    ensures { result.now ≡ base_name library.now }
-{
-    if ends_with(library, ".dll") || ends_with(library, ".exe") {
-        &library[..library.len() - 4]
-    } else {
-        library
-    }
 }
 
 // The symbol of the null descriptor.

@@ -6,8 +6,8 @@ use Rattle.implib.specs.declared.coff.object.Place.TheVariants.{Undefined}
 use Rattle.implib.specs.declared.coff.object.Relocation.{Relocation}
 use Rattle.implib.specs.declared.coff.layout.LayoutSymbol.{LayoutSymbol}
 use Rattle.implib.specs.declared.coff.layout.SymbolName.TheVariants.{InRecord}
-use Rattle.implib.specs.declared.gnu.table.SectionRow.{SectionRow}
-use Rattle.implib.specs.declared.gnu.table.SymbolRow.{SymbolRow}
+use Rattle.implib.specs.declared.coff.table.SectionRow.{SectionRow}
+use Rattle.implib.specs.declared.coff.table.SymbolRow.{SymbolRow}
 
 abbrev pub no_text : Bor (List ℕ)
 no_text = record { ref_ptr = (0, 0); now = [] }

@@ -5,8 +5,8 @@ use Rattle.std.proofs.lemmas.List.{append-nil, drop_all, length-take-le, map-app
 use Rattle.std.proofs.lemmas.List.Concat.{flat_map-append}
 use Rattle.std.proofs.lemmas.List.Folds.{flat_map-map, length-flat_map-take}
 use Rattle.implib.specs.declared.coff.object.Relocation.{Relocation}
-use Rattle.implib.specs.declared.gnu.table.SectionRow.{SectionRow}
-use Rattle.implib.specs.declared.gnu.table.SymbolRow.{SymbolRow}
+use Rattle.implib.specs.declared.coff.table.SectionRow.{SectionRow}
+use Rattle.implib.specs.declared.coff.table.SymbolRow.{SymbolRow}
 use Rattle.implib.specs.Formats.Object.{ObjectSection, section_numbered}
 use Rattle.implib.specs.Views.Table.{CanBeAdded, CanBeHeld, HasRoomForAll, LiesIn, bare_row, section_row, symbol_row, with_relocations}
 use Rattle.implib.specs.Formats.Writer.{AddedSymbol, HasRoomFor, WriterState, IsSymbolIndex, all_entries, entries_added, sections_with_relocation}

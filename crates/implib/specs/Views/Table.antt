@@ -2,8 +2,8 @@
 use Rattle.std.specs.Prelude.{ℕ, zero, suc, ◌+◌, ◌<◌, ◌≤◌, ◌^◌, List, [], ◌∷◌, ◌++◌, length, map}
 use Rattle.std.specs.List.{AllByRecursion}
 use Rattle.implib.specs.declared.coff.object.Relocation.{Relocation}
-use Rattle.implib.specs.declared.gnu.table.SectionRow.{SectionRow}
-use Rattle.implib.specs.declared.gnu.table.SymbolRow.{SymbolRow}
+use Rattle.implib.specs.declared.coff.table.SectionRow.{SectionRow}
+use Rattle.implib.specs.declared.coff.table.SymbolRow.{SymbolRow}
 use Rattle.implib.specs.declared.machine.MachineType.{MachineType}
 use Rattle.implib.specs.Formats.Object.{ObjectSection}
 use Rattle.implib.specs.Formats.Layout.{HasNoNul}

@@ -18,8 +18,12 @@ fn position_of_full_stop(text: &[u8]) -> Option<usize>
     text.iter().position(|byte| *byte == b'.')
 }
 
-// Appends the library's name with each full stop as an underscore.
-fn push_mangled_name(out: &mut String, library: &str) -> Result<(), AllocError>
+/// Appends the library's name with each full stop as an underscore.
+///
+/// # Errors
+///
+/// An allocation failed.
+pub fn push_mangled_name(out: &mut String, library: &str) -> Result<(), AllocError>
     ensures { OnOk result
         (string_bytes out.new ≡ string_bytes out.old ++ mangled_name library.now) }
 {
@@ -60,8 +64,12 @@ pub(crate) fn tail_name(alloc: Global, library: &str) -> Result<String, AllocErr
     mangled_name_with(alloc, library, "_a_t.o")
 }
 
-// Appends a number with at least five digits.
-fn push_five_digits(out: &mut String, number: usize) -> Result<(), AllocError>
+/// Appends a number with at least five digits.
+///
+/// # Errors
+///
+/// An allocation failed.
+pub fn push_five_digits(out: &mut String, number: usize) -> Result<(), AllocError>
     ensures { OnOk result (string_bytes out.new ≡ string_bytes out.old ++ five_digits number) }
 {
     write!(out, "{number:05}")

@@ -20,9 +20,9 @@ ghost use Rattle.std.specs.Prelude.{if◌then◌else◌, take};
 
 use crate::coff::constants::{class, flags, relocation};
 use crate::coff::object::{Place, Relocation};
+use crate::coff::table::{SectionRow, SymbolRow, write_table};
 use crate::def::definition::ShortExport;
 use crate::error::Error;
-use crate::gnu::table::{SectionRow, SymbolRow, write_table};
 use crate::import_name::asked_by_hint_name;
 use crate::import_tables::{DATA, descriptor, ended_by_nul, image_relocation, thunk_width, zeros};
 use crate::machine::MachineType;
@@ -68,7 +68,8 @@ const HINT_NAME_OF_CODE: u32 = 3;
 // The auxiliary record of the file's name.
 const FILE_AUXILIARY: [u8; 18] = *b"fake\0\0\0\0\0\0\0\0\0\0\0\0\0\0";
 
-fn section<'a>(
+/// A section of a table: its name, filled with NUL, its flags, its data and their relocations.
+pub fn section<'a>(
     name: [u8; 8],
     flags: u32,
     bytes: &'a [u8],
@@ -109,8 +110,8 @@ fn head_or_tail_sections<'a>(
     ]
 }
 
-// A symbol without an auxiliary record.
-fn symbol(name: &str, place: Place, class: u8) -> SymbolRow<'_>
+/// A symbol of a table, of value 0 and without an auxiliary record.
+pub fn symbol(name: &str, place: Place, class: u8) -> SymbolRow<'_>
     ensures { symbol_row result ≡ added name.now place class }
 {
     SymbolRow {
@@ -253,9 +254,10 @@ fn stub_relocations(export: &ShortExport, machine: MachineType) -> &'static [Rel
     }
 }
 
-// The thunk of the export; only the first `thunk_width` bytes count.
+/// The thunk of the export: its ordinal, or zeros for the address of a hint and a name (PE/COFF
+/// specification, "Import Lookup Table"). Only the first `thunk_width` bytes count.
 #[tactic(auto, unfolding(crate::specs::Members::Gnu::thunk, crate::specs::Formats::Bytes::u16_bytes))]
-fn thunk(export: &ShortExport, machine: MachineType) -> [u8; 8]
+pub fn thunk(export: &ShortExport, machine: MachineType) -> [u8; 8]
     ensures { take (thunk_width machine) result ≡ thunk machine (export_view export.now) }
 {
     if !export.no_name {
@@ -280,16 +282,21 @@ fn hint_name_symbol(export: &ShortExport) -> u32
     }
 }
 
-// The relocations of a thunk; an ordinal has none.
-fn entry_relocations<'a>(export: &ShortExport, by_name: &'a [Relocation]) -> &'a [Relocation]
+/// The relocations of a thunk: these by name, none by ordinal.
+pub fn entry_relocations<'a>(export: &ShortExport, by_name: &'a [Relocation]) -> &'a [Relocation]
     ensures { result.now ≡ (if (export_view export.now).no_name then [] else by_name.now) }
 {
     if export.no_name { &[] } else { by_name }
 }
 
-// The hint/name table entry of the export; empty for an ordinal.
+/// The hint/name table entry of the export (PE/COFF specification, "Hint/Name Table"); empty for an
+/// ordinal.
+///
+/// # Errors
+///
+/// An allocation failed.
 #[tactic(auto, unfolding(crate::specs::Members::Gnu::hint_name, crate::specs::Formats::Bytes::u16_bytes))]
-fn hint_name(
+pub fn hint_name(
     alloc: Global,
     export: &ShortExport,
     machine: MachineType,

@@ -36,9 +36,9 @@ fn ends_with(text: &str, suffix: &str) -> bool
     text.ends_with(suffix)
 }
 
-// The name without a trailing `.dll` or `.exe`.
+/// The DLL's name without a trailing `.dll` or `.exe`.
 #[tactic(auto, unfolding(crate::specs::Members::MsvcObjects::base_name))]
-fn base_name(dll: &str) -> &str
+pub fn base_name(dll: &str) -> &str
     ensures { result.now ≡ base_name dll.now }
 {
     if ends_with(dll, ".dll") || ends_with(dll, ".exe") {

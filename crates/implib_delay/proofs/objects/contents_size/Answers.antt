@@ -12,6 +12,6 @@ returns c =
     let by_name : c.if-export.by_name ≡ (if e.no_name then 0 else 13 + length (name_asked machine e)) =
     elim c.if-export.branch [
       | then-export w ↦ rw (w.by_name-is, w.if-export.true) refl
-      | else-export w ↦ rw (w.by_name-is, w.if-export.false) (let is = ap (λ (n : List ℕ). length n) w.asked_name.ensures in omega (arith, is))
+      | else-export w ↦ rw (w.by_name-is, w.if-export.false) (let is = ap (λ (n : List ℕ). length n) w.asked_by_hint_name.ensures in omega (arith, is))
     ] in
     rw (contents_long machine e, by_name, c.thunk_width.ensures, c.stub_code.ensures) (omega arith)

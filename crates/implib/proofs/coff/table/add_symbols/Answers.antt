@@ -2,7 +2,7 @@ use Rattle.std.proofs.Common.{ap, arith, length}
 use Rattle.implib.specs.Formats.Writer.{AddedSymbol}
 use Rattle.implib.proofs.Formats.Defaults.{no_symbol_row}
 use Rattle.implib.proofs.Formats.Table.{next_can_be_added, next_records}
-use Rattle.implib.proofs.gnu.table.add_symbols.Goals as goal
+use Rattle.implib.proofs.coff.table.add_symbols.Goals as goal
 
 pub add_symbol-requires-clause-named : goal.add_symbol-requires-clause-named
 add_symbol-requires-clause-named c = rw (ap (λ (s : AddedSymbol). s.name) c.in_ok-symbol.ensures) (next_can_be_added (length c.args.writer.now.sections) c.args.rows.now c.loop-row.row-index no_symbol_row c.requires.each c.loop-row-test.true).named

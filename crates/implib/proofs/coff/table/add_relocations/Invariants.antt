@@ -1,6 +1,6 @@
 use Rattle.std.proofs.Common.{◌≡◌, ◌+◌}
-use Rattle.implib_delay.proofs.Rows.{relocated_rows}
-use Rattle.implib_delay.proofs.table.add_relocations.Given as goal
+use Rattle.implib.proofs.Formats.Table.{relocated_rows}
+use Rattle.implib.proofs.coff.table.add_relocations.Given as goal
 
 abbrev pub invariant-loop-row : goal.invariant-loop-row
 invariant-loop-row l = record {

@@ -3,7 +3,7 @@ use Rattle.std.proofs.lemmas.List.{take_more}
 use Rattle.implib.specs.Formats.Object.{ObjectSection}
 use Rattle.implib.proofs.Formats.Defaults.{no_relocation}
 use Rattle.implib.proofs.Formats.Table.{next_has_room, with_no_relocation, with_relocation_more}
-use Rattle.implib_delay.proofs.table.relocate.Goals as goal
+use Rattle.implib.proofs.coff.table.relocate.Goals as goal
 use Rattle.std.specs.Prelude.{List}
 
 pub loop-relocation-init : goal.loop-relocation-init

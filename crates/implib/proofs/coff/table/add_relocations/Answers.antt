@@ -1,9 +1,9 @@
 use Rattle.std.proofs.Common.{◌+◌, ◌∙◌, ap, List}
 use Rattle.implib.specs.Formats.Object.{ObjectSection}
 use Rattle.implib.specs.Views.Table.{HasRoomForAll}
-use Rattle.implib_delay.proofs.Rows.{no_section_row}
-use Rattle.implib_delay.proofs.Rows.{all_relocated, next_numbered, next_relocated, row_has_room}
-use Rattle.implib_delay.proofs.table.add_relocations.Goals as goal
+use Rattle.implib.proofs.Formats.Defaults.{no_section_row}
+use Rattle.implib.proofs.Formats.Table.{all_relocated, next_numbered, next_relocated, row_has_room}
+use Rattle.implib.proofs.coff.table.add_relocations.Goals as goal
 
 pub relocate-requires : goal.relocate-requires
 relocate-requires c =
