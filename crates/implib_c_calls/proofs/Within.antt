@@ -1,8 +1,7 @@
 -- The offset of a refusal is within its text.
-use Rattle.std.proofs.Common.{◌≡◌, ℕ, zero, suc, ◌+◌, ◌-◌, ◌<◌, ◌≤◌, ◌^◌, ◌==◌, Bool, true, false, List, [], ◌∷◌, Option, None, Some, length, drop, get_or, map, nat_eq, subst, sym, arith, if◌then◌else◌, length-append, ap, inl, inr}
+use Rattle.std.proofs.Common.{◌≡◌, ℕ, zero, suc, ◌+◌, ◌<◌, ◌≤◌, ◌^◌, Bool, true, false, List, [], ◌∷◌, Option, None, Some, length, drop, get_or, map, nat_eq, subst, sym, arith, if◌then◌else◌, ap, inl, inr}
 use Rattle.std.specs.Prelude.{is_some}
 use Rattle.std.specs.List.{AllByRecursion, fold, starts_with}
-use Rattle.std.specs.Str.{trim, trim_start}
 use Rattle.std.proofs.lemmas.List.{length-drop}
 use Rattle.std.proofs.lemmas.Option.{none-some, same_Some}
 use Rattle.implib.specs.declared.def.listener.Role.{Role}
@@ -10,9 +9,8 @@ use Rattle.implib.specs.declared.def.listener.Role.TheVariants.{Name, Other}
 use Rattle.implib.specs.declared.def.position.Position.{Position}
 use Rattle.implib.specs.Fault.{Cause, cause_of, export_index}
 use Rattle.implib.specs.Text.Heard.{Heard, heard_of, names_of, roles_of}
-use Rattle.implib.specs.Text.Token.{TokenView, Lexed, Lexeme, Blank, Comment, LastComment, EqualSign, EqualSigns, CommaSign, Quoted, Unclosed, Word, lexeme_text, text_of, tokens_of_lexeme, tokens_of, value_start}
-use Rattle.implib.proofs.Text.RefusedWithin.{refused_within}
-use Rattle.implib.proofs.Text.Trivia.{AllByRecursion-append}
+use Rattle.implib.specs.Text.Token.{TokenView, Lexed}
+use Rattle.implib.proofs.Text.RefusedWithin.{BeginsBy, refused_within, tokens_begin}
 use Rattle.implib_rules.specs.declared.library.Refusal.{Refusal}
 use Rattle.implib_rules.specs.declared.library.Refusal.TheVariants as refusal
 use Rattle.implib_rules.proofs.PlainPlaces.{places_kept}
@@ -26,41 +24,6 @@ use Rattle.implib_rules.specs.Places.{IsAtExport}
 use Rattle.implib_null_descriptor.specs.Libraries.{IsRefusalOfNamed}
 use Rattle.implib_c_calls.specs.GivenWith.{IsWithin}
 use Rattle.implib_c_calls.specs.LibraryWith.{mark_length}
-
--- the token begins at the latest there
-abbrev BeginsBy : ℕ → TokenView → Type 0
-BeginsBy end token = token.at ≤ end
-
-cut_short : (b : Bool) (n m : ℕ) → (if b then 0 else n - m) ≤ n
-cut_short true n m = omega arith
-cut_short false n m = omega arith
-
-start_within : (inside : List ℕ) → value_start inside ≤ length inside
-start_within inside = cut_short (length (trim inside) == 0) (length inside) (length (trim_start inside))
-
-lexeme_begins : (end offset : ℕ) (lexeme : Lexeme) → offset + length (lexeme_text lexeme) ≤ end → AllByRecursion (BeginsBy end) (tokens_of_lexeme offset lexeme)
-lexeme_begins end offset (Blank character) le = tt
-lexeme_begins end offset (Comment line) le = tt
-lexeme_begins end offset (LastComment line) le = tt
-lexeme_begins end offset EqualSign le = (omega (arith, le), tt)
-lexeme_begins end offset EqualSigns le = (omega (arith, le), tt)
-lexeme_begins end offset CommaSign le = (omega (arith, le), tt)
-lexeme_begins end offset (Quoted inside) le = (omega (arith, le, start_within inside, length-append inside (34 ∷ [])), tt)
-lexeme_begins end offset (Unclosed inside) le = (omega (arith, le), tt)
-lexeme_begins end offset (Word run) le = (omega (arith, le), tt)
-
-lexemes_begin : (end offset : ℕ) (lexemes : List Lexeme) (rest : List ℕ) → offset + length (text_of lexemes rest) ≤ end → AllByRecursion (BeginsBy end) (tokens_of offset lexemes)
-lexemes_begin end offset [] rest le = (omega (arith, le), tt)
-lexemes_begin end offset (lexeme ∷ lexemes) rest le =
-    let sum = length-append (lexeme_text lexeme) (text_of lexemes rest) in
-    AllByRecursion-append (BeginsBy end) (tokens_of_lexeme offset lexeme) (tokens_of (offset + length (lexeme_text lexeme)) lexemes)
-    (lexeme_begins end offset lexeme (omega (arith, le, sum)))
-    (lexemes_begin end (offset + length (lexeme_text lexeme)) lexemes rest (omega (arith, le, sum)))
-
-tokens_begin : (text : List ℕ) (tokens : List TokenView) → Lexed text tokens → AllByRecursion (BeginsBy (length text)) tokens
-tokens_begin text tokens lexed =
-    let same = ap length lexed.divides.text_is in
-    subst (AllByRecursion (BeginsBy (length text))) (sym lexed.given) (lexemes_begin (length text) 0 lexed.lexemes lexed.end (omega (arith, same)))
 
 -- what holds of all tokens holds of those that are heard as names
 names_all : (P : TokenView → Type 0) (roles : List Role) (tokens : List TokenView) → AllByRecursion P tokens → AllByRecursion P (names_of (heard_of roles tokens))

@@ -10,7 +10,7 @@ use Rattle.implib.specs.Text.Token.{TokenView, Lexed, Lexeme, Blank, Comment, La
 use Rattle.implib.proofs.Text.Trivia.{AllByRecursion-append}
 
 -- the token begins at the latest there
-abbrev BeginsBy : ℕ → TokenView → Type 0
+abbrev pub BeginsBy : ℕ → TokenView → Type 0
 BeginsBy end token = token.at ≤ end
 
 cut_short : (b : Bool) (n m : ℕ) → (if b then 0 else n - m) ≤ n
@@ -39,7 +39,7 @@ lexemes_begin end offset (lexeme ∷ lexemes) rest le =
     (lexeme_begins end offset lexeme (omega (arith, le, sum)))
     (lexemes_begin end (offset + length (lexeme_text lexeme)) lexemes rest (omega (arith, le, sum)))
 
-tokens_begin : (text : List ℕ) (tokens : List TokenView) → Lexed text tokens → AllByRecursion (BeginsBy (length text)) tokens
+pub tokens_begin : (text : List ℕ) (tokens : List TokenView) → Lexed text tokens → AllByRecursion (BeginsBy (length text)) tokens
 tokens_begin text tokens lexed =
     let same = ap length lexed.divides.text_is in
     subst (AllByRecursion (BeginsBy (length text))) (sym lexed.given) (lexemes_begin (length text) 0 lexed.lexemes lexed.end (omega (arith, same)))
