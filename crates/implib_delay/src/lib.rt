@@ -11,7 +11,7 @@ mod members;
 mod names;
 mod objects;
 mod refusal;
-mod sizes;
+mod string_table;
 
 pub use error::{DelayError, DelayFault};
 pub use members::{DelayedMembers, delayed_members};

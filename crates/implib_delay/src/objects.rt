@@ -22,7 +22,7 @@ ghost use Rattle.std.specs.Prelude.{if◌then◌else◌};
 ghost use Rattle.std.specs.Prelude.{min};
 
 use crate::names::helper_symbol;
-use crate::sizes::names_size;
+use crate::string_table::names_size;
 use implib::coff::table::{SectionRow, SymbolRow, write_table};
 use implib::coff::{Place, Relocation, class, flags, relocation};
 use implib::def::ShortExport;

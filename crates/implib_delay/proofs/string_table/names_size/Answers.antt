@@ -2,7 +2,7 @@ use Rattle.std.proofs.Common.{refl}
 use Rattle.implib.specs.Formats.Writer.{long_names}
 use Rattle.implib.proofs.Formats.Defaults.{no_symbol_row}
 use Rattle.implib_delay.proofs.Sizes.{next_name, saturated_more}
-use Rattle.implib_delay.proofs.sizes.names_size.Goals as goal
+use Rattle.implib_delay.proofs.string_table.names_size.Goals as goal
 
 pub loop-index-init : goal.loop-index-init
 unfolding long_names

@@ -1,6 +1,6 @@
 use Rattle.std.proofs.Common.{sym, ◌∙◌}
 use Rattle.implib_delay.proofs.Sizes.{adds_again, adds_first, adds_short}
-use Rattle.implib_delay.proofs.sizes.added_size.Goals as goal
+use Rattle.implib_delay.proofs.string_table.added_size.Goals as goal
 
 pub returns-then-name-le-LONGEST_IN_RECORD : goal.returns-then-name-le-LONGEST_IN_RECORD
 returns-then-name-le-LONGEST_IN_RECORD c = adds_short c.args.name.now _ c.if-name-le-LONGEST_IN_RECORD.true
