@@ -2,11 +2,12 @@
 //! exit status and each line that is written.
 //!
 //! A case is made of files ([`files`] says how). `call WORDS` calls the program. `full WORDS` does
-//! so where standard output has no room, and `starved WORDS` where it has no memory.
+//! so where standard output has no room, and `starved WORDS` where it has no memory. `each WORDS |
+//! WORDS | ..` makes a call with each of the further words.
 
 mod files;
 
-use crate::lines::{Case, push_lines};
+use crate::lines::{Case, Line, push_alike, push_calls, push_escaped, push_lines};
 use files::{Files, files_of};
 use implib_check_driver::program::run;
 use implib_check_driver::task::CommandLine;
@@ -36,6 +37,7 @@ pub fn answered(alloc: Global, case: &Case) -> Result<String, Fail> {
     for line in &case.lines {
         match line.word {
             "call" => answer_call(alloc, &mut text, &files, line.rest)?,
+            "each" => answer_each(alloc, &mut text, &files, line)?,
             "full" => answer_failed(alloc, &mut text, &files, line.rest, ErrorKind::StorageFull)?,
             "starved" => {
                 answer_failed(alloc, &mut text, &files, line.rest, ErrorKind::OutOfMemory)?;
@@ -81,4 +83,49 @@ fn answer_failed(
     write!(text, "failing {call}\n  status {status}\n")?;
     push_lines(text, "error", said.as_slice())?;
     Ok(())
+}
+
+/// Calls that differ in their last words, and their answers.
+fn answer_each(alloc: Global, text: &mut String, files: &Files, line: &Line) -> Result<(), Fail> {
+    let (words, parts) = push_calls(text, line)?;
+    for part in parts.split('|') {
+        let call = format!(in alloc; "{words} {part}")?;
+        let line = command_line(alloc, call.as_str())?;
+        let mut printed = Vec::new(alloc);
+        let mut said = Vec::new(alloc);
+        let status = run(alloc, files, &line, &mut printed, &mut said);
+        let mut answer = format!(in alloc; "{status}")?;
+        for bytes in [printed.as_slice(), said.as_slice()] {
+            if let Some(line) = str::from_utf8(bytes).unwrap_or("?").lines().next() {
+                answer.push(' ')?;
+                push_escaped(&mut answer, line)?;
+            }
+        }
+        push_alike(alloc, text, part.trim(), answer.as_str())?;
+    }
+    Ok(())
+}
+
+/// The imports in the bytes of a library: of each its DLL, kind, machine, name and symbol.
+pub fn imports_in(alloc: Global, bytes: Vec<u8>) -> Result<String, Fail> {
+    let mut all = Vec::new(alloc);
+    all.push((String::from_str(alloc, "made")?, bytes))?;
+    let line = command_line(alloc, "--json --list made")?;
+    let mut printed = Vec::new(alloc);
+    let mut said = Vec::new(alloc);
+    run(alloc, &Files { all }, &line, &mut printed, &mut said);
+    let mut text = String::new(alloc);
+    for line in str::from_utf8(printed.as_slice()).unwrap_or("?").lines() {
+        text.push(';')?;
+        for field in line.split(',') {
+            let (key, value) = field.split_once(':').unwrap_or((field, ""));
+            match key.trim_start_matches('{').trim_matches('"') {
+                "dll" | "kind" | "machine" | "name" | "ordinal" | "symbol" => {
+                    write!(text, " {}", value.trim_matches('"'))?;
+                }
+                _ => {}
+            }
+        }
+    }
+    Ok(text)
 }

@@ -10,7 +10,7 @@ mod room;
 mod shown;
 
 use crate::lines::{Case, Line};
-use calls::answer_call;
+use calls::{answer_call, answer_each};
 use devices::answer_device;
 use room::Room;
 use shown::answer_shown;
@@ -48,6 +48,7 @@ fn answered(rt: &HostRuntime, case: &Case) -> Result<String, Fail> {
 fn answer(text: &mut String, room: &Room, line: &Line) -> Result<(), Fail> {
     match line.word {
         "call" => answer_call(text, room, line.rest),
+        "each" | "named" => answer_each(text, room, line),
         "show" | "sum" | "permissions" | "at" | "holds" | "same" => answer_shown(
             room.rt, text, line,
         ),

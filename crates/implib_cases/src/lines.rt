@@ -9,6 +9,10 @@
 //! `repeated COUNT TEXT` a text this many times, and `numbered FRONT COUNT` a line for each number
 //! below one, as `padded FRONT COUNT` does with six digits. In a text `\` and two hexadecimal
 //! digits stand for a character.
+//!
+//! Lines of several calls have words and, each after a `|`, parts in which the calls differ. Calls
+//! with one answer share a line: the parts, the status, the first line that is printed, and what is
+//! said, in which `*` is the part.
 
 use std::alloc::{AllocError, Global};
 use std::test::Fail;
@@ -223,4 +227,31 @@ pub fn push_lines(text: &mut String, word: &str, written: &[u8]) -> Result<(), A
         text.push('\n')?;
     }
     Ok(())
+}
+
+/// Appends a call and its answer as a line, or the call alone to the line before, if that ends in
+/// the same answer.
+pub fn push_alike(
+    alloc: Global,
+    text: &mut String,
+    call: &str,
+    answer: &str,
+) -> Result<(), AllocError> {
+    let end = format!(in alloc; ": {answer}\n")?;
+    let joined = match text.as_str().strip_suffix(end.as_str()) {
+        Some(front) => format!(in alloc; "{front} | {call}{end}")?,
+        None => format!(in alloc; "{text}  {call}{end}")?,
+    };
+    *text = joined;
+    Ok(())
+}
+
+/// Appends the words that calls of a line begin with. Gives them, and what follows the `|` after
+/// them.
+pub fn push_calls<'a>(text: &mut String, line: &Line<'a>) -> Result<(&'a str, &'a str), Fail> {
+    let (words, parts) = line.rest.split_once('|').ok_or("a line has no |")?;
+    let rest = words.trim_end();
+    let word = line.word;
+    push_question(text, &Line { word, rest })?;
+    Ok((rest, parts))
 }

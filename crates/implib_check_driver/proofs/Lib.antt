@@ -1,7 +1,6 @@
 pub mod BesideDlls
 pub mod Answers
 pub mod Claims
-pub mod Computed
 pub mod Definitions
 pub mod IndexReadings
 pub mod JsonLines

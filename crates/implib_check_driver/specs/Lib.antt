@@ -16,15 +16,6 @@ pub mod Together
 pub mod Starting
 pub mod Status
 pub mod Worked
-pub mod WorkedAgainst
-pub mod WorkedChecks
-pub mod WorkedDefinitions
 pub mod WorkedExportAs
-pub mod WorkedJson
-pub mod WorkedPositions
-pub mod WorkedStarting
-pub mod WorkedThrough
-pub mod WorkedTogether
 pub mod OfDlls
 pub mod Answers
-pub mod WorkedArm64ec

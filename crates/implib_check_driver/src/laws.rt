@@ -6,17 +6,8 @@ ghost use Rattle.implib_check_driver.specs.OwnIndexes.{OwnIndexesLead};
 ghost use Rattle.implib_check_driver.specs.OwnLibraries.{MeantIsDefined, OwnLibrariesAreTheSame};
 ghost use Rattle.implib_check_driver.specs.OwnLibraries.{SameSaysTheDefined};
 ghost use Rattle.implib_check_driver.specs.OwnTables.{OwnTablesAreWhole};
-ghost use Rattle.implib_check_driver.specs.Worked.{WorkedStatuses, WorkedTasks};
-ghost use Rattle.implib_check_driver.specs.WorkedArm64ec.{WorkedArm64ec};
-ghost use Rattle.implib_check_driver.specs.WorkedAgainst.{WorkedAgainst};
-ghost use Rattle.implib_check_driver.specs.WorkedChecks.{WorkedChecks, WorkedTargets};
-ghost use Rattle.implib_check_driver.specs.WorkedDefinitions.{WorkedDefines, WorkedDefinitions};
+ghost use Rattle.implib_check_driver.specs.Worked.{WorkedStatuses};
 ghost use Rattle.implib_check_driver.specs.WorkedExportAs.{WorkedExportAs};
-ghost use Rattle.implib_check_driver.specs.WorkedJson.{WorkedJson};
-ghost use Rattle.implib_check_driver.specs.WorkedPositions.{WorkedPositions};
-ghost use Rattle.implib_check_driver.specs.WorkedStarting.{WorkedStarting};
-ghost use Rattle.implib_check_driver.specs.WorkedThrough.{WorkedThrough};
-ghost use Rattle.implib_check_driver.specs.WorkedTogether.{WorkedTogether};
 
 use implib_read::laws::{
     own_gnu_libraries, own_members_found, same_objects, same_parts, same_short_imports,
@@ -72,66 +63,9 @@ pub fn own_tables_are_whole()
     meant_is_made();
 }
 
-/// The exit statuses, as numbers.
+/// The exit statuses where memory is refused, and for an archive of too many members.
 pub fn worked_statuses()
     ensures { WorkedStatuses }
-{}
-
-/// What command lines ask for, and some that ask for nothing.
-pub fn worked_tasks()
-    ensures { WorkedTasks }
-{}
-
-/// What calls say that compare a library with a definition, and the statuses of definitions that
-/// are refused.
-pub fn worked_checks()
-    ensures { WorkedChecks }
-{}
-
-/// For which machine and flavour definitions are compared with libraries, worked by hand.
-pub fn worked_targets()
-    ensures { WorkedTargets }
-{}
-
-/// What calls for ARM64EC say, what libraries are compared as, and statuses, worked by hand.
-pub fn worked_arm64ec()
-    ensures { WorkedArm64ec }
-{}
-
-/// Where the exports of definitions are, worked by hand.
-pub fn worked_positions()
-    ensures { WorkedPositions }
-{}
-
-/// What the definitions of libraries are, worked by hand.
-pub fn worked_definitions()
-    ensures { WorkedDefinitions }
-{}
-
-/// What calls ask for a definition, and some that do not.
-pub fn worked_defines()
-    ensures { WorkedDefines }
-{}
-
-/// What libraries do to each other in one link, worked by hand.
-pub fn worked_together()
-    ensures { WorkedTogether }
-{}
-
-/// What JSON objects have, worked by hand.
-pub fn worked_json()
-    ensures { WorkedJson }
-{}
-
-/// Libraries beside a DLL whose forwarders are followed, worked by hand: calls, DLLs, statuses and
-/// an object.
-pub fn worked_through()
-    ensures { WorkedThrough }
-{}
-
-/// Programs beside folders, worked by hand: calls, files of DLLs, statuses and objects.
-pub fn worked_starting()
-    ensures { WorkedStarting }
 {}
 
 /// What is read of the library of a definition is what the definition says, also where short
@@ -165,10 +99,4 @@ pub fn same_says_the_made()
 /// What definitions mean where short imports have a third text, worked by hand.
 pub fn worked_export_as()
     ensures { WorkedExportAs }
-{}
-
-/// What calls for DLLs say, and which statuses libraries and definitions have beside one, worked by
-/// hand.
-pub fn worked_against()
-    ensures { WorkedAgainst }
 {}

@@ -17,10 +17,3 @@ pub mod Search
 pub mod DllProgram
 pub mod Program
 pub mod Worked
-pub mod WorkedCallers
-pub mod WorkedOptions
-pub mod WorkedCalls
-pub mod WorkedLibWords
-pub mod WorkedDlls
-pub mod WorkedDelays
-pub mod WorkedArm64ec

@@ -1,35 +1,31 @@
--- Command lines worked by hand, each word and each option written out.
-use Rattle.std.specs.Prelude.{◌≡◌, [], ◌∷◌, Some, Ok, Err, codes}
-use Rattle.implib_driver.specs.declared.options.Setting.TheVariants.{Definition, Output}
-use Rattle.implib_driver.specs.declared.options.Setting.TheVariants.{AssemblerFlags}
-use Rattle.implib_driver.specs.declared.options.Switch.TheVariants.{KillAt, NoDelete}
-use Rattle.implib_driver.specs.declared.options.Switch.TheVariants.{Verbose}
-use Rattle.implib_driver.specs.Arguments.{Given, Switched, IsUnknown}
-use Rattle.implib_driver.specs.Arguments.{IsUnsupported, LacksValue, last_given, read_words}
+-- What no case can show: a want of memory, whose status would be 1 in code and specs alike if both
+-- told it with other refusals; arguments that the system does not give; a new file that could not
+-- be removed; and that words which are not LIB's are read as dlltool's, whatever they are.
+use Rattle.std.specs.Prelude.{◌≡◌, ℕ, List, [], ◌∷◌, Option, false, None, Err, codes}
+use Rattle.std.specs.Str.{bytes_eq}
+use Rattle.std.specs.declared.io.ErrorKind.TheVariants.{NotFound}
+use Rattle.implib_driver.specs.Arguments.{read_words}
+use Rattle.implib_driver.specs.Arm64ecProgram.{arm64ec_status}
+use Rattle.implib_driver.specs.Disk.{DiskView}
+use Rattle.implib_driver.specs.LibWords.{is_lib_name, words_read}
+use Rattle.implib_driver.specs.Placing.{IsUnplaced}
+use Rattle.implib_driver.specs.Program.{Devices, IsUncalled, answer_status, delay_status}
+use Rattle.implib_libraries.specs.declared.arm64ec.Arm64ecRefusal.TheVariants as refusal
+use Rattle.implib_libraries.specs.declared.delayed.DelayRefusal.TheVariants as delay
+use Rattle.implib_rules.specs.declared.library.LibraryError.TheVariants.{Refused}
+use Rattle.implib_rules.specs.declared.library.Refusal.TheVariants.{OutOfMemory}
 
--- what command lines are read as, or refused for
-pub record CallsRead : Type 0 where
-  pub last : last_given Definition
-      (Given Definition (codes "a") ∷ Given Output (codes "o") ∷ Given Definition (codes "b") ∷ [])
-      ≡ Some (codes "b")
-  pub unsupported : read_words (codes "-k" ∷ codes "-xX.a" ∷ codes "b" ∷ [])
-      ≡ Err (IsUnsupported (codes "-xX.a"))
-  pub unknown : read_words (codes "--kill-at=1" ∷ []) ≡ Err (IsUnknown (codes "--kill-at=1"))
-  -- a value may be empty, and may look like an option
-  pub empty_value : read_words (codes "--as-flags=" ∷ []) ≡ Ok (Given AssemblerFlags [] ∷ [])
-  pub value_as_option : read_words (codes "-f" ∷ codes "-k" ∷ [])
-      ≡ Ok (Given AssemblerFlags (codes "-k") ∷ [])
-  -- options without a value share a word, and the last of them may take one, there or in the next
-  -- word
-  pub bundle : read_words (codes "-kvd" ∷ codes "a.def" ∷ codes "-nkla.lib" ∷ codes "-kv" ∷ [])
-      ≡ Ok (Switched KillAt ∷ Switched Verbose ∷ Given Definition (codes "a.def")
-      ∷ Switched NoDelete ∷ Switched KillAt
-      ∷ Given Output (codes "a.lib") ∷ Switched KillAt ∷ Switched Verbose ∷ [])
-  pub bundle_lacks_value : read_words (codes "-kd" ∷ []) ≡ Err (LacksValue Definition)
-  pub bundle_unsupported : read_words (codes "-kx" ∷ []) ≡ Err (IsUnsupported (codes "-kx"))
-  pub bundle_unknown : read_words (codes "-k=1" ∷ []) ≡ Err (IsUnknown (codes "-k=1"))
-  pub bundle_not_ascii : read_words ((45 ∷ 107 ∷ 195 ∷ 164 ∷ []) ∷ []) ≡ Err (IsUnknown (45 ∷ 107 ∷ 195 ∷ 164 ∷ []))
-  pub not_ascii : read_words ((45 ∷ 195 ∷ 164 ∷ []) ∷ []) ≡ Err (IsUnknown (45 ∷ 195 ∷ 164 ∷ []))
-  -- `--` ends the options, unless it is a value
-  pub end_as_value : read_words (codes "-d" ∷ codes "--" ∷ codes "-k" ∷ [])
-      ≡ Ok (Given Definition (codes "--") ∷ Switched KillAt ∷ [])
+pub record AnswersTold : Type 0 where
+  pub no_memory : answer_status (Err (Refused OutOfMemory)) ≡ 3
+  pub no_memory_for_delay : delay_status (delay.Refused OutOfMemory) ≡ 3
+  pub no_memory_for_arm64ec : arm64ec_status refusal.OutOfMemory ≡ 3
+  pub no_memory_for_native : arm64ec_status (refusal.OfNative OutOfMemory) ≡ 3
+  pub no_arguments : (before after : Devices) (printed prints : Option (List ℕ)) (status : ℕ)
+      → IsUncalled NotFound [] before after printed prints status → status ≡ 3
+  pub nothing_left : (before after : DiskView) → IsUnplaced before after → after.is_stuck ≡ false →
+      after.left ≡ None
+  pub as_before : (program word : List ℕ) (words : List (List ℕ)) → is_lib_name program ≡ false →
+      bytes_eq word (codes "--lib") ≡ false
+      → words_read program (word ∷ words) ≡ read_words (word ∷ words)
+  pub as_before_without_words : (program : List ℕ) → is_lib_name program ≡ false →
+      words_read program [] ≡ read_words []

@@ -1,15 +1,19 @@
 //! Calls of the program: `call WORDS`. A word has `\` and two hexadecimal digits for a character,
-//! as for a space; `''` is an empty word.
+//! as for a space; `''` is an empty word. `each WORDS | WORDS | ..` makes a call with each of the
+//! further words, and `named WORDS | NAME | ..` calls the program by each name; the answers tell
+//! the imports of the library that is made, too, and it is removed.
 
 use super::room::Room;
-use crate::lines::{push_escaped, push_lines, unescaped};
+use crate::check::imports_in;
+use crate::lines::{Line, push_alike, push_calls, push_escaped, push_lines, unescaped};
 use implib_devices::console::Console;
 use implib_devices::files::SystemDisk;
 use implib_driver::program::run;
+use implib_rules::name::last_part;
 use std::alloc::{AllocError, Global};
-use std::io;
 use std::io::Write;
 use std::test::Fail;
+use std::{fs, io};
 
 /// A writer that keeps what each call of it gave.
 #[derive(Drop)]
@@ -40,29 +44,110 @@ pub fn kept_console(alloc: Global) -> Console<Writes> {
     )
 }
 
-/// A call, its status, the lines of standard output, and what was written on standard error.
-pub fn answer_call(text: &mut String, room: &Room, words: &str) -> Result<(), Fail> {
+/// What came of a call.
+#[derive(Drop)]
+struct Outcome {
+    status: u8,
+    printed: Vec<u8>,
+    console: Console<Writes>,
+}
+
+/// Calls the program with these arguments.
+fn outcome_of(room: &Room, arguments: &[String]) -> Outcome {
     let alloc = room.rt.alloc();
-    let arguments = arguments_in(alloc, room.program.as_str(), words)?;
     let mut disk = SystemDisk::new(room.rt, room.process);
     let mut input = room.input.as_slice();
     let mut printed = Vec::new(alloc);
     let mut console = kept_console(alloc);
     let status = run(
         alloc,
-        arguments.as_slice(),
+        arguments,
         &mut disk,
         &mut input,
         &mut printed,
         &mut console,
     );
+    Outcome {
+        status,
+        printed,
+        console,
+    }
+}
+
+/// A call, its status, the lines of standard output, and what was written on standard error.
+pub fn answer_call(text: &mut String, room: &Room, words: &str) -> Result<(), Fail> {
+    let arguments = arguments_in(room.rt.alloc(), room.program.as_str(), words)?;
+    let outcome = outcome_of(room, arguments.as_slice());
     text.push_str("call")?;
     if !words.is_empty() {
         write!(text, " {words}")?;
     }
-    write!(text, "\n  status {status}\n")?;
-    push_lines(text, "out", printed.as_slice())?;
-    Ok(push_writes(text, console)?)
+    write!(text, "\n  status {}\n", outcome.status)?;
+    push_lines(text, "out", outcome.printed.as_slice())?;
+    Ok(push_writes(text, outcome.console)?)
+}
+
+/// Calls that differ in their last words, or in what the program is called by, and their answers.
+pub fn answer_each(text: &mut String, room: &Room, line: &Line) -> Result<(), Fail> {
+    let alloc = room.rt.alloc();
+    let (words, parts) = push_calls(text, line)?;
+    for part in parts.split('|') {
+        let part = part.trim();
+        let whole = unescaped(alloc, part)?;
+        let answer = if line.word == "named" {
+            let arguments = arguments_in(alloc, whole.as_str(), words)?;
+            short_answer(room, arguments.as_slice(), last_part(whole.as_str()))?
+        } else {
+            let words = format!(in alloc; "{words} {part}")?;
+            let arguments = arguments_in(alloc, room.program.as_str(), words.as_str())?;
+            short_answer(room, arguments.as_slice(), whole.as_str())?
+        };
+        push_alike(alloc, text, part, answer.as_str())?;
+    }
+    Ok(())
+}
+
+/// The answer to a call in one line, with `*` for a part of it.
+fn short_answer(room: &Room, arguments: &[String], part: &str) -> Result<String, Fail> {
+    let alloc = room.rt.alloc();
+    let outcome = outcome_of(room, arguments);
+    let mut answer = format!(in alloc; "{}", outcome.status)?;
+    let printed = str::from_utf8(outcome.printed.as_slice()).unwrap_or("?");
+    if let Some(line) = printed.lines().next() {
+        write!(answer, " {line}")?;
+    }
+    // A call with no part has none to replace, and no message has a `|`.
+    let part = format!(in alloc; "{}: ", if part.is_empty() { "|" } else { part })?;
+    for bytes in outcome.console.into_writer().all.iter() {
+        let said = str::from_utf8(bytes.as_slice()).unwrap_or("?").trim_end();
+        answer.push(' ')?;
+        let said = said.replace(alloc, part.as_str(), "*: ")?;
+        push_escaped(&mut answer, said.as_str())?;
+    }
+    if let Some(path) = output_of(arguments)
+        && let Ok(bytes) = fs::read(room.rt, path)
+    {
+        answer.push_str(imports_in(alloc, bytes)?.as_str())?;
+        fs::remove_file(room.rt, path)?;
+    }
+    Ok(answer)
+}
+
+/// The file of the library that arguments ask for.
+fn output_of(arguments: &[String]) -> Option<&str> {
+    let mut found = None;
+    let mut before = "";
+    for word in arguments {
+        let word = word.as_str();
+        if before == "-l" || before == "-y" {
+            found = Some(word);
+        }
+        if let Some(path) = word.strip_prefix("/out:") {
+            found = Some(path);
+        }
+        before = word;
+    }
+    found
 }
 
 /// The arguments of a call: what the program is called by, and the words.

@@ -1,8 +1,10 @@
-use Rattle.std.proofs.Common.{◌≡◌, ◌⊎◌, ◌∙◌, None, false, inl, inr, refl, sym, true}
+use Rattle.std.proofs.Common.{[], ◌∷◌, ◌≡◌, ◌⊎◌, ◌∙◌, None, ap, false, if◌then◌else◌, inl, inr, refl, sym, true}
 use Rattle.std.proofs.lemmas.Bool.{true≢false}
+use Rattle.implib_driver.specs.Arguments.{read_words}
 use Rattle.implib_driver.specs.Disk.{DiskView}
+use Rattle.implib_driver.specs.LibWords.{read_by_name, read_lib_words}
 use Rattle.implib_driver.specs.Placing.{IsUnplaced}
-use Rattle.implib_driver.specs.WorkedCalls.{AnswersTold}
+use Rattle.implib_driver.specs.Worked.{AnswersTold}
 use Rattle.implib_driver.proofs.laws.answers_told.Goals as goal
 
 -- what is new can be left only where its removal failed
@@ -14,14 +16,16 @@ none_left before after unplaced removed = by_case unplaced.none_left where
 
 worked : AnswersTold
 worked = record {
-  out_of_memory = refl;
-  unwritten = λ cause. refl;
-  failure_said = λ cause. refl;
-  no_text = λ before after printed prints status called. called.is_status;
-  no_text_said = λ before after printed prints status called. called.says;
+  no_memory = refl;
+  no_memory_for_delay = refl;
+  no_memory_for_arm64ec = refl;
+  no_memory_for_native = refl;
   no_arguments = λ before after printed prints status called. called.is_status;
   nothing_left = none_left;
-  failure_of_none_said = λ cause. refl;
+  as_before = λ program word words named first.
+      ap (λ is. if is then read_lib_words words else read_by_name program (word ∷ words)) first
+      ∙ ap (λ is. if is then read_lib_words (word ∷ words) else read_words (word ∷ words)) named;
+  as_before_without_words = λ program named. ap (λ is. if is then read_lib_words [] else read_words []) named;
 }
 
 pub returns : goal.returns
