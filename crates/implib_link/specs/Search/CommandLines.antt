@@ -6,8 +6,10 @@
 -- archive until a sweep takes nothing, and goes through a group (`--start-group`) until none of its
 -- archives has more to give. What later inputs leave unresolved leads it back to none.
 --
--- lld (COFF/SymbolTable.cpp, `addLazyArchive`, `addUndefined`) keeps the symbols of each archive
--- that it has read, and takes a member as soon as a name is both unresolved and listed.
+-- lld (COFF/Driver.cpp, `enqueueArchiveMember`; COFF/SymbolTable.cpp, `addLazyArchive`,
+-- `addUndefined`) reads all inputs, and takes the members that names ask for from one queue behind
+-- them. So what it takes is one search of all members for all objects, in an order that such a
+-- search allows (`TakesIntoAs`).
 use Rattle.std.specs.Prelude.{◌≡◌, ℕ, zero, suc, Bool, false, ◌==◌, List, [], ◌∷◌, ◌++◌, ◌≤◌}
 use Rattle.std.specs.Prelude.{bytes_eq, length, not, slice_get, Option, None, Some, ◌⊎◌}
 use Rattle.std.specs.List.{AllByRecursion, Contains, filter, flat_map, list_any}
@@ -18,7 +20,7 @@ use Rattle.implib_link.specs.Gnu.Program.{ClaimsNone, HaveSame}
 use Rattle.implib_link.specs.Flavors.Expansion.{expanded_in}
 use Rattle.implib_link.specs.Search.BothFlavors.{FlavorLibrary, archive_of_both}
 use Rattle.implib_link.specs.Search.Archives.{Library, archive_of}
-use Rattle.implib_link.specs.Search.Closed.{PullsIntoAs, listed_in, references_of, unresolved}
+use Rattle.implib_link.specs.Search.Closed.{listed_in, references_of, unresolved}
 use Rattle.implib_link.specs.Search.Search.{claimed_as, first_listed, objects_as, undefined_in}
 use Rattle.implib_link.specs.Search.Sweeps.{index_at, members_at, numbers_from, sweeps, swept}
 
@@ -94,40 +96,6 @@ abbrev pub SearchesCommandLine : (List ℕ → Option Object) → List MemberVie
     Type 0
 SearchesCommandLine reads members inputs taken = SearchesFrom reads members [] inputs [] taken
 
--- lld
-
--- members are taken one after another, behind those before them
-unfoldable pub AreTakenBehind : (List ℕ → Option Object) → List MemberView → List Object →
-    List MemberView → List MemberView → Type 0
-AreTakenBehind reads archive own before [] = Unit {0}
-AreTakenBehind reads archive own before (m ∷ more) =
-    ((name : List ℕ) × PullsIntoAs reads archive own (more ++ before) name m)
-    × AreTakenBehind reads archive own before more
-
--- Members are taken until no unresolved name pulls in another of the archives that were read.
-pub record IsClosedOver (reads : List ℕ → Option Object) (archive : List MemberView)
-    (own : List Object) (before after : List MemberView) : Type 0 where
-  pub more : List MemberView
-  pub taken : more ++ before ≡ after
-  pub in_turn : AreTakenBehind reads archive own before more
-  pub ended : (name : List ℕ) (m : MemberView) → PullsIntoAs reads archive own after name m → ⊥
-
--- What is taken after inputs, for the objects and the archives that were read before them.
-unfoldable pub LldSearchesFrom : (List ℕ → Option Object) → List MemberView → List Object → List ℕ →
-    List Input → List MemberView → List MemberView → Type 0
-LldSearchesFrom reads members own read [] before after = before ≡ after
-LldSearchesFrom reads members own read (input ∷ inputs) before after =
-    (between : List MemberView)
-    × IsClosedOver reads (members_at members (read ++ numbers_of input)) (own ++ object_of input)
-    before between
-    × LldSearchesFrom reads members (own ++ object_of input) (read ++ numbers_of input) inputs
-    between after
-
--- what lld takes for a command line, the last one first
-abbrev pub LldSearches : (List ℕ → Option Object) → List MemberView → List Input → List MemberView →
-    Type 0
-LldSearches reads members inputs taken = LldSearchesFrom reads members [] [] inputs [] taken
-
 -- What is asked of command lines.
 
 -- the symbols that members of these numbers are listed for
@@ -170,11 +138,6 @@ abbrev pub NoneIsLost : (List ℕ → Option Object) → List MemberView → Lis
 NoneIsLost reads members own taken =
     AllByRecursion (λ name. first_listed members name ≡ None)
     (unresolved (own ++ objects_as reads taken))
-
--- the inputs have each member
-abbrev pub HaveAll : List MemberView → List Input → Type 0
-HaveAll members inputs =
-    (m : MemberView) → Contains members m → Contains (members_at members (numbers_in inputs)) m
 
 -- Each member that is taken, and that is listed for one of these names, is the first that is listed
 -- for it.
