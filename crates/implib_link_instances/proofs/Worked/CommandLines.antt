@@ -14,7 +14,7 @@ use Rattle.implib.proofs.Link.Ranges.{Among}
 use Rattle.implib_link.specs.Gnu.Program.{HaveSame}
 use Rattle.implib_link.specs.Search.Archives.{archive_of, is_weak, symbols_of_library, IsArchive}
 use Rattle.implib_link.specs.Search.Closed.{PullsIntoAs, claims_of, listed_in, references_of, unresolved}
-use Rattle.implib_link.specs.Search.CommandLines.{AreListedWhole, AreRounds, AreSwept, AreUnclaimedBehind, IsOrdered, NoneIsLost, SearchesCommandLine, SearchesFrom, given_with, names_left}
+use Rattle.implib_link.specs.Search.CommandLines.{AreListedWhole, AreRounds, AreSwept, AreUnclaimedBehind, ImportsByName, IsOrdered, NoneIsLost, SearchesCommandLine, SearchesFrom, given_with, names_left}
 use Rattle.implib_link.specs.Search.Given.{AreGiven, symbols_kept}
 use Rattle.implib_link.specs.Search.Search.{claimed_as, first_listed, objects_as, undefined_in}
 use Rattle.implib_link.specs.Search.Sweeps.{members_at, sweeps, swept}
@@ -105,6 +105,10 @@ group_unclaimed : AreUnclaimedBehind amd64_members [] (in_group own)
 unfolding opened alias_specs encoded_size AreUnclaimedBehind
 group_unclaimed = ((tt, tt), (tt, tt))
 
+by_name : ImportsByName object_in amd64_members own (members_at amd64_members all_taken)
+unfolding opened alias_specs encoded_size references_of undefined_in
+by_name = record { left = refl; claimed = refl }
+
 line : WorkedCommandLine amd64_members own
 unfolding opened alias_specs encoded_size references_of claims_of undefined_in
 line = record {
@@ -148,7 +152,7 @@ unfolding opened alias_specs encoded_size refusal renamed_refusal is_weak symbol
 libraries = record {
   archive = archive;
   ready = ready;
-  searches = record { libraries_are = refl; first = first_of_distinct amd64_members (names_left object_in own (members_at amd64_members all_taken)) all_taken distinct; unclaimed = unclaimed; ordered = inl ordered; whole = whole; searches = searched_last };
+  searches = record { libraries_are = refl; first = first_of_distinct amd64_members (names_left object_in own (members_at amd64_members all_taken)) all_taken distinct; by_name = by_name; unclaimed = unclaimed; ordered = inl ordered; whole = whole; searches = searched_last };
   given = given;
   exists = exists;
 }
@@ -189,6 +193,10 @@ i386_unclaimed = ((tt, tt), (tt, (tt, tt)))
 i386_group_unclaimed : AreUnclaimedBehind i386_members [] (in_group i386_own)
 unfolding opened alias_specs encoded_size AreUnclaimedBehind
 i386_group_unclaimed = ((tt, tt), (tt, tt))
+
+i386_by_name : ImportsByName object_in i386_members i386_own (members_at i386_members all_taken)
+unfolding opened alias_specs encoded_size references_of undefined_in
+i386_by_name = record { left = refl; claimed = refl }
 
 i386_line : WorkedCommandLine i386_members i386_own
 unfolding opened alias_specs encoded_size references_of claims_of undefined_in
@@ -237,7 +245,7 @@ unfolding opened alias_specs encoded_size refusal renamed_refusal is_weak symbol
 i386_libraries = record {
   archive = i386_archive;
   ready = i386_ready;
-  searches = record { libraries_are = refl; first = first_of_distinct i386_members (names_left object_in i386_own (members_at i386_members all_taken)) all_taken i386_distinct; unclaimed = i386_unclaimed; ordered = inr complete; whole = i386_whole; searches = i386_searched_last };
+  searches = record { libraries_are = refl; first = first_of_distinct i386_members (names_left object_in i386_own (members_at i386_members all_taken)) all_taken i386_distinct; by_name = i386_by_name; unclaimed = i386_unclaimed; ordered = inr complete; whole = i386_whole; searches = i386_searched_last };
   given = i386_given;
   exists = i386_exists;
 }
