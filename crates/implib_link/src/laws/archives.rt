@@ -91,17 +91,14 @@ pub fn archives_have_their_members()
 {}
 
 /// A search in the bytes comes to an end, whichever name the linker takes up first: for any names,
-/// also of short imports, and for objects that may be given.
+/// also of short imports, and for any objects.
 pub fn searches_end()
     ensures wanted { (kind : Kind) (linker : LinkerMember) (members : List MemberView)
         (wanted : List (List ℕ)) →
         HaveArchive kind linker members → IsEnding kind linker members (asks_for wanted) }
-    ensures given { (kind : Kind) (linker : LinkerMember) (machine : MachineType)
-        (libraries : List Library) (own : List Object) →
-        HaveArchive kind linker (archive_of libraries) →
-        IsArchive machine libraries →
-        AreGiven machine libraries own →
-        IsEnding kind linker (archive_of libraries) (asks_with own) }
+    ensures given { (kind : Kind) (linker : LinkerMember) (members : List MemberView)
+        (own : List Object) →
+        HaveArchive kind linker members → IsEnding kind linker members (asks_with own) }
     ensures short { (kind : Kind) (linker : LinkerMember) (machine : MachineType)
         (members : List MemberView) (wanted : List (List ℕ)) →
         HaveArchive kind linker members →
@@ -247,7 +244,7 @@ pub fn bytes_lead_to_lld_calls()
 /// linked code, goes to what its DLL gives. The objects leave a symbol of some short import
 /// unresolved.
 ///
-/// The search comes to an end.
+/// The search comes to an end, of any members.
 pub fn bytes_of_both_flavors_lead_to_calls()
     ensures arrive { (kind : Kind) (linker : LinkerMember) (machine : MachineType)
         (libraries : List FlavorLibrary) (own : List Object) →
@@ -260,11 +257,9 @@ pub fn bytes_of_both_flavors_lead_to_calls()
         AreLinkedForBoth machine libraries own taken arranged bases objects →
         BothArrive machine libraries own taken arranged bases objects) }
     ensures ends { (kind : Kind) (linker : LinkerMember) (machine : MachineType)
-        (libraries : List FlavorLibrary) (own : List Object) →
-        HaveArchive kind linker (archive_of_both libraries) →
-        IsFlavorArchive machine libraries →
-        AreGivenForBoth machine libraries own →
-        IsEnding kind linker (archive_of_both libraries) (asks_with_on machine own) }
+        (members : List MemberView) (own : List Object) →
+        HaveArchive kind linker members →
+        IsEnding kind linker members (asks_with_on machine own) }
 {}
 
 /// The whole way for a linker that expands short imports, of the files of a command line: what it
