@@ -2,7 +2,6 @@
 pub mod Corollaries
 pub mod InBytes
 pub mod Way
-pub mod LldEnds
 pub mod LldWay
 pub mod BothWay
 pub mod Files

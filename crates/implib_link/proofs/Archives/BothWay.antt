@@ -13,8 +13,8 @@ use Rattle.implib_link.specs.Search.CommandLines.{Input, SearchesFlavors, given_
 use Rattle.implib_link.specs.Search.Sweeps.{members_at}
 use Rattle.implib_link.proofs.Search.CommandLines.{takes_of_libraries}
 use Rattle.implib_link.specs.Archives.InBytes.{LinkerMember, asks_with_on}
-use Rattle.implib_link.specs.Archives.Results.{HaveArchive, IsEnding, TakesJust}
-use Rattle.implib_link.proofs.Archives.Corollaries.{found_given, ending, given_taken}
+use Rattle.implib_link.specs.Archives.Results.{HaveArchive, TakesJust}
+use Rattle.implib_link.proofs.Archives.Corollaries.{given_taken}
 use Rattle.implib_link.proofs.Archives.InBytes.{takes_just}
 use Rattle.implib_link.specs.Flavors.Program.{OfMember, FlavorInput, IsMadeFor, ask_in, dll_of, symbol_in, thunks_of}
 use Rattle.implib_link.specs.Search.BothFlavors.{AreGivenForBoth, FlavorLibrary, IsFlavorArchive, LinksClosedForBoth, archive_of_both, inputs_of_both, msvc_among}
@@ -23,7 +23,7 @@ use Rattle.implib_link.specs.Search.MsvcArchives.{short_inputs, TakesIntoFor, wa
 use Rattle.implib_link.proofs.Flavors.Steady.{program_tables_none}
 use Rattle.implib_link.proofs.Search.BothArranged.{both_made}
 use Rattle.implib_link.proofs.Search.BothClosed.{closed_links_of_both}
-use Rattle.implib_link.proofs.Search.BothGiven.{both_given_closes, both_given_ends}
+use Rattle.implib_link.proofs.Search.BothGiven.{both_given_closes}
 use Rattle.implib_link.proofs.Tables.{tables_read}
 use Rattle.implib_link.proofs.TablesInMemory.{calls_beside}
 use Rattle.implib_link.proofs.TablesOfPrograms.{can_read, program_count, program_entry, program_tables}
@@ -60,12 +60,6 @@ bytes_lead_to_both kind linker machine libraries own ready archive given some =
     takes_just kind linker (archive_of_both libraries) (asks_with_on machine own)
     (λ taken. (arranged : List FlavorLibrary) (bases : Bases) (objects : List Object) → AreLinkedForBoth machine libraries own taken arranged bases objects → BothArrive machine libraries own taken arranged bases objects) ready
     (λ taken takes arranged bases objects linked. both_arrive machine libraries own taken arranged bases objects archive given some (given_taken (expanded_in machine) (archive_of_both libraries) own taken takes) linked)
-
-pub ends_for_both : (kind : Kind) (linker : LinkerMember) (machine : MachineType) (libraries : List FlavorLibrary) (own : List Object) → HaveArchive kind linker (archive_of_both libraries) →
-    IsFlavorArchive machine libraries → AreGivenForBoth machine libraries own → IsEnding kind linker (archive_of_both libraries) (asks_with_on machine own)
-ends_for_both kind linker machine libraries own ready archive given =
-    let found = both_given_ends machine libraries own archive given in
-    ending kind linker (archive_of_both libraries) (asks_with_on machine own) found.0 (found_given (expanded_in machine) kind linker (archive_of_both libraries) own found.0 ready found.1)
 
 -- The files of a command line.
 pub files_lead_to_both : (machine : MachineType) (libraries : List FlavorLibrary) (files : List ArchiveFile) (inputs : List Input) (is_given : MemberView → Bool) (taken : List ℕ) (arranged : List FlavorLibrary) (bases : Bases) (objects : List Object) →

@@ -20,10 +20,10 @@ use Rattle.implib_link.specs.Search.Closed.{AreLinkedFor, LinksClosed, listed_in
 use Rattle.implib_link.specs.Search.Given.{AreGiven}
 use Rattle.implib_link.specs.Search.Msvc.{NamesNoHeader, msvc_if_any, shorts_wanted}
 use Rattle.implib_link.specs.Search.Search.{NamesNoHeadOrTail, exports_wanted, linked_if_any, names_undefined, left_as, claimed_as, AreTakenInTurnAs, PullsInAs, TakesAs, objects_as}
-use Rattle.implib_link.proofs.Search.Ends.{search_ends}
+use Rattle.implib_link.proofs.Search.Ends.{into_ends, search_ends}
 use Rattle.implib_link.proofs.Search.Archives.{libraries_taken}
 use Rattle.implib_link.proofs.Search.Closed.{closed_links}
-use Rattle.implib_link.proofs.Search.Given.{given_closes, given_ends}
+use Rattle.implib_link.proofs.Search.Given.{given_closes}
 use Rattle.implib_link.proofs.Search.MsvcOne.{search_takes}
 use Rattle.implib_link.proofs.Search.One.{takes_wanted}
 use Rattle.implib.specs.LibraryName.{linked_dll, linked_name}
@@ -177,11 +177,10 @@ ends_wanted kind linker members wanted ready =
     let found = search_ends object_in members wanted in
     ending kind linker members (asks_for wanted) found.0 (found_wanted object_in kind linker members wanted found.0 ready found.1)
 
-pub ends_given : (kind : Kind) (linker : LinkerMember) (machine : MachineType) (libraries : List Library) (own : List Object) → HaveArchive kind linker (archive_of libraries) → IsArchive machine libraries → AreGiven machine libraries own
-    → IsEnding kind linker (archive_of libraries) (asks_with own)
-ends_given kind linker machine libraries own ready archive given =
-    let found = given_ends machine libraries own archive given in
-    ending kind linker (archive_of libraries) (asks_with own) found.0 (found_given object_in kind linker (archive_of libraries) own found.0 ready found.1)
+pub ends_with : (reads : List ℕ → Option Object) (kind : Kind) (linker : LinkerMember) (members : List MemberView) (own : List Object) → HaveArchive kind linker members → IsEnding kind linker members (asks_with_as reads own)
+ends_with reads kind linker members own ready =
+    let found = into_ends reads members own in
+    ending kind linker members (asks_with_as reads own) found.0 (found_given reads kind linker members own found.0 ready found.1)
 
 pub ends_short : (kind : Kind) (linker : LinkerMember) (machine : MachineType) (members : List MemberView) (wanted : List (List ℕ)) → HaveArchive kind linker members → IsEnding kind linker members (asks_on machine wanted)
 ends_short kind linker machine members wanted ready =

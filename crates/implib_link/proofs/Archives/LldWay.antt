@@ -1,9 +1,9 @@
 -- The way for lld, from the bytes of an archive to the DLL.
 use Rattle.std.proofs.Common.{◌≡◌, ℕ, ◌+◌, Bool, true, false, List, [], ◌∷◌, ◌++◌, map, Option, None, Some, refl, ap, sym, ◌∙◌, subst, inl, inr}
-use Rattle.std.specs.Prelude.{bytes_eq, nat_le, not, if◌then◌else◌}
-use Rattle.std.specs.List.{AllByRecursion, Contains, IsDistinct, cons_option, filter, flat_map, list_any}
-use Rattle.std.specs.Option.{option_and_then}
-use Rattle.std.proofs.lemmas.Bool.{cases_Bool, false_from_ne_true, le-leb, or_parts}
+use Rattle.std.specs.Prelude.{bytes_eq, nat_le, if◌then◌else◌}
+use Rattle.std.specs.List.{AllByRecursion, Contains, IsDistinct, cons_option, filter, filter_map, flat_map, list_any}
+use Rattle.std.specs.Option.{option_and_then, option_map}
+use Rattle.std.proofs.lemmas.Bool.{cases_Bool, false_from_ne_true, le-leb, true≢false}
 use Rattle.implib.specs.declared.machine.MachineType.{MachineType}
 use Rattle.implib.specs.declared.flavor.Flavor.{Flavor}
 use Rattle.implib.specs.declared.flavor.Flavor.TheVariants.{Gnu, Msvc}
@@ -28,31 +28,32 @@ use Rattle.implib.proofs.Members.Import.{name_type_is_ordinal, name_type_of_fits
 use Rattle.implib.proofs.Link.LinkedMembers.{among_contains, among_map}
 use Rattle.implib.proofs.Link.Ranges.{Among, all_among, among_back, among_first, among_flat, among_front, among_later}
 use Rattle.implib_archive.specs.declared.kind.Kind.{Kind}
-use Rattle.implib_link.specs.Archives.InBytes.{LinkerMember, objects_for}
-use Rattle.implib_link.specs.Archives.LldWay.{AreCalledAlike, IsBuiltByLld, IsWantedBy, LldArrives, asks_of_lld, not_shorts, short_of_export, shorts_in}
+use Rattle.implib_link.specs.Archives.InBytes.{LinkerMember, asks_with_as}
+use Rattle.implib_link.specs.Archives.LldWay.{AreCalledAlike, IsBuiltByLld, IsWantedBy, LldArrives, defining, defining_alone, is_short, read_by_lld, short_of_export, shorts_in}
 use Rattle.implib_link.specs.Archives.Results.{HaveArchive, TakesJust}
-use Rattle.implib_link.proofs.Archives.InBytes.{AreTakenBy, TakesBy, kept_of_map, takes_just}
+use Rattle.implib_link.proofs.Archives.Corollaries.{given_taken}
+use Rattle.implib_link.proofs.Archives.InBytes.{takes_just}
 use Rattle.implib_link.specs.Flavors.Expansion.{expanded_in, is_import_for}
 use Rattle.implib_link.specs.Flavors.LldImports.{IsLldProgram, if_for, imp_symbols_of, in_small, short_for}
 use Rattle.implib_link.specs.Flavors.LldTables.{IsAskable, IsImportable}
 use Rattle.implib_link.specs.Flavors.LldThunks.{BranchArrivesByThunk}
-use Rattle.implib_link.specs.Flavors.Program.{ask_in, objects_taken}
-use Rattle.implib_link.specs.Gnu.Program.{claimed_names}
+use Rattle.implib_link.specs.Flavors.Program.{ask_in}
+use Rattle.implib_link.specs.Gnu.Program.{claimed_name, claimed_names}
 use Rattle.implib_link.specs.Gnu.Operands.{AllLead}
 use Rattle.implib_link.specs.Search.Archives.{Library, archive_of, exports_of}
-use Rattle.implib_link.specs.Search.Closed.{claims_of, references_of, unresolved}
+use Rattle.implib_link.specs.Search.Closed.{AreTakenIntoAs, PullsIntoAs, TakesIntoAs, claims_of, references_of, unresolved}
 use Rattle.implib_link.specs.Search.BothFlavors.{FlavorLibrary, IsFlavorArchive}
-use Rattle.implib_link.specs.Search.MsvcArchives.{IsMsvcArchive, IsMsvcLibrary, is_weak_in}
-use Rattle.implib_link.specs.Search.Search.{first_listed, is_listed_for}
+use Rattle.implib_link.specs.Search.MsvcArchives.{IsMsvcArchive, IsMsvcLibrary, is_short_alias, is_weak_in}
+use Rattle.implib_link.specs.Search.Search.{first_listed, is_listed_for, objects_as, undefined_in}
 use Rattle.implib_link.proofs.Flavors.Block.{FitsIn}
 use Rattle.implib_link.proofs.Flavors.Expanded.{AskFits}
 use Rattle.implib_link.proofs.Flavors.Inputs.{descriptor_at, export_fits, null_at, read_of, short_at, thunk_at, same_machine as own_machine}
 use Rattle.implib_link.proofs.Flavors.LldPrograms.{lld_calls, lld_count, lld_leads}
-use Rattle.implib_link.proofs.Search.Closing.{IsFirstAs}
+use Rattle.implib_link.proofs.Search.Closing.{IsFirstAs, unresolved_from, unresolved_parts}
 use Rattle.implib_link.proofs.Search.FlavorGroups.{gnu_there, made_of, msvc_there}
 use Rattle.implib_link.proofs.Search.Found.{HasRole, expands, finds, first_by_role, found}
 use Rattle.implib_link.proofs.Search.GnuAlone.{no_gnu, short_libraries, short_members, shorts_alone, shorts_archive}
-use Rattle.implib_link.proofs.Search.Lists.{among_at, any_among, any_member, contains_among, listed_is, name_as, none_listed, passes, passing, from_not, kept_into, at_index}
+use Rattle.implib_link.proofs.Search.Lists.{among_any, among_at, among_either, any_among, any_member, contains_among, listed_is, name_as, names_more, none_listed, passes, kept_into, at_index}
 use Rattle.implib_link.proofs.Search.Roles.{IsRole, Last, Null, Own, Role, Top, Weak, in_flavor, member, pair, weak_symbol, weak_target}
 use Rattle.implib_link.proofs.Search.MsvcMembers.{pair_there, short_of}
 use Rattle.implib_link.proofs.Search.Search.{in_nothing}
@@ -60,6 +61,7 @@ use Rattle.implib_link.proofs.TablesInMemory.{tables_load_in_memory}
 use Rattle.implib_link.proofs.TablesOfPrograms.{lld_tables}
 use Rattle.implib_link.specs.Tables.{tables_of_lld}
 use Rattle.implib_link.proofs.Search.MsvcArchives.{made_of as short_made}
+use Rattle.std.proofs.lemmas.Grind.{flat_map-append}
 use Rattle.std.proofs.lemmas.Option.{same_Some}
 use Rattle.implib_link.proofs.Gnu.Texts.{all_filter}
 
@@ -86,6 +88,25 @@ short_is_read machine l e made there =
     (read_of l.definition machine l.members [] made (short_import_spec machine (names_for Msvc l.definition) e) (short_at l.definition machine l.members [] made e there)) in
     ap (option_and_then (if_for machine)) read ∙ ap (λ b. if b then Some (short_of_export machine l e) else None) (is_for machine l e)
 
+-- What lld reads a member as claims what its expansion does.
+
+defines : (names : List (List ℕ)) → filter_map claimed_name (map defining names) ≡ names
+defines [] = refl
+defines (name ∷ names) = ap (λ t. name ∷ t) (defines names)
+
+read_first : (machine : MachineType) (members : List MemberView) (m : MemberView) → IsFirstAs (expanded_in machine) members m → IsFirstAs (read_by_lld machine) members m
+unfolding read_by_lld
+read_first machine members m one = record {
+  object = if is_short m.bytes then defining_alone one.object else one.object;
+  read = ap (option_map (λ (o : Object). if is_short m.bytes then defining_alone o else o)) one.read;
+  claims = by (is_short m.bytes) ∙ one.claims;
+  first = one.first;
+}
+  where
+    by : (b : Bool) → claimed_names (if b then defining_alone one.object else one.object) ≡ claimed_names one.object
+    by true = defines (claimed_names one.object)
+    by false = refl
+
 -- What is taken of an archive of libraries.
 module _ (machine : MachineType) (libraries : List Library) (archive : IsMsvcArchive machine libraries) where
   abbrev in_msvc : List FlavorLibrary
@@ -104,59 +125,51 @@ module _ (machine : MachineType) (libraries : List Library) (archive : IsMsvcArc
   role_of m from = (found machine in_msvc of_all from.name m (ap (λ ms. first_listed ms from.name) (short_members libraries) ∙ from.by)).has
 
   -- it claims what it is listed for, and each name that it is listed for finds it
-  is_first : (m : MemberView) → Pulled m → IsFirstAs (expanded_in machine) (archive_of libraries) m
+  is_first : (m : MemberView) → Pulled m → IsFirstAs (read_by_lld machine) (archive_of libraries) m
   is_first m from =
-      subst (λ ms. IsFirstAs (expanded_in machine) ms m) (short_members libraries)
-      (first_by_role machine in_msvc of_all (expanded_in machine) (is_weak_in machine) (expands machine in_msvc of_all) m (role_of m from))
+      read_first machine (archive_of libraries) m
+      (subst (λ ms. IsFirstAs (expanded_in machine) ms m) (short_members libraries)
+      (first_by_role machine in_msvc of_all (expanded_in machine) (is_weak_in machine) (expands machine in_msvc of_all) m (role_of m from)))
 
-  pulled : (own : List Object) (taken : List MemberView) → AreTakenBy (archive_of libraries) (asks_of_lld machine own) taken → (m : MemberView) → Among m taken → Pulled m
-  unfolding AreTakenBy Among
+  pulled : (own : List Object) (taken : List MemberView) → AreTakenIntoAs (read_by_lld machine) (archive_of libraries) own taken → (m : MemberView) → Among m taken → Pulled m
+  unfolding AreTakenIntoAs Among
   pulled own [] turn m held = absurd held
   pulled own (t ∷ taken) turn m (inl same) = record { name = turn.0.0; by = turn.0.1.listed ∙ ap Some (sym same) }
   pulled own (t ∷ taken) turn m (inr held) = pulled own taken turn.1 m held
 
-  objects_same : (taken : List MemberView) → objects_for machine (map (λ m. m.bytes) taken) ≡ objects_taken machine taken
-  objects_same taken = kept_of_map (expanded_in machine) (λ m. m.bytes) taken
-
   -- the short import of a wanted export is taken
-  member_taken : (own : List Object) (taken : List MemberView) (l : Library) (e : ExportView) → TakesBy (archive_of libraries) (asks_of_lld machine own) taken → IsWantedBy libraries own l e →
+  member_taken : (own : List Object) (taken : List MemberView) (l : Library) (e : ExportView) → TakesIntoAs (read_by_lld machine) (archive_of libraries) own taken → IsWantedBy machine libraries own taken l e →
       Among (short_of machine l e) taken
   unfolding claims_of references_of
   member_taken own taken l e takes wanted =
       let name : List ℕ = wanted.name in
       let m : MemberView = short_of machine l e in
+      let objects : List Object = objects_as (read_by_lld machine) taken in
       let held : Among l libraries = contains_among l libraries wanted.library in
       let there : Among e (exports_of l) = contains_among e (exports_of l) wanted.export in
       let at = at_index e (exports_of l) there in
       let is : first_listed (archive_of libraries) name ≡ Some m =
       ap (λ ms. first_listed ms name) (sym (short_members libraries))
       ∙ finds machine in_msvc of_all Msvc l (Own at.0 e) name (among_map (in_flavor Msvc) l libraries held) (at.1, wanted.plain) (contains_among name (short_import_symbols e) wanted.listed) in
-      let parts = passing (λ n. not (list_any (bytes_eq n) (claims_of own))) name (references_of own) (contains_among name (unresolved own) wanted.left) in
       elim (cases_Bool (list_any (is_listed_for name) taken)) [
         | inl some ↦
             let t = any_member name taken some in
             let same : t.0 ≡ m = same_Some t.0 m (sym ((is_first t.0 (pulled own taken takes.in_turn t.0 t.1)).first name t.2) ∙ is) in
             subst (λ x. Among x taken) same t.1
         | inr none ↦ absurd (takes.ended name m (record {
-          asked = (
-            among_contains name (references_of own ++ references_of (objects_for machine (not_shorts (map (λ x. x.bytes) taken)))) (among_front name (references_of own) _ parts.0),
-            none_claims name (claims_of own) (claims_of (objects_for machine (map (λ x. x.bytes) taken))) (from_not (list_any (bytes_eq name) (claims_of own)) parts.1)
-                (false_from_ne_true (list_any (bytes_eq name) (claims_of (objects_for machine (map (λ x. x.bytes) taken)))) (λ claimed.
-                let by = name_as (expanded_in machine) claimed_names name taken (any_among name _ (subst (λ objects. list_any (bytes_eq name) (flat_map claimed_names objects) ≡ true) (objects_same taken) claimed)) in
-                let one = is_first by.member (pulled own taken takes.in_turn by.member by.held) in
-                let same : by.object ≡ one.object = (let e : Some by.object ≡ Some one.object = sym by.taken ∙ one.read in cc) in
-                none_listed name by.member taken none by.held (subst (Among name) one.claims (subst (λ o. Among name (claimed_names o)) same by.among)))),
-          );
+          named = among_contains name (unresolved (own ++ objects)) (unresolved_from (own ++ objects) name (contains_among name (flat_map undefined_in (own ++ objects)) wanted.left)
+              (λ claimed. elim (among_either name (flat_map claimed_names own) (flat_map claimed_names objects) (subst (Among name) (flat_map-append claimed_names own objects) claimed)) [
+                | inl here ↦ true≢false (sym (among_any name (flat_map claimed_names own) here) ∙ wanted.unclaimed)
+                | inr behind ↦
+                    let by = name_as (read_by_lld machine) claimed_names name taken behind in
+                    let one = is_first by.member (pulled own taken takes.in_turn by.member by.held) in
+                    let same : by.object ≡ one.object = same_Some by.object one.object (sym by.taken ∙ one.read) in
+                    none_listed name by.member taken none by.held (subst (Among name) one.claims (subst (λ o. Among name (claimed_names o)) same by.among))
+              ]));
           listed = is;
           new = λ has. none_listed name m taken none (contains_among m taken has) (listed_is (archive_of libraries) name m is).1;
         }))
       ]
-    where
-      none_claims : (name : List ℕ) (xs ys : List (List ℕ)) → list_any (bytes_eq name) xs ≡ false → list_any (bytes_eq name) ys ≡ false → list_any (bytes_eq name) (xs ++ ys) ≡ false
-      none_claims name [] ys first second = second
-      none_claims name (x ∷ xs) ys first second =
-          let parts = or_parts (bytes_eq name x) (list_any (bytes_eq name) xs) first in
-          rw parts.0 (none_claims name xs ys parts.1 second)
 
   -- a short import that is taken is that of an export
   record OfExport (m : MemberView) (r : ShortImport) : Type 0 where
@@ -164,6 +177,7 @@ module _ (machine : MachineType) (libraries : List Library) (archive : IsMsvcArc
     held : Among library libraries
     export : ExportView
     there : Among export (exports_of library)
+    plain : is_short_alias export ≡ false
     is_member : m ≡ short_of machine library export
     is_short_import : r ≡ short_of_export machine library export
 
@@ -201,7 +215,7 @@ module _ (machine : MachineType) (libraries : List Library) (archive : IsMsvcArc
           let there : Among e (exports_of l) = among_at e (exports_of l) n is.0 in
           let read : Some (short_of_export machine l e) ≡ Some r = sym (short_is_read machine l e (made_of machine in_msvc of_all Msvc l held) there) ∙ ap (λ (y : MemberView). short_for machine y.bytes) (sym same) ∙ short in
           let own : short_of_export machine l e ≡ r = cc in
-          record { library = l; held = subst (Among l) (shorts_alone libraries) (msvc_there in_msvc l held); export = e; there = there; is_member = same; is_short_import = sym own }
+          record { library = l; held = subst (Among l) (shorts_alone libraries) (msvc_there in_msvc l held); export = e; there = there; plain = is.1; is_member = same; is_short_import = sym own }
 
   -- which can be written
   as_askable : (ask : Ask) → AskFits ask → IsAskable ask
@@ -262,8 +276,8 @@ module _ (machine : MachineType) (libraries : List Library) (archive : IsMsvcArc
           later,
         )
 
-    shorts_distinct : (taken : List MemberView) → AreTakenBy (archive_of libraries) (asks_of_lld machine own) taken → IsDistinct bytes_eq (imp_symbols_of (shorts_in machine taken))
-    unfolding AreTakenBy IsDistinct
+    shorts_distinct : (taken : List MemberView) → AreTakenIntoAs (read_by_lld machine) (archive_of libraries) own taken → IsDistinct bytes_eq (imp_symbols_of (shorts_in machine taken))
+    unfolding AreTakenIntoAs IsDistinct
     shorts_distinct [] turn = tt
     shorts_distinct (t ∷ taken) turn =
         let from : Pulled t = record { name = turn.0.0; by = turn.0.1.listed } in
@@ -274,6 +288,52 @@ module _ (machine : MachineType) (libraries : List Library) (archive : IsMsvcArc
         by from None is later = later
         by from (Some r) is later =
             (apart_from t r from is taken (λ held. turn.0.1.new (among_contains t taken held)) (λ m held. pulled own taken turn.1 m held), later)
+
+    -- Each was wanted.
+
+    abbrev IsWanted : List MemberView → ShortImport → Type 0
+    IsWanted full r = (l : Library) × (e : ExportView) × IsWantedBy machine libraries own full l e × (r ≡ short_of_export machine l e)
+
+    short_wanted : (full taken : List MemberView) (t : MemberView) (name : List ℕ) (r : ShortImport) → ((x : MemberView) → Among x taken → Among x full) →
+        PullsIntoAs (read_by_lld machine) (archive_of libraries) own taken name t → short_for machine t.bytes ≡ Some r → IsWanted full r
+    unfolding claims_of references_of
+    short_wanted full taken t name r within pulls short = (
+      of.library,
+      of.export,
+      record {
+        library = among_contains of.library libraries of.held;
+        export = among_contains of.export (exports_of of.library) of.there;
+        plain = of.plain;
+        name = name;
+        listed = among_contains name (short_import_symbols of.export) (subst (λ (y : MemberView). Among name y.symbols) of.is_member (listed_is (archive_of libraries) name t pulls.listed).1);
+        left = among_contains name (flat_map undefined_in (own ++ objects full)) (subst (Among name) (sym (flat_map-append undefined_in own (objects full)))
+            (elim (among_either name (flat_map undefined_in own) (flat_map undefined_in (objects taken)) (subst (Among name) (flat_map-append undefined_in own (objects taken)) parts.0)) [
+              | inl here ↦ among_front name (flat_map undefined_in own) (flat_map undefined_in (objects full)) here
+              | inr there ↦ among_back name (flat_map undefined_in own) (flat_map undefined_in (objects full)) (names_more (read_by_lld machine) undefined_in name taken full within there)
+            ]));
+        unclaimed = false_from_ne_true (list_any (bytes_eq name) (flat_map claimed_names own)) (λ claimed.
+            parts.1 (subst (Among name) (sym (flat_map-append claimed_names own (objects taken))) (among_front name (flat_map claimed_names own) (flat_map claimed_names (objects taken)) (any_among name (flat_map claimed_names own) claimed))));
+      },
+      of.is_short_import,
+    )
+      where
+        of : OfExport t r
+        of = of_export t r (record { name = name; by = pulls.listed }) short
+
+        objects : List MemberView → List Object
+        objects ms = objects_as (read_by_lld machine) ms
+
+        parts : Among name (flat_map undefined_in (own ++ objects taken)) × (Among name (flat_map claimed_names (own ++ objects taken)) → ⊥)
+        parts = unresolved_parts (own ++ objects taken) name (contains_among name (unresolved (own ++ objects taken)) pulls.named)
+
+    shorts_wanted : (full taken : List MemberView) → ((x : MemberView) → Among x taken → Among x full) → AreTakenIntoAs (read_by_lld machine) (archive_of libraries) own taken → AllByRecursion (IsWanted full) (shorts_in machine taken)
+    unfolding AreTakenIntoAs
+    shorts_wanted full [] within turn = tt
+    shorts_wanted full (t ∷ taken) within turn = by (short_for machine t.bytes) refl (shorts_wanted full taken (λ x held. within x (among_later x t taken held)) turn.1)
+      where
+        by : (o : Option ShortImport) → short_for machine t.bytes ≡ o → AllByRecursion (IsWanted full) (shorts_in machine taken) → AllByRecursion (IsWanted full) (cons_option o (shorts_in machine taken))
+        by None is later = later
+        by (Some r) is later = (short_wanted full taken t turn.0.0 r (λ x held. within x (among_later x t taken held)) turn.0.1 is, later)
 
   -- and of those that are live.
   live_apart : (name : List ℕ) (is_live : ShortImport → Bool) (rs : List ShortImport) → AllByRecursion (λ other. bytes_eq name other ≡ false) (imp_symbols_of rs) →
@@ -305,7 +365,7 @@ module _ (machine : MachineType) (libraries : List Library) (archive : IsMsvcArc
       ∙ alike one.1.library two.1.library (among_contains one.1.library libraries one.1.held) (among_contains two.1.library libraries two.1.held) (sym (ap in_small first_dll) ∙ same ∙ ap in_small second_dll)
       ∙ sym second_dll
 
-  is_program : AreCalledAlike libraries → (own : List Object) (taken : List MemberView) → TakesBy (archive_of libraries) (asks_of_lld machine own) taken → (is_live : ShortImport → Bool) (descriptors addresses : ℕ) (image : List Range) (linked : List Placed) →
+  is_program : AreCalledAlike libraries → (own : List Object) (taken : List MemberView) → TakesIntoAs (read_by_lld machine) (archive_of libraries) own taken → (is_live : ShortImport → Bool) (descriptors addresses : ℕ) (image : List Range) (linked : List Placed) →
       IsBuiltByLld machine descriptors addresses (filter is_live (shorts_in machine taken)) image linked → IsLldProgram machine descriptors addresses (filter is_live (shorts_in machine taken)) image linked
   is_program alike own taken takes is_live descriptors addresses image linked built =
       let from = all_filter (λ r. (m : MemberView) × OfExport m r) is_live (shorts_in machine taken) (shorts_from taken (λ m held. pulled own taken takes.in_turn m held)) in
@@ -326,9 +386,10 @@ module _ (machine : MachineType) (libraries : List Library) (archive : IsMsvcArc
         ends = built.ends;
       }
 
-  pub lld_arrives : AreCalledAlike libraries → (own : List Object) (taken : List MemberView) → TakesBy (archive_of libraries) (asks_of_lld machine own) taken → LldArrives machine libraries own taken
+  pub lld_arrives : AreCalledAlike libraries → (own : List Object) (taken : List MemberView) → TakesIntoAs (read_by_lld machine) (archive_of libraries) own taken → LldArrives machine libraries own taken
   lld_arrives alike own taken takes = record {
     shorts = short_taken;
+    wanted = λ r held. all_among (IsWanted own taken) r (shorts_in machine taken) (contains_among r (shorts_in machine taken) held) (shorts_wanted own taken taken (λ x there. there) takes.in_turn);
     program = is_program alike own taken takes;
     loads = λ is_live descriptors addresses image linked built image_base codes targets memory gives steady at n written wide reads.
         let program = is_program alike own taken takes is_live descriptors addresses image linked built in
@@ -345,19 +406,20 @@ module _ (machine : MachineType) (libraries : List Library) (archive : IsMsvcArc
         (live_taken is_live l e wanted live) can held thunk c offset after caller has near);
   }
     where
-      short_taken : (l : Library) (e : ExportView) → IsWantedBy libraries own l e → Contains (shorts_in machine taken) (short_of_export machine l e)
+      short_taken : (l : Library) (e : ExportView) → IsWantedBy machine libraries own taken l e → Contains (shorts_in machine taken) (short_of_export machine l e)
       short_taken l e wanted =
           among_contains (short_of_export machine l e) (shorts_in machine taken)
           (kept_into (λ (m : MemberView). short_for machine m.bytes) taken (short_of_export machine l e) (short_of machine l e) (member_taken own taken l e takes wanted)
           (short_is_read machine l e (short_made machine libraries archive l (contains_among l libraries wanted.library)) (contains_among e (exports_of l) wanted.export)))
 
-      live_taken : (is_live : ShortImport → Bool) (l : Library) (e : ExportView) → IsWantedBy libraries own l e → is_live (short_of_export machine l e) ≡ true →
+      live_taken : (is_live : ShortImport → Bool) (l : Library) (e : ExportView) → IsWantedBy machine libraries own taken l e → is_live (short_of_export machine l e) ≡ true →
           Contains (filter is_live (shorts_in machine taken)) (short_of_export machine l e)
       live_taken is_live l e wanted live =
           among_contains (short_of_export machine l e) (filter is_live (shorts_in machine taken))
           (passes is_live (short_of_export machine l e) (shorts_in machine taken) (contains_among (short_of_export machine l e) (shorts_in machine taken) (short_taken l e wanted)) live)
 
 pub bytes_lead_to_lld_calls : (kind : Kind) (linker : LinkerMember) (machine : MachineType) (libraries : List Library) (own : List Object) → HaveArchive kind linker (archive_of libraries) → IsMsvcArchive machine libraries → AreCalledAlike libraries →
-    TakesJust kind linker (archive_of libraries) (asks_of_lld machine own) (LldArrives machine libraries own)
+    TakesJust kind linker (archive_of libraries) (asks_with_as (read_by_lld machine) own) (LldArrives machine libraries own)
 bytes_lead_to_lld_calls kind linker machine libraries own ready archive alike =
-    takes_just kind linker (archive_of libraries) (asks_of_lld machine own) (LldArrives machine libraries own) ready (λ taken takes. lld_arrives machine libraries archive alike own taken takes)
+    takes_just kind linker (archive_of libraries) (asks_with_as (read_by_lld machine) own) (LldArrives machine libraries own) ready
+    (λ taken takes. lld_arrives machine libraries archive alike own taken (given_taken (read_by_lld machine) (archive_of libraries) own taken takes))

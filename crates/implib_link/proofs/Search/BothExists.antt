@@ -30,7 +30,8 @@ use Rattle.implib_link.proofs.Gnu.Alone.{all_kept, none_left}
 use Rattle.implib_link.proofs.Gnu.Packed.{lies_within}
 use Rattle.implib_link.proofs.Search.BothArranged.{both_made}
 use Rattle.implib_link.proofs.Search.BothClosed.{both_held, packed_both}
-use Rattle.implib_link.proofs.Search.BothGiven.{both_given_closes, both_given_ends}
+use Rattle.implib_link.proofs.Search.BothGiven.{both_given_closes}
+use Rattle.implib_link.proofs.Search.Ends.{into_ends}
 use Rattle.implib_link.proofs.Search.BothRooms.{tables_near}
 use Rattle.implib_link.proofs.Search.Chosen.{AnOwn, IsLinked, TheLast, TheTop, linked_from, own_chosen}
 use Rattle.implib_link.proofs.Search.Closing.{each_read, in_turn_for, pulled}
@@ -169,7 +170,7 @@ pub both_exists : (machine : MachineType) (libraries : List FlavorLibrary) (own 
     AllByRecursion (λ o. has_tables o ≡ false) own → 0 < length (short_inputs (msvc_among libraries) (unresolved own)) → 0 < first → tables_end_of_both first libraries < 2 ^ 31 →
     HasClosedForBoth machine libraries own first
 both_exists machine libraries own first archive given plain some above room =
-    let found = both_given_ends machine libraries own archive given in
+    let found = into_ends (expanded_in machine) (archive_of_both libraries) own in
     let taken : List MemberView = found.0 in
     let objects : List Object = objects_closed_of_both machine libraries own taken in
     let closed : AreClosedForBoth machine libraries own taken libraries objects = closed_of_both machine libraries archive own plain taken found.1 given some in

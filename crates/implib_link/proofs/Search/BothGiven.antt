@@ -18,17 +18,16 @@ use Rattle.implib.proofs.Link.LinkedMembers.{among_map}
 use Rattle.implib.proofs.Link.Ranges.{Among, all_among, among_back, among_first, among_flat, among_front, among_later}
 use Rattle.implib_link.specs.Flavors.Expansion.{expanded_in}
 use Rattle.implib_link.specs.Flavors.Program.{all_members, objects_taken}
-use Rattle.implib_link.specs.Gnu.Program.{ClaimsNone, claimed_names, has_tables, HaveSame}
+use Rattle.implib_link.specs.Gnu.Program.{ClaimsNone, has_tables, HaveSame}
 use Rattle.implib_link.specs.Search.Archives.{Library, exports_of}
 use Rattle.implib_link.specs.Search.BothFlavors.{AreClosedForBoth, AreGivenForBoth, FlavorLibrary, IsFlavorArchive, NamesNoMembers, archive_of_both, gnu_among, headers_of_both, inputs_of_both, kept_of_both, msvc_among, symbols_in, targets_of_both, wanted_of_both}
-use Rattle.implib_link.specs.Search.Closed.{TakesIntoAs, listed_in, unresolved}
+use Rattle.implib_link.specs.Search.Closed.{listed_in, unresolved}
 use Rattle.implib_link.specs.Search.Given.{alias_targets, heads_of, is_data_alias, symbols_wanted, tails_of}
 use Rattle.implib_link.specs.Search.Msvc.{NamesNoHeader, left_in}
 use Rattle.implib_link.specs.Search.MsvcArchives.{first_null, is_import_wanted, is_short_alias, is_weak_in, short_inputs, weak_in, TakesIntoFor, wanted_for, headers_of, import_symbols_wanted, short_targets}
 use Rattle.implib_link.specs.Search.Search.{AreTakenInTurnAs, NamesNoHeadOrTail, is_wanted, left_as, objects_as, undefined_in}
 use Rattle.implib_link.proofs.Search.Chosen.{any_too, chosen_too, is_chosen, short_some, some_short}
-use Rattle.implib_link.proofs.Search.Closing.{claims_apart, in_turn_for, none_claimed, not_there, pulled, takes_into, there_not}
-use Rattle.implib_link.proofs.Search.Ends.{search_ends}
+use Rattle.implib_link.proofs.Search.Closing.{in_turn_for, none_claimed, not_there, pulled, there_not}
 use Rattle.implib_link.proofs.Search.FlavorGroups.{gnu_there, msvc_there}
 use Rattle.implib_link.proofs.Search.Found.{IsReader, expands, found, left_by_role, weak_by_role}
 use Rattle.implib_link.proofs.Search.Lists.{all_from as all_each, among_at, among_either, name_as, passes, passing}
@@ -217,24 +216,11 @@ module _ (machine : MachineType) (libraries : List FlavorLibrary) (archive : IsF
         let x = (needed_here from.member from.held).has in
         left_kept x.library.flavor x.library.library x.role name x.held x.is (left_by_role machine libraries archive reads weak reader from.member x from.object name from.taken from.among)
 
-    left_apart : (name : List ℕ) → Among name (flat_map undefined_in (objects_as reads taken)) → Among name (flat_map claimed_names own) → ⊥
-    left_apart name named = claims_apart kept own given.claims name (left_of name named)
-
     pub claims_none : AllByRecursion (ClaimsNone (listed_in taken ++ left_as reads taken)) own
     claims_none = none_claimed reads own taken kept given.claims (λ m name held listed.
         let x = needed_here m held in
         listed_kept x.has.library x.has.role name x.has.held x.has.is x.why
         (subst (Among name) (listed_as machine x.has.library.flavor x.has.library.library x.has.role) (subst (λ (y : MemberView). Among name y.symbols) x.has.same listed))) left_of
-
-  -- the search ends
-  pub ends_as : (reads : List ℕ → Option Object) (weak : MemberView → Bool) → IsReader machine libraries archive reads weak → (taken : List MemberView) × TakesIntoAs reads (archive_of_both libraries) own taken
-  ends_as reads weak reader =
-      let all = search_ends reads (archive_of_both libraries) (unresolved own) in
-      (all.0, takes_into reads (archive_of_both libraries) own all.0 (left_apart reads weak reader all.0 all.1.in_turn) all.1)
-
-pub both_given_ends : (machine : MachineType) (libraries : List FlavorLibrary) (own : List Object) → IsFlavorArchive machine libraries → AreGivenForBoth machine libraries own →
-    (taken : List MemberView) × TakesIntoFor machine (archive_of_both libraries) own taken
-both_given_ends machine libraries own archive given = ends_as machine libraries archive own given (expanded_in machine) (is_weak_in machine) (expands machine libraries archive)
 
 some_wanted : (machine : MachineType) (shorts : List Library) (own : List Object) (taken : List MemberView) → 0 < length (short_inputs shorts (unresolved own)) → 0 < length (short_inputs shorts (wanted_for machine own taken))
 some_wanted machine shorts own taken some =

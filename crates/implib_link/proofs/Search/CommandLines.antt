@@ -15,14 +15,14 @@ use Rattle.implib_link.specs.Gnu.Program.{HaveSame, claimed_names}
 use Rattle.implib_link.specs.Search.Archives.{IsArchive, Library, archive_of}
 use Rattle.implib_link.specs.Search.Closed.{AreLinkedFor, AreTakenIntoAs, LinksClosed, PullsIntoAs, TakesIntoAs, references_of, unresolved}
 use Rattle.implib_link.specs.Search.Given.{AreGiven}
-use Rattle.implib_link.specs.Search.CommandLines.{AnObject, Archives, AreFirst, AreListedWhole, AreRounds, AreSwept, AreTakenBehind, AreUnclaimedBehind, HaveAll, Input, IsOrdered, IsSwept, LeavesNone, LldSearches, LldSearchesFrom, NoneIsLost, SearchesFor, SearchesLibraries, TakesFirst, SearchesCommandLine, SearchesFrom, listed_at, names_left, numbers_but, numbers_in, numbers_of, object_of, objects_given, others_of, given_with}
+use Rattle.implib_link.specs.Search.CommandLines.{AnObject, Archives, AreFirst, AreListedWhole, AreRounds, AreSwept, AreUnclaimedBehind, Input, IsOrdered, IsSwept, LeavesNone, NoneIsLost, SearchesFor, SearchesLibraries, TakesFirst, SearchesCommandLine, SearchesFrom, listed_at, names_left, numbers_but, numbers_in, numbers_of, object_of, objects_given, others_of, given_with}
 use Rattle.implib_link.specs.Search.Search.{claimed_as, first_listed, is_listed_for, objects_as, undefined_in}
 use Rattle.implib_link.specs.Search.Sweeps.{IndexEntry, index_at, members_at, numbers_from, sweeps, swept}
 use Rattle.implib_link.proofs.Search.ArchiveGroups.{found_or_not}
 use Rattle.implib_link.proofs.Search.Closed.{closed_links}
 use Rattle.implib_link.proofs.Search.Given.{given_closes}
 use Rattle.implib_link.proofs.Search.Closing.{unresolved_from, unresolved_parts, claims_apart}
-use Rattle.implib_link.proofs.Search.Lists.{all_listed, among_any, any_among, among_either, among_flat_map, among_listed, as_name, contains_among, listed_is, listed_once, name_as, passes, passing, among_at, at_index, names_more, among_filter}
+use Rattle.implib_link.proofs.Search.Lists.{all_listed, among_any, any_among, among_either, among_flat_map, among_listed, as_name, contains_among, listed_is, listed_once, name_as, passes, passing, at_index, names_more, among_filter}
 use Rattle.implib_link.proofs.Search.Sweeps.{IsFirstAt, Lifts, all_there, among_number, entries_of, entry_there, first_at, none_first, none_left, number_among, number_taken, swept_adds, sweeps_in_turn, sweeps_keep, taken_number, once_by}
 use Rattle.std.proofs.lemmas.Option.{same_Some, none-some}
 use Rattle.implib_link.proofs.Search.Search.{only_one}
@@ -404,113 +404,6 @@ module _ (reads : List ℕ → Option Object) (members : List MemberView) where
         (contains_among name (unresolved (objects_given inputs ++ objects_as reads (members_at members taken))) pulls.named) complete) ∙ pulls.listed);
   }
 
-  -- lld's searches.
-
-  -- members of some numbers are members
-  of_all : (numbers : List ℕ) (m : MemberView) → Among m (members_at members numbers) → Among m members
-  of_all numbers m held = (let from = taken_number members numbers m held in among_at m members from.0 from.2)
-
-  behind_are : (numbers : List ℕ) (own : List Object) (before more : List MemberView) → AreTakenBehind reads (members_at members numbers) own before more → ((x : MemberView) → Among x before → Among x members) →
-      (x : MemberView) → Among x (more ++ before) → Among x members
-  unfolding AreTakenBehind Among
-  behind_are numbers own before [] is are x held = are x held
-  behind_are numbers own before (m ∷ more) is are x (inl here) = subst (λ y. Among y members) (sym here) (of_all numbers m (listed_is (members_at members numbers) is.0.0 m is.0.1.listed).0)
-  behind_are numbers own before (m ∷ more) is are x (inr behind) = behind_are numbers own before more is.1 are x behind
-
-  -- what is taken in the end is the first that is listed for what is left in the end
-  module _ (whole : List Object) (final : List MemberView) (first : AreFirst members (names_left reads whole final) final) where
-    behind_in_turn : (own later : List Object) → own ++ later ≡ whole → (numbers : List ℕ) → AreFree numbers later → (before more : List MemberView) → AreTakenBehind reads (members_at members numbers) own before more →
-        ((x : MemberView) → Among x (more ++ before) → Among x final) → AreTakenIntoAs reads members (own ++ later) before → AreTakenIntoAs reads members (own ++ later) (more ++ before)
-    unfolding AreTakenBehind AreTakenIntoAs
-    behind_in_turn own later all numbers free before [] is within taken = taken
-    behind_in_turn own later all numbers free before (m ∷ more) is within taken = (
-      (
-        is.0.0,
-        record {
-          named = among_contains is.0.0 (unresolved ((own ++ later) ++ objects_as reads (more ++ before)))
-              (left_on own later (objects_as reads (more ++ before)) is.0.0 (free is.0.0 (among_listed is.0.0 m (members_at members numbers) from.0 from.1)) left);
-          listed = first is.0.0 m (name_in_end whole final own later all (more ++ before) (λ x held. within x (among_later x m (more ++ before) held)) is.0.0 left)
-              (among_contains m final (within m (among_first m (more ++ before)))) (among_contains is.0.0 m.symbols from.1);
-          new = is.0.1.new;
-        },
-      ),
-      behind_in_turn own later all numbers free before more is.1 (λ x held. within x (among_later x m (more ++ before) held)) taken,
-    )
-      where
-        from : Among m (members_at members numbers) × Among is.0.0 m.symbols
-        from = listed_is (members_at members numbers) is.0.0 m is.0.1.listed
-
-        left : Among is.0.0 (unresolved (own ++ objects_as reads (more ++ before)))
-        left = contains_among is.0.0 (unresolved (own ++ objects_as reads (more ++ before))) is.0.1.named
-
-    lld_keeps : (own : List Object) (read : List ℕ) (inputs : List Input) (before after : List MemberView) → LldSearchesFrom reads members own read inputs before after → (x : MemberView) → Among x before → Among x after
-    unfolding LldSearchesFrom
-    lld_keeps own read [] before after is x held = subst (Among x) is held
-    lld_keeps own read (input ∷ inputs) before after (between, closed, later) x held =
-        lld_keeps (own ++ object_of input) (read ++ numbers_of input) inputs between after later x (subst (Among x) closed.taken (among_back x closed.more before held))
-
-    lld_in_turn : (own : List Object) (read : List ℕ) (inputs : List Input) (before after : List MemberView) → own ++ objects_given inputs ≡ whole → AreUnclaimedBehind members read inputs → LldSearchesFrom reads members own read inputs before after →
-        ((x : MemberView) → Among x after → Among x final) → AreTakenIntoAs reads members (own ++ objects_given inputs) before → AreTakenIntoAs reads members (own ++ objects_given inputs) after
-    unfolding LldSearchesFrom AreUnclaimedBehind
-    lld_in_turn own read [] before after all none is within taken = subst (AreTakenIntoAs reads members (own ++ [])) is taken
-    lld_in_turn own read (input ∷ inputs) before after all none (between, closed, later) within taken =
-        let same = append_assoc own (object_of input) (objects_given inputs) in
-        subst (λ objects. AreTakenIntoAs reads members objects after) same
-        (lld_in_turn (own ++ object_of input) (read ++ numbers_of input) inputs between after (same ∙ all) none.1 later within
-        (subst (AreTakenIntoAs reads members ((own ++ object_of input) ++ objects_given inputs)) closed.taken
-        (behind_in_turn (own ++ object_of input) (objects_given inputs) (same ∙ all) (read ++ numbers_of input)
-        (λ name held. unclaimed_later members (read ++ numbers_of input) inputs none.1 name held) before closed.more closed.in_turn
-        (λ x held. within x (lld_keeps (own ++ object_of input) (read ++ numbers_of input) inputs between after later x (subst (Among x) closed.taken held)))
-        (subst (λ objects. AreTakenIntoAs reads members objects before) (sym same) taken))))
-
-  -- what lld takes are members
-  pub lld_members : (own : List Object) (read : List ℕ) (inputs : List Input) (before after : List MemberView) → LldSearchesFrom reads members own read inputs before after → ((x : MemberView) → Among x before → Among x members) →
-      (x : MemberView) → Among x after → Among x members
-  unfolding LldSearchesFrom
-  lld_members own read [] before after is are x held = are x (subst (Among x) (sym is) held)
-  lld_members own read (input ∷ inputs) before after (between, closed, later) are x held =
-      lld_members (own ++ object_of input) (read ++ numbers_of input) inputs between after later
-      (λ y there. behind_are (read ++ numbers_of input) (own ++ object_of input) before closed.more closed.in_turn are y (subst (Among y) (sym closed.taken) there)) x held
-
-  -- that no name pulls in a member
-  abbrev AreDone : List ℕ → List Object → List MemberView → Type 0
-  AreDone numbers objects taken = (name : List ℕ) (m : MemberView) → PullsIntoAs reads (members_at members numbers) objects taken name m → ⊥
-
-  lld_done : (own : List Object) (read : List ℕ) (inputs : List Input) (before after : List MemberView) → LldSearchesFrom reads members own read inputs before after →
-      AreDone read own before → AreDone (read ++ numbers_in inputs) (own ++ objects_given inputs) after
-  unfolding LldSearchesFrom
-  lld_done own read [] before after is done =
-      subst (λ numbers. AreDone numbers (own ++ []) after) (sym (append-nil read)) (subst (λ objects. AreDone read objects after) (sym (append-nil own)) (subst (AreDone read own) is done))
-  lld_done own read (input ∷ inputs) before after (between, closed, later) done =
-      subst (λ numbers. AreDone numbers (own ++ objects_given (input ∷ inputs)) after) (append_assoc read (numbers_of input) (numbers_in inputs))
-      (subst (λ objects. AreDone ((read ++ numbers_of input) ++ numbers_in inputs) objects after) (append_assoc own (object_of input) (objects_given inputs))
-      (lld_done (own ++ object_of input) (read ++ numbers_of input) inputs between after later closed.ended))
-
-  -- In any order lld takes what one search of all archives takes.
-  pub lld_searches : (inputs : List Input) (taken : List MemberView) → AreFirst members (names_left reads (objects_given inputs) taken) taken → AreUnclaimedBehind members [] inputs → HaveAll members inputs →
-      LldSearches reads members inputs taken → TakesIntoAs reads members (objects_given inputs) taken
-  unfolding AreTakenIntoAs
-  lld_searches inputs taken first none all is = record {
-    in_turn = lld_in_turn (objects_given inputs) taken first [] [] inputs [] taken refl none is (λ x held. held) tt;
-    ended = λ name m pulls.
-        let from = listed_is members name m pulls.listed in
-        let left = contains_among name (unresolved (objects_given inputs ++ objects_as reads taken)) pulls.named in
-        let there = contains_among m (members_at members (numbers_in inputs)) (all m (among_contains m members from.0)) in
-        elim (found_or_not name (members_at members (numbers_in inputs))) [
-          | inl nothing ↦ none_first name (members_at members (numbers_in inputs)) m nothing there from.1
-          | inr found ↦
-              let listed = listed_is (members_at members (numbers_in inputs)) name found.0 found.1 in
-              lld_done [] [] inputs [] taken is (λ n x empty. none-some x empty.listed) name found.0 (record {
-                named = pulls.named;
-                listed = found.1;
-                new = λ held.
-                    let one : found.0 ≡ m = same_Some found.0 m (sym (first name found.0
-                    (name_in_end (objects_given inputs) taken (objects_given inputs) [] (append-nil (objects_given inputs)) taken (λ x among. among) name left) held (among_contains name found.0.symbols listed.1)) ∙ pulls.listed) in
-                    pulls.new (subst (Contains taken) one held);
-              })
-        ];
-  }
-
   -- Two searches of one list take the same.
 
   module _ (own : List Object) (whole : AreListedWhole reads members) where
@@ -541,7 +434,7 @@ module _ (reads : List ℕ → Option Object) (members : List MemberView) where
         let from = name_as reads claimed_names name (m ∷ []) (claims_listed m name there listed) in
         as_name reads claimed_names name some m from.object held (subst (λ (x : MemberView). reads x.bytes ≡ Some from.object) (only_one from.member m from.held) from.taken) from.among
 
-    taken_are : (taken : List MemberView) → AreTakenIntoAs reads members own taken → (x : MemberView) → Among x taken → Among x members
+    pub taken_are : (taken : List MemberView) → AreTakenIntoAs reads members own taken → (x : MemberView) → Among x taken → Among x members
     unfolding AreTakenIntoAs Among
     taken_are [] is x held = absurd held
     taken_are (m ∷ taken) is x (inl here) = subst (λ y. Among y members) (sym here) (listed_is members is.0.0 m is.0.1.listed).0
@@ -765,13 +658,13 @@ command_line_closes machine libraries members inputs taken is_given arranged bas
     closed_links machine libraries (given_with object_in is_given (objects_given inputs) (members_at members taken)) (others_of is_given (members_at members taken)) arranged bases objects archive
     (given_closes machine libraries (given_with object_in is_given (objects_given inputs) (members_at members taken)) (others_of is_given (members_at members taken)) arranged bases objects archive given takes linked)
 
--- Where both linkers take a command line's members, they take the same.
+-- Where GNU `ld` takes a command line's members in order, lld takes the same.
 pub takes_alike : (reads : List ℕ → Option Object) (members : List MemberView) (inputs : List Input) (taken : List ℕ) (other : List MemberView) → TakesFirst members (names_left reads (objects_given inputs) (members_at members taken)) taken →
-    AreFirst members (names_left reads (objects_given inputs) other) other → AreListedWhole reads members → AreUnclaimedBehind members [] inputs → IsOrdered reads members inputs → HaveAll members inputs → SearchesCommandLine reads members inputs taken →
-    LldSearches reads members inputs other → HaveSame (members_at members taken) other
-takes_alike reads members inputs taken other first second whole none ordered all gnu lld =
+    AreFirst members (names_left reads (objects_given inputs) other) other → AreListedWhole reads members → AreUnclaimedBehind members [] inputs → IsOrdered reads members inputs → SearchesCommandLine reads members inputs taken →
+    TakesIntoAs reads members (objects_given inputs) other → HaveSame (members_at members taken) other
+takes_alike reads members inputs taken other first second whole none ordered gnu lld =
     searches_alike reads members (objects_given inputs) whole (members_at members taken) other (first_by_numbers members (names_left reads (objects_given inputs) (members_at members taken)) taken first) second
-    (gnu_searches reads members inputs taken first none ordered gnu) (lld_searches reads members inputs other second none all lld)
+    (gnu_searches reads members inputs taken first none ordered gnu) lld
 
 -- Where all symbols differ, each member is the first for its names.
 pub first_of_distinct : (members : List MemberView) (names : List (List ℕ)) (taken : List ℕ) → IsDistinct bytes_eq (all_listed members) → TakesFirst members names taken

@@ -7,7 +7,8 @@ use Rattle.std.proofs.lemmas.Slice.Eq.{bytes_eq-Decides}
 use Rattle.implib.specs.Members.MemberSpec.{MemberView}
 use Rattle.implib.proofs.Link.LinkedMembers.{among_contains}
 use Rattle.implib.proofs.Link.Ranges.{Among}
-use Rattle.implib_link.specs.Search.Search.{AreTakenInTurnAs, first_listed, PullsInAs, TakesAs, left_as, claimed_as}
+use Rattle.implib_link.specs.Search.Closed.{AreTakenIntoAs, PullsIntoAs, TakesIntoAs, unresolved}
+use Rattle.implib_link.specs.Search.Search.{AreTakenInTurnAs, first_listed, objects_as, PullsInAs, TakesAs, left_as, claimed_as}
 use Rattle.implib_link.proofs.Search.ArchiveGroups.{found_or_not}
 use Rattle.implib.specs.Formats.Object.{Object}
 use Rattle.implib_link.proofs.Search.Lists.{contains_among, listed_is}
@@ -234,3 +235,26 @@ search_bounded reads archive taken wanted turn =
 
 pub search_ends : (reads : List ℕ → Option Object) (archive : List MemberView) (wanted : List (List ℕ)) → (taken : List MemberView) × TakesAs reads archive wanted taken
 search_ends reads archive wanted = found_ends reads archive wanted
+
+-- A search for given objects ends.
+module _ (reads : List ℕ → Option Object) (archive : List MemberView) (own : List Object) where
+  abbrev left_by : List MemberView → List (List ℕ)
+  left_by taken = unresolved (own ++ objects_as reads taken)
+
+  left_asks : (taken : List MemberView) (name : List ℕ) → Among name (left_by taken) →
+      ((m : MemberView) × PullsIntoAs reads archive own taken name m) ⊎ ((m : MemberView) → PullsIntoAs reads archive own taken name m → ⊥)
+  left_asks taken name named =
+      elim (first_new archive taken name) [
+        | inr none ↦ inr (λ m pulls. none m pulls.listed pulls.new)
+        | inl found ↦ inl (found.0, record { named = among_contains name (left_by taken) named; listed = found.1; new = found.2 })
+      ]
+
+  left_more : (taken : List MemberView) (name : List ℕ) (m : MemberView) → PullsIntoAs reads archive own taken name m → AreTakenIntoAs reads archive own taken → AreTakenIntoAs reads archive own (m ∷ taken)
+  unfolding AreTakenIntoAs
+  left_more taken name m pulls turn = ((name, pulls), turn)
+
+  pub into_ends : (taken : List MemberView) × TakesIntoAs reads archive own taken
+  unfolding AreTakenIntoAs
+  into_ends =
+      let found = any_ends archive (PullsIntoAs reads archive own) (AreTakenIntoAs reads archive own) left_by left_more left_asks (λ taken name m pulls. (pulls.listed, pulls.new)) tt in
+      (found.0, record { in_turn = found.1; ended = λ name m pulls. found.2 name m (contains_among name (left_by found.0) pulls.named) pulls })

@@ -29,7 +29,8 @@ use Rattle.implib_link.proofs.Search.Arranged.{inputs_made}
 use Rattle.implib_link.proofs.Search.BothArranged.{both_made}
 use Rattle.implib_link.proofs.Search.BothExists.{NoneHave, others_first, tables_below, tables_last, tables_within, weak_have_none}
 use Rattle.implib_link.proofs.Search.Chosen.{exports_are}
-use Rattle.implib_link.proofs.Search.Given.{given_closes, given_ends}
+use Rattle.implib_link.proofs.Search.Ends.{into_ends}
+use Rattle.implib_link.proofs.Search.Given.{given_closes}
 use Rattle.implib_link.proofs.Search.GnuAlone.{archive_alone, gnu_libraries, members_alone, reads_plainly}
 use Rattle.implib_link.proofs.Search.Roles.{in_flavor}
 
@@ -103,7 +104,7 @@ module _ (machine : MachineType) (libraries : List Library) (archive : IsArchive
 pub closed_exists : (machine : MachineType) (libraries : List Library) (own : List Object) (first : ℕ) → IsArchive machine libraries → AreGiven machine libraries own →
     AllByRecursion (λ o. has_tables o ≡ false) own → 0 < first → tables_end first libraries < 2 ^ 31 → HasClosed machine libraries own first
 closed_exists machine libraries own first archive given plain above room =
-    let found = given_ends machine libraries own archive given in
+    let found = into_ends object_in (archive_of libraries) own in
     let taken : List MemberView = found.0 in
     let objects : List Object = objects_closed machine libraries own taken in
     let chosen : AreChosenFor machine libraries own taken libraries objects = chosen_for machine libraries archive own plain taken found.1 in

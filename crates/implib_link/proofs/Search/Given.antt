@@ -10,10 +10,10 @@ use Rattle.implib.specs.Members.MemberSpec.{MemberView}
 use Rattle.implib_link.specs.Gnu.Program.{ClaimsNone}
 use Rattle.implib_link.specs.Search.Archives.{IsArchive, Library, NamesNoHeadOrTailOf, archive_of, is_weak}
 use Rattle.implib_link.specs.Search.BothFlavors.{AreGivenForBoth, archive_of_both, kept_of_both, wanted_of_both}
-use Rattle.implib_link.specs.Search.Closed.{AreLinkedFor, IsClosed, TakesInto, TakesIntoAs, unresolved, wanted_in}
+use Rattle.implib_link.specs.Search.Closed.{AreLinkedFor, IsClosed, TakesInto, unresolved, wanted_in}
 use Rattle.implib_link.specs.Search.Given.{AreGiven, symbols_kept, wanted_at_most}
 use Rattle.implib_link.specs.Search.Search.{AreTakenInTurnAs}
-use Rattle.implib_link.proofs.Search.BothGiven.{claims_none, ends_as, names_none}
+use Rattle.implib_link.proofs.Search.BothGiven.{claims_none, names_none}
 use Rattle.implib_link.proofs.Search.Closing.{in_turn_for}
 use Rattle.implib_link.proofs.Search.GnuAlone.{archive_alone, gnu_alone, gnu_libraries, members_alone, names_alone, no_msvc, reads_plainly}
 
@@ -30,10 +30,6 @@ module _ (machine : MachineType) (libraries : List Library) (archive : IsArchive
     names = names_alone machine libraries _ (subst (NamesNoHeadOrTailOf machine libraries) (sym (most_alone libraries own)) given.names);
   }
 
-  pub ends : (taken : List MemberView) × TakesInto (archive_of libraries) own taken
-  ends = let found = ends_as machine (gnu_libraries libraries) (archive_alone machine libraries archive) own given_alone object_in is_weak (reads_plainly machine libraries archive) in
-      (found.0, subst (λ ms. TakesIntoAs object_in ms own found.0) (members_alone libraries) found.1)
-
   module _ (taken : List MemberView) (arranged : List Library) (bases : Bases) (objects : List Object) (takes : TakesInto (archive_of libraries) own taken)
       (linked : AreLinkedFor machine libraries own taken arranged bases objects) where
     turn : AreTakenInTurnAs object_in (archive_of_both (gnu_libraries libraries)) (unresolved own) taken
@@ -47,10 +43,6 @@ module _ (machine : MachineType) (libraries : List Library) (archive : IsArchive
       names = subst (λ ls. NamesNoHeadOrTailOf machine ls (wanted_in own taken)) (gnu_alone libraries)
           (names_none machine (gnu_libraries libraries) (archive_alone machine libraries archive) own given_alone object_in is_weak (reads_plainly machine libraries archive) taken turn).gnu;
     }
-
-pub given_ends : (machine : MachineType) (libraries : List Library) (own : List Object) → IsArchive machine libraries → AreGiven machine libraries own →
-    (taken : List MemberView) × TakesInto (archive_of libraries) own taken
-given_ends machine libraries own archive given = ends machine libraries archive own given
 
 pub given_closes : (machine : MachineType) (libraries : List Library) (own : List Object) (taken : List MemberView) (arranged : List Library) (bases : Bases) (objects : List Object) →
     IsArchive machine libraries → AreGiven machine libraries own → TakesInto (archive_of libraries) own taken → AreLinkedFor machine libraries own taken arranged bases objects →

@@ -64,13 +64,6 @@ pub record TakesAt (kind : Kind) (linker : LinkerMember) (bytes : List ℕ) (ask
 
 -- Which names ask.
 
--- the objects in members' bytes, and as a linker for a machine takes them, short imports too
-abbrev pub objects_of : List (List ℕ) → List Object
-objects_of contents = filter_map object_in contents
-
-abbrev pub objects_for : MachineType → List (List ℕ) → List Object
-objects_for machine contents = filter_map (expanded_in machine) contents
-
 -- a name that is wanted or left by objects, and that none of them claims
 abbrev pub is_undefined : List (List ℕ) → List Object → List ℕ → Type 0
 is_undefined wanted objects name =

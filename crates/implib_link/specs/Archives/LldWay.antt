@@ -1,11 +1,13 @@
 -- The way for lld: what it takes in the bytes of an archive, and what its program does with it. lld
 -- does not expand a short import: this defines its symbols, and leaves nothing to others.
 use Rattle.std.specs.Prelude.{◌≡◌, ℕ, ◌+◌, ◌<◌, ◌^◌, Bool, false, true, List, [], ◌∷◌, ◌++◌}
-use Rattle.std.specs.Prelude.{bytes_eq, is_some, length, not}
+use Rattle.std.specs.Prelude.{Option, bytes_eq, if◌then◌else◌, is_some, length, map}
 use Rattle.std.specs.List.{AllByRecursion, Contains, filter, filter_map, list_any}
 use Rattle.implib.specs.declared.machine.MachineType.{MachineType}
 use Rattle.implib.specs.Definition.{ExportView}
-use Rattle.implib.specs.Formats.Object.{Object}
+use Rattle.std.specs.Option.{option_map}
+use Rattle.implib.specs.Formats.Constants.{class_external}
+use Rattle.implib.specs.Formats.Object.{ASymbol, Entry, Object}
 use Rattle.implib.specs.Formats.ShortImport.{ShortImport, short_import_in}
 use Rattle.implib.specs.Import.{Ask, imp_symbol}
 use Rattle.implib.specs.Link.Image.{Range, range_end}
@@ -15,7 +17,7 @@ use Rattle.implib.specs.Members.ImportTables.{thunk_width}
 use Rattle.implib.specs.Members.MemberSpec.{MemberView}
 use Rattle.implib.specs.Members.Msvc.{short_import_of, short_import_symbol, short_import_symbols}
 use Rattle.implib.specs.declared.flavor.Flavor.TheVariants.{Msvc}
-use Rattle.implib_link.specs.Archives.InBytes.{Asks, objects_for}
+use Rattle.implib_link.specs.Flavors.Expansion.{expanded_in}
 use Rattle.implib_link.specs.Flavors.LldImports.{IsLldProgram, grouped, imp_symbols_of}
 use Rattle.implib_link.specs.Flavors.LldImports.{imports_of_lld, in_small, placed_by_lld, short_for}
 use Rattle.implib_link.specs.Flavors.LldTables.{ArePiecesAt}
@@ -25,9 +27,11 @@ use Rattle.implib_link.specs.Gnu.Calls.{CanBranch}
 use Rattle.implib_link.specs.Gnu.Fields.{LinkedCode}
 use Rattle.implib_link.specs.Gnu.Moves.{AreInMemory}
 use Rattle.implib_link.specs.Gnu.Operands.{AllLead, HasBranch}
+use Rattle.implib_link.specs.Gnu.Program.{claimed_names}
 use Rattle.implib_link.specs.Gnu.Reading.{ReadsAndWrites}
 use Rattle.implib_link.specs.Search.Archives.{Library, exports_of}
-use Rattle.implib_link.specs.Search.Closed.{claims_of, references_of, unresolved}
+use Rattle.implib_link.specs.Search.Closed.{claims_of}
+use Rattle.implib_link.specs.Search.CommandLines.{names_left}
 use Rattle.implib_link.specs.Search.MsvcArchives.{is_short_alias}
 use Rattle.implib_link.specs.Tables.{AreSteady, AreTablesLoaded, CanReadFrom, tables_of_lld}
 
@@ -35,16 +39,20 @@ use Rattle.implib_link.specs.Tables.{AreSteady, AreTablesLoaded, CanReadFrom, ta
 abbrev pub is_short : List ℕ → Bool
 is_short bytes = is_some (short_import_in bytes)
 
--- the members' bytes that are objects
-abbrev pub not_shorts : List (List ℕ) → List (List ℕ)
-not_shorts contents = filter (λ bytes. not (is_short bytes)) contents
+-- an entry that defines a name, in a section
+abbrev pub defining : List ℕ → Entry
+defining name =
+    ASymbol (record { name = name; value = 0; section = 1; kind = 0; class = class_external })
 
--- A name asks for a member: the given objects or objects that are taken leave it to others, and
--- none of them claims it, nor a short import that is taken, which claims what its expansion would.
-abbrev pub asks_of_lld : MachineType → List Object → Asks
-asks_of_lld machine own contents name =
-    Contains (references_of own ++ references_of (objects_for machine (not_shorts contents))) name
-    × (list_any (bytes_eq name) (claims_of own ++ claims_of (objects_for machine contents)) ≡ false)
+-- an object that defines what another claims, and nothing else
+abbrev pub defining_alone : Object → Object
+defining_alone o = record o { entries = map defining (claimed_names o) }
+
+-- the object that lld takes a member's bytes for
+unfoldable pub read_by_lld : MachineType → List ℕ → Option Object
+read_by_lld machine bytes =
+    option_map (λ (o : Object). if is_short bytes then defining_alone o else o)
+    (expanded_in machine bytes)
 
 -- the short imports among members, as lld for a machine takes them, the last one first
 abbrev pub shorts_in : MachineType → List MemberView → List ShortImport
@@ -54,16 +62,17 @@ shorts_in machine taken = filter_map (λ m. short_for machine m.bytes) taken
 abbrev pub short_of_export : MachineType → Library → ExportView → ShortImport
 short_of_export machine l e = short_import_of machine l.definition.import_name e
 
--- An export that given objects want: it is no alias, and they leave one of its short import's
--- symbols unresolved.
-pub record IsWantedBy (libraries : List Library) (own : List Object) (l : Library)
-    (e : ExportView) : Type 0 where
+-- An export that given objects want, or members that lld takes for them, as aliases: it is no
+-- alias, and they leave one of its short import's symbols to others, which no given object claims.
+pub record IsWantedBy (machine : MachineType) (libraries : List Library) (own : List Object)
+    (taken : List MemberView) (l : Library) (e : ExportView) : Type 0 where
   pub library : Contains libraries l
   pub export : Contains (exports_of l) e
   pub plain : is_short_alias e ≡ false
   pub name : List ℕ
   pub listed : Contains (short_import_symbols e) name
-  pub left : Contains (unresolved own) name
+  pub left : Contains (names_left (read_by_lld machine) own taken) name
+  pub unclaimed : list_any (bytes_eq name) (claims_of own) ≡ false
 
 -- DLLs whose names differ by case alone are called alike
 abbrev pub AreCalledAlike : List Library → Type 0
@@ -92,7 +101,7 @@ pub record IsBuiltByLld (machine : MachineType) (descriptors addresses : ℕ)
   pub ends : AllByRecursion (λ r. range_end r < 2 ^ 31) image
 
 -- What lld takes for given objects:
--- `shorts`: the short import of each export that they want;
+-- `shorts`, `wanted`: the short imports of exactly the exports that are wanted;
 -- `program`: what it writes of those that are live, which `/OPT:REF` kept, is a program of its
 -- laws;
 -- `loads`: in memory at any base, a loader that reads it there stops after as many descriptors as
@@ -103,8 +112,13 @@ pub record IsBuiltByLld (machine : MachineType) (descriptors addresses : ℕ)
 -- thunk.
 pub record LldArrives (machine : MachineType) (libraries : List Library) (own : List Object)
     (taken : List MemberView) : Type 0 where
-  pub shorts : (l : Library) (e : ExportView) → IsWantedBy libraries own l e →
+  pub shorts : (l : Library) (e : ExportView) →
+      IsWantedBy machine libraries own taken l e →
       Contains (shorts_in machine taken) (short_of_export machine l e)
+  pub wanted : (r : ShortImport) → Contains (shorts_in machine taken) r →
+      (l : Library) × (e : ExportView)
+      × IsWantedBy machine libraries own taken l e
+      × (r ≡ short_of_export machine l e)
   pub program : (is_live : ShortImport → Bool) (descriptors addresses : ℕ) (image : List Range)
       (linked : List Placed) →
       IsBuiltByLld machine descriptors addresses (filter is_live (shorts_in machine taken)) image
@@ -140,7 +154,7 @@ pub record LldArrives (machine : MachineType) (libraries : List Library) (own : 
       ((dll : List ℕ) (ask : Ask) → length (gives dll ask) ≡ thunk_width machine) →
       ReadsAndWrites memory (thunk_width machine) gives n descriptors written →
       (l : Library) (e : ExportView) →
-      IsWantedBy libraries own l e →
+      IsWantedBy machine libraries own taken l e →
       is_live (short_of_export machine l e) ≡ true →
       CanReadFrom machine image_base addresses →
       AllLead machine image_base linked codes (written ++ memory)
@@ -159,7 +173,7 @@ pub record LldArrives (machine : MachineType) (libraries : List Library) (own : 
       ((dll : List ℕ) (ask : Ask) → length (gives dll ask) ≡ thunk_width machine) →
       ReadsAndWrites memory (thunk_width machine) gives n descriptors written →
       (l : Library) (e : ExportView) →
-      IsWantedBy libraries own l e →
+      IsWantedBy machine libraries own taken l e →
       is_live (short_of_export machine l e) ≡ true →
       CanReadFrom machine image_base addresses →
       (c d : LinkedCode) (offset after : ℕ) →

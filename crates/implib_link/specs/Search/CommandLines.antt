@@ -6,20 +6,24 @@
 -- archive until a sweep takes nothing, and goes through a group (`--start-group`) until none of its
 -- archives has more to give. What later inputs leave unresolved leads it back to none.
 --
--- lld (COFF/SymbolTable.cpp, `addLazyArchive`, `addUndefined`) keeps the symbols of each archive
--- that it has read, and takes a member as soon as a name is both unresolved and listed.
-use Rattle.std.specs.Prelude.{◌≡◌, ℕ, zero, suc, Bool, false, ◌==◌, List, [], ◌∷◌, ◌++◌, ◌≤◌}
-use Rattle.std.specs.Prelude.{bytes_eq, length, not, slice_get, Option, None, Some, ◌⊎◌}
+-- lld (COFF/Driver.cpp, `enqueueArchiveMember`; COFF/SymbolTable.cpp, `addLazyArchive`,
+-- `addUndefined`) reads all inputs, and takes the members that names ask for from one queue behind
+-- them. So what it takes is one search of all members for all objects, in an order that such a
+-- search allows (`TakesIntoAs`).
+use Rattle.std.specs.Prelude.{◌≡◌, ℕ, zero, suc, Bool, false, ◌&&◌, ◌==◌, List, [], ◌∷◌, ◌++◌}
+use Rattle.std.specs.Prelude.{◌≤◌, bytes_eq, length, not, slice_get, Option, None, Some, ◌⊎◌}
 use Rattle.std.specs.List.{AllByRecursion, Contains, filter, flat_map, list_any}
 use Rattle.implib.specs.Formats.Object.{Object, object_in}
+use Rattle.implib.specs.Import.{imp_symbol}
 use Rattle.implib.specs.declared.machine.MachineType.{MachineType}
 use Rattle.implib.specs.Members.MemberSpec.{MemberView}
-use Rattle.implib_link.specs.Gnu.Program.{ClaimsNone, HaveSame}
+use Rattle.implib_link.specs.Gnu.Program.{ClaimsNone, HaveSame, claimed_names}
 use Rattle.implib_link.specs.Flavors.Expansion.{expanded_in}
 use Rattle.implib_link.specs.Search.BothFlavors.{FlavorLibrary, archive_of_both}
 use Rattle.implib_link.specs.Search.Archives.{Library, archive_of}
-use Rattle.implib_link.specs.Search.Closed.{PullsIntoAs, listed_in, references_of, unresolved}
-use Rattle.implib_link.specs.Search.Search.{claimed_as, first_listed, objects_as, undefined_in}
+use Rattle.implib_link.specs.Search.Closed.{listed_in, references_of, unresolved}
+use Rattle.implib_link.specs.Search.Search.{claimed_as, first_listed, is_listed_for, objects_as}
+use Rattle.implib_link.specs.Search.Search.{undefined_in}
 use Rattle.implib_link.specs.Search.Sweeps.{index_at, members_at, numbers_from, sweeps, swept}
 
 -- an input: an object, or archives that are searched as a group; an archive by itself is a group of
@@ -94,40 +98,6 @@ abbrev pub SearchesCommandLine : (List ℕ → Option Object) → List MemberVie
     Type 0
 SearchesCommandLine reads members inputs taken = SearchesFrom reads members [] inputs [] taken
 
--- lld
-
--- members are taken one after another, behind those before them
-unfoldable pub AreTakenBehind : (List ℕ → Option Object) → List MemberView → List Object →
-    List MemberView → List MemberView → Type 0
-AreTakenBehind reads archive own before [] = Unit {0}
-AreTakenBehind reads archive own before (m ∷ more) =
-    ((name : List ℕ) × PullsIntoAs reads archive own (more ++ before) name m)
-    × AreTakenBehind reads archive own before more
-
--- Members are taken until no unresolved name pulls in another of the archives that were read.
-pub record IsClosedOver (reads : List ℕ → Option Object) (archive : List MemberView)
-    (own : List Object) (before after : List MemberView) : Type 0 where
-  pub more : List MemberView
-  pub taken : more ++ before ≡ after
-  pub in_turn : AreTakenBehind reads archive own before more
-  pub ended : (name : List ℕ) (m : MemberView) → PullsIntoAs reads archive own after name m → ⊥
-
--- What is taken after inputs, for the objects and the archives that were read before them.
-unfoldable pub LldSearchesFrom : (List ℕ → Option Object) → List MemberView → List Object → List ℕ →
-    List Input → List MemberView → List MemberView → Type 0
-LldSearchesFrom reads members own read [] before after = before ≡ after
-LldSearchesFrom reads members own read (input ∷ inputs) before after =
-    (between : List MemberView)
-    × IsClosedOver reads (members_at members (read ++ numbers_of input)) (own ++ object_of input)
-    before between
-    × LldSearchesFrom reads members (own ++ object_of input) (read ++ numbers_of input) inputs
-    between after
-
--- what lld takes for a command line, the last one first
-abbrev pub LldSearches : (List ℕ → Option Object) → List MemberView → List Input → List MemberView →
-    Type 0
-LldSearches reads members inputs taken = LldSearchesFrom reads members [] [] inputs [] taken
-
 -- What is asked of command lines.
 
 -- the symbols that members of these numbers are listed for
@@ -171,11 +141,6 @@ NoneIsLost reads members own taken =
     AllByRecursion (λ name. first_listed members name ≡ None)
     (unresolved (own ++ objects_as reads taken))
 
--- the inputs have each member
-abbrev pub HaveAll : List MemberView → List Input → Type 0
-HaveAll members inputs =
-    (m : MemberView) → Contains members m → Contains (members_at members (numbers_in inputs)) m
-
 -- Each member that is taken, and that is listed for one of these names, is the first that is listed
 -- for it.
 abbrev pub AreFirst : List MemberView → List (List ℕ) → List MemberView → Type 0
@@ -192,6 +157,24 @@ TakesFirst members names taken =
 -- what is left to others in a link: by the given objects, and by the members that are taken
 abbrev pub names_left : (List ℕ → Option Object) → List Object → List MemberView → List (List ℕ)
 names_left reads own taken = references_of (own ++ objects_as reads taken)
+
+-- Where a member is listed for `__imp_X`, GNU `ld` takes by default what it takes with
+-- `--disable-auto-import` (`Sweeps`):
+-- `left`: if X is left to others, the member is listed for X, too;
+-- `claimed`: an object that claims X claims `__imp_X`, too.
+pub record ImportsByName (reads : List ℕ → Option Object) (members : List MemberView)
+    (own : List Object) (taken : List MemberView) : Type 0 where
+  pub left : list_any
+      (λ name. list_any
+      (λ m. is_listed_for (imp_symbol name) m && not (is_listed_for name m)) members)
+      (names_left reads own taken)
+      ≡ false
+  pub claimed : list_any
+      (λ o. list_any
+      (λ name. list_any (is_listed_for (imp_symbol name)) members
+      && not (list_any (bytes_eq (imp_symbol name)) (claimed_names o))) (claimed_names o))
+      (own ++ objects_as reads taken)
+      ≡ false
 
 -- each member is listed for exactly the names that it claims, as an archive's index is made by
 -- tools
@@ -210,13 +193,14 @@ others_of is_given members = filter (λ m. not (is_given m)) members
 
 -- What GNU `ld` takes of a command line's archives, by what it reads members as:
 -- `libraries_are`: the members that are not as given are those of libraries, archive by archive;
--- `first`, `unclaimed`, `ordered`, `whole`: what is asked of the command line;
+-- `first`, `by_name`, `unclaimed`, `ordered`, `whole`: what is asked of the command line;
 -- `searches`: the search.
 pub record SearchesFor (reads : List ℕ → Option Object) (of_libraries members : List MemberView)
     (inputs : List Input) (is_given : MemberView → Bool) (taken : List ℕ) : Type 0 where
   pub libraries_are : others_of is_given members ≡ of_libraries
   pub first : TakesFirst members
       (names_left reads (objects_given inputs) (members_at members taken)) taken
+  pub by_name : ImportsByName reads members (objects_given inputs) (members_at members taken)
   pub unclaimed : AreUnclaimedBehind members [] inputs
   pub ordered : IsOrdered reads members inputs
       ⊎ NoneIsLost reads members (objects_given inputs) (members_at members taken)

@@ -18,8 +18,8 @@ ghost use Rattle.implib_link.specs.Archives.Files.{ArchiveFile, HasMembers, HasM
 ghost use Rattle.implib_link.specs.Archives.Files.{members_in_files, members_read};
 ghost use Rattle.implib_link.specs.Archives.InBytes.{LinkerMember, asks_for, asks_on, asks_with};
 ghost use Rattle.implib_link.specs.Archives.InBytes.{asks_as, asks_with_as, asks_with_on};
-ghost use Rattle.implib_link.specs.Archives.LldFiles.{SearchesByLld, read_by_lld};
-ghost use Rattle.implib_link.specs.Archives.LldWay.{AreCalledAlike, LldArrives, asks_of_lld};
+ghost use Rattle.implib_link.specs.Archives.LldFiles.{SearchesByLld};
+ghost use Rattle.implib_link.specs.Archives.LldWay.{AreCalledAlike, LldArrives, read_by_lld};
 ghost use Rattle.implib_link.specs.Archives.Results.{HaveArchive, IsEnding, IsSearchOf};
 ghost use Rattle.implib_link.specs.Archives.Results.{LeadsToFirst, TakesJust};
 ghost use Rattle.implib_link.specs.Archives.Way.{CallsArrive};
@@ -91,17 +91,14 @@ pub fn archives_have_their_members()
 {}
 
 /// A search in the bytes comes to an end, whichever name the linker takes up first: for any names,
-/// also of short imports, and for objects that may be given.
+/// also of short imports, and for any objects.
 pub fn searches_end()
     ensures wanted { (kind : Kind) (linker : LinkerMember) (members : List MemberView)
         (wanted : List (List ℕ)) →
         HaveArchive kind linker members → IsEnding kind linker members (asks_for wanted) }
-    ensures given { (kind : Kind) (linker : LinkerMember) (machine : MachineType)
-        (libraries : List Library) (own : List Object) →
-        HaveArchive kind linker (archive_of libraries) →
-        IsArchive machine libraries →
-        AreGiven machine libraries own →
-        IsEnding kind linker (archive_of libraries) (asks_with own) }
+    ensures given { (kind : Kind) (linker : LinkerMember) (members : List MemberView)
+        (own : List Object) →
+        HaveArchive kind linker members → IsEnding kind linker members (asks_with own) }
     ensures short { (kind : Kind) (linker : LinkerMember) (machine : MachineType)
         (members : List MemberView) (wanted : List (List ℕ)) →
         HaveArchive kind linker members →
@@ -218,11 +215,11 @@ pub fn files_lead_to_calls()
 {}
 
 /// The whole way for lld: in the bytes of an archive of libraries for Microsoft's linker lld takes
-/// the short import of each export that given objects leave unresolved. Of a program of those that
-/// are live, in memory at any base, a loader that reads it there loads exactly these imports; every
-/// field of code against the `__imp_` symbol of such an export leads to its own entry, where is
-/// what the DLL gives for what it asks for; and a branch to its bare name arrives there by its
-/// thunk.
+/// the short import of exactly the exports that given objects, or aliases that are taken, leave
+/// unresolved. Of a program of those that are live, in memory at any base, a loader that reads it
+/// there loads exactly these imports; every field of code against the `__imp_` symbol of such an
+/// export leads to its own entry, where is what the DLL gives for what it asks for; and a branch to
+/// its bare name arrives there by its thunk.
 ///
 /// The listed symbols are distinct, but for those that one library's or one export's members share.
 /// No alias is among the exports that are spoken of. The search comes to an end, of any members.
@@ -232,12 +229,12 @@ pub fn bytes_lead_to_lld_calls()
         HaveArchive kind linker (archive_of libraries) →
         IsMsvcArchive machine libraries →
         AreCalledAlike libraries →
-        TakesJust kind linker (archive_of libraries) (asks_of_lld machine own)
+        TakesJust kind linker (archive_of libraries) (asks_with_as (read_by_lld machine) own)
         (LldArrives machine libraries own) }
     ensures ends { (kind : Kind) (linker : LinkerMember) (machine : MachineType)
         (members : List MemberView) (own : List Object) →
         HaveArchive kind linker members →
-        IsEnding kind linker members (asks_of_lld machine own) }
+        IsEnding kind linker members (asks_with_as (read_by_lld machine) own) }
 {}
 
 /// The whole way for libraries of which some are for GNU's linker and others for Microsoft's: what
@@ -247,7 +244,7 @@ pub fn bytes_lead_to_lld_calls()
 /// linked code, goes to what its DLL gives. The objects leave a symbol of some short import
 /// unresolved.
 ///
-/// The search comes to an end.
+/// The search comes to an end, of any members.
 pub fn bytes_of_both_flavors_lead_to_calls()
     ensures arrive { (kind : Kind) (linker : LinkerMember) (machine : MachineType)
         (libraries : List FlavorLibrary) (own : List Object) →
@@ -260,11 +257,9 @@ pub fn bytes_of_both_flavors_lead_to_calls()
         AreLinkedForBoth machine libraries own taken arranged bases objects →
         BothArrive machine libraries own taken arranged bases objects) }
     ensures ends { (kind : Kind) (linker : LinkerMember) (machine : MachineType)
-        (libraries : List FlavorLibrary) (own : List Object) →
-        HaveArchive kind linker (archive_of_both libraries) →
-        IsFlavorArchive machine libraries →
-        AreGivenForBoth machine libraries own →
-        IsEnding kind linker (archive_of_both libraries) (asks_with_on machine own) }
+        (members : List MemberView) (own : List Object) →
+        HaveArchive kind linker members →
+        IsEnding kind linker members (asks_with_on machine own) }
 {}
 
 /// The whole way for a linker that expands short imports, of the files of a command line: what it
@@ -297,15 +292,14 @@ pub fn files_of_both_flavors_lead_to_calls()
 {}
 
 /// The whole way for lld, of the files of a command line: what it takes of archives of libraries
-/// for Microsoft's linker and of anything else, in whatever order, has the short import of each
-/// export that the given objects, with the members of the other archives that are taken, leave
-/// unresolved; and what it writes of them arrives as `bytes_lead_to_lld_calls` says.
+/// for Microsoft's linker and of anything else, in whatever order, has the short import of exactly
+/// the exports that the given objects, with the members of the other archives that are taken, want;
+/// and what it writes of them arrives as `bytes_lead_to_lld_calls` says.
 pub fn files_lead_to_lld_calls()
     ensures { (machine : MachineType) (libraries : List Library) (files : List ArchiveFile)
-        (inputs : List Input) (is_given : MemberView → Bool) (taken : List MemberView) →
-        SearchesByLld machine libraries (members_in_files files) inputs is_given taken →
+        (own : List Object) (is_given : MemberView → Bool) (taken : List MemberView) →
+        SearchesByLld machine libraries (members_in_files files) own is_given taken →
         IsMsvcArchive machine libraries → AreCalledAlike libraries →
-        LldArrives machine libraries
-        (given_with (read_by_lld machine) is_given (objects_given inputs) taken)
+        LldArrives machine libraries (given_with (read_by_lld machine) is_given own taken)
         (others_of is_given taken) }
 {}

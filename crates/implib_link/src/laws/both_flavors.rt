@@ -64,19 +64,17 @@ pub fn closed_program_of_both_flavors_links()
         IsClosedForBoth machine libraries own taken arranged (packed first objects) objects }
 {}
 
-/// For objects that may be given to a linker with libraries of both flavours, its search ends; and
-/// if they leave a symbol of some short import unresolved, whatever it takes closes the program, as
-/// what is linked. Nothing is asked of the search.
+/// A search for any objects ends; and whatever a linker takes of libraries of both flavours for
+/// objects that may be given, if they leave a symbol of some short import unresolved, closes the
+/// program, as what is linked. Nothing is asked of the search.
 ///
 /// If none of these objects holds a part of the import tables, there is such a program (`exists`).
 /// Objects that close a program do so in their packed placement from an address on (`packed`), of
 /// which nothing is asked but room: that the address is above 0, and that the tables of the
 /// libraries, whose sizes the definitions alone bound, end below 2^31; there they lie (`within`).
 pub fn objects_given_for_both_flavors_are_closed()
-    ensures ends { (machine : MachineType) (libraries : List FlavorLibrary) (own : List Object) →
-        IsFlavorArchive machine libraries →
-        AreGivenForBoth machine libraries own →
-        (taken : List MemberView) × TakesIntoFor machine (archive_of_both libraries) own taken }
+    ensures ends { (machine : MachineType) (archive : List MemberView) (own : List Object) →
+        (taken : List MemberView) × TakesIntoFor machine archive own taken }
     ensures closes { (machine : MachineType) (libraries : List FlavorLibrary) (own : List Object)
         (taken : List MemberView) (arranged : List FlavorLibrary) (objects : List Object)
         (before behind : List MemberView) →

@@ -30,19 +30,17 @@ pub fn closed_program_links()
         LinksClosed machine libraries own taken arranged bases objects }
 {}
 
-/// For objects that may be given to a linker with libraries, its search ends; and whatever it takes
-/// closes the program, as what is linked. Nothing is asked of the search.
+/// A search for any objects ends; and whatever a linker takes of libraries for objects that may be
+/// given closes the program, as what is linked. Nothing is asked of the search.
 ///
 /// If none of these objects holds a part of the import tables, there is a closed program
 /// (`exists`): whatever the search takes, its packed placement from an address on closes the
-/// program, in any order of the objects (`packed`). Of the placement nothing is asked but room: that
-/// the address is above 0, and that the tables of the libraries, whose sizes the definitions alone
-/// bound, end below 2^31; there they lie (`within`).
+/// program, in any order of the objects (`packed`). Of the placement nothing is asked but room:
+/// that the address is above 0, and that the tables of the libraries, whose sizes the definitions
+/// alone bound, end below 2^31; there they lie (`within`).
 pub fn given_objects_are_closed()
-    ensures ends { (machine : MachineType) (libraries : List Library) (own : List Object) →
-        IsArchive machine libraries →
-        AreGiven machine libraries own →
-        (taken : List MemberView) × TakesInto (archive_of libraries) own taken }
+    ensures ends { (archive : List MemberView) (own : List Object) →
+        (taken : List MemberView) × TakesInto archive own taken }
     ensures closes { (machine : MachineType) (libraries : List Library) (own : List Object)
         (taken : List MemberView) (arranged : List Library) (bases : Bases)
         (objects : List Object) →

@@ -8,26 +8,25 @@ ghost use Rattle.implib_link.specs.Gnu.Program.{HaveSame};
 ghost use Rattle.implib_link.specs.Search.Archives.{IsArchive, Library};
 ghost use Rattle.implib_link.specs.Search.Closed.{AreLinkedFor, LinksClosed, TakesIntoAs};
 ghost use Rattle.implib_link.specs.Search.CommandLines.{AreFirst, AreListedWhole};
-ghost use Rattle.implib_link.specs.Search.CommandLines.{AreUnclaimedBehind, HaveAll, NoneIsLost};
+ghost use Rattle.implib_link.specs.Search.CommandLines.{AreUnclaimedBehind, NoneIsLost};
 ghost use Rattle.implib_link.specs.Search.CommandLines.{TakesFirst, names_left};
-ghost use Rattle.implib_link.specs.Search.CommandLines.{Input, IsOrdered, LldSearches};
+ghost use Rattle.implib_link.specs.Search.CommandLines.{Input, IsOrdered};
 ghost use Rattle.implib_link.specs.Search.CommandLines.{SearchesCommandLine, SearchesLibraries};
 ghost use Rattle.implib_link.specs.Search.CommandLines.{given_with, objects_given, others_of};
 ghost use Rattle.implib_link.specs.Search.Given.{AreGiven};
 ghost use Rattle.implib_link.specs.Search.Sweeps.{members_at};
 ghost use Rattle.std.specs.Prelude.{ℕ, [], Bool, List, Option};
 
-/// What a linker takes of the archives of a command line is what one search of all their members
+/// What GNU `ld` takes of the archives of a command line is what one search of all their members
 /// takes, for all objects, whatever the archives are: so all that is proved of such a search holds
 /// of it.
 ///
 /// A taken member that is listed for a name which objects or taken members leave to others is the
 /// first that is; and no object claims a name that an archive in front of it lists.
-/// GNU `ld` wants an order, too, in which what is left unresolved is listed behind it, or in the
-/// same group (`gnu`); or that nothing which an archive lists is left in the end, as in each link
-/// without an undefined reference (`complete`). lld takes any order (`lld`). An archive may stand
-/// on the command line more than once.
-/// However the linker reads members.
+/// What is left unresolved is listed behind it, or in the same group (`gnu`); or nothing which an
+/// archive lists is left in the end, as in each link without an undefined reference (`complete`).
+/// An archive may stand on the command line more than once. The search is that without automatic
+/// imports (`ImportsByName`), however the linker reads members.
 pub fn command_lines_are_searched()
     ensures gnu { (reads : List ℕ → Option Object) (members : List MemberView)
         (inputs : List Input) (taken : List ℕ) →
@@ -44,17 +43,11 @@ pub fn command_lines_are_searched()
         NoneIsLost reads members (objects_given inputs) (members_at members taken) →
         SearchesCommandLine reads members inputs taken →
         TakesIntoAs reads members (objects_given inputs) (members_at members taken) }
-    ensures lld { (reads : List ℕ → Option Object) (members : List MemberView)
-        (inputs : List Input) (taken : List MemberView) →
-        AreFirst members (names_left reads (objects_given inputs) taken) taken →
-        AreUnclaimedBehind members [] inputs → HaveAll members inputs →
-        LldSearches reads members inputs taken →
-        TakesIntoAs reads members (objects_given inputs) taken }
 {}
 
 /// Two searches of one list of members take the same, whichever unresolved name they take up first
-/// (`same`); so where the order is GNU `ld`'s, lld takes what it takes (`linkers`). Each member is
-/// listed for the names that it claims.
+/// (`same`); so where the order is GNU `ld`'s, lld, which takes members in one search of all, takes
+/// what it takes (`linkers`). Each member is listed for the names that it claims.
 pub fn linkers_take_alike()
     ensures same { (reads : List ℕ → Option Object) (members : List MemberView)
         (own : List Object) (taken other : List MemberView) →
@@ -68,9 +61,9 @@ pub fn linkers_take_alike()
         taken →
         AreFirst members (names_left reads (objects_given inputs) other) other →
         AreListedWhole reads members → AreUnclaimedBehind members [] inputs →
-        IsOrdered reads members inputs → HaveAll members inputs →
+        IsOrdered reads members inputs →
         SearchesCommandLine reads members inputs taken →
-        LldSearches reads members inputs other →
+        TakesIntoAs reads members (objects_given inputs) other →
         HaveSame (members_at members taken) other }
 {}
 

@@ -6,7 +6,7 @@ use Rattle.implib_link.specs.Archives.Files.{HasMembersAs, entries_by, entries_i
 use Rattle.implib.specs.Worked.Digits.{bytes_of_digits}
 use Rattle.implib_archive.specs.declared.kind.Kind.TheVariants.{Coff}
 use Rattle.implib_link.specs.Search.BothFlavors.{FlavorLibrary, archive_of_both, msvc_among}
-use Rattle.implib_link_instances.specs.Archives.Files.{WorkedFileLine, WorkedFileLines, WorkedFiles, amd64_files, i386_files, i386_kernel_lib, i386_libquit, kernel_lib, libquit, lld_taken, shorts_first}
+use Rattle.implib_link_instances.specs.Archives.Files.{WorkedFileLine, WorkedFileLines, WorkedFiles, amd64_files, i386_files, i386_kernel_lib, i386_libquit, kernel_lib, libquit, lld_taken}
 use Rattle.implib_link_instances.specs.Worked.FlavorLines.{amd64_kernels, amd64_shorts, i386_kernels, i386_shorts, shorts_grouped, shorts_last, shorts_taken}
 use Rattle.implib_link_instances.proofs.Worked.Opened.{searched, archived}
 use Rattle.std.specs.Prelude.{bytes_eq, drop, slice_get}
@@ -16,19 +16,19 @@ use Rattle.implib.specs.Definition.{empty_definition}
 use Rattle.implib.specs.Formats.Object.{Object}
 use Rattle.implib.specs.Members.MsvcObjects.{null_descriptor_symbol}
 use Rattle.implib.proofs.Link.Ranges.{Among}
-use Rattle.implib_link.specs.Archives.LldFiles.{SearchesByLld, read_by_lld}
-use Rattle.implib_link.specs.Archives.LldWay.{AreCalledAlike}
+use Rattle.implib_link.specs.Archives.LldFiles.{SearchesByLld}
+use Rattle.implib_link.specs.Archives.LldWay.{AreCalledAlike, read_by_lld}
 use Rattle.implib_link.proofs.Archives.LldFiles.{files_lead_to_lld}
 use Rattle.implib_link.specs.Search.Archives.{Library, archive_of}
-use Rattle.implib_link.specs.Search.Closed.{listed_in}
-use Rattle.implib_link.specs.Search.CommandLines.{AreListedWhole, AreTakenBehind, AreUnclaimedBehind, HaveAll, LldSearches, LldSearchesFrom, SearchesFlavors, names_left}
+use Rattle.implib_link.specs.Search.Closed.{AreTakenIntoAs, TakesIntoAs, listed_in}
+use Rattle.implib_link.specs.Search.CommandLines.{AreListedWhole, SearchesFlavors, names_left}
 use Rattle.implib_link.specs.Search.MsvcArchives.{IsMsvcArchive, symbols_of_shorts}
-use Rattle.implib_link.proofs.Search.CommandLines.{are_first_of_distinct, lld_members}
+use Rattle.implib_link.proofs.Search.CommandLines.{are_first_of_distinct, taken_are}
 use Rattle.implib_link.proofs.Search.Lists.{contains_among}
 use Rattle.implib_link_instances.specs.Worked.CommandLines.{i386_wants_bytes, is_quit, read_or_none, wants_bytes}
-use Rattle.implib_link_instances.proofs.Worked.CommandLines.{ended_by, member_or_none, none_there, pulls_by, whole_at}
+use Rattle.implib_link_instances.proofs.Worked.CommandLines.{ended_by, member_or_none, object_at, pulls_by, whole_at}
 use Rattle.implib_link_instances.proofs.Worked.FlavorLines.{worked_flavor_lines}
-use Rattle.implib_link_instances.proofs.Worked.Programs.{distinct_by}
+use Rattle.implib_link_instances.proofs.Worked.Programs.{claims_none_by, distinct_by}
 use Rattle.implib_link.specs.Archives.Results.{HaveArchive}
 use Rattle.implib_link.specs.Archives.InBytes.{Second}
 
@@ -89,37 +89,15 @@ lld_whole = (
   ),
 )
 
-by_lld : LldSearches (read_by_lld AMD64) amd64_shorts (shorts_first own) (lld_taken amd64_shorts)
-unfolding searched read_by_lld AreTakenBehind LldSearchesFrom
-by_lld = (
-  [],
-  record { more = []; taken = refl; in_turn = tt; ended = ended_by (read_by_lld AMD64) [] own [] refl },
-  (
-    [],
-    record { more = []; taken = refl; in_turn = tt; ended = ended_by (read_by_lld AMD64) (archive_of_both amd64_kernels) own [] refl },
-    (
-      lld_taken amd64_shorts,
-      record {
-        more = lld_taken amd64_shorts;
-        taken = refl;
-        in_turn = (
-          (codes "ExitProcess", pulls_by (read_by_lld AMD64) amd64_shorts own (drop 1 (lld_taken amd64_shorts)) (codes "ExitProcess") (member_or_none (slice_get amd64_shorts 3)) refl refl refl),
-          ((codes "quit", pulls_by (read_by_lld AMD64) amd64_shorts own [] (codes "quit") (member_or_none (slice_get amd64_shorts 4)) refl refl refl), tt),
-        );
-        ended = ended_by (read_by_lld AMD64) amd64_shorts own (lld_taken amd64_shorts) refl;
-      },
-      refl,
-    ),
-  ),
-)
-
-lld_unclaimed : AreUnclaimedBehind amd64_shorts [] (shorts_first own)
-unfolding searched AreUnclaimedBehind
-lld_unclaimed = ((tt, tt), (tt, (tt, tt)))
-
-all : HaveAll amd64_shorts (shorts_first own)
-unfolding searched
-all m held = held
+by_lld : TakesIntoAs (read_by_lld AMD64) amd64_shorts own (lld_taken amd64_shorts)
+unfolding searched read_by_lld AreTakenIntoAs
+by_lld = record {
+  in_turn = (
+    (codes "ExitProcess", pulls_by (read_by_lld AMD64) amd64_shorts own (drop 1 (lld_taken amd64_shorts)) (codes "ExitProcess") (member_or_none (slice_get amd64_shorts 3)) refl refl refl),
+    ((codes "quit", pulls_by (read_by_lld AMD64) amd64_shorts own [] (codes "quit") (member_or_none (slice_get amd64_shorts 4)) refl refl refl), tt),
+  );
+  ended = ended_by (read_by_lld AMD64) amd64_shorts own (lld_taken amd64_shorts) refl;
+}
 
 archive : IsMsvcArchive AMD64 (msvc_among amd64_kernels)
 unfolding searched
@@ -133,14 +111,13 @@ lld_distinct : IsDistinct bytes_eq (listed_in amd64_shorts)
 unfolding searched
 lld_distinct = distinct_by (listed_in amd64_shorts) refl
 
-searches_by_lld : SearchesByLld AMD64 (msvc_among amd64_kernels) amd64_shorts (shorts_first own) is_quit (lld_taken amd64_shorts)
+searches_by_lld : SearchesByLld AMD64 (msvc_among amd64_kernels) amd64_shorts own is_quit (lld_taken amd64_shorts)
 unfolding searched
 searches_by_lld = record {
   libraries_are = refl;
-  first = are_first_of_distinct amd64_shorts (names_left (read_by_lld AMD64) own (lld_taken amd64_shorts)) (lld_taken amd64_shorts) lld_distinct (lld_members (read_by_lld AMD64) amd64_shorts [] [] (shorts_first own) [] (lld_taken amd64_shorts) by_lld (none_there amd64_shorts));
-  unclaimed = lld_unclaimed;
-  all = all;
+  first = are_first_of_distinct amd64_shorts (names_left (read_by_lld AMD64) own (lld_taken amd64_shorts)) (lld_taken amd64_shorts) lld_distinct (taken_are (read_by_lld AMD64) amd64_shorts own lld_whole (lld_taken amd64_shorts) by_lld.in_turn);
   whole = lld_whole;
+  unclaimed = (claims_none_by (listed_in (lld_taken amd64_shorts)) (object_at own 0) refl, tt);
   searches = by_lld;
 }
 
@@ -158,15 +135,15 @@ line : WorkedFileLine AMD64 amd64_kernels amd64_files amd64_shorts own (shorts_l
 unfolding searched
 line =
     let alike : AreCalledAlike (msvc_among amd64_kernels) = one_alike (kernel_of amd64_kernels) in
-    let lld : SearchesByLld AMD64 (msvc_among amd64_kernels) (members_in_files amd64_files) (shorts_first own) is_quit (lld_taken amd64_shorts) =
-    subst (λ ms. SearchesByLld AMD64 (msvc_among amd64_kernels) ms (shorts_first own) is_quit (lld_taken amd64_shorts)) (sym members_are) searches_by_lld in
+    let lld : SearchesByLld AMD64 (msvc_among amd64_kernels) (members_in_files amd64_files) own is_quit (lld_taken amd64_shorts) =
+    subst (λ ms. SearchesByLld AMD64 (msvc_among amd64_kernels) ms own is_quit (lld_taken amd64_shorts)) (sym members_are) searches_by_lld in
     record {
       members_are = members_are;
       archive = archive;
       ready = ready;
       alike = alike;
       lld = lld;
-      arrives = files_lead_to_lld AMD64 (msvc_among amd64_kernels) amd64_files (shorts_first own) is_quit (lld_taken amd64_shorts) lld archive alike;
+      arrives = files_lead_to_lld AMD64 (msvc_among amd64_kernels) amd64_files own is_quit (lld_taken amd64_shorts) lld archive alike;
       flavors = subst (λ ms. SearchesFlavors AMD64 amd64_kernels ms (shorts_last own) is_quit shorts_taken) (sym members_are) worked_flavor_lines.amd64.searches;
     }
 
@@ -191,37 +168,15 @@ i386_lld_whole = (
   ),
 )
 
-i386_by_lld : LldSearches (read_by_lld I386) i386_shorts (shorts_first i386_own) (lld_taken i386_shorts)
-unfolding searched read_by_lld AreTakenBehind LldSearchesFrom
-i386_by_lld = (
-  [],
-  record { more = []; taken = refl; in_turn = tt; ended = ended_by (read_by_lld I386) [] i386_own [] refl },
-  (
-    [],
-    record { more = []; taken = refl; in_turn = tt; ended = ended_by (read_by_lld I386) (archive_of_both i386_kernels) i386_own [] refl },
-    (
-      lld_taken i386_shorts,
-      record {
-        more = lld_taken i386_shorts;
-        taken = refl;
-        in_turn = (
-          (codes "_ExitProcess@4", pulls_by (read_by_lld I386) i386_shorts i386_own (drop 1 (lld_taken i386_shorts)) (codes "_ExitProcess@4") (member_or_none (slice_get i386_shorts 3)) refl refl refl),
-          ((codes "_quit", pulls_by (read_by_lld I386) i386_shorts i386_own [] (codes "_quit") (member_or_none (slice_get i386_shorts 4)) refl refl refl), tt),
-        );
-        ended = ended_by (read_by_lld I386) i386_shorts i386_own (lld_taken i386_shorts) refl;
-      },
-      refl,
-    ),
-  ),
-)
-
-i386_lld_unclaimed : AreUnclaimedBehind i386_shorts [] (shorts_first i386_own)
-unfolding searched AreUnclaimedBehind
-i386_lld_unclaimed = ((tt, tt), (tt, (tt, tt)))
-
-i386_all : HaveAll i386_shorts (shorts_first i386_own)
-unfolding searched
-i386_all m held = held
+i386_by_lld : TakesIntoAs (read_by_lld I386) i386_shorts i386_own (lld_taken i386_shorts)
+unfolding searched read_by_lld AreTakenIntoAs
+i386_by_lld = record {
+  in_turn = (
+    (codes "_ExitProcess@4", pulls_by (read_by_lld I386) i386_shorts i386_own (drop 1 (lld_taken i386_shorts)) (codes "_ExitProcess@4") (member_or_none (slice_get i386_shorts 3)) refl refl refl),
+    ((codes "_quit", pulls_by (read_by_lld I386) i386_shorts i386_own [] (codes "_quit") (member_or_none (slice_get i386_shorts 4)) refl refl refl), tt),
+  );
+  ended = ended_by (read_by_lld I386) i386_shorts i386_own (lld_taken i386_shorts) refl;
+}
 
 i386_archive : IsMsvcArchive I386 (msvc_among i386_kernels)
 unfolding searched
@@ -235,14 +190,13 @@ i386_lld_distinct : IsDistinct bytes_eq (listed_in i386_shorts)
 unfolding searched
 i386_lld_distinct = distinct_by (listed_in i386_shorts) refl
 
-i386_searches_by_lld : SearchesByLld I386 (msvc_among i386_kernels) i386_shorts (shorts_first i386_own) is_quit (lld_taken i386_shorts)
+i386_searches_by_lld : SearchesByLld I386 (msvc_among i386_kernels) i386_shorts i386_own is_quit (lld_taken i386_shorts)
 unfolding searched
 i386_searches_by_lld = record {
   libraries_are = refl;
-  first = are_first_of_distinct i386_shorts (names_left (read_by_lld I386) i386_own (lld_taken i386_shorts)) (lld_taken i386_shorts) i386_lld_distinct (lld_members (read_by_lld I386) i386_shorts [] [] (shorts_first i386_own) [] (lld_taken i386_shorts) i386_by_lld (none_there i386_shorts));
-  unclaimed = i386_lld_unclaimed;
-  all = i386_all;
+  first = are_first_of_distinct i386_shorts (names_left (read_by_lld I386) i386_own (lld_taken i386_shorts)) (lld_taken i386_shorts) i386_lld_distinct (taken_are (read_by_lld I386) i386_shorts i386_own i386_lld_whole (lld_taken i386_shorts) i386_by_lld.in_turn);
   whole = i386_lld_whole;
+  unclaimed = (claims_none_by (listed_in (lld_taken i386_shorts)) (object_at i386_own 0) refl, tt);
   searches = i386_by_lld;
 }
 
@@ -260,15 +214,15 @@ i386_line : WorkedFileLine I386 i386_kernels i386_files i386_shorts i386_own (sh
 unfolding searched
 i386_line =
     let alike : AreCalledAlike (msvc_among i386_kernels) = one_alike (kernel_of i386_kernels) in
-    let lld : SearchesByLld I386 (msvc_among i386_kernels) (members_in_files i386_files) (shorts_first i386_own) is_quit (lld_taken i386_shorts) =
-    subst (λ ms. SearchesByLld I386 (msvc_among i386_kernels) ms (shorts_first i386_own) is_quit (lld_taken i386_shorts)) (sym i386_members_are) i386_searches_by_lld in
+    let lld : SearchesByLld I386 (msvc_among i386_kernels) (members_in_files i386_files) i386_own is_quit (lld_taken i386_shorts) =
+    subst (λ ms. SearchesByLld I386 (msvc_among i386_kernels) ms i386_own is_quit (lld_taken i386_shorts)) (sym i386_members_are) i386_searches_by_lld in
     record {
       members_are = i386_members_are;
       archive = i386_archive;
       ready = i386_ready;
       alike = alike;
       lld = lld;
-      arrives = files_lead_to_lld I386 (msvc_among i386_kernels) i386_files (shorts_first i386_own) is_quit (lld_taken i386_shorts) lld i386_archive alike;
+      arrives = files_lead_to_lld I386 (msvc_among i386_kernels) i386_files i386_own is_quit (lld_taken i386_shorts) lld i386_archive alike;
       flavors = subst (λ ms. SearchesFlavors I386 i386_kernels ms (shorts_grouped i386_own) is_quit shorts_taken) (sym i386_members_are) worked_flavor_lines.i386.searches;
     }
 

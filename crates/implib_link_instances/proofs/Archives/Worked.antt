@@ -1,17 +1,17 @@
 -- The searches in bytes that were done by hand, by computing.
 use Rattle.std.proofs.Common.{Bool, List, None, Option, Some, [], ap, arith, bytes_eq, codes, eq-eqb, false, inl, inr, nat_eq, refl, subst, sym, true, unwrap_or, ℕ, ◌++◌, ◌||◌, ◌∙◌, ◌∷◌, ◌≡◌, ◌⊎◌}
-use Rattle.std.specs.List.{flat_map, list_all, list_any}
+use Rattle.std.specs.List.{filter_map, flat_map, list_all, list_any}
 use Rattle.std.proofs.lemmas.Bool.{and_parts, eqb-true, true≢false}
 use Rattle.implib.proofs.Link.LinkedMembers.{among_contains}
 use Rattle.implib.proofs.Link.Ranges.{Among}
-use Rattle.implib.specs.Formats.Object.{bytes_at, object_in}
+use Rattle.implib.specs.Formats.Object.{Object, bytes_at, object_in}
 use Rattle.implib.specs.Worked.Digits.{bytes_of_digits}
 use Rattle.implib_archive.specs.Leads.{header_for, numbered, second_header_for}
 use Rattle.implib_archive.specs.Reader.{data_at, first_in, linker_data, linker_in, long_name, long_name_at, long_names_in, long_names_or, member_at, name_in, number_in, numbers_in, paired, read_as, second_in, stored_at, stored_from, stored_in, texts_in, trimmed}
 use Rattle.implib_archive.specs.Worked.{worked_coff, worked_gnu}
 use Rattle.implib_archive.specs.declared.kind.Kind.{Kind}
 use Rattle.implib_archive.specs.declared.kind.Kind.TheVariants.{Coff, Gnu}
-use Rattle.implib_link.specs.Archives.InBytes.{AreTakenAt, First, LinkerMember, PullsInAt, Second, TakesAt, asks_for, contents_at, header_by, objects_of}
+use Rattle.implib_link.specs.Archives.InBytes.{AreTakenAt, First, LinkerMember, PullsInAt, Second, TakesAt, asks_for, contents_at, header_by}
 use Rattle.implib_link.specs.Archives.Results.{HaveArchive}
 use Rattle.implib_link_instances.specs.Archives.Worked.{WorkedLibraries, WorkedSearches, names_wanted}
 use Rattle.implib_link.proofs.Archives.Corollaries.{found_given, found_wanted}
@@ -67,24 +67,27 @@ among_number n (x ∷ ns) (inr later) = ap (λ b. nat_eq n x || b) (among_number
     or_true false = refl
 
 module _ (kind : Kind) (linker : LinkerMember) (bytes : List ℕ) (names : List (List ℕ)) (taken : List ℕ) where
+  abbrev objects : List Object
+  objects = filter_map object_in (contents_at kind bytes taken)
+
   abbrev named : List (List ℕ)
-  named = names ++ flat_map undefined_in (objects_of (contents_at kind bytes taken))
+  named = names ++ flat_map undefined_in objects
 
   -- a search is at its end where each name is settled
-  settled : list_all (λ name. is_settled_at taken (header_by linker bytes name)) (names ++ flat_map undefined_in (objects_of (contents_at kind bytes taken))) ≡ true
+  settled : list_all (λ name. is_settled_at taken (header_by linker bytes name)) named ≡ true
       → (name : List ℕ) (h : ℕ) → PullsInAt kind linker bytes (asks_for names) taken name h → ⊥
   settled all name h pulls =
-      let is = all_settled (λ name. is_settled_at taken (header_by linker bytes name)) (names ++ flat_map undefined_in (objects_of (contents_at kind bytes taken))) name all
-      (contains_among name (names ++ flat_map undefined_in (objects_of (contents_at kind bytes taken))) pulls.asked.0) in
+      let is = all_settled (λ name. is_settled_at taken (header_by linker bytes name)) named name all
+      (contains_among name named pulls.asked.0) in
       let there : list_any (nat_eq h) taken ≡ true = sym (ap (is_settled_at taken) pulls.found) ∙ is in
       pulls.new (among_contains h taken (number_among h taken there))
 
   -- a name leads to a header by what is computed
-  pulls_now : (name : List ℕ) (h : ℕ) → list_any (bytes_eq name) (names ++ flat_map undefined_in (objects_of (contents_at kind bytes taken))) ≡ true
-      → list_any (bytes_eq name) (flat_map claimed_names (objects_of (contents_at kind bytes taken))) ≡ false → header_by linker bytes name ≡ Some h → list_any (nat_eq h) taken ≡ false
+  pulls_now : (name : List ℕ) (h : ℕ) → list_any (bytes_eq name) named ≡ true
+      → list_any (bytes_eq name) (flat_map claimed_names objects) ≡ false → header_by linker bytes name ≡ Some h → list_any (nat_eq h) taken ≡ false
       → PullsInAt kind linker bytes (asks_for names) taken name h
   pulls_now name h wants undefined found new = record {
-    asked = (among_contains name (names ++ flat_map undefined_in (objects_of (contents_at kind bytes taken))) (any_among name (names ++ flat_map undefined_in (objects_of (contents_at kind bytes taken))) wants), undefined);
+    asked = (among_contains name named (any_among name named wants), undefined);
     found = found;
     new = λ has. true≢false (sym (among_number h taken (contains_among h taken has)) ∙ new);
   }

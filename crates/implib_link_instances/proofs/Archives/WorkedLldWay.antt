@@ -1,12 +1,8 @@
 -- The way for lld by hand, by computing and by the law.
-use Rattle.std.proofs.Common.{◌≡◌, ℕ, true, List, [], ◌∷◌, codes, map, refl, ap, sym, ◌∙◌, subst, inl, inr, arith}
-use Rattle.std.specs.Prelude.{bytes_eq}
-use Rattle.std.specs.List.{list_any}
-use Rattle.std.proofs.lemmas.Bool.{true≢false}
+use Rattle.std.proofs.Common.{◌≡◌, [], ◌∷◌, codes, refl, ap, sym, ◌∙◌, inl, inr, arith}
 use Rattle.implib.specs.declared.machine.MachineType.TheVariants.{AMD64}
 use Rattle.implib.specs.Formats.Constants.{amd64_rel32, class_external}
 use Rattle.implib.specs.Formats.Layout.{encoded_size}
-use Rattle.implib.specs.Members.MemberSpec.{MemberView}
 use Rattle.implib.specs.Members.Members.{refusal, renamed_refusal}
 use Rattle.implib.specs.Members.MsvcMembers.{descriptor_spec, header_specs, null_descriptor_spec, null_thunk_spec, weak_specs}
 use Rattle.implib.specs.Members.MsvcObjects.{base_name, descriptor, descriptor_symbol, null_descriptor, null_descriptor_symbol, null_thunk, null_thunk_symbol}
@@ -14,11 +10,12 @@ use Rattle.implib.specs.Worked.Statements.{plain_export}
 use Rattle.implib.proofs.Link.LinkedMembers.{among_contains}
 use Rattle.implib.proofs.Link.Ranges.{Among}
 use Rattle.implib_archive.specs.declared.kind.Kind.TheVariants.{Coff}
-use Rattle.implib_link.specs.Archives.InBytes.{Second}
-use Rattle.implib_link.specs.Archives.LldWay.{AreCalledAlike, IsBuiltByLld, IsWantedBy, LldArrives, asks_of_lld, shorts_in}
+use Rattle.implib_link.specs.Archives.InBytes.{Second, asks_with_as}
+use Rattle.implib_link.specs.Archives.LldWay.{AreCalledAlike, IsBuiltByLld, IsWantedBy, LldArrives, read_by_lld, shorts_in}
 use Rattle.implib_link.specs.Archives.Results.{HaveArchive}
 use Rattle.implib_link_instances.specs.Archives.WorkedLldWay.{WorkedLldWay, bar_short, calls_linked, is_live, live_shorts, lld_codes, lld_image, lld_libraries, lld_library, lld_linked, lld_memory, lld_own, lld_tables, lld_taken, lld_targets, placed_calls, thunk_linked, two_calls}
-use Rattle.implib_link.proofs.Archives.InBytes.{AreTakenBy, TakesBy, search_of}
+use Rattle.implib_link.proofs.Archives.Corollaries.{taken_given}
+use Rattle.implib_link.proofs.Archives.InBytes.{search_of}
 use Rattle.implib_link.proofs.Archives.LldWay.{lld_arrives}
 use Rattle.implib_link.specs.Flavors.Expansion.{descriptor_symbol_by_name, expanded_in, import_object}
 use Rattle.implib_link.specs.Flavors.LldImports.{imports_of_lld}
@@ -30,7 +27,7 @@ use Rattle.implib_link.specs.Gnu.Moves.{AreInMemory, AreMoved}
 use Rattle.implib_link.specs.Gnu.Operands.{HasBranch, HasInstruction}
 use Rattle.implib_link.specs.Gnu.Rebased.{table_places}
 use Rattle.implib_link.specs.Search.Archives.{Library, archive_of}
-use Rattle.implib_link.specs.Search.Closed.{claims_of, references_of}
+use Rattle.implib_link.specs.Search.Closed.{AreTakenIntoAs, TakesIntoAs, claims_of, references_of}
 use Rattle.implib_link.specs.Search.MsvcArchives.{IsMsvcArchive, symbols_of_shorts}
 use Rattle.implib_link.specs.Search.Search.{undefined_in}
 use Rattle.implib_link.specs.Tables.{AreSteady}
@@ -40,6 +37,7 @@ use Rattle.implib_link_instances.specs.Worked.Programs.{symbol_of_class}
 use Rattle.implib_link.proofs.Flavors.LldTables.{built_pieces}
 use Rattle.implib_link.proofs.Search.Lists.{contains_among}
 use Rattle.implib_link_instances.proofs.Worked.Calls.{wide}
+use Rattle.implib_link_instances.proofs.Worked.CommandLines.{ended_by, pulls_by}
 use Rattle.implib_link_instances.proofs.Worked.LinkedCode.{all_needed, only_absolute, rebased_by, relocated_by, relocated_test}
 use Rattle.implib_link_instances.proofs.Worked.LldPrograms.{lld_opened, disjoint, meet_test, takes_outside}
 use Rattle.implib_link_instances.proofs.Worked.Programs.{distinct_by, opened, instruction_by}
@@ -71,32 +69,16 @@ ready : HaveArchive Coff Second (archive_of lld_libraries)
 unfolding way_opened archived
 ready = record { accepted = refl; has = tt }
 
-settled : (name : List ℕ) → asks_of_lld AMD64 lld_own (map (λ (m : MemberView). m.bytes) lld_taken) name → ⊥
-unfolding way_opened Among
-settled name asks = by (contains_among name (codes "__imp_bar" ∷ codes "bar" ∷ []) asks.0)
-  where
-    claimed : (name : List ℕ) → list_any (bytes_eq name) (codes "main" ∷ codes "__imp_bar" ∷ codes "bar" ∷ []) ≡ true → asks_of_lld AMD64 lld_own (map (λ (m : MemberView). m.bytes) lld_taken) name → ⊥
-    claimed name is asks = true≢false (sym is ∙ asks.1)
-
-    by : Among name (codes "__imp_bar" ∷ codes "bar" ∷ []) → ⊥
-    by (inl is) = claimed name (subst (λ n. list_any (bytes_eq n) (codes "main" ∷ codes "__imp_bar" ∷ codes "bar" ∷ []) ≡ true) (sym is) refl) asks
-    by (inr (inl is)) = claimed name (subst (λ n. list_any (bytes_eq n) (codes "main" ∷ codes "__imp_bar" ∷ codes "bar" ∷ []) ≡ true) (sym is) refl) asks
-    by (inr (inr none)) = none
-
-asked : asks_of_lld AMD64 lld_own [] (codes "bar")
-unfolding way_opened
-asked = ((1, omega arith, refl), refl)
-
-takes : TakesBy (archive_of lld_libraries) (asks_of_lld AMD64 lld_own) lld_taken
-unfolding way_opened AreTakenBy Among
+takes : TakesIntoAs (read_by_lld AMD64) (archive_of lld_libraries) lld_own lld_taken
+unfolding way_opened read_by_lld AreTakenIntoAs
 takes = record {
-  in_turn = ((codes "bar", record { asked = asked; listed = refl; new = λ has. absurd (contains_among (short_named (codes "foo.dll") (codes "bar")) [] has) }), tt);
-  ended = λ name m pulls. settled name pulls.asked;
+  in_turn = ((codes "bar", pulls_by (read_by_lld AMD64) (archive_of lld_libraries) lld_own [] (codes "bar") (short_named (codes "foo.dll") (codes "bar")) refl refl refl), tt);
+  ended = ended_by (read_by_lld AMD64) (archive_of lld_libraries) lld_own lld_taken refl;
 }
 
-wanted : IsWantedBy lld_libraries lld_own lld_library (plain_export (codes "bar"))
-unfolding way_opened
-wanted = record { library = (0, omega arith, refl); export = (0, omega arith, refl); plain = refl; name = codes "__imp_bar"; listed = (0, omega arith, refl); left = (0, omega arith, refl) }
+wanted : IsWantedBy AMD64 lld_libraries lld_own lld_taken lld_library (plain_export (codes "bar"))
+unfolding way_opened read_by_lld
+wanted = record { library = (0, omega arith, refl); export = (0, omega arith, refl); plain = refl; name = codes "__imp_bar"; listed = (0, omega arith, refl); left = (0, omega arith, refl); unclaimed = refl }
 
 read : shorts_in AMD64 lld_taken ≡ bar_short ∷ []
 unfolding way_opened
@@ -190,7 +172,7 @@ worked_lld_way = record {
   archive = archive;
   alike = alike;
   ready = ready;
-  takes = search_of Coff Second (archive_of lld_libraries) (asks_of_lld AMD64 lld_own) lld_taken ready takes;
+  takes = search_of Coff Second (archive_of lld_libraries) (asks_with_as (read_by_lld AMD64) lld_own) lld_taken ready (taken_given (read_by_lld AMD64) (archive_of lld_libraries) lld_own lld_taken takes);
   wanted = wanted;
   read = read;
   built = built_by_lld;

@@ -2,7 +2,7 @@
 use Rattle.std.proofs.Common.{List, None, Option, Some, [], ap, arith, codes, false, length, map, refl, suc, subst, sym, true, zero, ℕ, ◌∙◌, ◌∷◌, ◌≡◌, ◌≤◌}
 use Rattle.std.specs.Prelude.{Bool, slice_get, unwrap_or}
 use Rattle.std.specs.Fmt.{digits}
-use Rattle.std.specs.List.{filter}
+use Rattle.std.specs.List.{Contains, filter}
 use Rattle.std.proofs.lemmas.Bool.{true≢false}
 use Rattle.implib.specs.declared.machine.MachineType.TheVariants.{AMD64}
 use Rattle.implib.specs.Formats.ShortImport.{ShortImport}
@@ -22,21 +22,25 @@ use Rattle.implib_archive.specs.declared.kind.Kind.TheVariants.{Gnu}
 use Rattle.implib_archive.proofs.WorkedBytes.{worked_archives}
 use Rattle.implib_link.specs.Archives.Files.{entries_by}
 use Rattle.implib_link.specs.Archives.InBytes.{First, TakesAt, asks_for, header_by}
-use Rattle.implib_link.specs.Archives.LldWay.{IsBuiltByLld, IsWantedBy, short_of_export, shorts_in}
+use Rattle.implib_link.specs.Archives.LldWay.{IsBuiltByLld, IsWantedBy, read_by_lld, short_of_export, shorts_in}
 use Rattle.implib_link.specs.Archives.Results.{AreHeadersOf}
 use Rattle.implib_link.specs.Flavors.LldImports.{IsLldProgram, imports_of_lld, placed_by_lld}
 use Rattle.implib_link.specs.Flavors.LldTables.{addresses_at, built, hints_at, lookups_at, names_at}
 use Rattle.implib_link.proofs.Flavors.LldTables.{built_pieces}
-use Rattle.implib_link.proofs.Search.Lists.{any_among}
+use Rattle.implib_link.specs.Search.CommandLines.{names_left}
+use Rattle.implib_link.proofs.Search.Lists.{among_any, any_among, contains_among}
 use Rattle.implib_link_instances.proofs.Archives.Files.{opened_files}
 use Rattle.implib_link_instances.proofs.Archives.Worked.{opened_bytes, worked_searches}
+use Rattle.implib_link_instances.proofs.Archives.WorkedLldWay.{worked_lld_way}
 use Rattle.implib_link_instances.proofs.Refused.Links.{first_letter, refused_links_closed, refused_links_closed_for_both}
-use Rattle.implib_link_instances.proofs.Worked.Calls.{wide, worked_reading}
+use Rattle.implib_link_instances.proofs.Worked.Calls.{one_of, wide, worked_reading}
 use Rattle.implib_link_instances.proofs.Worked.Lemmas.{differ, none_at, none_in}
 use Rattle.implib_link_instances.proofs.Worked.LldPrograms.{lld_opened}
 use Rattle.implib_link_instances.proofs.Worked.Opened.{searched}
-use Rattle.implib_link_instances.specs.Refused.Archives.{RefusedAreMembersAt, RefusedBothArrive, RefusedCallsArrive, RefusedHasMembersAs, RefusedInBytes, RefusedIsHeaderOf, RefusedIsInDirectory, RefusedIsSearchOf, RefusedLeadsToFirst, RefusedLldArrives, ways_taken, with_header_in}
+use Rattle.implib_link_instances.specs.Refused.Archives.{RefusedAreMembersAt, RefusedBothArrive, RefusedCallsArrive, RefusedHasMembersAs, RefusedInBytes, RefusedIsHeaderOf, RefusedIsInDirectory, RefusedIsSearchOf, RefusedIsWantedBy, RefusedLeadsToFirst, RefusedLldArrives, ways_taken, with_header_in}
+use Rattle.implib_link_instances.specs.Archives.WorkedLldWay.{bar_short, lld_taken}
 use Rattle.implib_link_instances.specs.Refused.Links.{f_library, listing, own}
+use Rattle.implib_link_instances.specs.Refused.Searches.{f_export}
 use Rattle.implib_link_instances.specs.Worked.Calls.{given_on}
 
 -- what the computing of archives has to open
@@ -127,7 +131,7 @@ refused_both_arrive = record {
   ends = λ x. let read = worked_reading.amd64_ends in differ 0 2 (sym (x.ends (given_on AMD64) 2 read.0 (wide AMD64) read.1)) (omega arith);
 }
 
-f_wanted : IsWantedBy (f_library ∷ []) own f_library (plain_export (codes "f"))
+f_wanted : IsWantedBy AMD64 (f_library ∷ []) own [] f_library (plain_export (codes "f"))
 unfolding searched
 f_wanted = record {
   library = (0, omega arith, refl);
@@ -136,6 +140,7 @@ f_wanted = record {
   name = codes "f";
   listed = among_contains (codes "f") (short_import_symbols (plain_export (codes "f"))) (any_among (codes "f") (short_import_symbols (plain_export (codes "f"))) refl);
   left = (0, omega arith, refl);
+  unclaimed = refl;
 }
 
 -- short imports of one DLL in two ways
@@ -176,9 +181,26 @@ not_alike makes =
     } in
     differ 66 98 (ap first_letter ((makes (λ r. true) 0x2000 addresses (tables ∷ []) (placed_by_lld AMD64 addresses both ∷ []) is_built).agree gee mid (0, omega arith, refl) (1, omega arith, refl) refl)) (omega arith)
 
+none_left : (name : List ℕ) → Contains (names_left (read_by_lld AMD64) [] lld_taken) name → ⊥
+unfolding searched lld_opened read_by_lld
+none_left name held = none_in name held
+
+pub refused_is_wanted_by : RefusedIsWantedBy
+unfolding searched
+refused_is_wanted_by = record {
+  library = λ x. none_in f_library x.library;
+  export = λ x. none_in f_export x.export;
+  plain = λ x. true≢false x.plain;
+  listed = λ x. true≢false (sym (among_any (codes "g") (short_import_symbols f_export) (contains_among (codes "g") (short_import_symbols f_export)
+      (subst (Contains (short_import_symbols f_export)) (one_of x.name (codes "g") (contains_among x.name (codes "g" ∷ []) x.left)) x.listed))));
+  left = λ x. none_in x.name x.left;
+  unclaimed = λ x. true≢false (sym (among_any x.name (short_import_symbols f_export) (contains_among x.name (short_import_symbols f_export) x.listed)) ∙ x.unclaimed);
+}
+
 pub refused_lld_arrives : RefusedLldArrives
 refused_lld_arrives = record {
   shorts = λ x. none_in (short_of_export AMD64 f_library (plain_export (codes "f"))) (x.shorts f_library (plain_export (codes "f")) f_wanted);
+  wanted = λ x. let found = x.wanted bar_short (subst (λ shorts. Contains shorts bar_short) (sym worked_lld_way.read) (0, omega arith, refl)) in none_left found.2.name found.2.left;
   program = λ x. not_alike (subst MakesPrograms ways_are x.program);
 }
 

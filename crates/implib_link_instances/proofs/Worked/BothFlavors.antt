@@ -24,7 +24,7 @@ use Rattle.implib_link_instances.specs.Worked.Closed.{choosing, clashing, foo_li
 use Rattle.implib_link_instances.specs.Worked.MsvcSearch.{thunk_named, zed_members}
 use Rattle.implib_link.proofs.Search.Taken.{both_taken}
 use Rattle.implib_link.proofs.Search.BothClosed.{closed_links_of_both, packed_both}
-use Rattle.implib_link.proofs.Search.BothGiven.{both_given_ends}
+use Rattle.implib_link.proofs.Search.Ends.{into_ends}
 use Rattle.implib_link.proofs.Search.Closing.{claims_apart, takes_into, unresolved_parts}
 use Rattle.implib_link.proofs.Search.Lists.{among_any, any_among, contains_among}
 use Rattle.implib_link_instances.proofs.Worked.Opened.{searched}
@@ -202,7 +202,7 @@ given = record {
 
 pub worked_given_for_both : WorkedGivenForBoth
 unfolding searched
-worked_given_for_both = record { given = given; kept = refl; wants = omega arith; ends = both_given_ends AMD64 foo_and_zed own archive given }
+worked_given_for_both = record { given = given; kept = refl; wants = omega arith; ends = into_ends (expanded_in AMD64) (archive_of_both foo_and_zed) own }
 
 abbrev reversed_own : List Object
 reversed_own = choosing ∷ []

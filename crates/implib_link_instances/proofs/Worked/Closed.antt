@@ -23,7 +23,8 @@ use Rattle.implib_link_instances.proofs.Worked.GnuPacked.{packed_is_admissible}
 use Rattle.implib_link.proofs.Search.Arranged.{inputs_made}
 use Rattle.implib_link.proofs.Search.Closed.{closed_links}
 use Rattle.implib_link.proofs.Search.Closing.{claims_apart, takes_into}
-use Rattle.implib_link.proofs.Search.Given.{given_closes, given_ends}
+use Rattle.implib_link.proofs.Search.Ends.{into_ends}
+use Rattle.implib_link.proofs.Search.Given.{given_closes}
 use Rattle.implib_link.proofs.Search.Lists.{contains_among}
 use Rattle.implib_link_instances.proofs.Worked.Search.{both_takes, worked_archives}
 use Rattle.implib_link_instances.proofs.Worked.Programs.{claims_none_by, distinct_by, opened, worked_programs}
@@ -126,7 +127,7 @@ unfolding opened alias_specs encoded_size references_of claims_of undefined_in
 worked_given = record {
   given = given;
   kept = refl;
-  ends = given_ends AMD64 two_libraries own worked_archives.archive given;
+  ends = into_ends object_in (archive_of two_libraries) own;
   closed = given_closes AMD64 two_libraries own closed_taken zed_first closed_bases closed_objects worked_archives.archive given takes is_closed.linked;
 }
 

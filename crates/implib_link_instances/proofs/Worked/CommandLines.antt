@@ -1,6 +1,6 @@
 -- The command lines, by computing and by the laws.
 use Rattle.std.proofs.Common.{arith, ◌≡◌, ℕ, zero, suc, true, false, List, [], ◌∷◌, ◌++◌, map, Option, None, Some, refl, sym, ◌∙◌, subst, inl, inr, codes, ◌<◌, ◌^◌}
-use Rattle.std.specs.Prelude.{bytes_eq, drop, is_none, slice_get}
+use Rattle.std.specs.Prelude.{bytes_eq, is_none, slice_get}
 use Rattle.std.specs.List.{Contains, IsDistinct, flat_map, list_all, list_any}
 use Rattle.std.proofs.lemmas.Bool.{and_parts, true≢false}
 use Rattle.implib.specs.declared.machine.MachineType.TheVariants.{AMD64, I386}
@@ -14,13 +14,13 @@ use Rattle.implib.proofs.Link.Ranges.{Among}
 use Rattle.implib_link.specs.Gnu.Program.{HaveSame}
 use Rattle.implib_link.specs.Search.Archives.{archive_of, is_weak, symbols_of_library, IsArchive}
 use Rattle.implib_link.specs.Search.Closed.{PullsIntoAs, claims_of, listed_in, references_of, unresolved}
-use Rattle.implib_link.specs.Search.CommandLines.{AreListedWhole, AreRounds, AreSwept, AreTakenBehind, AreUnclaimedBehind, HaveAll, IsOrdered, LldSearches, LldSearchesFrom, NoneIsLost, SearchesCommandLine, SearchesFrom, given_with, names_left}
+use Rattle.implib_link.specs.Search.CommandLines.{AreListedWhole, AreRounds, AreSwept, AreUnclaimedBehind, ImportsByName, IsOrdered, NoneIsLost, SearchesCommandLine, SearchesFrom, given_with, names_left}
 use Rattle.implib_link.specs.Search.Given.{AreGiven, symbols_kept}
 use Rattle.implib_link.specs.Search.Search.{claimed_as, first_listed, objects_as, undefined_in}
 use Rattle.implib_link.specs.Search.Sweeps.{members_at, sweeps, swept}
-use Rattle.implib_link.proofs.Search.CommandLines.{are_first_of_distinct, first_of_distinct, gnu_searches, lld_members, takes_alike}
+use Rattle.implib_link.proofs.Search.CommandLines.{are_first_of_distinct, first_of_distinct, gnu_searches, taken_are, takes_alike}
 use Rattle.implib_link.proofs.Search.Lists.{among_any, any_among, contains_among}
-use Rattle.implib_link_instances.specs.Worked.CommandLines.{WorkedCommandLine, WorkedCommandLines, WorkedLibraries, all_taken, amd64_members, i386_members, i386_wants_bytes, in_group, is_quit, kernel_on, library_first, library_last, of_quit, read_or_none, wants_bytes}
+use Rattle.implib_link_instances.specs.Worked.CommandLines.{WorkedCommandLine, WorkedCommandLines, WorkedLibraries, all_taken, amd64_members, i386_members, i386_wants_bytes, in_group, is_quit, kernel_on, library_last, of_quit, read_or_none, wants_bytes}
 use Rattle.implib_link_instances.specs.Worked.Programs.{code_object}
 use Rattle.implib_link_instances.proofs.Worked.Programs.{claims_none_by, distinct_by, opened}
 use Rattle.implib_link.specs.Archives.Results.{HaveArchive}
@@ -42,10 +42,6 @@ abbrev pub object_at : List Object → ℕ → Object
 object_at [] n = code_object []
 object_at (o ∷ objects) zero = o
 object_at (o ∷ objects) (suc n) = object_at objects n
-
-abbrev first_of : List (List ℕ) → List ℕ
-first_of [] = []
-first_of (name ∷ names) = name
 
 -- Searches of members that are read as objects, by computing.
 
@@ -71,10 +67,6 @@ pulls_by reads archive own taken name m left listed new = record {
   listed = listed;
   new = λ has. true≢false (sym (among_any m.name (map (λ (x : MemberView). x.name) taken) (among_map (λ (x : MemberView). x.name) m taken (contains_among m taken has))) ∙ new);
 }
-
-pub none_there : (members : List MemberView) (x : MemberView) → Among x [] → Among x members
-unfolding Among
-none_there members x none = absurd none
 
 -- AMD64
 
@@ -113,54 +105,20 @@ group_unclaimed : AreUnclaimedBehind amd64_members [] (in_group own)
 unfolding opened alias_specs encoded_size AreUnclaimedBehind
 group_unclaimed = ((tt, tt), (tt, tt))
 
-by_lld : LldSearches object_in amd64_members (library_first own) amd64_members
-unfolding opened alias_specs encoded_size references_of claims_of undefined_in AreTakenBehind LldSearchesFrom
-by_lld = (
-  [],
-  record { more = []; taken = refl; in_turn = tt; ended = ended_by object_in [] own [] refl },
-  (
-    [],
-    record { more = []; taken = refl; in_turn = tt; ended = ended_by object_in (kernel_on AMD64 (codes "ExitProcess")).members own [] refl },
-    (
-      amd64_members,
-      record {
-        more = amd64_members;
-        taken = refl;
-        in_turn = (
-          (name_at 0, pulls_by object_in amd64_members own (drop 1 amd64_members) (name_at 0) (member_or_none (slice_get amd64_members 0)) refl refl refl),
-          (
-            (name_at 1, pulls_by object_in amd64_members own (drop 2 amd64_members) (name_at 1) (member_or_none (slice_get amd64_members 1)) refl refl refl),
-            (
-              (codes "ExitProcess", pulls_by object_in amd64_members own (drop 3 amd64_members) (codes "ExitProcess") (member_or_none (slice_get amd64_members 2)) refl refl refl),
-              ((codes "quit", pulls_by object_in amd64_members own [] (codes "quit") (member_or_none (slice_get amd64_members 3)) refl refl refl), tt),
-            ),
-          ),
-        );
-        ended = ended_by object_in amd64_members own amd64_members refl;
-      },
-      refl,
-    ),
-  ),
-)
-  where
-    name_at : ℕ → List ℕ
-    name_at n = first_of (member_or_none (slice_get amd64_members n)).symbols
+by_name : ImportsByName object_in amd64_members own (members_at amd64_members all_taken)
+unfolding opened alias_specs encoded_size references_of undefined_in
+by_name = record { left = refl; claimed = refl }
 
-all : HaveAll amd64_members (in_group own)
-unfolding opened alias_specs encoded_size
-all m held = held
-
-line : WorkedCommandLine amd64_members own (codes "ExitProcess")
+line : WorkedCommandLine amd64_members own
 unfolding opened alias_specs encoded_size references_of claims_of undefined_in
 line = record {
   distinct = distinct;
   whole = whole;
-  by_lld = by_lld;
   first = searched_last;
   ordered = ordered;
   takes = gnu_searches object_in amd64_members (library_last own) all_taken (first_of_distinct amd64_members (names_left object_in own (members_at amd64_members all_taken)) all_taken distinct) unclaimed ordered searched_last;
   group = searched_group;
-  alike = λ other lld. takes_alike object_in amd64_members (in_group own) all_taken other (first_of_distinct amd64_members (names_left object_in own (members_at amd64_members all_taken)) all_taken distinct) (are_first_of_distinct amd64_members (names_left object_in own other) other distinct (lld_members object_in amd64_members [] [] (in_group own) [] other lld (none_there amd64_members))) whole group_unclaimed group_ordered all searched_group lld;
+  alike = λ other lld. takes_alike object_in amd64_members (in_group own) all_taken other (first_of_distinct amd64_members (names_left object_in own (members_at amd64_members all_taken)) all_taken distinct) (are_first_of_distinct amd64_members (names_left object_in own other) other distinct (taken_are object_in amd64_members own whole other lld.in_turn)) whole group_unclaimed group_ordered searched_group lld;
 }
 
 given : AreGiven AMD64 ((kernel_on AMD64 (codes "ExitProcess")) ∷ []) (given_with object_in is_quit own (members_at amd64_members all_taken))
@@ -194,7 +152,7 @@ unfolding opened alias_specs encoded_size refusal renamed_refusal is_weak symbol
 libraries = record {
   archive = archive;
   ready = ready;
-  searches = record { libraries_are = refl; first = first_of_distinct amd64_members (names_left object_in own (members_at amd64_members all_taken)) all_taken distinct; unclaimed = unclaimed; ordered = inl ordered; whole = whole; searches = searched_last };
+  searches = record { libraries_are = refl; first = first_of_distinct amd64_members (names_left object_in own (members_at amd64_members all_taken)) all_taken distinct; by_name = by_name; unclaimed = unclaimed; ordered = inl ordered; whole = whole; searches = searched_last };
   given = given;
   exists = exists;
 }
@@ -236,54 +194,20 @@ i386_group_unclaimed : AreUnclaimedBehind i386_members [] (in_group i386_own)
 unfolding opened alias_specs encoded_size AreUnclaimedBehind
 i386_group_unclaimed = ((tt, tt), (tt, tt))
 
-i386_by_lld : LldSearches object_in i386_members (library_first i386_own) i386_members
-unfolding opened alias_specs encoded_size references_of claims_of undefined_in AreTakenBehind LldSearchesFrom
-i386_by_lld = (
-  [],
-  record { more = []; taken = refl; in_turn = tt; ended = ended_by object_in [] i386_own [] refl },
-  (
-    [],
-    record { more = []; taken = refl; in_turn = tt; ended = ended_by object_in (kernel_on I386 (codes "_ExitProcess@4")).members i386_own [] refl },
-    (
-      i386_members,
-      record {
-        more = i386_members;
-        taken = refl;
-        in_turn = (
-          (name_at 0, pulls_by object_in i386_members i386_own (drop 1 i386_members) (name_at 0) (member_or_none (slice_get i386_members 0)) refl refl refl),
-          (
-            (name_at 1, pulls_by object_in i386_members i386_own (drop 2 i386_members) (name_at 1) (member_or_none (slice_get i386_members 1)) refl refl refl),
-            (
-              (codes "_ExitProcess@4", pulls_by object_in i386_members i386_own (drop 3 i386_members) (codes "_ExitProcess@4") (member_or_none (slice_get i386_members 2)) refl refl refl),
-              ((codes "_quit", pulls_by object_in i386_members i386_own [] (codes "_quit") (member_or_none (slice_get i386_members 3)) refl refl refl), tt),
-            ),
-          ),
-        );
-        ended = ended_by object_in i386_members i386_own i386_members refl;
-      },
-      refl,
-    ),
-  ),
-)
-  where
-    name_at : ℕ → List ℕ
-    name_at n = first_of (member_or_none (slice_get i386_members n)).symbols
+i386_by_name : ImportsByName object_in i386_members i386_own (members_at i386_members all_taken)
+unfolding opened alias_specs encoded_size references_of undefined_in
+i386_by_name = record { left = refl; claimed = refl }
 
-i386_all : HaveAll i386_members (in_group i386_own)
-unfolding opened alias_specs encoded_size
-i386_all m held = held
-
-i386_line : WorkedCommandLine i386_members i386_own (codes "_ExitProcess@4")
+i386_line : WorkedCommandLine i386_members i386_own
 unfolding opened alias_specs encoded_size references_of claims_of undefined_in
 i386_line = record {
   distinct = i386_distinct;
   whole = i386_whole;
-  by_lld = i386_by_lld;
   first = i386_searched_last;
   ordered = i386_ordered;
   takes = gnu_searches object_in i386_members (library_last i386_own) all_taken (first_of_distinct i386_members (names_left object_in i386_own (members_at i386_members all_taken)) all_taken i386_distinct) i386_unclaimed i386_ordered i386_searched_last;
   group = i386_searched_group;
-  alike = λ other lld. takes_alike object_in i386_members (in_group i386_own) all_taken other (first_of_distinct i386_members (names_left object_in i386_own (members_at i386_members all_taken)) all_taken i386_distinct) (are_first_of_distinct i386_members (names_left object_in i386_own other) other i386_distinct (lld_members object_in i386_members [] [] (in_group i386_own) [] other lld (none_there i386_members))) i386_whole i386_group_unclaimed i386_group_ordered i386_all i386_searched_group lld;
+  alike = λ other lld. takes_alike object_in i386_members (in_group i386_own) all_taken other (first_of_distinct i386_members (names_left object_in i386_own (members_at i386_members all_taken)) all_taken i386_distinct) (are_first_of_distinct i386_members (names_left object_in i386_own other) other i386_distinct (taken_are object_in i386_members i386_own i386_whole other lld.in_turn)) i386_whole i386_group_unclaimed i386_group_ordered i386_searched_group lld;
 }
 
 i386_given : AreGiven I386 ((kernel_on I386 (codes "_ExitProcess@4")) ∷ []) (given_with object_in is_quit i386_own (members_at i386_members all_taken))
@@ -321,7 +245,7 @@ unfolding opened alias_specs encoded_size refusal renamed_refusal is_weak symbol
 i386_libraries = record {
   archive = i386_archive;
   ready = i386_ready;
-  searches = record { libraries_are = refl; first = first_of_distinct i386_members (names_left object_in i386_own (members_at i386_members all_taken)) all_taken i386_distinct; unclaimed = i386_unclaimed; ordered = inr complete; whole = i386_whole; searches = i386_searched_last };
+  searches = record { libraries_are = refl; first = first_of_distinct i386_members (names_left object_in i386_own (members_at i386_members all_taken)) all_taken i386_distinct; by_name = i386_by_name; unclaimed = i386_unclaimed; ordered = inr complete; whole = i386_whole; searches = i386_searched_last };
   given = i386_given;
   exists = i386_exists;
 }

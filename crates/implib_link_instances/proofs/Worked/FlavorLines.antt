@@ -70,6 +70,7 @@ unfolding searched
 searches = record {
   libraries_are = refl;
   first = first_of_distinct amd64_shorts (names_left (expanded_in AMD64) own (members_at amd64_shorts shorts_taken)) shorts_taken distinct;
+  by_name = record { left = refl; claimed = refl };
   unclaimed = unclaimed;
   ordered = inr complete;
   whole = whole;
@@ -159,6 +160,7 @@ unfolding searched
 i386_searches = record {
   libraries_are = refl;
   first = first_of_distinct i386_shorts (names_left (expanded_in I386) i386_own (members_at i386_shorts shorts_taken)) shorts_taken i386_distinct;
+  by_name = record { left = refl; claimed = refl };
   unclaimed = i386_unclaimed;
   ordered = inl i386_ordered;
   whole = i386_whole;

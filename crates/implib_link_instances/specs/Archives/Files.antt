@@ -7,7 +7,7 @@ use Rattle.implib_link.specs.Archives.Files.{ArchiveFile, HasMembers, HasMembers
 use Rattle.implib_link.specs.Archives.Files.{members_in_files}
 use Rattle.implib_link.specs.Search.BothFlavors.{FlavorLibrary, archive_of_both, msvc_among}
 use Rattle.implib_link_instances.specs.Worked.CommandLines.{i386_quit_bytes, i386_wants_bytes}
-use Rattle.implib_link_instances.specs.Worked.CommandLines.{inputs_of, is_quit, quit_bytes}
+use Rattle.implib_link_instances.specs.Worked.CommandLines.{is_quit, quit_bytes}
 use Rattle.implib_link_instances.specs.Worked.CommandLines.{quit_member, read_or_none, wants_bytes}
 use Rattle.implib_link_instances.specs.Worked.FlavorLines.{amd64_kernels, amd64_shorts}
 use Rattle.implib_link_instances.specs.Worked.FlavorLines.{i386_kernels, i386_shorts}
@@ -17,9 +17,9 @@ use Rattle.implib.specs.declared.machine.MachineType.{MachineType}
 use Rattle.implib.specs.declared.machine.MachineType.TheVariants.{AMD64, I386}
 use Rattle.implib.specs.Formats.Object.{Object}
 use Rattle.implib.specs.Members.MemberSpec.{MemberView}
-use Rattle.implib_link.specs.Archives.LldFiles.{SearchesByLld, read_by_lld}
-use Rattle.implib_link.specs.Archives.LldWay.{AreCalledAlike, LldArrives}
-use Rattle.implib_link.specs.Search.CommandLines.{Archives, Input, SearchesFlavors, given_with}
+use Rattle.implib_link.specs.Archives.LldFiles.{SearchesByLld}
+use Rattle.implib_link.specs.Archives.LldWay.{AreCalledAlike, LldArrives, read_by_lld}
+use Rattle.implib_link.specs.Search.CommandLines.{Input, SearchesFlavors, given_with}
 use Rattle.implib_link.specs.Search.CommandLines.{others_of}
 use Rattle.implib_link.specs.Search.MsvcArchives.{IsMsvcArchive}
 use Rattle.implib_link.specs.Search.Sweeps.{members_at}
@@ -144,10 +144,6 @@ abbrev pub i386_files : List ArchiveFile
 i386_files = record { kind = Coff; bytes = i386_kernel_lib }
     ∷ record { kind = Gnu; bytes = i386_libquit } ∷ []
 
--- the library in front of the archive
-abbrev pub shorts_first : List Object → List Input
-shorts_first own = inputs_of own ++ Archives ((0 ∷ 1 ∷ 2 ∷ 3 ∷ []) ∷ []) ∷ Archives ((4 ∷ []) ∷ []) ∷ []
-
 -- what lld takes, the last one first: the archive's member, and the short import that it wants
 abbrev pub lld_taken : List MemberView → List MemberView
 lld_taken members = members_at members (3 ∷ 4 ∷ [])
@@ -161,8 +157,8 @@ pub record WorkedFileLine (machine : MachineType) (libraries : List FlavorLibrar
   pub archive : IsMsvcArchive machine (msvc_among libraries)
   pub ready : HaveArchive Coff Second (archive_of (msvc_among libraries))
   pub alike : AreCalledAlike (msvc_among libraries)
-  pub lld : SearchesByLld machine (msvc_among libraries) (members_in_files files) (shorts_first own)
-      is_quit (lld_taken members)
+  pub lld : SearchesByLld machine (msvc_among libraries) (members_in_files files) own is_quit
+      (lld_taken members)
   pub arrives : LldArrives machine (msvc_among libraries)
       (given_with (read_by_lld machine) is_quit own (lld_taken members))
       (others_of is_quit (lld_taken members))

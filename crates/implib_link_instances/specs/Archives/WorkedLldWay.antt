@@ -15,8 +15,8 @@ use Rattle.implib.specs.Members.MemberSpec.{MemberView}
 use Rattle.implib.specs.Worked.Members.{of_dll}
 use Rattle.implib.specs.Worked.Statements.{plain_export}
 use Rattle.implib_archive.specs.declared.kind.Kind.TheVariants.{Coff}
-use Rattle.implib_link.specs.Archives.InBytes.{Second}
-use Rattle.implib_link.specs.Archives.LldWay.{AreCalledAlike, IsBuiltByLld, IsWantedBy, asks_of_lld}
+use Rattle.implib_link.specs.Archives.InBytes.{Second, asks_with_as}
+use Rattle.implib_link.specs.Archives.LldWay.{AreCalledAlike, IsBuiltByLld, IsWantedBy, read_by_lld}
 use Rattle.implib_link.specs.Archives.LldWay.{short_of_export, shorts_in}
 use Rattle.implib_link.specs.Archives.Results.{HaveArchive, IsSearchOf}
 use Rattle.implib_link.specs.Flavors.LldImports.{placed_by_lld}
@@ -139,9 +139,10 @@ pub record WorkedLldWay : Type 0 where
   pub archive : IsMsvcArchive AMD64 lld_libraries
   pub alike : AreCalledAlike lld_libraries
   pub ready : HaveArchive Coff Second (archive_of lld_libraries)
-  pub takes : IsSearchOf Coff Second (archive_of lld_libraries) (asks_of_lld AMD64 lld_own)
-      lld_taken
-  pub wanted : IsWantedBy lld_libraries lld_own lld_library (plain_export (codes "bar"))
+  pub takes : IsSearchOf Coff Second (archive_of lld_libraries)
+      (asks_with_as (read_by_lld AMD64) lld_own) lld_taken
+  pub wanted : IsWantedBy AMD64 lld_libraries lld_own lld_taken lld_library
+      (plain_export (codes "bar"))
   pub read : shorts_in AMD64 lld_taken ≡ bar_short ∷ []
   pub built : IsBuiltByLld AMD64 0x2000 0x2038 live_shorts lld_image lld_linked
   pub steady : AreSteady AMD64 lld_linked

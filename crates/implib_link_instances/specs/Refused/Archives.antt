@@ -1,21 +1,26 @@
 -- What no search in bytes takes, and what does not arrive. A record `RefusedX` has for each field
 -- of `X` what this field refuses.
-use Rattle.std.specs.Prelude.{List, [], codes, ℕ, ◌++◌, ◌∷◌}
+use Rattle.std.specs.Prelude.{List, [], codes, map, ℕ, ◌++◌, ◌∷◌}
 use Rattle.implib.specs.declared.machine.MachineType.TheVariants.{AMD64}
+use Rattle.implib.specs.Formats.Object.{Object}
 use Rattle.implib.specs.Members.MemberSpec.{MemberView}
+use Rattle.implib.specs.Members.Msvc.{short_import_symbols}
 use Rattle.implib_archive.specs.Worked.{worked_members}
 use Rattle.implib_archive.specs.declared.kind.Kind.TheVariants.{Coff, Gnu}
 use Rattle.implib_link.specs.Archives.BothWay.{BothArrive}
 use Rattle.implib_link.specs.Archives.Files.{HasMembersAs}
 use Rattle.implib_link.specs.Archives.InBytes.{First, Second, asks_for}
-use Rattle.implib_link.specs.Archives.LldWay.{LldArrives}
+use Rattle.implib_link.specs.Archives.LldWay.{IsWantedBy, LldArrives, defining}
 use Rattle.implib_link.specs.Archives.Results.{AreHeadersOf, AreMembersAt, IsHeaderOf, IsSearchOf}
 use Rattle.implib_link.specs.Archives.Results.{LeadsToFirst, TakesJust}
 use Rattle.implib_link.specs.Archives.Way.{CallsArrive}
 use Rattle.implib_link.specs.Image.Files.{DataDirectory}
 use Rattle.implib_link.specs.Image.Laws.{IsInDirectory}
+use Rattle.implib_link.specs.Search.Wanting.{wanting}
 use Rattle.implib_link_instances.specs.Archives.Files.{libquit}
+use Rattle.implib_link_instances.specs.Archives.WorkedLldWay.{lld_libraries, lld_taken}
 use Rattle.implib_link_instances.specs.Refused.Links.{f_library, for_gnu, listing, own}
+use Rattle.implib_link_instances.specs.Refused.Searches.{exportless, f_export}
 use Rattle.implib_link_instances.specs.Refused.Tables.{range_at}
 use Rattle.implib_link_instances.specs.Worked.MsvcSearch.{short_named}
 use Rattle.implib_link_instances.specs.Worked.Programs.{program_objects, touching_8}
@@ -63,13 +68,31 @@ pub record RefusedBothArrive : Type 0 where
   pub links : BothArrive AMD64 (for_gnu f_library) [] [] [] touching_8 own → ⊥
   pub ends : BothArrive AMD64 [] [] [] [] touching_8 (program_objects AMD64) → ⊥
 
+-- an object that defines what the export's short import does
+abbrev pub defining_f : List Object
+defining_f = record (wanting []) { entries = map defining (short_import_symbols f_export) } ∷ []
+
+-- an export of no library; of a library that has none; an alias; one whose symbols nothing leaves,
+-- but another name or none; and one that is given
+pub record RefusedIsWantedBy : Type 0 where
+  pub library : IsWantedBy AMD64 [] own [] f_library f_export → ⊥
+  pub export : IsWantedBy AMD64 (exportless ∷ []) own [] exportless f_export → ⊥
+  pub plain : IsWantedBy AMD64 (f_library ∷ []) own [] f_library
+      (record f_export { alias_target = codes "g" }) → ⊥
+  pub listed : IsWantedBy AMD64 (f_library ∷ []) (wanting (codes "g" ∷ []) ∷ []) [] f_library
+      f_export → ⊥
+  pub left : IsWantedBy AMD64 (f_library ∷ []) [] [] f_library f_export → ⊥
+  pub unclaimed : IsWantedBy AMD64 (f_library ∷ []) defining_f [] f_library f_export → ⊥
+
 -- short imports of one DLL that is called in two ways, which make no program
 abbrev pub ways_taken : List MemberView
 ways_taken =
     short_named (codes "Beta.dll") (codes "gee") ∷ short_named (codes "beta.dll") (codes "mid") ∷ []
 
+-- a short import that is wanted and not taken, and one that is taken and not wanted
 pub record RefusedLldArrives : Type 0 where
   pub shorts : LldArrives AMD64 (f_library ∷ []) own [] → ⊥
+  pub wanted : LldArrives AMD64 lld_libraries [] lld_taken → ⊥
   pub program : LldArrives AMD64 [] [] ways_taken → ⊥
 
 abbrev pub at_0x1000 : DataDirectory

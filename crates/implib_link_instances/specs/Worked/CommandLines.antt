@@ -19,7 +19,7 @@ use Rattle.implib_link.specs.Gnu.Program.{HaveSame}
 use Rattle.implib_link.specs.Search.Archives.{IsArchive, Library, archive_of}
 use Rattle.implib_link.specs.Search.Closed.{TakesIntoAs, listed_in}
 use Rattle.implib_link.specs.Search.CommandLines.{AnObject, Archives, AreListedWhole, Input}
-use Rattle.implib_link.specs.Search.CommandLines.{IsOrdered, LldSearches, SearchesCommandLine}
+use Rattle.implib_link.specs.Search.CommandLines.{IsOrdered, SearchesCommandLine}
 use Rattle.implib_link.specs.Search.CommandLines.{SearchesLibraries, given_with}
 use Rattle.implib_link.specs.Search.Given.{AreGiven}
 use Rattle.implib_link.specs.Search.Search.{objects_as}
@@ -144,10 +144,7 @@ of_quit = 3 ∷ []
 abbrev pub inputs_of : List Object → List Input
 inputs_of objects = map AnObject objects
 
--- the command lines, behind the object: the library first; last; and in a group
-abbrev pub library_first : List Object → List Input
-library_first own = inputs_of own ++ Archives (of_kernel ∷ []) ∷ Archives (of_quit ∷ []) ∷ []
-
+-- the command lines, behind the object: the library last; and both in a group
 abbrev pub library_last : List Object → List Input
 library_last own = inputs_of own ++ Archives (of_quit ∷ []) ∷ Archives (of_kernel ∷ []) ∷ []
 
@@ -158,22 +155,19 @@ in_group own = inputs_of own ++ Archives (of_kernel ∷ of_quit ∷ []) ∷ []
 abbrev pub all_taken : List ℕ
 all_taken = 0 ∷ 1 ∷ 2 ∷ 3 ∷ []
 
--- On one machine, where `own` is the object and `import` the name of the function:
--- `by_lld`: with the library first lld takes all;
--- `first`, `ordered`, `takes`: in the other order GNU ld takes all, and by the law as one search
--- does;
+-- On one machine, where `own` is the object:
+-- `first`, `ordered`, `takes`: with the library last GNU ld takes all, and by the law as one search
+-- of all does, as lld's is;
 -- `group`: so it does in a group;
--- `alike`: by the law both linkers take the same of the group.
-pub record WorkedCommandLine (members : List MemberView) (own : List Object)
-    (import : List ℕ) : Type 0 where
+-- `alike`: by the law lld takes the same as GNU ld of the group.
+pub record WorkedCommandLine (members : List MemberView) (own : List Object) : Type 0 where
   pub distinct : IsDistinct bytes_eq (listed_in members)
   pub whole : AreListedWhole object_in members
-  pub by_lld : LldSearches object_in members (library_first own) members
   pub first : SearchesCommandLine object_in members (library_last own) all_taken
   pub ordered : IsOrdered object_in members (library_last own)
   pub takes : TakesIntoAs object_in members own (members_at members all_taken)
   pub group : SearchesCommandLine object_in members (in_group own) all_taken
-  pub alike : (other : List MemberView) → LldSearches object_in members (in_group own) other →
+  pub alike : (other : List MemberView) → TakesIntoAs object_in members own other →
       HaveSame (members_at members all_taken) other
 
 -- as a search of libraries: the archive's member is as given; and there is a closed program
@@ -188,8 +182,8 @@ pub record WorkedLibraries (machine : MachineType) (l : Library) (members : List
       (given_with object_in is_quit own (members_at members all_taken)) 0x2000
 
 pub record WorkedCommandLines : Type 0 where
-  pub amd64 : WorkedCommandLine amd64_members (read_or_none wants_bytes) (codes "ExitProcess")
-  pub i386 : WorkedCommandLine i386_members (read_or_none i386_wants_bytes) (codes "_ExitProcess@4")
+  pub amd64 : WorkedCommandLine amd64_members (read_or_none wants_bytes)
+  pub i386 : WorkedCommandLine i386_members (read_or_none i386_wants_bytes)
   pub libraries : WorkedLibraries AMD64 (kernel_on AMD64 (codes "ExitProcess")) amd64_members
       (read_or_none wants_bytes)
   pub i386_libraries : WorkedLibraries I386 (kernel_on I386 (codes "_ExitProcess@4")) i386_members

@@ -46,6 +46,7 @@ ghost use Rattle.implib_link_instances.specs.Refused.Archives.{RefusedHasMembers
 ghost use Rattle.implib_link_instances.specs.Refused.Archives.{RefusedIsHeaderOf};
 ghost use Rattle.implib_link_instances.specs.Refused.Archives.{RefusedIsInDirectory};
 ghost use Rattle.implib_link_instances.specs.Refused.Archives.{RefusedIsSearchOf};
+ghost use Rattle.implib_link_instances.specs.Refused.Archives.{RefusedIsWantedBy};
 ghost use Rattle.implib_link_instances.specs.Refused.Archives.{RefusedLeadsToFirst};
 ghost use Rattle.implib_link_instances.specs.Refused.Archives.{RefusedLldArrives};
 
@@ -129,6 +130,7 @@ pub fn refused_archives()
     ensures refused_leads_to_first { RefusedLeadsToFirst }
     ensures refused_calls_arrive { RefusedCallsArrive }
     ensures refused_both_arrive { RefusedBothArrive }
+    ensures refused_is_wanted_by { RefusedIsWantedBy }
     ensures refused_lld_arrives { RefusedLldArrives }
     ensures refused_is_in_directory { RefusedIsInDirectory }
     ensures refused_has_members_as { RefusedHasMembersAs }
