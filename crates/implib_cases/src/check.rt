@@ -7,7 +7,7 @@
 
 mod files;
 
-use crate::lines::{Case, Line, push_alike, push_calls, push_escaped, push_lines};
+use crate::lines::{Case, Line, push_alike, push_calls, push_lines, short_answer};
 use files::{Files, files_of};
 use implib_check_driver::program::run;
 use implib_check_driver::task::CommandLine;
@@ -94,13 +94,7 @@ fn answer_each(alloc: Global, text: &mut String, files: &Files, line: &Line) -> 
         let mut printed = Vec::new(alloc);
         let mut said = Vec::new(alloc);
         let status = run(alloc, files, &line, &mut printed, &mut said);
-        let mut answer = format!(in alloc; "{status}")?;
-        for bytes in [printed.as_slice(), said.as_slice()] {
-            if let Some(line) = str::from_utf8(bytes).unwrap_or("?").lines().next() {
-                answer.push(' ')?;
-                push_escaped(&mut answer, line)?;
-            }
-        }
+        let answer = short_answer(alloc, status, printed.as_slice(), said.as_slice())?;
         push_alike(alloc, text, part.trim(), answer.as_str())?;
     }
     Ok(())
@@ -113,7 +107,8 @@ pub fn imports_in(alloc: Global, bytes: Vec<u8>) -> Result<String, Fail> {
     let line = command_line(alloc, "--json --list made")?;
     let mut printed = Vec::new(alloc);
     let mut said = Vec::new(alloc);
-    run(alloc, &Files { all }, &line, &mut printed, &mut said);
+    let files = Files { all };
+    run(alloc, &files, &line, &mut printed, &mut said);
     let mut text = String::new(alloc);
     for line in str::from_utf8(printed.as_slice()).unwrap_or("?").lines() {
         text.push(';')?;

@@ -229,6 +229,25 @@ pub fn push_lines(text: &mut String, word: &str, written: &[u8]) -> Result<(), A
     Ok(())
 }
 
+/// A status, the first line that is printed, and all that is said.
+pub fn short_answer<'x>(
+    alloc: Global,
+    status: u8,
+    printed: &'x [u8],
+    said: &'x [u8],
+) -> Result<String, AllocError> {
+    let mut answer = format!(in alloc; "{status}")?;
+    let printed = str::from_utf8(printed).unwrap_or("?").lines().next();
+    let said = str::from_utf8(said).unwrap_or("?").trim_end();
+    for output in [printed.unwrap_or(""), said] {
+        if !output.is_empty() {
+            answer.push(' ')?;
+            push_escaped(&mut answer, output)?;
+        }
+    }
+    Ok(answer)
+}
+
 /// Appends a call and its answer as a line, or the call alone to the line before, if that ends in
 /// the same answer.
 pub fn push_alike(

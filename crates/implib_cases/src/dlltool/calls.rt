@@ -5,7 +5,9 @@
 
 use super::room::Room;
 use crate::check::imports_in;
-use crate::lines::{Line, push_alike, push_calls, push_escaped, push_lines, unescaped};
+use crate::lines::{
+    Line, push_alike, push_calls, push_escaped, push_lines, short_answer, unescaped,
+};
 use implib_devices::console::Console;
 use implib_devices::files::SystemDisk;
 use implib_driver::program::run;
@@ -44,16 +46,9 @@ pub fn kept_console(alloc: Global) -> Console<Writes> {
     )
 }
 
-/// What came of a call.
-#[derive(Drop)]
-struct Outcome {
-    status: u8,
-    printed: Vec<u8>,
-    console: Console<Writes>,
-}
-
-/// Calls the program with these arguments.
-fn outcome_of(room: &Room, arguments: &[String]) -> Outcome {
+/// Calls the program with these arguments: the status, what is printed, and what is written on
+/// standard error.
+fn called(room: &Room, arguments: &[String]) -> (u8, Vec<u8>, Console<Writes>) {
     let alloc = room.rt.alloc();
     let mut disk = SystemDisk::new(room.rt, room.process);
     let mut input = room.input.as_slice();
@@ -67,24 +62,20 @@ fn outcome_of(room: &Room, arguments: &[String]) -> Outcome {
         &mut printed,
         &mut console,
     );
-    Outcome {
-        status,
-        printed,
-        console,
-    }
+    (status, printed, console)
 }
 
 /// A call, its status, the lines of standard output, and what was written on standard error.
 pub fn answer_call(text: &mut String, room: &Room, words: &str) -> Result<(), Fail> {
     let arguments = arguments_in(room.rt.alloc(), room.program.as_str(), words)?;
-    let outcome = outcome_of(room, arguments.as_slice());
+    let (status, printed, console) = called(room, arguments.as_slice());
     text.push_str("call")?;
     if !words.is_empty() {
         write!(text, " {words}")?;
     }
-    write!(text, "\n  status {}\n", outcome.status)?;
-    push_lines(text, "out", outcome.printed.as_slice())?;
-    Ok(push_writes(text, outcome.console)?)
+    write!(text, "\n  status {status}\n")?;
+    push_lines(text, "out", printed.as_slice())?;
+    Ok(push_writes(text, console)?)
 }
 
 /// Calls that differ in their last words, or in what the program is called by, and their answers.
@@ -96,11 +87,11 @@ pub fn answer_each(text: &mut String, room: &Room, line: &Line) -> Result<(), Fa
         let whole = unescaped(alloc, part)?;
         let answer = if line.word == "named" {
             let arguments = arguments_in(alloc, whole.as_str(), words)?;
-            short_answer(room, arguments.as_slice(), last_part(whole.as_str()))?
+            answer_of(room, arguments.as_slice(), last_part(whole.as_str()))?
         } else {
             let words = format!(in alloc; "{words} {part}")?;
             let arguments = arguments_in(alloc, room.program.as_str(), words.as_str())?;
-            short_answer(room, arguments.as_slice(), whole.as_str())?
+            answer_of(room, arguments.as_slice(), whole.as_str())?
         };
         push_alike(alloc, text, part, answer.as_str())?;
     }
@@ -108,22 +99,17 @@ pub fn answer_each(text: &mut String, room: &Room, line: &Line) -> Result<(), Fa
 }
 
 /// The answer to a call in one line, with `*` for a part of it.
-fn short_answer(room: &Room, arguments: &[String], part: &str) -> Result<String, Fail> {
+fn answer_of(room: &Room, arguments: &[String], part: &str) -> Result<String, Fail> {
     let alloc = room.rt.alloc();
-    let outcome = outcome_of(room, arguments);
-    let mut answer = format!(in alloc; "{}", outcome.status)?;
-    let printed = str::from_utf8(outcome.printed.as_slice()).unwrap_or("?");
-    if let Some(line) = printed.lines().next() {
-        write!(answer, " {line}")?;
+    let (status, printed, console) = called(room, arguments);
+    let mut said = Vec::new(alloc);
+    let writes = console.into_writer();
+    for bytes in writes.all.iter() {
+        said.extend_from_slice(bytes.as_slice())?;
     }
-    // A call with no part has none to replace, and no message has a `|`.
-    let part = format!(in alloc; "{}: ", if part.is_empty() { "|" } else { part })?;
-    for bytes in outcome.console.into_writer().all.iter() {
-        let said = str::from_utf8(bytes.as_slice()).unwrap_or("?").trim_end();
-        answer.push(' ')?;
-        let said = said.replace(alloc, part.as_str(), "*: ")?;
-        push_escaped(&mut answer, said.as_str())?;
-    }
+    let answer = short_answer(alloc, status, printed.as_slice(), said.as_slice())?;
+    let part = format!(in alloc; " {part}: ")?;
+    let mut answer = answer.as_str().replace(alloc, part.as_str(), " *: ")?;
     if let Some(path) = output_of(arguments)
         && let Ok(bytes) = fs::read(room.rt, path)
     {
@@ -141,8 +127,7 @@ fn output_of(arguments: &[String]) -> Option<&str> {
         let word = word.as_str();
         if before == "-l" || before == "-y" {
             found = Some(word);
-        }
-        if let Some(path) = word.strip_prefix("/out:") {
+        } else if let Some(path) = word.strip_prefix("/out:") {
             found = Some(path);
         }
         before = word;
