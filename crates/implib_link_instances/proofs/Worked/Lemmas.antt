@@ -10,6 +10,11 @@ use Rattle.implib_link_instances.specs.Worked.Operands.{or_else}
 use Rattle.std.proofs.lemmas.Bool.{and_parts, eqb-true, or_parts, true≢false}
 use Rattle.std.specs.List.{AllByRecursion, Contains, list_any}
 use Rattle.implib.proofs.Link.Linked.{all_append}
+use Rattle.implib.specs.declared.machine.MachineType.{MachineType}
+use Rattle.implib.specs.declared.machine.MachineType.TheVariants.{AMD64, ARM64, ARMNT, I386}
+use Rattle.implib.specs.Formats.Constants.{i386_dir32}
+use Rattle.implib_link.specs.Gnu.Calls.{amd64_addr64, arm64_addr64}
+use Rattle.implib_link.specs.Gnu.Stored.{amd64_addr32nb, arm64_addr32nb, i386_dir32nb}
 
 -- numbers that are not equal
 pub differ : (n m : ℕ) → n ≡ m → n < m → ⊥
@@ -78,3 +83,30 @@ no_definition d is = cc
 pub put_last : (ranges : List Range) (r : Range) → AllByRecursion (AreApart r) ranges → AllApart ranges → AllApart (ranges ++ r ∷ [])
 put_last [] r each apart = (tt, tt)
 put_last (x ∷ ranges) r each apart = (all_append (AreApart x) ranges (r ∷ []) apart.0 ((λ address here there. each.0 address there here), tt), put_last ranges r each.1 apart.1)
+
+-- Machines. A lemma whose last clause is of `machine` computes at each machine that is left.
+
+abbrev pub IsWide : MachineType → Type 0
+IsWide AMD64 = Unit {0}
+IsWide ARM64 = Unit {0}
+IsWide _ = ⊥
+
+abbrev pub IsX86 : MachineType → Type 0
+IsX86 I386 = Unit {0}
+IsX86 AMD64 = Unit {0}
+IsX86 _ = ⊥
+
+abbrev pub NotThumb : MachineType → Type 0
+NotThumb ARMNT = ⊥
+NotThumb _ = Unit {0}
+
+-- the types of fields: an address whole, and one from the image's base
+abbrev pub whole_type : MachineType → ℕ
+whole_type I386 = i386_dir32
+whole_type AMD64 = amd64_addr64
+whole_type _ = arm64_addr64
+
+abbrev pub based_type : MachineType → ℕ
+based_type I386 = i386_dir32nb
+based_type AMD64 = amd64_addr32nb
+based_type _ = arm64_addr32nb
