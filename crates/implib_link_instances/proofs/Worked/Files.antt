@@ -19,7 +19,7 @@ use Rattle.implib_link_instances.specs.Worked.LldPrograms.{addresses_on, lld_ima
 use Rattle.implib_link_instances.specs.Worked.Stored.{holding_codes, holding_placed}
 use Rattle.implib_link.proofs.TablesOfPrograms.{lld_tables}
 use Rattle.implib_link_instances.proofs.Worked.LldPrograms.{lld_opened}
-use Rattle.implib_link_instances.proofs.Worked.Stored.{amd64_beside, amd64_further, amd64_program, i386_beside, i386_further, i386_program}
+use Rattle.implib_link_instances.proofs.Worked.Stored.{holding_beside, holding_further, holding_program}
 use Rattle.implib_link_instances.proofs.Worked.Lemmas.{are_located, differ, is_each_located}
 use Rattle.implib.specs.Import.{Ask}
 use Rattle.implib_dll.specs.WorkedFiles.{worked_pe32}
@@ -44,22 +44,22 @@ unfolding lld_opened file_opened
 i386_is = record { mapped = refl; made_for = refl; width = refl; directory = refl; holds = holds_by (mapped_on I386).image (lld_image_on I386 ++ ranges_of_codes (holding_codes I386)) refl }
 
 i386_tables : AreTables I386 (tables_in I386)
-i386_tables = lld_tables I386 0x2000 (addresses_on I386) (shorts_on I386) (lld_image_on I386) (holding_placed I386) i386_program
+i386_tables = lld_tables I386 0x2000 (addresses_on I386) (shorts_on I386) (lld_image_on I386) (holding_placed I386) (holding_program I386 tt)
 
 i386_file : WorkedFile I386 0x2050 0x14
 unfolding lld_opened file_opened
-i386_file = record { is = i386_is; beside = i386_beside; further = i386_further; tables = i386_tables; addresses = refl; inside = ((omega arith, omega arith), ((omega arith, omega arith), tt)); exact = refl }
+i386_file = record { is = i386_is; beside = (holding_beside I386 tt); further = (holding_further I386 tt); tables = i386_tables; addresses = refl; inside = ((omega arith, omega arith), ((omega arith, omega arith), tt)); exact = refl }
 
 pub amd64_is : IsFileOf AMD64 0x2000 (lld_image_on AMD64 ++ ranges_of_codes (holding_codes AMD64)) (file_on AMD64) (mapped_on AMD64)
 unfolding lld_opened file_opened
 amd64_is = record { mapped = refl; made_for = refl; width = refl; directory = refl; holds = holds_by (mapped_on AMD64).image (lld_image_on AMD64 ++ ranges_of_codes (holding_codes AMD64)) refl }
 
 amd64_tables : AreTables AMD64 (tables_in AMD64)
-amd64_tables = lld_tables AMD64 0x2000 (addresses_on AMD64) (shorts_on AMD64) (lld_image_on AMD64) (holding_placed AMD64) amd64_program
+amd64_tables = lld_tables AMD64 0x2000 (addresses_on AMD64) (shorts_on AMD64) (lld_image_on AMD64) (holding_placed AMD64) (holding_program AMD64 tt)
 
 amd64_file : WorkedFile AMD64 0x2068 0x28
 unfolding lld_opened file_opened
-amd64_file = record { is = amd64_is; beside = amd64_beside; further = amd64_further; tables = amd64_tables; addresses = refl; inside = ((omega arith, omega arith), ((omega arith, omega arith), tt)); exact = refl }
+amd64_file = record { is = amd64_is; beside = (holding_beside AMD64 tt); further = (holding_further AMD64 tt); tables = amd64_tables; addresses = refl; inside = ((omega arith, omega arith), ((omega arith, omega arith), tt)); exact = refl }
 
 pub worked_files : WorkedFiles
 unfolding file_opened

@@ -8,15 +8,11 @@ use Rattle.implib.specs.Members.GnuMembers.{alias_specs}
 use Rattle.implib.specs.Members.Members.{refusal, renamed_refusal}
 use Rattle.implib.specs.Members.WeakExternal.{weak_object}
 use Rattle.implib.proofs.Link.Ranges.{apart_as_they_rise}
-use Rattle.implib_link.specs.Flavors.Program.{IsProgram}
-use Rattle.implib_link.specs.Gnu.Calls.{StubAt, amd64_addr64, arm64_addr64}
-use Rattle.implib_link.specs.Gnu.Fields.{AreLinkedBeside, DefinesIn, placed_code}
-use Rattle.implib_link.specs.Gnu.Operands.{HasPointer, Names}
+use Rattle.implib_link.specs.Gnu.Operands.{Names}
 use Rattle.implib_link.specs.Gnu.Program.{has_tables}
-use Rattle.implib_link.specs.Gnu.Stored.{AreFurtherHeld, AreStoredInMemory, HasRelative, amd64_addr32nb, arm64_addr32nb}
 use Rattle.implib_link_instances.specs.Worked.Operands.{open_on}
 use Rattle.implib_link_instances.specs.Worked.Programs.{both_inputs, symbol_of_class, touching_8}
-use Rattle.implib_link_instances.specs.Worked.Registered.{WorkedRegistered, WorkedRegistering, registered_stub_at, registering_at, registering_codes, registering_image, registering_memory, registering_objects, registering_placed, registering_targets}
+use Rattle.implib_link_instances.specs.Worked.Registered.{WorkedRegistered, WorkedRegistering, registered_stub_at, registering_at, registering_codes, registering_memory, registering_placed, registering_targets}
 use Rattle.implib_link_instances.proofs.Worked.LinkedCode.{relocated_by, relocated_test, takes_by}
 use Rattle.implib_link_instances.proofs.Worked.Programs.{admissible_by, opened, program_by}
 use Rattle.implib_link_instances.proofs.Worked.Stored.{further_by, further_test}
