@@ -1,6 +1,6 @@
 -- What instances share: numbers that differ, bytes in images, and what no list has.
 use Rattle.std.proofs.Common.{Bool, List, None, Option, Some, [], ap, arith, false, inl, inr, length, refl, sym, true, ℕ, ◌++◌, ◌+◌, ◌<◌, ◌∙◌, ◌∷◌, ◌≡◌}
-use Rattle.std.specs.Prelude.{nat_eq, slice_get, ◌&&◌}
+use Rattle.std.specs.Prelude.{if◌then◌else◌, nat_eq, slice_get, ◌&&◌}
 use Rattle.implib.proofs.Link.Ranges.{Among}
 use Rattle.implib.specs.Link.Image.{AllApart, AreApart, Range, byte_at}
 use Rattle.implib.specs.Link.Load.{BytesAt, NumberAt, number_in}
@@ -13,6 +13,9 @@ use Rattle.implib.proofs.Link.Linked.{all_append}
 use Rattle.implib.specs.declared.machine.MachineType.{MachineType}
 use Rattle.implib.specs.declared.machine.MachineType.TheVariants.{AMD64, ARM64, ARMNT, I386}
 use Rattle.implib.specs.Formats.Constants.{i386_dir32}
+use Rattle.implib.specs.Machine.{is_32bit}
+use Rattle.implib.specs.Link.Placement.{Bases}
+use Rattle.implib_link_instances.specs.Worked.Programs.{touching_4, touching_8}
 use Rattle.implib_link.specs.Gnu.Calls.{amd64_addr64, arm64_addr64}
 use Rattle.implib_link.specs.Gnu.Stored.{amd64_addr32nb, arm64_addr32nb, i386_dir32nb}
 
@@ -110,3 +113,10 @@ abbrev pub based_type : MachineType → ℕ
 based_type I386 = i386_dir32nb
 based_type AMD64 = amd64_addr32nb
 based_type _ = arm64_addr32nb
+
+-- where a worked program is linked for, and its tables
+abbrev pub image_base : MachineType → ℕ
+image_base machine = if is_32bit machine then 0x40_0000 else 0x1_4000_0000
+
+abbrev pub touching : MachineType → Bases
+touching machine = if is_32bit machine then touching_4 else touching_8

@@ -27,7 +27,7 @@ use Rattle.implib_link.proofs.Search.Lists.{contains_among, each_of}
 use Rattle.implib_link_instances.proofs.Worked.LldPrograms.{lld_opened, disjoint, meet_test, takes_outside, lld_program}
 use Rattle.implib_link_instances.proofs.Worked.LinkedCode.{all_needed, both_equal, only_absolute, rebased_by, relocated_by, relocated_test}
 use Rattle.implib_link_instances.proofs.Worked.Programs.{instruction_by}
-use Rattle.implib_link_instances.proofs.Worked.Lemmas.{NotThumb, number, whole_type}
+use Rattle.implib_link_instances.proofs.Worked.Lemmas.{NotThumb, image_base, number, whole_type}
 
 -- Fields of further types, by computing.
 
@@ -87,9 +87,6 @@ further_by machine image_base codes targets test c held r alone inside =
     (each_of (each_further machine image_base targets c) r c.code.relocations one (alone_among machine c.code.relocations r.offset (field_width machine r.kind) r alone))
 
 -- The three programs.
-
-abbrev image_base : MachineType → ℕ
-image_base machine = if is_32bit machine then 0x40_0000 else 0x1_4000_0000
 
 pub holding_program : (machine : MachineType) → NotThumb machine → IsLldProgram machine 0x2000 (addresses_on machine) (shorts_on machine) (lld_image_on machine) (holding_placed machine)
 unfolding lld_opened
