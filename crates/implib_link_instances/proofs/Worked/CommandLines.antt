@@ -1,9 +1,11 @@
 -- The command lines, by computing and by the laws.
-use Rattle.std.proofs.Common.{arith, ◌≡◌, ℕ, zero, suc, true, false, List, [], ◌∷◌, ◌++◌, map, Option, None, Some, refl, sym, ◌∙◌, subst, inl, inr, codes, ◌<◌, ◌^◌}
-use Rattle.std.specs.Prelude.{bytes_eq, is_none, slice_get}
-use Rattle.std.specs.List.{Contains, IsDistinct, flat_map, list_all, list_any}
+use Rattle.std.proofs.Common.{arith, ◌≡◌, ℕ, zero, suc, true, false, List, [], ◌∷◌, ◌++◌, map, Option, None, Some, refl, sym, ◌∙◌, subst, inl, inr, codes}
+use Rattle.std.specs.Prelude.{bytes_eq, if◌then◌else◌, is_none}
+use Rattle.std.specs.List.{AllByRecursion, Contains, IsDistinct, flat_map, list_all, list_any}
 use Rattle.std.proofs.lemmas.Bool.{and_parts, true≢false}
-use Rattle.implib.specs.declared.machine.MachineType.TheVariants.{AMD64, I386}
+use Rattle.implib.specs.declared.machine.MachineType.{MachineType}
+use Rattle.implib.specs.Machine.{is_32bit}
+use Rattle.implib.specs.declared.machine.MachineType.TheVariants.{AMD64, ARM64, ARMNT, I386}
 use Rattle.implib.specs.Formats.Layout.{encoded_size}
 use Rattle.implib.specs.Formats.Object.{Object, object_in}
 use Rattle.implib.specs.Members.GnuMembers.{alias_specs}
@@ -14,7 +16,7 @@ use Rattle.implib.proofs.Link.Ranges.{Among}
 use Rattle.implib_link.specs.Gnu.Program.{HaveSame}
 use Rattle.implib_link.specs.Search.Archives.{archive_of, is_weak, symbols_of_library, IsArchive}
 use Rattle.implib_link.specs.Search.Closed.{PullsIntoAs, claims_of, listed_in, references_of, unresolved}
-use Rattle.implib_link.specs.Search.CommandLines.{AreListedWhole, AreRounds, AreSwept, AreUnclaimedBehind, ImportsByName, IsOrdered, NoneIsLost, SearchesCommandLine, SearchesFrom, given_with, names_left}
+use Rattle.implib_link.specs.Search.CommandLines.{AreListedWhole, AreRounds, AreSwept, AreUnclaimedBehind, ImportsByName, IsOrdered, SearchesCommandLine, SearchesFrom, given_with, names_left}
 use Rattle.implib_link.specs.Search.Given.{AreGiven, symbols_kept}
 use Rattle.implib_link.specs.Search.Search.{claimed_as, first_listed, objects_as, undefined_in}
 use Rattle.implib_link.specs.Search.Sweeps.{members_at, sweeps, swept}
@@ -27,12 +29,17 @@ use Rattle.implib_link.specs.Archives.Results.{HaveArchive}
 use Rattle.implib_link.specs.Archives.InBytes.{Second}
 use Rattle.implib_archive.specs.declared.kind.Kind.TheVariants.{Coff}
 use Rattle.implib_link_instances.proofs.Worked.Opened.{archived, searched}
-use Rattle.implib_link.specs.Search.Exists.{HasClosed, tables_end}
+use Rattle.implib_link_instances.proofs.Worked.Lemmas.{IsX86}
+use Rattle.implib_link.specs.Search.Exists.{HasClosed}
 use Rattle.implib_link.proofs.Search.Exists.{closed_exists}
 
--- a member that claims what it is listed for, by computing
-pub whole_at : (reads : List ℕ → Option Object) (m : MemberView) → claimed_as reads (m ∷ []) ≡ m.symbols → HaveSame (claimed_as reads (m ∷ [])) m.symbols
+-- members that claim what they are listed for
+whole_at : (reads : List ℕ → Option Object) (m : MemberView) → claimed_as reads (m ∷ []) ≡ m.symbols → HaveSame (claimed_as reads (m ∷ [])) m.symbols
 whole_at reads m is x = (λ held. subst (λ names. Contains names x) is held, λ held. subst (λ names. Contains names x) (sym is) held)
+
+pub whole_by : (reads : List ℕ → Option Object) (members : List MemberView) → AllByRecursion (λ m. claimed_as reads (m ∷ []) ≡ m.symbols) members → AreListedWhole reads members
+whole_by reads [] are = tt
+whole_by reads (m ∷ members) are = (whole_at reads m are.0, whole_by reads members are.1)
 
 abbrev pub member_or_none : Option MemberView → MemberView
 member_or_none None = record { name = []; bytes = []; symbols = [] }
@@ -68,187 +75,84 @@ pulls_by reads archive own taken name m left listed new = record {
   new = λ has. true≢false (sym (among_any m.name (map (λ (x : MemberView). x.name) taken) (among_map (λ (x : MemberView). x.name) m taken (contains_among m taken has))) ∙ new);
 }
 
--- AMD64
+-- the two machines
 
-abbrev own : List Object
-own = read_or_none wants_bytes
+abbrev pub own : MachineType → List Object
+own machine = read_or_none (if is_32bit machine then i386_wants_bytes else wants_bytes)
 
-distinct : IsDistinct bytes_eq (listed_in amd64_members)
-unfolding opened alias_specs encoded_size
-distinct = distinct_by (listed_in amd64_members) refl
+abbrev pub exit : MachineType → List ℕ
+exit machine = if is_32bit machine then codes "_ExitProcess@4" else codes "ExitProcess"
 
-whole : AreListedWhole object_in amd64_members
-unfolding opened alias_specs encoded_size claimed_as
-whole = (whole_at object_in (member_or_none (slice_get amd64_members 0)) refl, (whole_at object_in (member_or_none (slice_get amd64_members 1)) refl, (whole_at object_in (member_or_none (slice_get amd64_members 2)) refl, (whole_at object_in (member_or_none (slice_get amd64_members 3)) refl, tt))))
+abbrev members : MachineType → List MemberView
+members machine = if is_32bit machine then i386_members else amd64_members
 
-searched_last : SearchesCommandLine object_in amd64_members (library_last own) all_taken
-unfolding opened alias_specs encoded_size swept sweeps references_of claims_of undefined_in AreSwept AreRounds SearchesFrom
-searched_last = (of_quit, record { rounds = 1; taken = (of_quit, (of_quit, record { count = 1; taken = refl; ended = refl }, refl), refl); ended = (refl, tt) }, (all_taken, record { rounds = 1; taken = (all_taken, (all_taken, record { count = 3; taken = refl; ended = refl }, refl), refl); ended = (refl, tt) }, refl))
+worked : (machine : MachineType) → IsX86 machine → WorkedCommandLine (members machine) (own machine) × WorkedLibraries machine (kernel_on machine (exit machine)) (members machine) (own machine)
+unfolding opened alias_specs encoded_size claimed_as swept sweeps references_of claims_of undefined_in AreSwept AreRounds SearchesFrom IsOrdered AreUnclaimedBehind searched archived refusal renamed_refusal is_weak symbols_of_library archive_of
+worked ARMNT none = absurd none
+worked ARM64 none = absurd none
+worked machine _ = (
+  record {
+    distinct = distinct;
+    whole = whole;
+    first = searched_last;
+    ordered = ordered;
+    takes = gnu_searches object_in (members machine) (library_last (own machine)) all_taken (first_of_distinct (members machine) (names_left object_in (own machine) (members_at (members machine) all_taken)) all_taken distinct) unclaimed ordered searched_last;
+    group = searched_group;
+    alike = λ other lld. takes_alike object_in (members machine) (in_group (own machine)) all_taken other (first_of_distinct (members machine) (names_left object_in (own machine) (members_at (members machine) all_taken)) all_taken distinct) (are_first_of_distinct (members machine) (names_left object_in (own machine) other) other distinct (taken_are object_in (members machine) (own machine) whole other lld.in_turn)) whole group_unclaimed group_ordered searched_group lld;
+  },
+  record {
+    archive = archive;
+    ready = ready;
+    searches = record { libraries_are = refl; first = first_of_distinct (members machine) (names_left object_in (own machine) (members_at (members machine) all_taken)) all_taken distinct; by_name = by_name; unclaimed = unclaimed; ordered = inl ordered; whole = whole; searches = searched_last };
+    given = given;
+    exists = exists;
+  },
+)
+  where
+    distinct : IsDistinct bytes_eq (listed_in (members machine))
+    distinct = distinct_by (listed_in (members machine)) refl
 
-searched_group : SearchesCommandLine object_in amd64_members (in_group own) all_taken
-unfolding opened alias_specs encoded_size swept sweeps references_of claims_of undefined_in AreSwept AreRounds SearchesFrom
-searched_group = (all_taken, record { rounds = 2; taken = (of_quit, ([], record { count = 0; taken = refl; ended = refl }, (of_quit, record { count = 1; taken = refl; ended = refl }, refl)), (all_taken, (all_taken, record { count = 3; taken = refl; ended = refl }, (all_taken, record { count = 0; taken = refl; ended = refl }, refl)), refl)); ended = (refl, (refl, tt)) }, refl)
+    whole : AreListedWhole object_in (members machine)
+    whole = whole_by object_in (members machine) (refl, (refl, (refl, (refl, tt))))
 
-ordered : IsOrdered object_in amd64_members (library_last own)
-unfolding opened alias_specs encoded_size undefined_in IsOrdered
-ordered = ((tt, tt), ((tt, tt), (((refl, tt), ((refl, tt), ((refl, tt), tt))), tt)))
+    searched_last : SearchesCommandLine object_in (members machine) (library_last (own machine)) all_taken
+    searched_last = (of_quit, record { rounds = 1; taken = (of_quit, (of_quit, record { count = 1; taken = refl; ended = refl }, refl), refl); ended = (refl, tt) }, (all_taken, record { rounds = 1; taken = (all_taken, (all_taken, record { count = 3; taken = refl; ended = refl }, refl), refl); ended = (refl, tt) }, refl))
 
-group_ordered : IsOrdered object_in amd64_members (in_group own)
-unfolding opened alias_specs encoded_size undefined_in IsOrdered
-group_ordered = ((tt, tt), ((tt, (tt, (tt, (tt, tt)))), tt))
+    searched_group : SearchesCommandLine object_in (members machine) (in_group (own machine)) all_taken
+    searched_group = (all_taken, record { rounds = 2; taken = (of_quit, ([], record { count = 0; taken = refl; ended = refl }, (of_quit, record { count = 1; taken = refl; ended = refl }, refl)), (all_taken, (all_taken, record { count = 3; taken = refl; ended = refl }, (all_taken, record { count = 0; taken = refl; ended = refl }, refl)), refl)); ended = (refl, (refl, tt)) }, refl)
 
-unclaimed : AreUnclaimedBehind amd64_members [] (library_last own)
-unfolding opened alias_specs encoded_size AreUnclaimedBehind
-unclaimed = ((tt, tt), (tt, (tt, tt)))
+    ordered : IsOrdered object_in (members machine) (library_last (own machine))
+    ordered = ((tt, tt), ((tt, tt), (((refl, tt), ((refl, tt), ((refl, tt), tt))), tt)))
 
-group_unclaimed : AreUnclaimedBehind amd64_members [] (in_group own)
-unfolding opened alias_specs encoded_size AreUnclaimedBehind
-group_unclaimed = ((tt, tt), (tt, tt))
+    group_ordered : IsOrdered object_in (members machine) (in_group (own machine))
+    group_ordered = ((tt, tt), ((tt, (tt, (tt, (tt, tt)))), tt))
 
-by_name : ImportsByName object_in amd64_members own (members_at amd64_members all_taken)
-unfolding opened alias_specs encoded_size references_of undefined_in
-by_name = record { left = refl; claimed = refl }
+    unclaimed : AreUnclaimedBehind (members machine) [] (library_last (own machine))
+    unclaimed = ((tt, tt), (tt, (tt, tt)))
 
-line : WorkedCommandLine amd64_members own
-unfolding opened alias_specs encoded_size references_of claims_of undefined_in
-line = record {
-  distinct = distinct;
-  whole = whole;
-  first = searched_last;
-  ordered = ordered;
-  takes = gnu_searches object_in amd64_members (library_last own) all_taken (first_of_distinct amd64_members (names_left object_in own (members_at amd64_members all_taken)) all_taken distinct) unclaimed ordered searched_last;
-  group = searched_group;
-  alike = λ other lld. takes_alike object_in amd64_members (in_group own) all_taken other (first_of_distinct amd64_members (names_left object_in own (members_at amd64_members all_taken)) all_taken distinct) (are_first_of_distinct amd64_members (names_left object_in own other) other distinct (taken_are object_in amd64_members own whole other lld.in_turn)) whole group_unclaimed group_ordered searched_group lld;
-}
+    group_unclaimed : AreUnclaimedBehind (members machine) [] (in_group (own machine))
+    group_unclaimed = ((tt, tt), (tt, tt))
 
-given : AreGiven AMD64 ((kernel_on AMD64 (codes "ExitProcess")) ∷ []) (given_with object_in is_quit own (members_at amd64_members all_taken))
-unfolding opened alias_specs encoded_size references_of claims_of undefined_in
-given = record {
-  claims = (
-    claims_none_by (symbols_kept AMD64 ((kernel_on AMD64 (codes "ExitProcess")) ∷ []) (given_with object_in is_quit own (members_at amd64_members all_taken))) (object_at (given_with object_in is_quit own (members_at amd64_members all_taken)) 0) refl,
-    (claims_none_by (symbols_kept AMD64 ((kernel_on AMD64 (codes "ExitProcess")) ∷ []) (given_with object_in is_quit own (members_at amd64_members all_taken))) (object_at (given_with object_in is_quit own (members_at amd64_members all_taken)) 1) refl, tt),
-  );
-  names = (record { head = refl; name = refl }, tt);
-}
+    by_name : ImportsByName object_in (members machine) (own machine) (members_at (members machine) all_taken)
+    by_name = record { left = refl; claimed = refl }
 
-ready : HaveArchive Coff Second (archive_of (kernel_on AMD64 (codes "ExitProcess") ∷ []))
-unfolding searched archived
-ready = record { accepted = refl; has = tt }
+    given : AreGiven machine ((kernel_on machine (exit machine)) ∷ []) (given_with object_in is_quit (own machine) (members_at (members machine) all_taken))
+    given = record {
+      claims = (
+        claims_none_by (symbols_kept machine ((kernel_on machine (exit machine)) ∷ []) (given_with object_in is_quit (own machine) (members_at (members machine) all_taken))) (object_at (given_with object_in is_quit (own machine) (members_at (members machine) all_taken)) 0) refl,
+        (claims_none_by (symbols_kept machine ((kernel_on machine (exit machine)) ∷ []) (given_with object_in is_quit (own machine) (members_at (members machine) all_taken))) (object_at (given_with object_in is_quit (own machine) (members_at (members machine) all_taken)) 1) refl, tt),
+      );
+      names = (record { head = refl; name = refl }, tt);
+    }
 
-archive : IsArchive AMD64 (kernel_on AMD64 (codes "ExitProcess") ∷ [])
-unfolding opened alias_specs encoded_size refusal renamed_refusal is_weak symbols_of_library archive_of
-archive = record { made = (record { accepted = refl; made = refl; ordinals = refl }, tt); distinct = distinct_by (flat_map (symbols_of_library AMD64) (kernel_on AMD64 (codes "ExitProcess") ∷ [])) refl }
+    ready : HaveArchive Coff Second (archive_of (kernel_on machine (exit machine) ∷ []))
+    ready = record { accepted = refl; has = tt }
 
-room : tables_end 0x2000 (kernel_on AMD64 (codes "ExitProcess") ∷ []) < 2 ^ 31
-unfolding opened
-room = omega arith
+    archive : IsArchive machine (kernel_on machine (exit machine) ∷ [])
+    archive = record { made = (record { accepted = refl; made = refl; ordinals = refl }, tt); distinct = distinct_by (flat_map (symbols_of_library machine) (kernel_on machine (exit machine) ∷ [])) refl }
 
-exists : HasClosed AMD64 (kernel_on AMD64 (codes "ExitProcess") ∷ []) (given_with object_in is_quit own (members_at amd64_members all_taken)) 0x2000
-unfolding searched
-exists = closed_exists AMD64 (kernel_on AMD64 (codes "ExitProcess") ∷ []) (given_with object_in is_quit own (members_at amd64_members all_taken)) 0x2000 archive given (refl, (refl, tt)) (omega arith) room
-
-libraries : WorkedLibraries AMD64 (kernel_on AMD64 (codes "ExitProcess")) amd64_members own
-unfolding opened alias_specs encoded_size refusal renamed_refusal is_weak symbols_of_library archive_of
-libraries = record {
-  archive = archive;
-  ready = ready;
-  searches = record { libraries_are = refl; first = first_of_distinct amd64_members (names_left object_in own (members_at amd64_members all_taken)) all_taken distinct; by_name = by_name; unclaimed = unclaimed; ordered = inl ordered; whole = whole; searches = searched_last };
-  given = given;
-  exists = exists;
-}
-
--- I386
-
-abbrev i386_own : List Object
-i386_own = read_or_none i386_wants_bytes
-
-i386_distinct : IsDistinct bytes_eq (listed_in i386_members)
-unfolding opened alias_specs encoded_size
-i386_distinct = distinct_by (listed_in i386_members) refl
-
-i386_whole : AreListedWhole object_in i386_members
-unfolding opened alias_specs encoded_size claimed_as
-i386_whole = (whole_at object_in (member_or_none (slice_get i386_members 0)) refl, (whole_at object_in (member_or_none (slice_get i386_members 1)) refl, (whole_at object_in (member_or_none (slice_get i386_members 2)) refl, (whole_at object_in (member_or_none (slice_get i386_members 3)) refl, tt))))
-
-i386_searched_last : SearchesCommandLine object_in i386_members (library_last i386_own) all_taken
-unfolding opened alias_specs encoded_size swept sweeps references_of claims_of undefined_in AreSwept AreRounds SearchesFrom
-i386_searched_last = (of_quit, record { rounds = 1; taken = (of_quit, (of_quit, record { count = 1; taken = refl; ended = refl }, refl), refl); ended = (refl, tt) }, (all_taken, record { rounds = 1; taken = (all_taken, (all_taken, record { count = 3; taken = refl; ended = refl }, refl), refl); ended = (refl, tt) }, refl))
-
-i386_searched_group : SearchesCommandLine object_in i386_members (in_group i386_own) all_taken
-unfolding opened alias_specs encoded_size swept sweeps references_of claims_of undefined_in AreSwept AreRounds SearchesFrom
-i386_searched_group = (all_taken, record { rounds = 2; taken = (of_quit, ([], record { count = 0; taken = refl; ended = refl }, (of_quit, record { count = 1; taken = refl; ended = refl }, refl)), (all_taken, (all_taken, record { count = 3; taken = refl; ended = refl }, (all_taken, record { count = 0; taken = refl; ended = refl }, refl)), refl)); ended = (refl, (refl, tt)) }, refl)
-
-i386_ordered : IsOrdered object_in i386_members (library_last i386_own)
-unfolding opened alias_specs encoded_size undefined_in IsOrdered
-i386_ordered = ((tt, tt), ((tt, tt), (((refl, tt), ((refl, tt), ((refl, tt), tt))), tt)))
-
-i386_group_ordered : IsOrdered object_in i386_members (in_group i386_own)
-unfolding opened alias_specs encoded_size undefined_in IsOrdered
-i386_group_ordered = ((tt, tt), ((tt, (tt, (tt, (tt, tt)))), tt))
-
-i386_unclaimed : AreUnclaimedBehind i386_members [] (library_last i386_own)
-unfolding opened alias_specs encoded_size AreUnclaimedBehind
-i386_unclaimed = ((tt, tt), (tt, (tt, tt)))
-
-i386_group_unclaimed : AreUnclaimedBehind i386_members [] (in_group i386_own)
-unfolding opened alias_specs encoded_size AreUnclaimedBehind
-i386_group_unclaimed = ((tt, tt), (tt, tt))
-
-i386_by_name : ImportsByName object_in i386_members i386_own (members_at i386_members all_taken)
-unfolding opened alias_specs encoded_size references_of undefined_in
-i386_by_name = record { left = refl; claimed = refl }
-
-i386_line : WorkedCommandLine i386_members i386_own
-unfolding opened alias_specs encoded_size references_of claims_of undefined_in
-i386_line = record {
-  distinct = i386_distinct;
-  whole = i386_whole;
-  first = i386_searched_last;
-  ordered = i386_ordered;
-  takes = gnu_searches object_in i386_members (library_last i386_own) all_taken (first_of_distinct i386_members (names_left object_in i386_own (members_at i386_members all_taken)) all_taken i386_distinct) i386_unclaimed i386_ordered i386_searched_last;
-  group = i386_searched_group;
-  alike = λ other lld. takes_alike object_in i386_members (in_group i386_own) all_taken other (first_of_distinct i386_members (names_left object_in i386_own (members_at i386_members all_taken)) all_taken i386_distinct) (are_first_of_distinct i386_members (names_left object_in i386_own other) other i386_distinct (taken_are object_in i386_members i386_own i386_whole other lld.in_turn)) i386_whole i386_group_unclaimed i386_group_ordered i386_searched_group lld;
-}
-
-i386_given : AreGiven I386 ((kernel_on I386 (codes "_ExitProcess@4")) ∷ []) (given_with object_in is_quit i386_own (members_at i386_members all_taken))
-unfolding opened alias_specs encoded_size references_of claims_of undefined_in
-i386_given = record {
-  claims = (
-    claims_none_by (symbols_kept I386 ((kernel_on I386 (codes "_ExitProcess@4")) ∷ []) (given_with object_in is_quit i386_own (members_at i386_members all_taken))) (object_at (given_with object_in is_quit i386_own (members_at i386_members all_taken)) 0) refl,
-    (claims_none_by (symbols_kept I386 ((kernel_on I386 (codes "_ExitProcess@4")) ∷ []) (given_with object_in is_quit i386_own (members_at i386_members all_taken))) (object_at (given_with object_in is_quit i386_own (members_at i386_members all_taken)) 1) refl, tt),
-  );
-  names = (record { head = refl; name = refl }, tt);
-}
-
-complete : NoneIsLost object_in i386_members i386_own (members_at i386_members all_taken)
-unfolding opened alias_specs encoded_size references_of claims_of undefined_in
-complete = tt
-
-i386_ready : HaveArchive Coff Second (archive_of (kernel_on I386 (codes "_ExitProcess@4") ∷ []))
-unfolding searched archived
-i386_ready = record { accepted = refl; has = tt }
-
-i386_archive : IsArchive I386 (kernel_on I386 (codes "_ExitProcess@4") ∷ [])
-unfolding opened alias_specs encoded_size refusal renamed_refusal is_weak symbols_of_library archive_of
-i386_archive = record { made = (record { accepted = refl; made = refl; ordinals = refl }, tt); distinct = distinct_by (flat_map (symbols_of_library I386) (kernel_on I386 (codes "_ExitProcess@4") ∷ [])) refl }
-
-i386_room : tables_end 0x2000 (kernel_on I386 (codes "_ExitProcess@4") ∷ []) < 2 ^ 31
-unfolding opened
-i386_room = omega arith
-
-i386_exists : HasClosed I386 (kernel_on I386 (codes "_ExitProcess@4") ∷ []) (given_with object_in is_quit i386_own (members_at i386_members all_taken)) 0x2000
-unfolding searched
-i386_exists = closed_exists I386 (kernel_on I386 (codes "_ExitProcess@4") ∷ []) (given_with object_in is_quit i386_own (members_at i386_members all_taken)) 0x2000 i386_archive i386_given (refl, (refl, tt)) (omega arith) i386_room
-
-i386_libraries : WorkedLibraries I386 (kernel_on I386 (codes "_ExitProcess@4")) i386_members i386_own
-unfolding opened alias_specs encoded_size refusal renamed_refusal is_weak symbols_of_library archive_of
-i386_libraries = record {
-  archive = i386_archive;
-  ready = i386_ready;
-  searches = record { libraries_are = refl; first = first_of_distinct i386_members (names_left object_in i386_own (members_at i386_members all_taken)) all_taken i386_distinct; by_name = i386_by_name; unclaimed = i386_unclaimed; ordered = inr complete; whole = i386_whole; searches = i386_searched_last };
-  given = i386_given;
-  exists = i386_exists;
-}
+    exists : HasClosed machine (kernel_on machine (exit machine) ∷ []) (given_with object_in is_quit (own machine) (members_at (members machine) all_taken)) 0x2000
+    exists = closed_exists machine (kernel_on machine (exit machine) ∷ []) (given_with object_in is_quit (own machine) (members_at (members machine) all_taken)) 0x2000 archive given (refl, (refl, tt)) (omega arith) (omega arith)
 
 pub worked_command_lines : WorkedCommandLines
-worked_command_lines = record { amd64 = line; i386 = i386_line; libraries = libraries; i386_libraries = i386_libraries }
+worked_command_lines = record { amd64 = (worked AMD64 tt).0; i386 = (worked I386 tt).0; libraries = (worked AMD64 tt).1; i386_libraries = (worked I386 tt).1 }

@@ -2,7 +2,10 @@
 use Rattle.std.proofs.Common.{Bool, List, [], arith, refl, sym, true, ℕ, ◌++◌, ◌∷◌, ◌≡◌}
 use Rattle.std.specs.List.{AllByRecursion, list_all}
 use Rattle.std.proofs.lemmas.Bool.{and_parts}
-use Rattle.implib.specs.declared.machine.MachineType.TheVariants.{AMD64, I386}
+use Rattle.implib.specs.declared.machine.MachineType.{MachineType}
+use Rattle.implib.specs.declared.machine.MachineType.TheVariants.{AMD64, ARM64, ARMNT, I386}
+use Rattle.implib.specs.Machine.{is_32bit}
+use Rattle.std.specs.Prelude.{if◌then◌else◌}
 use Rattle.implib.specs.Link.Image.{Range}
 use Rattle.implib.specs.Link.Load.{BytesAt}
 use Rattle.implib_dll.specs.Bytes.{bytes_at, u16_at, u32_at}
@@ -19,8 +22,8 @@ use Rattle.implib_link_instances.specs.Worked.LldPrograms.{addresses_on, lld_ima
 use Rattle.implib_link_instances.specs.Worked.Stored.{holding_codes, holding_placed}
 use Rattle.implib_link.proofs.TablesOfPrograms.{lld_tables}
 use Rattle.implib_link_instances.proofs.Worked.LldPrograms.{lld_opened}
-use Rattle.implib_link_instances.proofs.Worked.Stored.{amd64_beside, amd64_further, amd64_program, i386_beside, i386_further, i386_program}
-use Rattle.implib_link_instances.proofs.Worked.Lemmas.{are_located, differ, is_each_located}
+use Rattle.implib_link_instances.proofs.Worked.Stored.{holding_beside, holding_further, holding_program}
+use Rattle.implib_link_instances.proofs.Worked.Lemmas.{IsX86, NotThumb, are_located, differ, is_each_located}
 use Rattle.implib.specs.Import.{Ask}
 use Rattle.implib_dll.specs.WorkedFiles.{worked_pe32}
 
@@ -39,33 +42,25 @@ holds_by memory (r ∷ ranges) test =
     let parts = and_parts (is_held memory r) (list_all (is_held memory) ranges) test in
     (are_located memory r.bytes r.start parts.0, holds_by memory ranges parts.1)
 
-pub i386_is : IsFileOf I386 0x2000 (lld_image_on I386 ++ ranges_of_codes (holding_codes I386)) (file_on I386) (mapped_on I386)
+file : (machine : MachineType) → IsX86 machine → NotThumb machine → WorkedFile machine (addresses_on machine) (if is_32bit machine then 0x14 else 0x28)
 unfolding lld_opened file_opened
-i386_is = record { mapped = refl; made_for = refl; width = refl; directory = refl; holds = holds_by (mapped_on I386).image (lld_image_on I386 ++ ranges_of_codes (holding_codes I386)) refl }
-
-i386_tables : AreTables I386 (tables_in I386)
-i386_tables = lld_tables I386 0x2000 (addresses_on I386) (shorts_on I386) (lld_image_on I386) (holding_placed I386) i386_program
-
-i386_file : WorkedFile I386 0x2050 0x14
-unfolding lld_opened file_opened
-i386_file = record { is = i386_is; beside = i386_beside; further = i386_further; tables = i386_tables; addresses = refl; inside = ((omega arith, omega arith), ((omega arith, omega arith), tt)); exact = refl }
-
-pub amd64_is : IsFileOf AMD64 0x2000 (lld_image_on AMD64 ++ ranges_of_codes (holding_codes AMD64)) (file_on AMD64) (mapped_on AMD64)
-unfolding lld_opened file_opened
-amd64_is = record { mapped = refl; made_for = refl; width = refl; directory = refl; holds = holds_by (mapped_on AMD64).image (lld_image_on AMD64 ++ ranges_of_codes (holding_codes AMD64)) refl }
-
-amd64_tables : AreTables AMD64 (tables_in AMD64)
-amd64_tables = lld_tables AMD64 0x2000 (addresses_on AMD64) (shorts_on AMD64) (lld_image_on AMD64) (holding_placed AMD64) amd64_program
-
-amd64_file : WorkedFile AMD64 0x2068 0x28
-unfolding lld_opened file_opened
-amd64_file = record { is = amd64_is; beside = amd64_beside; further = amd64_further; tables = amd64_tables; addresses = refl; inside = ((omega arith, omega arith), ((omega arith, omega arith), tt)); exact = refl }
+file ARMNT none _ = absurd none
+file ARM64 none _ = absurd none
+file machine _ is = record {
+  is = record { mapped = refl; made_for = refl; width = refl; directory = refl; holds = holds_by (mapped_on machine).image (lld_image_on machine ++ ranges_of_codes (holding_codes machine)) refl };
+  beside = holding_beside machine is;
+  further = holding_further machine is;
+  tables = lld_tables machine 0x2000 (addresses_on machine) (shorts_on machine) (lld_image_on machine) (holding_placed machine) (holding_program machine is);
+  addresses = refl;
+  inside = ((omega arith, omega arith), ((omega arith, omega arith), tt));
+  exact = refl;
+}
 
 pub worked_files : WorkedFiles
 unfolding file_opened
 worked_files = record {
-  i386 = i386_file;
-  amd64 = amd64_file;
+  i386 = file I386 tt tt;
+  amd64 = file AMD64 tt tt;
   gnu = record { mapped = refl; made_for = refl; width = refl; directory = refl; holds = holds_by gnu_mapped.image (record { start = 0x3000; bytes = gnu_idata } ∷ []) refl };
 }
 

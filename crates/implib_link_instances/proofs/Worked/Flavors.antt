@@ -1,7 +1,8 @@
 -- Programs of DLLs in both flavours, by computing.
 use Rattle.std.proofs.Common.{◌≡◌, List, ◌∷◌, refl, arith, true, ◌++◌}
-use Rattle.std.specs.Prelude.{drop, take, not}
-use Rattle.implib.specs.declared.machine.MachineType.TheVariants.{I386, AMD64}
+use Rattle.std.specs.Prelude.{drop, if◌then◌else◌, take, not}
+use Rattle.implib.specs.declared.machine.MachineType.TheVariants.{AMD64, ARM64, ARMNT, I386}
+use Rattle.implib.specs.Machine.{is_32bit}
 use Rattle.implib.specs.Link.Image.{with_address}
 use Rattle.std.specs.Fmt.{digits}
 use Rattle.implib.specs.Formats.Bytes.{u16_bytes, u32_bytes}
@@ -28,7 +29,7 @@ use Rattle.implib.specs.Members.MemberSpec.{MemberView}
 use Rattle.implib.specs.declared.machine.MachineType.{MachineType}
 use Rattle.implib.specs.declared.flavor.Flavor.TheVariants.{Msvc}
 use Rattle.implib_link_instances.proofs.Worked.Programs.{distinct_by, admissible_by, all_differ, claim_none, all_claim_none}
-use Rattle.implib_link_instances.proofs.Worked.Lemmas.{differ}
+use Rattle.implib_link_instances.proofs.Worked.Lemmas.{IsX86, differ}
 
 -- what the computing has to open
 unfoldable pub opened : Unit {0}
@@ -47,32 +48,14 @@ flavor_objects_by {machine} {inputs} {objects} null_from before behind held foun
   found = found;
 }
 
-amd64 : WorkedFlavorProgram AMD64 0 flavor_bases_8 flavor_expected_8
+worked : (machine : MachineType) → IsX86 machine → WorkedFlavorProgram machine (if is_32bit machine then 2 else 0) (if is_32bit machine then flavor_bases_4 else flavor_bases_8) (if is_32bit machine then flavor_expected_4 else flavor_expected_8)
 unfolding opened refusal renamed_refusal alias_specs encoded_size weak_object has_tables expanded_in short_import_in import_object descriptor_symbol_by_name with_section_symbols descriptor null_descriptor null_thunk descriptor_symbol null_descriptor_symbol null_thunk_symbol base_name descriptor_spec null_descriptor_spec null_thunk_spec header_specs weak_specs group_end sections_end
-amd64 = record {
+worked ARMNT none = absurd none
+worked ARM64 none = absurd none
+worked machine _ = record {
   made = (record { accepted = refl; made = refl; ordinals = refl }, (record { accepted = refl; made = refl; ordinals = refl }, tt));
   program = record {
-    held = flavor_objects_by (foo_input AMD64) (take 0 (all_members AMD64 (both_inputs AMD64))) (drop 0 (all_members AMD64 (both_inputs AMD64))) (0, omega arith, refl) (refl, (tt, tt)) refl refl refl refl refl;
-    admissible = admissible_by refl refl;
-    lookups = refl;
-    addresses = refl;
-    follows = refl;
-  };
-  descriptors = refl;
-  lookups = refl;
-  addresses = refl;
-  hints = refl;
-  zed = refl;
-  entries = refl;
-  named = refl;
-}
-
-i386 : WorkedFlavorProgram I386 2 flavor_bases_4 flavor_expected_4
-unfolding opened refusal renamed_refusal alias_specs encoded_size weak_object has_tables expanded_in short_import_in import_object descriptor_symbol_by_name with_section_symbols descriptor null_descriptor null_thunk descriptor_symbol null_descriptor_symbol null_thunk_symbol base_name descriptor_spec null_descriptor_spec null_thunk_spec header_specs weak_specs group_end sections_end
-i386 = record {
-  made = (record { accepted = refl; made = refl; ordinals = refl }, (record { accepted = refl; made = refl; ordinals = refl }, tt));
-  program = record {
-    held = flavor_objects_by (foo_input I386) (take 2 (all_members I386 (both_inputs I386))) (drop 2 (all_members I386 (both_inputs I386))) (0, omega arith, refl) (refl, (tt, tt)) refl refl refl refl refl;
+    held = flavor_objects_by (foo_input machine) (take (if is_32bit machine then 2 else 0) (all_members machine (both_inputs machine))) (drop (if is_32bit machine then 2 else 0) (all_members machine (both_inputs machine))) (0, omega arith, refl) (refl, (tt, tt)) refl refl refl refl refl;
     admissible = admissible_by refl refl;
     lookups = refl;
     addresses = refl;
@@ -89,6 +72,6 @@ i386 = record {
 
 pub worked_flavors : WorkedFlavors
 worked_flavors = record {
-  amd64 = amd64;
-  i386 = i386;
+  amd64 = worked AMD64 tt;
+  i386 = worked I386 tt;
 }

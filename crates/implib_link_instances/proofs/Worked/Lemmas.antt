@@ -1,6 +1,6 @@
 -- What instances share: numbers that differ, bytes in images, and what no list has.
 use Rattle.std.proofs.Common.{Bool, List, None, Option, Some, [], ap, arith, false, inl, inr, length, refl, sym, true, ℕ, ◌++◌, ◌+◌, ◌<◌, ◌∙◌, ◌∷◌, ◌≡◌}
-use Rattle.std.specs.Prelude.{nat_eq, slice_get, ◌&&◌}
+use Rattle.std.specs.Prelude.{if◌then◌else◌, nat_eq, slice_get, ◌&&◌}
 use Rattle.implib.proofs.Link.Ranges.{Among}
 use Rattle.implib.specs.Link.Image.{AllApart, AreApart, Range, byte_at}
 use Rattle.implib.specs.Link.Load.{BytesAt, NumberAt, number_in}
@@ -10,6 +10,14 @@ use Rattle.implib_link_instances.specs.Worked.Operands.{or_else}
 use Rattle.std.proofs.lemmas.Bool.{and_parts, eqb-true, or_parts, true≢false}
 use Rattle.std.specs.List.{AllByRecursion, Contains, list_any}
 use Rattle.implib.proofs.Link.Linked.{all_append}
+use Rattle.implib.specs.declared.machine.MachineType.{MachineType}
+use Rattle.implib.specs.declared.machine.MachineType.TheVariants.{AMD64, ARM64, ARMNT, I386}
+use Rattle.implib.specs.Formats.Constants.{i386_dir32}
+use Rattle.implib.specs.Machine.{is_32bit}
+use Rattle.implib.specs.Link.Placement.{Bases}
+use Rattle.implib_link_instances.specs.Worked.Programs.{touching_4, touching_8}
+use Rattle.implib_link.specs.Gnu.Calls.{amd64_addr64, arm64_addr64}
+use Rattle.implib_link.specs.Gnu.Stored.{amd64_addr32nb, arm64_addr32nb, i386_dir32nb}
 
 -- numbers that are not equal
 pub differ : (n m : ℕ) → n ≡ m → n < m → ⊥
@@ -78,3 +86,37 @@ no_definition d is = cc
 pub put_last : (ranges : List Range) (r : Range) → AllByRecursion (AreApart r) ranges → AllApart ranges → AllApart (ranges ++ r ∷ [])
 put_last [] r each apart = (tt, tt)
 put_last (x ∷ ranges) r each apart = (all_append (AreApart x) ranges (r ∷ []) apart.0 ((λ address here there. each.0 address there here), tt), put_last ranges r each.1 apart.1)
+
+-- Machines. A lemma whose last clause is of `machine` computes at each machine that is left.
+
+abbrev pub IsWide : MachineType → Type 0
+IsWide AMD64 = Unit {0}
+IsWide ARM64 = Unit {0}
+IsWide _ = ⊥
+
+abbrev pub IsX86 : MachineType → Type 0
+IsX86 I386 = Unit {0}
+IsX86 AMD64 = Unit {0}
+IsX86 _ = ⊥
+
+abbrev pub NotThumb : MachineType → Type 0
+NotThumb ARMNT = ⊥
+NotThumb _ = Unit {0}
+
+-- the types of fields: an address whole, and one from the image's base
+abbrev pub whole_type : MachineType → ℕ
+whole_type I386 = i386_dir32
+whole_type AMD64 = amd64_addr64
+whole_type _ = arm64_addr64
+
+abbrev pub based_type : MachineType → ℕ
+based_type I386 = i386_dir32nb
+based_type AMD64 = amd64_addr32nb
+based_type _ = arm64_addr32nb
+
+-- where a worked program is linked for, and its tables
+abbrev pub image_base : MachineType → ℕ
+image_base machine = if is_32bit machine then 0x40_0000 else 0x1_4000_0000
+
+abbrev pub touching : MachineType → Bases
+touching machine = if is_32bit machine then touching_4 else touching_8

@@ -11,7 +11,9 @@ use Rattle.implib_link.specs.Flavors.LldTables.{ArePiecesAt, IsAskable, all_hint
 use Rattle.implib_link.proofs.Search.Lists.{among_at, contains_among, each_of}
 use Rattle.std.specs.Prelude.{Bool, bytes_eq, if◌then◌else◌, slice_get, ◌&&◌, ◌==◌}
 use Rattle.std.proofs.lemmas.Bool.{and_from, eq-eqb, eqb-true}
-use Rattle.implib.specs.declared.machine.MachineType.TheVariants.{AMD64, ARM64, I386}
+use Rattle.implib.specs.declared.machine.MachineType.{MachineType}
+use Rattle.implib.specs.declared.machine.MachineType.TheVariants.{ARMNT}
+use Rattle.implib.specs.Machine.{is_32bit}
 use Rattle.implib.specs.Formats.File.{is_defined_external}
 use Rattle.implib.specs.Link.Image.{AreApart, Range, range_end}
 use Rattle.implib.specs.Link.Resolution.{is_undefined_external, symbol_address}
@@ -19,10 +21,11 @@ use Rattle.implib.proofs.Link.Definitions.{same_text}
 use Rattle.implib.proofs.Link.LinkedMembers.{among_contains}
 use Rattle.implib_link.specs.Flavors.LldThunks.{placed_thunk}
 use Rattle.implib_link.specs.Gnu.Fields.{LinkedCode, TakesSymbols}
-use Rattle.implib_link_instances.specs.Worked.LldPrograms.{lld_image_on, lld_linked_on, mid_on, or_thunk, placed_object, shorts_on, tables_on, taken_address}
+use Rattle.implib_link_instances.specs.Worked.LldPrograms.{addresses_on, lld_image_on, lld_linked_on, mid_on, or_thunk, placed_object, shorts_on, taken_address}
 use Rattle.implib_link.proofs.Flavors.LldTables.{built_pieces}
 use Rattle.implib_link.proofs.Gnu.Memory.{within_bounds}
 use Rattle.implib_link_instances.proofs.Worked.Programs.{distinct_by}
+use Rattle.implib_link_instances.proofs.Worked.Lemmas.{NotThumb}
 
 -- what the computing has to open
 unfoldable pub lld_opened : Unit {0}
@@ -94,104 +97,33 @@ takes_outside outside linked codes test = record {
     in_tables p (Auxiliary bytes) address is = cc
     in_tables p (ASymbol s) address is = rw is refl
 
--- I386.
+-- The three programs.
 
-i386_written : built_bytes I386 0x2000 (imports_of_lld (shorts_on I386)) ≡ tables_on I386
-unfolding lld_opened
-i386_written = refl
-
-i386_pieces : ArePiecesAt I386 (lld_image_on I386) 0x2000 0x203C 0x2050 0x2064 0x2072 (imports_of_lld (shorts_on I386))
+pub lld_pieces : (machine : MachineType) → NotThumb machine → ArePiecesAt machine (lld_image_on machine) 0x2000 (if is_32bit machine then 0x203C else 0x2040) (addresses_on machine) (if is_32bit machine then 0x2064 else 0x2090) (if is_32bit machine then 0x2072 else 0x209E) (imports_of_lld (shorts_on machine))
 unfolding lld_opened Among
-i386_pieces =
-    built_pieces I386 0x2000 (imports_of_lld (shorts_on I386)) (lld_image_on I386) (tt, tt)
-    (among_contains (built I386 0x2000 (imports_of_lld (shorts_on I386))) (lld_image_on I386) (inl (ap (λ bytes. record { start = 0x2000; bytes = bytes }) i386_written)))
+lld_pieces ARMNT none = absurd none
+lld_pieces machine _ = built_pieces machine 0x2000 (imports_of_lld (shorts_on machine)) (lld_image_on machine) (tt, tt)
+    (among_contains (built machine 0x2000 (imports_of_lld (shorts_on machine))) (lld_image_on machine) (inl (ap (λ bytes. record { start = 0x2000; bytes = bytes }) refl)))
 
-pub i386_program : IsLldProgram I386 0x2000 0x2050 (shorts_on I386) (lld_image_on I386) (lld_linked_on I386)
+pub lld_program : (machine : MachineType) → NotThumb machine → IsLldProgram machine 0x2000 (addresses_on machine) (shorts_on machine) (lld_image_on machine) (lld_linked_on machine)
 unfolding lld_opened IsAskable
-i386_program = record {
+lld_program ARMNT none = absurd none
+lld_program machine is = record {
   writable = (record { name = refl; asks = (omega arith, tt) }, (record { name = refl; asks = ((omega arith, refl), tt) }, (record { name = refl; asks = ((omega arith, refl), tt) }, tt)));
-  distinct = distinct_by (imp_symbols_of (shorts_on I386)) refl;
-  agree = alike (shorts_on I386) (
+  distinct = distinct_by (imp_symbols_of (shorts_on machine)) refl;
+  agree = alike (shorts_on machine) (
     ((λ e. refl), ((λ e. cc), ((λ e. refl), tt))),
     (((λ e. cc), ((λ e. refl), ((λ e. cc), tt))), (((λ e. refl), ((λ e. cc), ((λ e. refl), tt))), tt)),
   );
-  before = placed_object I386 ∷ [];
-  behind = placed_thunk I386 (mid_on I386) ∷ [];
+  before = placed_object machine ∷ [];
+  behind = placed_thunk machine (mid_on machine) ∷ [];
   placed = refl;
   none_before = (refl, (refl, (refl, tt)));
   none_behind = (refl, (refl, (refl, tt)));
-  lookups = 0x203C;
-  hints = 0x2064;
-  names = 0x2072;
-  pieces = i386_pieces;
-  starts = (omega arith, tt);
-  ends = (omega arith, tt);
-}
-
--- AMD64.
-
-amd64_written : built_bytes AMD64 0x2000 (imports_of_lld (shorts_on AMD64)) ≡ tables_on AMD64
-unfolding lld_opened
-amd64_written = refl
-
-pub amd64_pieces : ArePiecesAt AMD64 (lld_image_on AMD64) 0x2000 0x2040 0x2068 0x2090 0x209E (imports_of_lld (shorts_on AMD64))
-unfolding lld_opened Among
-amd64_pieces =
-    built_pieces AMD64 0x2000 (imports_of_lld (shorts_on AMD64)) (lld_image_on AMD64) (tt, tt)
-    (among_contains (built AMD64 0x2000 (imports_of_lld (shorts_on AMD64))) (lld_image_on AMD64) (inl (ap (λ bytes. record { start = 0x2000; bytes = bytes }) amd64_written)))
-
-pub amd64_program : IsLldProgram AMD64 0x2000 0x2068 (shorts_on AMD64) (lld_image_on AMD64) (lld_linked_on AMD64)
-unfolding lld_opened IsAskable
-amd64_program = record {
-  writable = (record { name = refl; asks = (omega arith, tt) }, (record { name = refl; asks = ((omega arith, refl), tt) }, (record { name = refl; asks = ((omega arith, refl), tt) }, tt)));
-  distinct = distinct_by (imp_symbols_of (shorts_on AMD64)) refl;
-  agree = alike (shorts_on AMD64) (
-    ((λ e. refl), ((λ e. cc), ((λ e. refl), tt))),
-    (((λ e. cc), ((λ e. refl), ((λ e. cc), tt))), (((λ e. refl), ((λ e. cc), ((λ e. refl), tt))), tt)),
-  );
-  before = placed_object AMD64 ∷ [];
-  behind = placed_thunk AMD64 (mid_on AMD64) ∷ [];
-  placed = refl;
-  none_before = (refl, (refl, (refl, tt)));
-  none_behind = (refl, (refl, (refl, tt)));
-  lookups = 0x2040;
-  hints = 0x2090;
-  names = 0x209E;
-  pieces = amd64_pieces;
-  starts = (omega arith, tt);
-  ends = (omega arith, tt);
-}
-
--- ARM64.
-
-arm64_written : built_bytes ARM64 0x2000 (imports_of_lld (shorts_on ARM64)) ≡ tables_on ARM64
-unfolding lld_opened
-arm64_written = refl
-
-arm64_pieces : ArePiecesAt ARM64 (lld_image_on ARM64) 0x2000 0x2040 0x2068 0x2090 0x209E (imports_of_lld (shorts_on ARM64))
-unfolding lld_opened Among
-arm64_pieces =
-    built_pieces ARM64 0x2000 (imports_of_lld (shorts_on ARM64)) (lld_image_on ARM64) (tt, tt)
-    (among_contains (built ARM64 0x2000 (imports_of_lld (shorts_on ARM64))) (lld_image_on ARM64) (inl (ap (λ bytes. record { start = 0x2000; bytes = bytes }) arm64_written)))
-
-pub arm64_program : IsLldProgram ARM64 0x2000 0x2068 (shorts_on ARM64) (lld_image_on ARM64) (lld_linked_on ARM64)
-unfolding lld_opened IsAskable
-arm64_program = record {
-  writable = (record { name = refl; asks = (omega arith, tt) }, (record { name = refl; asks = ((omega arith, refl), tt) }, (record { name = refl; asks = ((omega arith, refl), tt) }, tt)));
-  distinct = distinct_by (imp_symbols_of (shorts_on ARM64)) refl;
-  agree = alike (shorts_on ARM64) (
-    ((λ e. refl), ((λ e. cc), ((λ e. refl), tt))),
-    (((λ e. cc), ((λ e. refl), ((λ e. cc), tt))), (((λ e. refl), ((λ e. cc), ((λ e. refl), tt))), tt)),
-  );
-  before = placed_object ARM64 ∷ [];
-  behind = placed_thunk ARM64 (mid_on ARM64) ∷ [];
-  placed = refl;
-  none_before = (refl, (refl, (refl, tt)));
-  none_behind = (refl, (refl, (refl, tt)));
-  lookups = 0x2040;
-  hints = 0x2090;
-  names = 0x209E;
-  pieces = arm64_pieces;
+  lookups = if is_32bit machine then 0x203C else 0x2040;
+  hints = if is_32bit machine then 0x2064 else 0x2090;
+  names = if is_32bit machine then 0x2072 else 0x209E;
+  pieces = lld_pieces machine is;
   starts = (omega arith, tt);
   ends = (omega arith, tt);
 }

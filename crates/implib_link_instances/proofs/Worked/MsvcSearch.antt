@@ -2,7 +2,7 @@
 use Rattle.std.proofs.Common.{List, None, Option, Some, [], codes, inl, inr, refl, subst, sym, ℕ, ◌∙◌, ◌∷◌, ◌≡◌}
 use Rattle.std.specs.List.{flat_map}
 use Rattle.implib.specs.declared.machine.MachineType.{MachineType}
-use Rattle.implib.specs.declared.machine.MachineType.TheVariants.{AMD64, I386}
+use Rattle.implib.specs.declared.machine.MachineType.TheVariants.{AMD64, ARM64, ARMNT, I386}
 use Rattle.implib.specs.Formats.ShortImport.{short_import_in}
 use Rattle.implib.specs.Formats.Layout.{encoded_size}
 use Rattle.implib.specs.Members.Members.{refusal, renamed_refusal}
@@ -20,6 +20,7 @@ use Rattle.implib_link.proofs.Search.Lists.{contains_among}
 use Rattle.implib_link.proofs.Search.MsvcOne.{search_takes}
 use Rattle.implib_link.proofs.Search.Ends.{search_bounded, search_ends}
 use Rattle.implib_link_instances.proofs.Worked.Programs.{distinct_by, opened}
+use Rattle.implib_link_instances.proofs.Worked.Lemmas.{IsX86}
 use Rattle.implib_link_instances.proofs.Worked.Search.{pulls_in_now, settled_ends, takes_by}
 use Rattle.implib.specs.LibraryName.{own_names}
 use Rattle.implib.specs.Members.WeakExternal.{weak_object}
@@ -52,61 +53,38 @@ to_thunk = 0x7F ∷ codes "foo_NULL_THUNK_DATA"
 abbrev the_descriptor : MachineType → MemberView
 the_descriptor machine = member_of (descriptor_spec machine (own_names (codes "foo.dll")))
 
-amd64_takes : TakesFor AMD64 (short_members AMD64) (one_wanted AMD64) (four_taken AMD64)
+searched : (machine : MachineType) → IsX86 machine → WorkedMsvcSearch machine
 unfolding opened refusal renamed_refusal encoded_size expanded_in short_import_in import_object descriptor_symbol_by_name with_section_symbols descriptor null_descriptor null_thunk descriptor_symbol null_descriptor_symbol null_thunk_symbol base_name descriptor_spec null_descriptor_spec null_thunk_spec header_specs weak_specs left_as claimed_as undefined_in AreTakenInTurnAs
-amd64_takes = takes_by (to_thunk ∷ to_null ∷ to_descriptor ∷ symbol_on AMD64 (codes "baz") ∷ []) refl refl refl
-
-amd64 : WorkedMsvcSearch AMD64
-unfolding opened refusal renamed_refusal encoded_size expanded_in short_import_in import_object descriptor_symbol_by_name with_section_symbols descriptor null_descriptor null_thunk descriptor_symbol null_descriptor_symbol null_thunk_symbol base_name descriptor_spec null_descriptor_spec null_thunk_spec header_specs weak_specs left_as claimed_as undefined_in AreTakenInTurnAs
-amd64 = record {
+searched ARMNT none = absurd none
+searched ARM64 none = absurd none
+searched machine _ = record {
   made = record { accepted = refl; made = refl; ordinals = refl };
-  distinct = distinct_by (flat_map (λ m. m.symbols) (short_members AMD64)) refl;
+  distinct = distinct_by (flat_map (λ m. m.symbols) (short_members machine)) refl;
   found = refl;
   plain = record { descriptor = refl; null_descriptor = refl; null_thunk = refl };
   numbers = refl;
-  takes = amd64_takes;
-  just = search_takes AMD64 (three_on AMD64) (short_members AMD64) (four_taken AMD64) (one_wanted AMD64)
+  takes = takes;
+  just = search_takes machine (three_on machine) (short_members machine) (four_taken machine) (one_wanted machine)
       (record { accepted = refl; made = refl; ordinals = refl })
-      (distinct_by (flat_map (λ m. m.symbols) (short_members AMD64)) refl)
+      (distinct_by (flat_map (λ m. m.symbols) (short_members machine)) refl)
       refl
       (record { descriptor = refl; null_descriptor = refl; null_thunk = refl })
-      amd64_takes;
-  nothing = record { in_turn = tt; ended = settled_ends (expanded_in AMD64) (short_members AMD64) (codes "printf" ∷ []) [] refl };
-  unfinished = λ takes. takes.ended to_descriptor (the_descriptor AMD64) (pulls_in_now (expanded_in AMD64) (short_members AMD64) (one_wanted AMD64) (baz_member AMD64 ∷ []) to_descriptor (the_descriptor AMD64) refl refl refl refl);
-  unasked = takes_none AMD64 (short_members AMD64) (codes "printf") (baz_member AMD64) refl;
+      takes;
+  nothing = record { in_turn = tt; ended = settled_ends (expanded_in machine) (short_members machine) (codes "printf" ∷ []) [] refl };
+  unfinished = λ takes. takes.ended to_descriptor (the_descriptor machine) (pulls_in_now (expanded_in machine) (short_members machine) (one_wanted machine) (baz_member machine ∷ []) to_descriptor (the_descriptor machine) refl refl refl refl);
+  unasked = takes_none machine (short_members machine) (codes "printf") (baz_member machine) refl;
 }
-
-i386_takes : TakesFor I386 (short_members I386) (one_wanted I386) (four_taken I386)
-unfolding opened refusal renamed_refusal encoded_size expanded_in short_import_in import_object descriptor_symbol_by_name with_section_symbols descriptor null_descriptor null_thunk descriptor_symbol null_descriptor_symbol null_thunk_symbol base_name descriptor_spec null_descriptor_spec null_thunk_spec header_specs weak_specs left_as claimed_as undefined_in AreTakenInTurnAs
-i386_takes = takes_by (to_thunk ∷ to_null ∷ to_descriptor ∷ symbol_on I386 (codes "baz") ∷ []) refl refl refl
-
-i386 : WorkedMsvcSearch I386
-unfolding opened refusal renamed_refusal encoded_size expanded_in short_import_in import_object descriptor_symbol_by_name with_section_symbols descriptor null_descriptor null_thunk descriptor_symbol null_descriptor_symbol null_thunk_symbol base_name descriptor_spec null_descriptor_spec null_thunk_spec header_specs weak_specs left_as claimed_as undefined_in AreTakenInTurnAs
-i386 = record {
-  made = record { accepted = refl; made = refl; ordinals = refl };
-  distinct = distinct_by (flat_map (λ m. m.symbols) (short_members I386)) refl;
-  found = refl;
-  plain = record { descriptor = refl; null_descriptor = refl; null_thunk = refl };
-  numbers = refl;
-  takes = i386_takes;
-  just = search_takes I386 (three_on I386) (short_members I386) (four_taken I386) (one_wanted I386)
-      (record { accepted = refl; made = refl; ordinals = refl })
-      (distinct_by (flat_map (λ m. m.symbols) (short_members I386)) refl)
-      refl
-      (record { descriptor = refl; null_descriptor = refl; null_thunk = refl })
-      i386_takes;
-  nothing = record { in_turn = tt; ended = settled_ends (expanded_in I386) (short_members I386) (codes "printf" ∷ []) [] refl };
-  unfinished = λ takes. takes.ended to_descriptor (the_descriptor I386) (pulls_in_now (expanded_in I386) (short_members I386) (one_wanted I386) (baz_member I386 ∷ []) to_descriptor (the_descriptor I386) refl refl refl refl);
-  unasked = takes_none I386 (short_members I386) (codes "printf") (baz_member I386) refl;
-}
+  where
+    takes : TakesFor machine (short_members machine) (one_wanted machine) (four_taken machine)
+    takes = takes_by (to_thunk ∷ to_null ∷ to_descriptor ∷ symbol_on machine (codes "baz") ∷ []) refl refl refl
 
 pub worked_msvc_searches : WorkedMsvcSearches
 unfolding descriptor_symbol null_descriptor_symbol null_thunk_symbol base_name header_specs weak_specs
 worked_msvc_searches = record {
-  amd64 = amd64;
-  i386 = i386;
+  amd64 = searched AMD64 tt;
+  i386 = searched I386 tt;
   ends = search_ends (expanded_in AMD64) (short_members AMD64) (one_wanted AMD64);
-  bounded = search_bounded (expanded_in AMD64) (short_members AMD64) (four_taken AMD64) (one_wanted AMD64) amd64_takes.in_turn;
+  bounded = search_bounded (expanded_in AMD64) (short_members AMD64) (four_taken AMD64) (one_wanted AMD64) (searched AMD64 tt).takes.in_turn;
   members = refl;
 }
 

@@ -37,7 +37,7 @@ use Rattle.implib_link_instances.specs.Worked.OtherLibraries.{objects_of}
 use Rattle.implib_link_instances.specs.Worked.OtherNames.{HoldsOfSome, eight_zeros, other_tables, WorkedAlternateNames, WorkedOtherNames, lld_other_address, lld_other_code, lld_other_codes, lld_other_linked, lld_other_memory, lld_other_targets, other_address, other_codes, other_linked, other_memory, other_objects, other_placed, other_start, other_targets}
 use Rattle.implib_link_instances.specs.Worked.Programs.{symbol_of_class}
 use Rattle.implib_link_instances.proofs.Worked.LinkedCode.{relocated_by, relocated_test}
-use Rattle.implib_link_instances.proofs.Worked.LldPrograms.{alike, lld_opened, amd64_pieces, meet_test, meets_up, takes_outside}
+use Rattle.implib_link_instances.proofs.Worked.LldPrograms.{alike, lld_opened, lld_pieces, meet_test, meets_up, takes_outside}
 use Rattle.implib_link_instances.proofs.Worked.OtherLibraries.{all_claim_none}
 use Rattle.implib_link_instances.proofs.Worked.Parts.{all_apart, all_apart_test, is_apart, zoo_are, zoo_stores}
 use Rattle.implib_link_instances.proofs.Worked.Programs.{admissible_by, distinct_by, instruction_by, opened}
@@ -207,7 +207,7 @@ lld_program = record {
   lookups = 0x2040;
   hints = 0x2090;
   names = 0x209E;
-  pieces = amd64_pieces;
+  pieces = lld_pieces AMD64 tt;
   starts = (omega arith, tt);
   ends = (omega arith, tt);
 }
