@@ -76,7 +76,7 @@ i386_writes = (
   (number (program_image I386 touching_4) 4 20 92 (92 ∷ 0 ∷ 0 ∷ 0 ∷ []) refl refl refl, (_, (refl, (112, (number (program_image I386 touching_4) 4 40 112 (112 ∷ 0 ∷ 0 ∷ 0 ∷ []) refl refl refl, ([], (refl, refl))))))),
 )
 
-pub can : (machine : MachineType) → IsX86 machine → CanJump machine (image_base machine) (touching machine)
+can : (machine : MachineType) → IsX86 machine → CanJump machine (image_base machine) (touching machine)
 can AMD64 _ = tt
 can I386 _ = omega arith
 can _ none = absurd none
