@@ -27,6 +27,7 @@ use Rattle.implib_link.specs.Gnu.Program.{null_descriptor}
 use Rattle.implib_link.specs.Gnu.Reading.{ReadsAndWrites}
 use Rattle.implib_link_instances.specs.Worked.Programs.{foo_input}
 use Rattle.implib_link_instances.specs.Worked.Programs.{input_objects, program_image}
+use Rattle.implib_link_instances.specs.Worked.Programs.{object_with}
 use Rattle.implib_link_instances.specs.Worked.Programs.{symbol_of_class, symbol_on, touching_4}
 use Rattle.implib_link_instances.specs.Worked.Programs.{touching_8, zed_input}
 use Rattle.implib_link.specs.Gnu.Pointers.{HasLoad, load_bytes, load_reads, load_relocations}
@@ -117,16 +118,10 @@ calling_code machine = section text_name (cnt_code + align_16bytes + mem_execute
 
 -- an object with this code, whose symbol 1 is `__imp_open`
 abbrev pub calling : MachineType → Object
-calling machine = record {
-  machine = 0;
-  time = 0;
-  optional_header_size = 0;
-  characteristics = 0;
-  sections = calling_code machine ∷ [];
-  entries = ASymbol (symbol_of_class (codes "main") 1 class_external)
-      ∷ ASymbol (symbol_of_class (imp_symbol (symbol_on machine (codes "open"))) 0 class_external)
-      ∷ [];
-}
+calling machine = object_with 0 (calling_code machine ∷ []) (
+    symbol_of_class (codes "main") 1 class_external
+    ∷ symbol_of_class (imp_symbol (symbol_on machine (codes "open"))) 0 class_external
+    ∷ [])
 
 -- What DLLs give, by hand: for an ordinal 0x1000_0000, for a name 16 more for each of its
 -- characters.
