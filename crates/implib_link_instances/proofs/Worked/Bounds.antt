@@ -10,7 +10,7 @@ use Rattle.implib.specs.Members.WeakExternal.{weak_object}
 use Rattle.implib_link.specs.Gnu.Bounds.{AreBounded}
 use Rattle.implib_link.specs.Gnu.Program.{has_tables}
 use Rattle.implib_link_instances.specs.Worked.Loads.{WorkedBound, WorkedBounds}
-use Rattle.implib_link_instances.specs.Worked.Programs.{both_inputs, program_objects, touching_4, touching_8}
+use Rattle.implib_link_instances.specs.Worked.Programs.{both_inputs, program_objects}
 use Rattle.implib_link.proofs.Gnu.Bounds.{even_hints, tables_are_bounded}
 use Rattle.implib_link_instances.proofs.Worked.Programs.{opened, worked_program}
 use Rattle.implib_link_instances.proofs.Worked.Lemmas.{IsX86, touching}

@@ -12,7 +12,7 @@ use Rattle.implib.specs.Formats.Layout.{encoded_size}
 use Rattle.implib.specs.Import.{Name}
 use Rattle.implib.specs.Link.Image.{Range}
 use Rattle.implib.specs.Link.LinkedMembers.{IsMade}
-use Rattle.implib.specs.Link.Load.{IsWhole, Loads, LoadsStrictly, NumberAt, TableAt, TextAt, ThunkAsksFor, ThunkAt, WholeTableAt, WholeThunkAt}
+use Rattle.implib.specs.Link.Load.{IsWhole, LoadsStrictly, NumberAt, TableAt, TextAt, ThunkAsksFor, ThunkAt, WholeTableAt, WholeThunkAt}
 use Rattle.implib.specs.Members.GnuMembers.{alias_specs}
 use Rattle.implib.specs.Members.Members.{refusal, renamed_refusal}
 use Rattle.implib.specs.Members.WeakExternal.{weak_object}
