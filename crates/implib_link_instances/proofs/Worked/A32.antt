@@ -23,7 +23,7 @@ use Rattle.implib_link.proofs.Gnu.Fields.{alone_among}
 use Rattle.implib_link.proofs.Gnu.LinkedCodes.{takes_from}
 use Rattle.implib_link.proofs.Search.Lists.{contains_among}
 use Rattle.implib_link_instances.proofs.Worked.LinkedCode.{relocated_by, relocated_test}
-use Rattle.implib_link_instances.proofs.Worked.Loads.{armnt_given}
+use Rattle.implib_link_instances.proofs.Worked.Loads.{given}
 use Rattle.implib_link_instances.proofs.Worked.Programs.{opened, worked_programs, admissible_by, program_by}
 use Rattle.implib_link_instances.proofs.Worked.Lemmas.{put_last, are_located}
 use Rattle.implib_link_instances.proofs.Worked.Calls.{resolves_by_tables}
@@ -124,10 +124,10 @@ behind =
       loaded = λ n written reads. (
         (armnt_reads 0x40_0000 OfLinker touching_4 (map gnu_input (both_inputs ARMNT)) (program_objects ARMNT) (armnt_stub touching_4 0x1000 literal ∷ []) (as_placed (armnt_targets touching_4)) memory (gives_by_hand ARMNT) worked_programs.armnt.made
             worked_programs.armnt.program (inl (behind_beside, refl)) behind_distances n written 0 1 (gnu_input (foo_input ARMNT)) (record (plain_export (symbol_on ARMNT (codes "open"))) { ordinal = 258 }) (armnt_stub touching_4 0x1000 literal)
-            (symbol_of_class (symbol_on ARMNT (codes "open")) 1 class_external) armnt_given reads refl refl refl (0, omega arith, refl) behind_defines refl).1,
+            (symbol_of_class (symbol_on ARMNT (codes "open")) 1 class_external) (given ARMNT) reads refl refl refl (0, omega arith, refl) behind_defines refl).1,
         armnt_misses 0x40_0000 OfLinker touching_4 (map gnu_input (both_inputs ARMNT)) (program_objects ARMNT) (armnt_stub touching_4 0x1000 literal ∷ []) (as_placed (armnt_targets touching_4)) memory (gives_by_hand ARMNT) worked_programs.armnt.made
             worked_programs.armnt.program (inl (behind_beside, refl)) behind_distances n written 0 1 (gnu_input (foo_input ARMNT)) (record (plain_export (symbol_on ARMNT (codes "open"))) { ordinal = 258 }) (armnt_stub touching_4 0x1000 literal)
-            (symbol_of_class (symbol_on ARMNT (codes "open")) 1 class_external) armnt_given reads refl refl refl (0, omega arith, refl) behind_defines refl (omega arith),
+            (symbol_of_class (symbol_on ARMNT (codes "open")) 1 class_external) (given ARMNT) reads refl refl refl (0, omega arith, refl) behind_defines refl (omega arith),
       );
     }
 
@@ -144,10 +144,10 @@ in_front =
       loaded = λ n written reads. (
         (armnt_reads 0x1000_0000 OfLinker far_4 (map gnu_input (both_inputs ARMNT)) (program_objects ARMNT) (armnt_stub far_4 0x200 literal ∷ []) (as_placed (armnt_targets far_4)) memory (gives_by_hand ARMNT) worked_programs.armnt.made
             far_program (inl (front_beside, refl)) front_distances n written 0 1 (gnu_input (foo_input ARMNT)) (record (plain_export (symbol_on ARMNT (codes "open"))) { ordinal = 258 }) (armnt_stub far_4 0x200 literal)
-            (symbol_of_class (symbol_on ARMNT (codes "open")) 1 class_external) armnt_given reads refl refl refl (0, omega arith, refl) front_defines refl).1,
+            (symbol_of_class (symbol_on ARMNT (codes "open")) 1 class_external) (given ARMNT) reads refl refl refl (0, omega arith, refl) front_defines refl).1,
         armnt_misses 0x1000_0000 OfLinker far_4 (map gnu_input (both_inputs ARMNT)) (program_objects ARMNT) (armnt_stub far_4 0x200 literal ∷ []) (as_placed (armnt_targets far_4)) memory (gives_by_hand ARMNT) worked_programs.armnt.made
             far_program (inl (front_beside, refl)) front_distances n written 0 1 (gnu_input (foo_input ARMNT)) (record (plain_export (symbol_on ARMNT (codes "open"))) { ordinal = 258 }) (armnt_stub far_4 0x200 literal)
-            (symbol_of_class (symbol_on ARMNT (codes "open")) 1 class_external) armnt_given reads refl refl refl (0, omega arith, refl) front_defines refl (omega arith),
+            (symbol_of_class (symbol_on ARMNT (codes "open")) 1 class_external) (given ARMNT) reads refl refl refl (0, omega arith, refl) front_defines refl (omega arith),
       );
     }
 
@@ -164,7 +164,7 @@ loaded_stub holds =
     (program_tables_none ARMNT OfLinker touching_4 inputs (program_objects ARMNT) made program.held.ended) (inl (behind_beside, refl)) in
     holds 0x40_0000 OfLinker touching_4 inputs (program_objects ARMNT) (armnt_stub touching_4 0x1000 literal ∷ []) (as_placed (armnt_targets touching_4)) (armnt_memory touching_4 0x1000 literal) (gives_by_hand ARMNT) made program
     (inl (behind_beside, refl)) behind_distances 2 ends.0 0 1 (gnu_input (foo_input ARMNT)) (record (plain_export (symbol_on ARMNT (codes "open"))) { ordinal = 258 }) (armnt_stub touching_4 0x1000 literal)
-    (symbol_of_class (symbol_on ARMNT (codes "open")) 1 class_external) armnt_given ends.1 refl refl refl (0, omega arith, refl) behind_defines refl
+    (symbol_of_class (symbol_on ARMNT (codes "open")) 1 class_external) (given ARMNT) ends.1 refl refl refl (0, omega arith, refl) behind_defines refl
 
 pub worked_armnt_stubs : WorkedArmntStubs
 worked_armnt_stubs = record {

@@ -1,5 +1,5 @@
 -- Worked code with its linked bytes computed is linked beside the tables.
-use Rattle.std.proofs.Common.{Bool, List, None, Option, Some, [], ap, arith, codes, false, inl, inr, length, map, refl, subst, suc, sym, true, true≢false, zero, ℕ, ◌++◌, ◌+◌, ◌^◌, ◌∙◌, ◌∷◌, ◌≡◌, ◌≤◌, ◌⊎◌}
+use Rattle.std.proofs.Common.{Bool, List, None, Option, Some, [], ap, arith, codes, false, inl, inr, length, map, refl, subst, sym, true, true≢false, ℕ, ◌++◌, ◌+◌, ◌^◌, ◌∙◌, ◌∷◌, ◌≡◌, ◌≤◌}
 use Rattle.std.specs.Prelude.{bytes_eq, if◌then◌else◌, nat_eq, not, slice_get, ◌&&◌, ◌==◌}
 use Rattle.std.specs.List.{AllByRecursion, Contains, list_all}
 use Rattle.std.proofs.lemmas.Bool.{and_from, and_parts, eq-eqb, eqb-true, false≢true, not-true}
@@ -7,9 +7,9 @@ use Rattle.implib.specs.declared.machine.MachineType.{MachineType}
 use Rattle.implib.specs.Formats.Object.{ASymbol, Auxiliary, Entry, Object, ObjectSymbol, before_nul, bytes_at, data_at, each_at, entries_at, name_of, object_in, object_of_header, relocation_at, relocation_of, section_at, section_numbered, section_of, strings_at, symbol_of, u16_at, u32_at, up_to_nul}
 use Rattle.implib.specs.Link.Image.{AllApart, Range, image_of, with_address}
 use Rattle.implib.specs.Link.Placement.{Bases, Placed, next_multiple, placed_from}
-use Rattle.implib_link.specs.Gnu.Calls.{Defines, HasCall, PlacedCode, Resolves}
+use Rattle.implib_link.specs.Gnu.Calls.{Defines, PlacedCode, Resolves}
 use Rattle.implib_link.specs.Gnu.Fields.{IsRelocated, LinkedCode, placed_code, range_of_code, ranges_of_codes}
-use Rattle.implib_link_instances.specs.Worked.Calls.{CodesBeside, WorkedCall, WorkedChoices, WorkedPointer, WorkedPointers, WorkedReading, as_placed, branch_codes, branching_objects, branching_placed, calling_at, calling_memory, calling_objects, calling_placed, code_ranges, code_relocated_by, first_bytes, given_on, last_bytes, linked_by, linked_codes, loading_at, table_targets}
+use Rattle.implib_link_instances.specs.Worked.Calls.{CodesBeside, WorkedChoices, WorkedPointer, WorkedPointers, WorkedReading, as_placed, branch_codes, branching_objects, branching_placed, code_ranges, code_relocated_by, first_bytes, given_on, last_bytes, linked_by, linked_codes}
 use Rattle.implib_link.proofs.Gnu.LinkedCodes.{linked_beside, takes_from}
 use Rattle.implib_link_instances.proofs.Worked.LinkedCode.{relocated_by, relocated_test}
 use Rattle.implib.proofs.Members.MemberReadings.{map_after}
@@ -21,7 +21,6 @@ use Rattle.std.specs.Fmt.{digits}
 use Rattle.implib.specs.declared.machine.MachineType.TheVariants.{AMD64, ARM64, ARMNT, I386}
 use Rattle.implib.specs.Definition.{ExportView}
 use Rattle.implib.specs.Formats.Bytes.{u16_bytes, u32_bytes}
-use Rattle.implib.specs.Formats.Constants.{class_external}
 use Rattle.implib.specs.Formats.File.{is_defined_external}
 use Rattle.implib.specs.Import.{Ask, Name, Ordinal, imp_symbol}
 use Rattle.implib.specs.Members.Gnu.{export_object, five_digits, head_name, head_object, head_symbol, hint_name, iname_symbol, mangled_name, numbered_name, relocations_of_stub, relocations_of_thunk, stub, tail_name, tail_object, thunk}
@@ -35,13 +34,15 @@ use Rattle.implib.specs.Link.Resolution.{address_or_zero, definitions_of, is_und
 use Rattle.implib.specs.Formats.Writer.{layout_of, long_names, name_location, symbol_written, with_long_name, with_name}
 use Rattle.implib.proofs.Link.Ranges.{Among, apart_as_they_rise}
 use Rattle.implib.specs.Worked.Statements.{plain_export}
-use Rattle.implib_link.specs.Flavors.Program.{Ending, FlavorInput, IsMadeFor, IsProgram, IsProgramOf, OfLinker, ask_in, dll_of, exports_chosen, gnu_input, symbol_in}
+use Rattle.implib_link.specs.Flavors.Program.{Ending, FlavorInput, IsMadeFor, IsProgramOf, OfLinker, ask_in, dll_of, exports_chosen, gnu_input, symbol_in}
 use Rattle.implib_link.specs.Gnu.Program.{has_tables}
 use Rattle.implib_link.specs.Gnu.Reading.{ReadsAndWrites}
-use Rattle.implib_link_instances.specs.Worked.Programs.{both_inputs, foo_input, program_image, program_objects, program_placed, symbol_of_class, symbol_on, touching_4, touching_8}
+use Rattle.implib_link_instances.specs.Worked.Programs.{both_inputs, foo_input, program_image, program_objects, program_placed, symbol_on, touching_4, touching_8}
 use Rattle.implib_link.proofs.Gnu.Stubs.{same_address}
 use Rattle.implib_link.proofs.Search.Lists.{among_at, contains_among, each_of}
-use Rattle.implib_link_instances.proofs.Worked.Programs.{admissible_by, instructions_at, opened as opened_of_programs, program_by, worked_programs}
+use Rattle.implib_link_instances.proofs.Worked.Programs.{instructions_at, opened as opened_of_programs, worked_programs}
+use Rattle.implib_link_instances.proofs.Worked.Lemmas.{IsX86, image_base, touching}
+use Rattle.implib.specs.Machine.{is_32bit}
 use Rattle.implib.proofs.Link.Definitions.{same_text}
 use Rattle.implib.specs.Formats.ShortImport.{short_import_in}
 use Rattle.implib.specs.Members.MsvcMembers.{descriptor_spec, header_specs, null_descriptor_spec, null_thunk_spec, weak_specs}
@@ -49,7 +50,6 @@ use Rattle.implib.specs.Members.MsvcObjects.{base_name, descriptor, descriptor_s
 use Rattle.implib_link.specs.Flavors.Expansion.{descriptor_symbol_by_name, expanded_in, import_object}
 use Rattle.implib_link.specs.Flavors.SectionSymbols.{with_section_symbols}
 use Rattle.implib_link.specs.Gnu.Packed.{group_end, sections_end}
-use Rattle.implib_link.specs.Gnu.Pointers.{HasLoad}
 use Rattle.implib_link.specs.Gnu.Choices.{AreSections, DefineOnce, plain_range}
 use Rattle.implib_link.proofs.Gnu.Choices.{choice, choice_resolves, defined_found, found, found_in, here_from, is_here}
 
@@ -107,128 +107,21 @@ abbrev opened : Unit {0}
 unfolding digits u16_bytes u32_bytes export_object five_digits head_name head_object head_symbol hint_name iname_symbol numbered_name relocations_of_stub relocations_of_thunk mangled_name stub tail_name tail_object thunk next_multiple with_address export_spec head_spec tail_spec before_nul bytes_at data_at each_at entries_at name_of object_in object_of_header relocation_at relocation_of section_at section_of strings_at symbol_of u16_at u32_at up_to_nul auxiliary_bytes auxiliary_count contents contents_offset contents_size header_bytes encoded name_field offsets_from pointer_or_zero record_count records relocation_bytes section_header section_headers string_bytes_of string_offsets string_size string_table strings_size symbol_bytes symbol_table_offset long_names name_location layout_of symbol_written with_long_name with_name
 opened = tt
 
--- Code of one object, whose first symbol is its own and whose second is another object's, is resolved by the tables.
-
 pub one_of : {X : Type 0} (x k : X) → Among x (k ∷ []) → x ≡ k
 unfolding Among
 one_of x k (inl same) = same
 one_of x k (inr none) = absurd none
 
-first_or_second : (x m u : Entry) → Among x (m ∷ u ∷ []) → (x ≡ m) ⊎ (x ≡ u)
-unfolding Among
-first_or_second x m u (inl same) = inl same
-first_or_second x m u (inr (inl same)) = inr same
-first_or_second x m u (inr (inr none)) = absurd none
-
-pub second_at : (m u s : ObjectSymbol) (index : ℕ) → is_undefined_external m ≡ false → is_undefined_external s ≡ true → slice_get (ASymbol m ∷ ASymbol u ∷ []) index ≡ Some (ASymbol s) → s ≡ u
-second_at m u s zero own undefined at =
-    let same : m ≡ s = cc in
-    absurd (true≢false (sym undefined ∙ sym (ap is_undefined_external same) ∙ own))
-second_at m u s (suc zero) own undefined at = let same : u ≡ s = cc in sym same
-second_at m u s (suc (suc index)) own undefined at = cc
-
-not_named : (m u t : ObjectSymbol) → is_defined_external u ≡ false → (m.name ≡ u.name → ⊥) → is_defined_external t ≡ true → t.name ≡ u.name → (ASymbol t ≡ ASymbol m) ⊎ (ASymbol t ≡ ASymbol u) → ⊥
-not_named m u t other differs external named (inl is) =
-    let same : t ≡ m = cc in
-    differs (sym (ap (λ (x : ObjectSymbol). x.name) same) ∙ named)
-not_named m u t other differs external named (inr is) =
-    let same : t ≡ u = cc in
-    true≢false (sym external ∙ ap is_defined_external same ∙ other)
-
-pub one_code_resolves : (linked : List Placed) (k : PlacedCode) (m u : ObjectSymbol) → k.from.object.entries ≡ ASymbol m ∷ ASymbol u ∷ [] → is_undefined_external m ≡ false → is_defined_external u ≡ false →
-    (m.name ≡ u.name → ⊥) → Resolves linked (k ∷ []) (λ c index. target_address linked c.from index)
-one_code_resolves linked k m u entries own other differs = record {
-  tables = λ c index address entry held at is. rw at (ap address_or_zero is);
-  code = λ c d index s t first second at undefined defines named.
-      let c_is : c ≡ k = one_of c k (contains_among c (k ∷ []) first) in
-      let d_is : d ≡ k = one_of d k (contains_among d (k ∷ []) second) in
-      let at_k : slice_get (ASymbol m ∷ ASymbol u ∷ []) index ≡ Some (ASymbol s) = subst (λ es. slice_get es index ≡ Some (ASymbol s)) (ap (λ (x : PlacedCode). x.from.object.entries) c_is ∙ entries) at in
-      let s_is : s ≡ u = second_at m u s index own undefined at_k in
-      let among : Among (ASymbol t) (ASymbol m ∷ ASymbol u ∷ []) =
-      subst (Among (ASymbol t)) (ap (λ (x : PlacedCode). x.from.object.entries) d_is ∙ entries) (contains_among (ASymbol t) d.from.object.entries defines.held) in
-      absurd (not_named m u t other differs defines.external (named ∙ ap (λ (x : ObjectSymbol). x.name) s_is) (first_or_second (ASymbol t) (ASymbol m) (ASymbol u) among));
-}
-
-pub amd64_program : IsProgram AMD64 touching_8 (both_inputs AMD64) (calling_objects AMD64)
-unfolding opened refusal renamed_refusal alias_specs encoded_size weak_object has_tables
-amd64_program = program_by (both_inputs AMD64) refl refl refl (admissible_by refl refl)
-
-amd64_beside : CodesBeside AMD64 0x1_4000_0000 touching_8 (calling_objects AMD64) (calling_at AMD64 0x1000 ∷ []) (table_targets AMD64 touching_8)
-unfolding opened refusal renamed_refusal alias_specs encoded_size weak_object has_tables relocated_test codes_tested
-amd64_beside =
-    beside_by AMD64 0x1_4000_0000 touching_8 (calling_objects AMD64) (calling_at AMD64 0x1000 ∷ []) (table_targets AMD64 touching_8)
-    (record {
-      held = ((0, omega arith, refl), tt);
-      sections = (refl, tt);
-      ends = (omega arith, tt);
-      apart = apart_as_they_rise (2 ^ 31) (calling_memory AMD64 0x1_4000_0000 touching_8) refl;
-      resolved = one_code_resolves (calling_placed AMD64 touching_8) (calling_at AMD64 0x1000) (symbol_of_class (codes "main") 1 class_external)
-          (symbol_of_class (imp_symbol (symbol_on AMD64 (codes "open"))) 0 class_external) refl refl refl (λ same. cc);
-    })
-    refl
-
-pub amd64_has : HasCall AMD64 (calling_at AMD64 0x1000) 4 (imp_symbol (symbol_on AMD64 (codes "open")))
-amd64_has = instructions_at (first_bytes AMD64) (last_bytes AMD64) 1 [] [] tt tt refl refl refl refl
-
-pub i386_program : IsProgram I386 touching_4 (both_inputs I386) (calling_objects I386)
-unfolding opened refusal renamed_refusal alias_specs encoded_size weak_object has_tables
-i386_program = program_by (both_inputs I386) refl refl refl (admissible_by refl refl)
-
-i386_beside : CodesBeside I386 0x40_0000 touching_4 (calling_objects I386) (calling_at I386 0x1000 ∷ []) (table_targets I386 touching_4)
-unfolding opened refusal renamed_refusal alias_specs encoded_size weak_object has_tables relocated_test codes_tested
-i386_beside =
-    beside_by I386 0x40_0000 touching_4 (calling_objects I386) (calling_at I386 0x1000 ∷ []) (table_targets I386 touching_4)
-    (record {
-      held = ((0, omega arith, refl), tt);
-      sections = (refl, tt);
-      ends = (omega arith, tt);
-      apart = apart_as_they_rise (2 ^ 31) (calling_memory I386 0x40_0000 touching_4) refl;
-      resolved = one_code_resolves (calling_placed I386 touching_4) (calling_at I386 0x1000) (symbol_of_class (codes "main") 1 class_external)
-          (symbol_of_class (imp_symbol (symbol_on I386 (codes "open"))) 0 class_external) refl refl refl (λ same. cc);
-    })
-    refl
-
-pub i386_has : HasCall I386 (calling_at I386 0x1000) 4 (imp_symbol (symbol_on I386 (codes "open")))
-i386_has = instructions_at (first_bytes I386) (last_bytes I386) 1 [] [] tt tt refl refl refl refl
-
 pub wide : (machine : MachineType) (dll : List ℕ) (ask : Ask) → length (given_on machine dll ask) ≡ thunk_width machine
 unfolding u32_bytes
 wide I386 dll (Ordinal n) = refl
+wide machine dll (Ordinal n) = refl
 wide I386 dll (Name text hint) = refl
-wide ARMNT dll (Ordinal n) = refl
-wide ARMNT dll (Name text hint) = refl
-wide AMD64 dll (Ordinal n) = refl
-wide AMD64 dll (Name text hint) = refl
-wide ARM64 dll (Ordinal n) = refl
-wide ARM64 dll (Name text hint) = refl
+wide machine dll (Name text hint) = refl
 
 -- the export that is called
 abbrev pub open_export : MachineType → ExportView
 open_export machine = record (plain_export (symbol_on machine (codes "open"))) { ordinal = 258 }
-
-amd64 : WorkedCall AMD64 0x1_4000_0000 touching_8 (0xFF ∷ 0x15 ∷ 0x76 ∷ 0xF0 ∷ 0xFF ∷ 0xFF ∷ []) 0x80
-unfolding opened refusal renamed_refusal alias_specs encoded_size weak_object has_tables
-amd64 = record {
-  made = worked_programs.amd64.made;
-  program = amd64_program;
-  can = tt;
-  beside = amd64_beside;
-  calls = amd64_has;
-  bytes = refl;
-  reads = refl;
-}
-
-i386 : WorkedCall I386 0x40_0000 touching_4 (0xFF ∷ 0x15 ∷ 0x60 ∷ 0 ∷ 0x40 ∷ 0 ∷ []) 0x60
-unfolding opened refusal renamed_refusal alias_specs encoded_size weak_object has_tables
-i386 = record {
-  made = worked_programs.i386.made;
-  program = i386_program;
-  can = omega arith;
-  beside = i386_beside;
-  calls = i386_has;
-  bytes = refl;
-  reads = refl;
-}
 
 -- a loader that reads the image leaves at an entry what the DLL gives
 program_read : (machine : MachineType) (ending : Ending) (bases : Bases) (inputs : List FlavorInput) (objects : List Object) (gives : List ℕ → Ask → List ℕ) (n : ℕ) (written : List Range) (i j : ℕ) (p : FlavorInput) (e : ExportView) →
@@ -316,33 +209,17 @@ resolves_by_tables linked codes all = record {
   code = λ c d index s t c_held d_held at undefined defines named. absurd (none_wanted codes all c d index s t c_held d_held at undefined defines named);
 }
 
-pointers_amd64_has : HasLoad AMD64 (loading_at AMD64) 4 (imp_symbol (symbol_on AMD64 (codes "stat")))
-pointers_amd64_has = instructions_at (first_bytes AMD64) (last_bytes AMD64) 1 [] [] tt tt refl refl refl refl
-
-pointers_amd64 : WorkedPointer AMD64 0x1_4000_0000 touching_8 (0x48 ∷ 0x8B ∷ 5 ∷ 0x7D ∷ 0xF0 ∷ 0xFF ∷ 0xFF ∷ []) 0x88
+pointer : (machine : MachineType) → IsX86 machine → WorkedPointer machine (image_base machine) (touching machine) (if is_32bit machine then 0xA1 ∷ 0x64 ∷ 0 ∷ 0x40 ∷ 0 ∷ [] else 0x48 ∷ 0x8B ∷ 5 ∷ 0x7D ∷ 0xF0 ∷ 0xFF ∷ 0xFF ∷ []) (if is_32bit machine then 0x64 else 0x88)
 unfolding opened_of_programs alias_specs encoded_size weak_object has_tables
-pointers_amd64 = record {
-  loads = pointers_amd64_has;
-  bytes = refl;
-  reads = refl;
-}
-
-pub pointers_i386_has : HasLoad I386 (loading_at I386) 4 (imp_symbol (symbol_on I386 (codes "stat")))
-pointers_i386_has = instructions_at (first_bytes I386) (last_bytes I386) 1 [] [] tt tt refl refl refl refl
-
-pointers_i386 : WorkedPointer I386 0x40_0000 touching_4 (0xA1 ∷ 0x64 ∷ 0 ∷ 0x40 ∷ 0 ∷ []) 0x64
-unfolding opened_of_programs alias_specs encoded_size weak_object has_tables
-pointers_i386 = record {
-  loads = pointers_i386_has;
-  bytes = refl;
-  reads = refl;
-}
+pointer ARMNT none = absurd none
+pointer ARM64 none = absurd none
+pointer machine _ = record { loads = instructions_at (first_bytes machine) (last_bytes machine) 1 [] [] tt tt refl refl refl refl; bytes = refl; reads = refl }
 
 pub worked_pointers : WorkedPointers
 unfolding opened_of_programs refusal renamed_refusal alias_specs encoded_size weak_object has_tables expanded_in short_import_in import_object descriptor_symbol_by_name with_section_symbols descriptor null_descriptor null_thunk descriptor_symbol null_descriptor_symbol null_thunk_symbol base_name descriptor_spec null_descriptor_spec null_thunk_spec header_specs weak_specs group_end sections_end
 worked_pointers = record {
-  amd64 = pointers_amd64;
-  i386 = pointers_i386;
+  amd64 = pointer AMD64 tt;
+  i386 = pointer I386 tt;
 }
 
 -- Whether code defines each name once, and none that the tables have.

@@ -6,7 +6,9 @@ use Rattle.implib.specs.Link.LinkedMembers.{IsMade}
 use Rattle.implib.specs.Link.Placement.{Bases, placed_from}
 use Rattle.std.specs.List.{AllByRecursion}
 use Rattle.std.proofs.Common.{◌≡◌, ℕ, List, [], ◌∷◌, codes, length, map, refl, arith, subst, sym, ◌∙◌}
-use Rattle.implib.specs.declared.machine.MachineType.TheVariants.{I386, ARMNT, AMD64}
+use Rattle.implib.specs.declared.machine.MachineType.TheVariants.{AMD64, ARM64, ARMNT, I386}
+use Rattle.implib.specs.Machine.{is_32bit}
+use Rattle.std.specs.Prelude.{if◌then◌else◌}
 use Rattle.implib.specs.Import.{Ask, Name, Ordinal}
 use Rattle.implib.specs.Members.GnuMembers.{alias_specs}
 use Rattle.implib.specs.Members.ImportTables.{thunk_width}
@@ -27,8 +29,8 @@ use Rattle.implib_link_instances.specs.Worked.Programs.{both_inputs, foo_input, 
 use Rattle.implib_link.proofs.Gnu.Directory.{directory_walk}
 use Rattle.implib_link.proofs.Flavors.Program.{program_links}
 use Rattle.implib_link.proofs.Flavors.Stubs.{stubs_jump}
-use Rattle.implib_link_instances.proofs.Worked.Programs.{opened, worked_programs}
-use Rattle.implib_link_instances.proofs.Worked.Lemmas.{number}
+use Rattle.implib_link_instances.proofs.Worked.Programs.{opened, worked_program, worked_programs}
+use Rattle.implib_link_instances.proofs.Worked.Lemmas.{IsX86, image_base, number, touching}
 
 -- a loader that is handed the imports loads the tables
 pub program_loaded : (machine : MachineType) (ending : Ending) (bases : Bases) (inputs : List FlavorInput) (objects : List Object) (gives : List ℕ → Ask → List ℕ) (written : List Range) →
@@ -54,9 +56,11 @@ worked machine bases written made program given writes =
       loaded = program_loaded machine OfLinker bases (map gnu_input (both_inputs machine)) (program_objects machine) (gives_by_hand machine) written made program given writes;
     }
 
-pub amd64_given : (dll : List ℕ) (ask : Ask) → length (gives_by_hand AMD64 dll ask) ≡ thunk_width AMD64
-amd64_given dll (Ordinal n) = refl
-amd64_given dll (Name text hint) = refl
+pub given : (machine : MachineType) (dll : List ℕ) (ask : Ask) → length (gives_by_hand machine dll ask) ≡ thunk_width machine
+given I386 dll (Ordinal n) = refl
+given machine dll (Ordinal n) = refl
+given I386 dll (Name text hint) = refl
+given machine dll (Name text hint) = refl
 
 amd64_writes : Writes (program_image AMD64 touching_8) (thunk_width AMD64) (gives_by_hand AMD64) touching_8.descriptors (map (imported AMD64) (both_inputs AMD64)) (written_8 AMD64)
 unfolding opened alias_specs encoded_size weak_object has_tables Writes entries_written
@@ -65,23 +69,6 @@ amd64_writes = (
   (number (program_image AMD64 touching_8) 4 20 120 (120 ∷ 0 ∷ 0 ∷ 0 ∷ []) refl refl refl, (_, (refl, (160, (number (program_image AMD64 touching_8) 4 40 160 (160 ∷ 0 ∷ 0 ∷ 0 ∷ []) refl refl refl, ([], (refl, refl))))))),
 )
 
-amd64 : WorkedLoad AMD64 touching_8 (written_8 AMD64)
-amd64 = worked AMD64 touching_8 (written_8 AMD64) worked_programs.amd64.made worked_programs.amd64.program amd64_given amd64_writes
-
-amd64_can : CanJump AMD64 0x1_4000_0000 touching_8
-amd64_can = tt
-
-amd64_call : WorkedCall AMD64 0x1_4000_0000 touching_8 128 160
-amd64_call = record {
-  can = amd64_can;
-  open_jumps = stubs_jump AMD64 OfLinker 0x1_4000_0000 touching_8 (map gnu_input (both_inputs AMD64)) (program_objects AMD64) 0 1 (gnu_input (foo_input AMD64)) (record (plain_export (symbol_on AMD64 (codes "open"))) { ordinal = 258 }) worked_programs.amd64.made worked_programs.amd64.program amd64_can refl refl refl;
-  queue_jumps = stubs_jump AMD64 OfLinker 0x1_4000_0000 touching_8 (map gnu_input (both_inputs AMD64)) (program_objects AMD64) 1 0 (gnu_input (zed_input AMD64)) (plain_export (symbol_on AMD64 (codes "queue"))) worked_programs.amd64.made worked_programs.amd64.program amd64_can refl refl refl;
-}
-
-pub i386_given : (dll : List ℕ) (ask : Ask) → length (gives_by_hand I386 dll ask) ≡ thunk_width I386
-i386_given dll (Ordinal n) = refl
-i386_given dll (Name text hint) = refl
-
 i386_writes : Writes (program_image I386 touching_4) (thunk_width I386) (gives_by_hand I386) touching_4.descriptors (map (imported I386) (both_inputs I386)) (written_4 I386)
 unfolding opened alias_specs encoded_size weak_object has_tables Writes entries_written
 i386_writes = (
@@ -89,31 +76,30 @@ i386_writes = (
   (number (program_image I386 touching_4) 4 20 92 (92 ∷ 0 ∷ 0 ∷ 0 ∷ []) refl refl refl, (_, (refl, (112, (number (program_image I386 touching_4) 4 40 112 (112 ∷ 0 ∷ 0 ∷ 0 ∷ []) refl refl refl, ([], (refl, refl))))))),
 )
 
-i386 : WorkedLoad I386 touching_4 (written_4 I386)
-i386 = worked I386 touching_4 (written_4 I386) worked_programs.i386.made worked_programs.i386.program i386_given i386_writes
+can : (machine : MachineType) → IsX86 machine → CanJump machine (image_base machine) (touching machine)
+can AMD64 _ = tt
+can I386 _ = omega arith
+can _ none = absurd none
 
-i386_can : CanJump I386 0x40_0000 touching_4
-i386_can = omega arith
-
-i386_call : WorkedCall I386 0x40_0000 touching_4 96 112
-i386_call = record {
-  can = i386_can;
-  open_jumps = stubs_jump I386 OfLinker 0x40_0000 touching_4 (map gnu_input (both_inputs I386)) (program_objects I386) 0 1 (gnu_input (foo_input I386)) (record (plain_export (symbol_on I386 (codes "open"))) { ordinal = 258 }) worked_programs.i386.made worked_programs.i386.program i386_can refl refl refl;
-  queue_jumps = stubs_jump I386 OfLinker 0x40_0000 touching_4 (map gnu_input (both_inputs I386)) (program_objects I386) 1 0 (gnu_input (zed_input I386)) (plain_export (symbol_on I386 (codes "queue"))) worked_programs.i386.made worked_programs.i386.program i386_can refl refl refl;
-}
-
-pub armnt_given : (dll : List ℕ) (ask : Ask) → length (gives_by_hand ARMNT dll ask) ≡ thunk_width ARMNT
-armnt_given dll (Ordinal n) = refl
-armnt_given dll (Name text hint) = refl
+call : (machine : MachineType) → IsX86 machine → WorkedCall machine (image_base machine) (touching machine) (if is_32bit machine then 96 else 128) (if is_32bit machine then 112 else 160)
+call ARMNT none = absurd none
+call ARM64 none = absurd none
+call machine is =
+    let program = worked_program machine (λ other. cc) in
+    record {
+      can = (can machine is);
+      open_jumps = stubs_jump machine OfLinker (image_base machine) (touching machine) (map gnu_input (both_inputs machine)) (program_objects machine) 0 1 (gnu_input (foo_input machine)) (record (plain_export (symbol_on machine (codes "open"))) { ordinal = 258 }) program.made program.program (can machine is) refl refl refl;
+      queue_jumps = stubs_jump machine OfLinker (image_base machine) (touching machine) (map gnu_input (both_inputs machine)) (program_objects machine) 1 0 (gnu_input (zed_input machine)) (plain_export (symbol_on machine (codes "queue"))) program.made program.program (can machine is) refl refl refl;
+    }
 
 pub worked_loads : WorkedLoads
 worked_loads = record {
-  amd64 = amd64;
-  i386 = i386;
+  amd64 = worked AMD64 touching_8 (written_8 AMD64) worked_programs.amd64.made worked_programs.amd64.program (given AMD64) amd64_writes;
+  i386 = worked I386 touching_4 (written_4 I386) worked_programs.i386.made worked_programs.i386.program (given I386) i386_writes;
 }
 
 pub worked_calls : WorkedCalls
 worked_calls = record {
-  amd64 = amd64_call;
-  i386 = i386_call;
+  amd64 = call AMD64 tt;
+  i386 = call I386 tt;
 }

@@ -12,7 +12,7 @@ use Rattle.implib.specs.Formats.Layout.{encoded_size}
 use Rattle.implib.specs.Import.{Name}
 use Rattle.implib.specs.Link.Image.{Range}
 use Rattle.implib.specs.Link.LinkedMembers.{IsMade}
-use Rattle.implib.specs.Link.Load.{IsWhole, Loads, LoadsStrictly, NumberAt, TableAt, TextAt, ThunkAsksFor, ThunkAt, WholeTableAt, WholeThunkAt}
+use Rattle.implib.specs.Link.Load.{IsWhole, LoadsStrictly, NumberAt, TableAt, TextAt, ThunkAsksFor, ThunkAt, WholeTableAt, WholeThunkAt}
 use Rattle.implib.specs.Members.GnuMembers.{alias_specs}
 use Rattle.implib.specs.Members.Members.{refusal, renamed_refusal}
 use Rattle.implib.specs.Members.WeakExternal.{weak_object}
@@ -23,7 +23,7 @@ use Rattle.implib_link_instances.specs.Worked.OtherLibraries.{WorkedBeside, aaa,
 use Rattle.implib_link_instances.specs.Worked.Programs.{both_inputs, program_objects, touching_8}
 use Rattle.implib_link.proofs.Gnu.OtherLibraries.{links_beside, programs_beside_none}
 use Rattle.implib_link_instances.proofs.Worked.Programs.{claims_none_by, distinct_by, opened, worked_programs, admissible_by}
-use Rattle.implib_link_instances.proofs.Worked.Lemmas.{are_located, number}
+use Rattle.implib_link_instances.proofs.Worked.Lemmas.{are_located, is_each_located, number}
 
 -- by a computed answer
 pub all_claim_none : (names : List (List ℕ)) (objects : List Object) → list_all (λ o. list_all (λ name. not (list_any (bytes_eq name) (claimed_names o))) names) objects ≡ true →
@@ -55,117 +55,80 @@ all_hold_fields (o ∷ objects) all =
 
 -- a thunk that asks by a name
 thunk_named : (image : List Range) (a n : ℕ) (text : List ℕ) (hint : ℕ) → 0 < n → n < 2 ^ 31 → NumberAt image 8 a n → NumberAt image 2 n hint → TextAt image (n + 2) text →
-    ThunkAt image 8 a (Name text hint)
-unfolding ThunkAsksFor
+    ThunkAt image 8 a (Name text hint) × WholeThunkAt image 8 a (Name text hint)
+unfolding ThunkAsksFor IsWhole
 thunk_named image a n text hint some small located hint_at text_at =
-    let same : n % 2 ^ 31 ≡ n = omega arith in
-    record {
-      thunk = n;
-      located = located;
-      not_zero = λ none. omega arith;
-      asks = (omega arith, subst (λ m. NumberAt image 2 m hint) (sym same) hint_at, subst (λ m. TextAt image (m + 2) text) (sym same) text_at);
-    }
-
-whole_named : (image : List Range) (a n : ℕ) (text : List ℕ) (hint : ℕ) → n < 2 ^ 31 → NumberAt image 8 a n → WholeThunkAt image 8 a (Name text hint)
-unfolding IsWhole
-whole_named image a n text hint small located = record { thunk = n; located = located; whole = small }
+    let same : n % 2 ^ 31 ≡ n = omega arith in (
+      record {
+        thunk = n;
+        located = located;
+        not_zero = λ none. omega arith;
+        asks = (omega arith, subst (λ m. NumberAt image 2 m hint) (sym same) hint_at, subst (λ m. TextAt image (m + 2) text) (sym same) text_at);
+      },
+      record { thunk = n; located = located; whole = small },
+    )
 
 -- What the linker wrote has the descriptors of aaa.dll and zzz.dll.
 
-aone_lookup : ThunkAt image_written 8 0x2050 (Name (codes "aone") 1)
-aone_lookup =
-    thunk_named image_written 0x2050 0x20D0 (codes "aone") 1 (omega arith) (omega arith)
-    (number image_written 8 0x2050 0x20D0 (0xD0 ∷ 0x20 ∷ 0 ∷ 0 ∷ 0 ∷ 0 ∷ 0 ∷ 0 ∷ []) refl refl refl)
-    (number image_written 2 0x20D0 0x1 (1 ∷ 0 ∷ []) refl refl refl)
-    (record { no_nul = refl; located = are_located image_written (codes "aone" ++ 0 ∷ []) 0x20D2 refl })
+aone : (a : ℕ) → is_each_located image_written a (0xD0 ∷ 0x20 ∷ 0 ∷ 0 ∷ 0 ∷ 0 ∷ 0 ∷ 0 ∷ []) ≡ true → ThunkAt image_written 8 a (Name (codes "aone") 1) × WholeThunkAt image_written 8 a (Name (codes "aone") 1)
+aone a there =
+    thunk_named image_written a 0x20D0 (codes "aone") 1 (omega arith) (omega arith) (number image_written 8 a 0x20D0 (0xD0 ∷ 0x20 ∷ 0 ∷ 0 ∷ 0 ∷ 0 ∷ 0 ∷ 0 ∷ []) there refl refl)
+    (number image_written 2 0x20D0 0x1 (1 ∷ 0 ∷ []) refl refl refl) (record { no_nul = refl; located = are_located image_written (codes "aone" ++ 0 ∷ []) 0x20D2 refl })
 
-aone_address : ThunkAt image_written 8 0x2090 (Name (codes "aone") 1)
-aone_address =
-    thunk_named image_written 0x2090 0x20D0 (codes "aone") 1 (omega arith) (omega arith)
-    (number image_written 8 0x2090 0x20D0 (0xD0 ∷ 0x20 ∷ 0 ∷ 0 ∷ 0 ∷ 0 ∷ 0 ∷ 0 ∷ []) refl refl refl)
-    (number image_written 2 0x20D0 0x1 (1 ∷ 0 ∷ []) refl refl refl)
-    (record { no_nul = refl; located = are_located image_written (codes "aone" ++ 0 ∷ []) 0x20D2 refl })
+atwo : (a : ℕ) → is_each_located image_written a (0xD8 ∷ 0x20 ∷ 0 ∷ 0 ∷ 0 ∷ 0 ∷ 0 ∷ 0 ∷ []) ≡ true → ThunkAt image_written 8 a (Name (codes "atwo") 2) × WholeThunkAt image_written 8 a (Name (codes "atwo") 2)
+atwo a there =
+    thunk_named image_written a 0x20D8 (codes "atwo") 2 (omega arith) (omega arith) (number image_written 8 a 0x20D8 (0xD8 ∷ 0x20 ∷ 0 ∷ 0 ∷ 0 ∷ 0 ∷ 0 ∷ 0 ∷ []) there refl refl)
+    (number image_written 2 0x20D8 0x2 (2 ∷ 0 ∷ []) refl refl refl) (record { no_nul = refl; located = are_located image_written (codes "atwo" ++ 0 ∷ []) 0x20DA refl })
 
-atwo_lookup : ThunkAt image_written 8 0x2058 (Name (codes "atwo") 2)
-atwo_lookup =
-    thunk_named image_written 0x2058 0x20D8 (codes "atwo") 2 (omega arith) (omega arith)
-    (number image_written 8 0x2058 0x20D8 (0xD8 ∷ 0x20 ∷ 0 ∷ 0 ∷ 0 ∷ 0 ∷ 0 ∷ 0 ∷ []) refl refl refl)
-    (number image_written 2 0x20D8 0x2 (2 ∷ 0 ∷ []) refl refl refl)
-    (record { no_nul = refl; located = are_located image_written (codes "atwo" ++ 0 ∷ []) 0x20DA refl })
-
-atwo_address : ThunkAt image_written 8 0x2098 (Name (codes "atwo") 2)
-atwo_address =
-    thunk_named image_written 0x2098 0x20D8 (codes "atwo") 2 (omega arith) (omega arith)
-    (number image_written 8 0x2098 0x20D8 (0xD8 ∷ 0x20 ∷ 0 ∷ 0 ∷ 0 ∷ 0 ∷ 0 ∷ 0 ∷ []) refl refl refl)
-    (number image_written 2 0x20D8 0x2 (2 ∷ 0 ∷ []) refl refl refl)
-    (record { no_nul = refl; located = are_located image_written (codes "atwo" ++ 0 ∷ []) 0x20DA refl })
-
-aaa_plain : Loads image_written 8 0x2000 (codes "aaa.dll") aaa.asks
-unfolding TableAt
-aaa_plain = record {
-  lookups = 0x2050;
-  lookups_field = number image_written 4 0x2000 0x2050 (0x50 ∷ 0x20 ∷ 0 ∷ 0 ∷ []) refl refl refl;
-  lookup_table = (aone_lookup, (atwo_lookup, (number image_written 8 0x2060 0x0 (0 ∷ 0 ∷ 0 ∷ 0 ∷ 0 ∷ 0 ∷ 0 ∷ 0 ∷ []) refl refl refl)));
-  name = 0x2100;
-  name_field = number image_written 4 0x200C 0x2100 (0 ∷ 0x21 ∷ 0 ∷ 0 ∷ []) refl refl refl;
-  name_text = record { no_nul = refl; located = are_located image_written (codes "aaa.dll" ++ 0 ∷ []) 0x2100 refl };
-  addresses = 0x2090;
-  addresses_field = number image_written 4 0x2010 0x2090 (0x90 ∷ 0x20 ∷ 0 ∷ 0 ∷ []) refl refl refl;
-  address_table = (aone_address, (atwo_address, (number image_written 8 0x20A0 0x0 (0 ∷ 0 ∷ 0 ∷ 0 ∷ 0 ∷ 0 ∷ 0 ∷ 0 ∷ []) refl refl refl)));
-}
+zone : (a : ℕ) → is_each_located image_written a (0xF0 ∷ 0x20 ∷ 0 ∷ 0 ∷ 0 ∷ 0 ∷ 0 ∷ 0 ∷ []) ≡ true → ThunkAt image_written 8 a (Name (codes "zone") 1) × WholeThunkAt image_written 8 a (Name (codes "zone") 1)
+zone a there =
+    thunk_named image_written a 0x20F0 (codes "zone") 1 (omega arith) (omega arith) (number image_written 8 a 0x20F0 (0xF0 ∷ 0x20 ∷ 0 ∷ 0 ∷ 0 ∷ 0 ∷ 0 ∷ 0 ∷ []) there refl refl)
+    (number image_written 2 0x20F0 0x1 (1 ∷ 0 ∷ []) refl refl refl) (record { no_nul = refl; located = are_located image_written (codes "zone" ++ 0 ∷ []) 0x20F2 refl })
 
 aaa_loads : LoadsStrictly image_written 8 0x2000 (codes "aaa.dll") aaa.asks
-unfolding WholeTableAt aaa_plain
+unfolding TableAt WholeTableAt
 aaa_loads = record {
-  plain = aaa_plain;
+  plain = record {
+    lookups = 0x2050;
+    lookups_field = number image_written 4 0x2000 0x2050 (0x50 ∷ 0x20 ∷ 0 ∷ 0 ∷ []) refl refl refl;
+    lookup_table = ((aone 0x2050 refl).0, ((atwo 0x2058 refl).0, (number image_written 8 0x2060 0x0 (0 ∷ 0 ∷ 0 ∷ 0 ∷ 0 ∷ 0 ∷ 0 ∷ 0 ∷ []) refl refl refl)));
+    name = 0x2100;
+    name_field = number image_written 4 0x200C 0x2100 (0 ∷ 0x21 ∷ 0 ∷ 0 ∷ []) refl refl refl;
+    name_text = record { no_nul = refl; located = are_located image_written (codes "aaa.dll" ++ 0 ∷ []) 0x2100 refl };
+    addresses = 0x2090;
+    addresses_field = number image_written 4 0x2010 0x2090 (0x90 ∷ 0x20 ∷ 0 ∷ 0 ∷ []) refl refl refl;
+    address_table = ((aone 0x2090 refl).0, ((atwo 0x2098 refl).0, (number image_written 8 0x20A0 0x0 (0 ∷ 0 ∷ 0 ∷ 0 ∷ 0 ∷ 0 ∷ 0 ∷ 0 ∷ []) refl refl refl)));
+  };
   time = number image_written 4 0x2004 0x0 (0 ∷ 0 ∷ 0 ∷ 0 ∷ []) refl refl refl;
   forwarder = number image_written 4 0x2008 0x0 (0 ∷ 0 ∷ 0 ∷ 0 ∷ []) refl refl refl;
   has_lookups = omega arith;
   has_name = omega arith;
   has_addresses = omega arith;
-  whole_lookups = (whole_named image_written 0x2050 0x20D0 (codes "aone") 1 (omega arith) (number image_written 8 0x2050 0x20D0 (0xD0 ∷ 0x20 ∷ 0 ∷ 0 ∷ 0 ∷ 0 ∷ 0 ∷ 0 ∷ []) refl refl refl), (whole_named image_written 0x2058 0x20D8 (codes "atwo") 2 (omega arith) (number image_written 8 0x2058 0x20D8 (0xD8 ∷ 0x20 ∷ 0 ∷ 0 ∷ 0 ∷ 0 ∷ 0 ∷ 0 ∷ []) refl refl refl), tt));
-  whole_addresses = (whole_named image_written 0x2090 0x20D0 (codes "aone") 1 (omega arith) (number image_written 8 0x2090 0x20D0 (0xD0 ∷ 0x20 ∷ 0 ∷ 0 ∷ 0 ∷ 0 ∷ 0 ∷ 0 ∷ []) refl refl refl), (whole_named image_written 0x2098 0x20D8 (codes "atwo") 2 (omega arith) (number image_written 8 0x2098 0x20D8 (0xD8 ∷ 0x20 ∷ 0 ∷ 0 ∷ 0 ∷ 0 ∷ 0 ∷ 0 ∷ []) refl refl refl), tt));
-}
-
-zone_lookup : ThunkAt image_written 8 0x2080 (Name (codes "zone") 1)
-zone_lookup =
-    thunk_named image_written 0x2080 0x20F0 (codes "zone") 1 (omega arith) (omega arith)
-    (number image_written 8 0x2080 0x20F0 (0xF0 ∷ 0x20 ∷ 0 ∷ 0 ∷ 0 ∷ 0 ∷ 0 ∷ 0 ∷ []) refl refl refl)
-    (number image_written 2 0x20F0 0x1 (1 ∷ 0 ∷ []) refl refl refl)
-    (record { no_nul = refl; located = are_located image_written (codes "zone" ++ 0 ∷ []) 0x20F2 refl })
-
-zone_address : ThunkAt image_written 8 0x20C0 (Name (codes "zone") 1)
-zone_address =
-    thunk_named image_written 0x20C0 0x20F0 (codes "zone") 1 (omega arith) (omega arith)
-    (number image_written 8 0x20C0 0x20F0 (0xF0 ∷ 0x20 ∷ 0 ∷ 0 ∷ 0 ∷ 0 ∷ 0 ∷ 0 ∷ []) refl refl refl)
-    (number image_written 2 0x20F0 0x1 (1 ∷ 0 ∷ []) refl refl refl)
-    (record { no_nul = refl; located = are_located image_written (codes "zone" ++ 0 ∷ []) 0x20F2 refl })
-
-zzz_plain : Loads image_written 8 0x2028 (codes "zzz.dll") zzz.asks
-unfolding TableAt
-zzz_plain = record {
-  lookups = 0x2080;
-  lookups_field = number image_written 4 0x2028 0x2080 (0x80 ∷ 0x20 ∷ 0 ∷ 0 ∷ []) refl refl refl;
-  lookup_table = (zone_lookup, (number image_written 8 0x2088 0x0 (0 ∷ 0 ∷ 0 ∷ 0 ∷ 0 ∷ 0 ∷ 0 ∷ 0 ∷ []) refl refl refl));
-  name = 0x211C;
-  name_field = number image_written 4 0x2034 0x211C (0x1C ∷ 0x21 ∷ 0 ∷ 0 ∷ []) refl refl refl;
-  name_text = record { no_nul = refl; located = are_located image_written (codes "zzz.dll" ++ 0 ∷ []) 0x211C refl };
-  addresses = 0x20C0;
-  addresses_field = number image_written 4 0x2038 0x20C0 (0xC0 ∷ 0x20 ∷ 0 ∷ 0 ∷ []) refl refl refl;
-  address_table = (zone_address, (number image_written 8 0x20C8 0x0 (0 ∷ 0 ∷ 0 ∷ 0 ∷ 0 ∷ 0 ∷ 0 ∷ 0 ∷ []) refl refl refl));
+  whole_lookups = ((aone 0x2050 refl).1, ((atwo 0x2058 refl).1, tt));
+  whole_addresses = ((aone 0x2090 refl).1, ((atwo 0x2098 refl).1, tt));
 }
 
 zzz_loads : LoadsStrictly image_written 8 0x2028 (codes "zzz.dll") zzz.asks
-unfolding WholeTableAt zzz_plain
+unfolding TableAt WholeTableAt
 zzz_loads = record {
-  plain = zzz_plain;
+  plain = record {
+    lookups = 0x2080;
+    lookups_field = number image_written 4 0x2028 0x2080 (0x80 ∷ 0x20 ∷ 0 ∷ 0 ∷ []) refl refl refl;
+    lookup_table = ((zone 0x2080 refl).0, (number image_written 8 0x2088 0x0 (0 ∷ 0 ∷ 0 ∷ 0 ∷ 0 ∷ 0 ∷ 0 ∷ 0 ∷ []) refl refl refl));
+    name = 0x211C;
+    name_field = number image_written 4 0x2034 0x211C (0x1C ∷ 0x21 ∷ 0 ∷ 0 ∷ []) refl refl refl;
+    name_text = record { no_nul = refl; located = are_located image_written (codes "zzz.dll" ++ 0 ∷ []) 0x211C refl };
+    addresses = 0x20C0;
+    addresses_field = number image_written 4 0x2038 0x20C0 (0xC0 ∷ 0x20 ∷ 0 ∷ 0 ∷ []) refl refl refl;
+    address_table = ((zone 0x20C0 refl).0, (number image_written 8 0x20C8 0x0 (0 ∷ 0 ∷ 0 ∷ 0 ∷ 0 ∷ 0 ∷ 0 ∷ 0 ∷ []) refl refl refl));
+  };
   time = number image_written 4 0x202C 0x0 (0 ∷ 0 ∷ 0 ∷ 0 ∷ []) refl refl refl;
   forwarder = number image_written 4 0x2030 0x0 (0 ∷ 0 ∷ 0 ∷ 0 ∷ []) refl refl refl;
   has_lookups = omega arith;
   has_name = omega arith;
   has_addresses = omega arith;
-  whole_lookups = (whole_named image_written 0x2080 0x20F0 (codes "zone") 1 (omega arith) (number image_written 8 0x2080 0x20F0 (0xF0 ∷ 0x20 ∷ 0 ∷ 0 ∷ 0 ∷ 0 ∷ 0 ∷ 0 ∷ []) refl refl refl), tt);
-  whole_addresses = (whole_named image_written 0x20C0 0x20F0 (codes "zone") 1 (omega arith) (number image_written 8 0x20C0 0x20F0 (0xF0 ∷ 0x20 ∷ 0 ∷ 0 ∷ 0 ∷ 0 ∷ 0 ∷ 0 ∷ []) refl refl refl), tt);
+  whole_lookups = ((zone 0x2080 refl).1, tt);
+  whole_addresses = ((zone 0x20C0 refl).1, tt);
 }
 
 taken_written : AllTaken image_written 8 0x2000 both_runs

@@ -6,11 +6,13 @@ use Rattle.implib_link.specs.Gnu.Calls.{PlacedCode, IsAside, HasInstructions, mo
 use Rattle.implib.specs.Link.LinkedMembers.{LinkInput, objects_in, all_linked}
 use Rattle.implib.specs.declared.machine.MachineType.{MachineType}
 use Rattle.std.proofs.Common.{◌≡◌, ℕ, ◌^◌, Bool, true, false, List, [], ◌∷◌, refl, nat_lt, length, ◌++◌, map, Some, ◌+◌}
-use Rattle.std.specs.Prelude.{◌&&◌, bytes_eq, not, ◌%◌, slice_get, ◌==◌, take, drop}
+use Rattle.std.specs.Prelude.{◌&&◌, bytes_eq, if◌then◌else◌, not, ◌%◌, slice_get, ◌==◌, take, drop}
 use Rattle.std.specs.Fmt.{digits}
 use Rattle.std.specs.List.{AllByRecursion, IsDistinct, list_all, list_any, filter}
 use Rattle.std.proofs.lemmas.Bool.{and_parts, not-true, eqb-true, ltb-true}
-use Rattle.implib.specs.declared.machine.MachineType.TheVariants.{I386, ARMNT, AMD64}
+use Rattle.implib.specs.declared.machine.MachineType.TheVariants.{AMD64, ARM64, ARMNT, I386}
+use Rattle.implib.specs.Machine.{is_32bit}
+use Rattle.implib_link_instances.proofs.Worked.Lemmas.{touching}
 use Rattle.implib.specs.Formats.Bytes.{u16_bytes, u32_bytes}
 use Rattle.implib.specs.Members.Gnu.{export_object, five_digits, head_name, head_object, head_symbol, hint_name, iname_symbol, numbered_name, relocations_of_stub, relocations_of_thunk, mangled_name, stub, tail_name, tail_object, thunk}
 use Rattle.implib.specs.Link.Image.{with_address, IsBase, image_of, IsAdmissible, Range}
@@ -26,7 +28,7 @@ use Rattle.implib_link.specs.Gnu.Program.{ClaimsNone, claimed_names, has_tables,
 use Rattle.implib_link.specs.Flavors.Program.{IsProgram}
 use Rattle.implib_link.specs.Gnu.Operands.{HasInstruction, IsOperand, Names}
 use Rattle.implib_link.specs.Gnu.Fields.{LinkedCode, MeetsAlone}
-use Rattle.implib_link_instances.specs.Worked.Programs.{WorkedProgram, WorkedPrograms, expected_4, expected_8, touching_4, touching_8, symbol_of_class, both_inputs}
+use Rattle.implib_link_instances.specs.Worked.Programs.{WorkedProgram, WorkedPrograms, expected_4, expected_8, symbol_of_class, both_inputs}
 use Rattle.implib_link.proofs.Flavors.GnuPrograms.{gnu_objects}
 
 -- what the computing has to open
@@ -138,41 +140,12 @@ pub instruction_by : {machine : MachineType} {c : LinkedCode} {offset : ℕ} {he
     take (length head + (4 + length tail)) (drop offset c.code.bytes) ≡ head ++ (field ++ tail) → HasInstruction machine c offset head tail name
 instruction_by type symbol field names counts alone four code = record { type = type; symbol = symbol; alone = alone; names = names; field = field; four = four; code = code; counts = counts }
 
-amd64 : WorkedProgram AMD64 touching_8 expected_8
+pub worked_program : (machine : MachineType) → (machine ≡ ARM64 → ⊥) → WorkedProgram machine (touching machine) (if is_32bit machine then expected_4 else expected_8)
 unfolding opened refusal renamed_refusal alias_specs encoded_size weak_object has_tables
-amd64 = record {
+worked_program ARM64 other = absurd (other refl)
+worked_program machine _ = record {
   made = (record { accepted = refl; made = refl; ordinals = refl }, (record { accepted = refl; made = refl; ordinals = refl }, tt));
-  program = program_by (both_inputs AMD64) refl refl refl (admissible_by refl refl);
-  descriptors = refl;
-  lookups = refl;
-  addresses = refl;
-  hints = refl;
-  foo = refl;
-  zed = refl;
-  entries = refl;
-  named = refl;
-}
-
-i386 : WorkedProgram I386 touching_4 expected_4
-unfolding opened refusal renamed_refusal alias_specs encoded_size weak_object has_tables
-i386 = record {
-  made = (record { accepted = refl; made = refl; ordinals = refl }, (record { accepted = refl; made = refl; ordinals = refl }, tt));
-  program = program_by (both_inputs I386) refl refl refl (admissible_by refl refl);
-  descriptors = refl;
-  lookups = refl;
-  addresses = refl;
-  hints = refl;
-  foo = refl;
-  zed = refl;
-  entries = refl;
-  named = refl;
-}
-
-armnt : WorkedProgram ARMNT touching_4 expected_4
-unfolding opened refusal renamed_refusal alias_specs encoded_size weak_object has_tables
-armnt = record {
-  made = (record { accepted = refl; made = refl; ordinals = refl }, (record { accepted = refl; made = refl; ordinals = refl }, tt));
-  program = program_by (both_inputs ARMNT) refl refl refl (admissible_by refl refl);
+  program = program_by (both_inputs machine) refl refl refl (admissible_by refl refl);
   descriptors = refl;
   lookups = refl;
   addresses = refl;
@@ -185,7 +158,7 @@ armnt = record {
 
 pub worked_programs : WorkedPrograms
 worked_programs = record {
-  amd64 = amd64;
-  i386 = i386;
-  armnt = armnt;
+  amd64 = worked_program AMD64 (λ is. cc);
+  i386 = worked_program I386 (λ is. cc);
+  armnt = worked_program ARMNT (λ is. cc);
 }

@@ -26,7 +26,7 @@ use Rattle.implib_link.proofs.Gnu.Keeps.{Keeps}
 use Rattle.implib_link.proofs.Gnu.Writing.{run_can, run_once}
 use Rattle.implib_link.proofs.Flavors.Writing.{program_beside, program_long, writer_ends, writer_loads}
 use Rattle.implib_link_instances.proofs.Worked.Calls.{wide}
-use Rattle.implib_link_instances.proofs.Worked.Loads.{amd64_given, i386_given}
+use Rattle.implib_link_instances.proofs.Worked.Loads.{given}
 use Rattle.implib_link_instances.proofs.Worked.Programs.{opened, worked_programs}
 
 keeps_itself : (image : List Range) → Keeps image image
@@ -57,14 +57,14 @@ unfolding opened alias_specs encoded_size weak_object has_tables all_filled tabl
 amd64_left = refl
 
 amd64 : WorkedWriting AMD64 touching_8 (left_8 AMD64)
-amd64 = worked AMD64 touching_8 (left_8 AMD64) worked_programs.amd64.made worked_programs.amd64.program amd64_given amd64_left
+amd64 = worked AMD64 touching_8 (left_8 AMD64) worked_programs.amd64.made worked_programs.amd64.program (given AMD64) amd64_left
 
 i386_left : all_filled 4 (gives_by_hand I386) 92 (imports I386) (program_image I386 touching_4) ≡ left_4 I386 ++ program_image I386 touching_4
 unfolding opened alias_specs encoded_size weak_object has_tables all_filled table_filled
 i386_left = refl
 
 i386 : WorkedWriting I386 touching_4 (left_4 I386)
-i386 = worked I386 touching_4 (left_4 I386) worked_programs.i386.made worked_programs.i386.program i386_given i386_left
+i386 = worked I386 touching_4 (left_4 I386) worked_programs.i386.made worked_programs.i386.program (given I386) i386_left
 
 -- Images that are read in two ways.
 

@@ -6,7 +6,7 @@ use Rattle.std.specs.Prelude.{List, Some, [], codes, length, map, ℕ, ◌++◌,
 use Rattle.implib.specs.declared.machine.MachineType.TheVariants.{AMD64}
 use Rattle.implib.specs.Formats.Constants.{align_16bytes, class_external, cnt_code}
 use Rattle.implib.specs.Formats.Constants.{mem_execute_read}
-use Rattle.implib.specs.Formats.Object.{ASymbol, Object, ObjectSection}
+use Rattle.implib.specs.Formats.Object.{Object, ObjectSection}
 use Rattle.implib.specs.Members.Gnu.{section, text_name}
 use Rattle.implib.specs.Definition.{DefinitionView}
 use Rattle.implib.specs.Worked.Members.{of_dll}
@@ -38,7 +38,7 @@ use Rattle.implib_link.specs.Search.Closed.{unresolved}
 use Rattle.implib_link.specs.Search.MsvcArchives.{short_inputs}
 use Rattle.implib_link_instances.specs.Worked.MsvcSearch.{descriptor_named, msvc_library}
 use Rattle.implib_link_instances.specs.Worked.MsvcSearch.{null_named, short_named, thunk_named}
-use Rattle.implib_link_instances.specs.Worked.Programs.{symbol_of_class}
+use Rattle.implib_link_instances.specs.Worked.Programs.{object_with, symbol_of_class}
 
 -- what it means
 abbrev pub bar_definition : DefinitionView
@@ -67,15 +67,10 @@ both = bar_for_gnu ∷ queue_for_msvc ∷ []
 
 -- an object of this name, whose code calls through a symbol
 abbrev pub calling : List ℕ → List ℕ → Object
-calling name symbol = record {
-  machine = 0;
-  time = 0;
-  optional_header_size = 0;
-  characteristics = 0;
-  sections = code ∷ [];
-  entries = ASymbol (symbol_of_class name 1 class_external)
-      ∷ ASymbol (symbol_of_class symbol 0 class_external) ∷ [];
-}
+calling name symbol = object_with 0 (code ∷ []) (
+    symbol_of_class name 1 class_external
+    ∷ symbol_of_class symbol 0 class_external
+    ∷ [])
 
 abbrev pub calls_bar : Object
 calls_bar = calling (codes "main") (codes "__imp_bar")

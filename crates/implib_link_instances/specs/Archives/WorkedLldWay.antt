@@ -6,7 +6,7 @@ use Rattle.std.specs.List.{filter}
 use Rattle.implib.specs.declared.machine.MachineType.TheVariants.{AMD64}
 use Rattle.implib.specs.Formats.Constants.{align_16bytes, amd64_rel32, class_external, cnt_code}
 use Rattle.implib.specs.Formats.Constants.{mem_execute_read}
-use Rattle.implib.specs.Formats.Object.{ASymbol, Object, ObjectSection}
+use Rattle.implib.specs.Formats.Object.{Object, ObjectSection}
 use Rattle.implib.specs.Formats.ShortImport.{ShortImport}
 use Rattle.implib.specs.Link.Image.{Range}
 use Rattle.implib.specs.Link.Placement.{Placed, Unplaced}
@@ -32,7 +32,7 @@ use Rattle.implib_link.specs.Tables.{AreSteady}
 use Rattle.implib_link_instances.specs.Worked.Calls.{given_on}
 use Rattle.implib_link_instances.specs.Worked.LldPrograms.{taken_address}
 use Rattle.implib_link_instances.specs.Worked.MsvcSearch.{msvc_library, short_named}
-use Rattle.implib_link_instances.specs.Worked.Programs.{symbol_of_class}
+use Rattle.implib_link_instances.specs.Worked.Programs.{object_with, symbol_of_class}
 
 abbrev pub lld_library : Library
 lld_library =
@@ -50,17 +50,11 @@ two_calls = section text_name (cnt_code + align_16bytes + mem_execute_read)
     ∷ record { offset = 7; symbol = 2; kind = amd64_rel32 } ∷ [])
 
 abbrev pub calling_twice : Object
-calling_twice = record {
-  machine = 0;
-  time = 0;
-  optional_header_size = 0;
-  characteristics = 0;
-  sections = two_calls ∷ [];
-  entries = ASymbol (symbol_of_class (codes "main") 1 class_external)
-      ∷ ASymbol (symbol_of_class (codes "__imp_bar") 0 class_external)
-      ∷ ASymbol (symbol_of_class (codes "bar") 0 class_external)
-      ∷ [];
-}
+calling_twice = object_with 0 (two_calls ∷ []) (
+    symbol_of_class (codes "main") 1 class_external
+    ∷ symbol_of_class (codes "__imp_bar") 0 class_external
+    ∷ symbol_of_class (codes "bar") 0 class_external
+    ∷ [])
 
 abbrev pub lld_own : List Object
 lld_own = calling_twice ∷ []

@@ -7,28 +7,27 @@ use Rattle.implib.specs.declared.coff.object.Relocation.{Relocation}
 use Rattle.implib.specs.declared.machine.MachineType.{MachineType}
 use Rattle.implib.specs.declared.machine.MachineType.TheVariants.{AMD64, ARM64, ARMNT, I386}
 use Rattle.implib.specs.Formats.Object.{ASymbol, Object, ObjectSection}
-use Rattle.implib.specs.Link.Image.{Range, image_of}
+use Rattle.implib.specs.Link.Image.{Range}
 use Rattle.implib.specs.Link.Placement.{Bases, Placed, Unplaced, placed_from}
-use Rattle.implib_link.specs.Gnu.Calls.{HasCall, PlacedCode, arm64_branch26, call_bytes, call_reads}
+use Rattle.implib_link.specs.Gnu.Calls.{PlacedCode, arm64_branch26, call_bytes}
 use Rattle.implib_link.specs.Gnu.Calls.{call_relocations, direct_bytes, direct_relocations}
 use Rattle.implib_link.specs.Gnu.Calls.{i386_rel32, moved_by}
 use Rattle.implib_link.specs.Gnu.Fields.{AreBeside, IsRelocated, LinkedCode, placed_code}
-use Rattle.implib_link.specs.Stub.{CanJump, bits_of, code_word, with_bits, with_word, word_at}
+use Rattle.implib_link.specs.Stub.{bits_of, code_word, with_bits, with_word, word_at}
 use Rattle.std.specs.List.{AllByRecursion}
 use Rattle.implib.specs.Formats.Bytes.{u32_bytes}
 use Rattle.implib.specs.Formats.Constants.{align_16bytes, align_4bytes, class_external, cnt_code}
 use Rattle.implib.specs.Formats.Constants.{mem_execute_read}
 use Rattle.implib.specs.Import.{Ask, Name, Ordinal, imp_symbol}
-use Rattle.implib.specs.Link.LinkedMembers.{IsMade}
 use Rattle.implib.specs.Link.Load.{BytesAt}
 use Rattle.implib.specs.Link.Resolution.{target_address}
 use Rattle.implib.specs.Members.Gnu.{section, stub_bytes, stub_relocations, text_name}
 use Rattle.implib.specs.Members.ImportTables.{zeros}
-use Rattle.implib_link.specs.Flavors.Program.{IsProgram}
 use Rattle.implib_link.specs.Gnu.Program.{null_descriptor}
 use Rattle.implib_link.specs.Gnu.Reading.{ReadsAndWrites}
-use Rattle.implib_link_instances.specs.Worked.Programs.{another, both_inputs, foo_input}
+use Rattle.implib_link_instances.specs.Worked.Programs.{foo_input}
 use Rattle.implib_link_instances.specs.Worked.Programs.{input_objects, program_image}
+use Rattle.implib_link_instances.specs.Worked.Programs.{object_with}
 use Rattle.implib_link_instances.specs.Worked.Programs.{symbol_of_class, symbol_on, touching_4}
 use Rattle.implib_link_instances.specs.Worked.Programs.{touching_8, zed_input}
 use Rattle.implib_link.specs.Gnu.Pointers.{HasLoad, load_bytes, load_reads, load_relocations}
@@ -119,48 +118,10 @@ calling_code machine = section text_name (cnt_code + align_16bytes + mem_execute
 
 -- an object with this code, whose symbol 1 is `__imp_open`
 abbrev pub calling : MachineType → Object
-calling machine = record {
-  machine = 0;
-  time = 0;
-  optional_header_size = 0;
-  characteristics = 0;
-  sections = calling_code machine ∷ [];
-  entries = ASymbol (symbol_of_class (codes "main") 1 class_external)
-      ∷ ASymbol (symbol_of_class (imp_symbol (symbol_on machine (codes "open"))) 0 class_external)
-      ∷ [];
-}
-
--- what is linked: the calling object, foo.dll's members, another object, zed.dll's members, the
--- null descriptor
-abbrev pub calling_objects : MachineType → List Object
-calling_objects machine =
-    calling machine
-    ∷ (input_objects machine (foo_input machine)
-    ++ (another machine
-    ∷ (input_objects machine (zed_input machine)
-    ++ null_descriptor ∷ [])))
-
-abbrev pub calling_placed : MachineType → Bases → List Placed
-calling_placed machine bases = placed_from bases (calling_objects machine)
-
--- its code at an address
-abbrev pub calling_at : MachineType → ℕ → PlacedCode
-calling_at machine position = record {
-  from = record { object = calling machine; section_addresses = Unplaced ∷ [] };
-  number = 1;
-  code = calling_code machine;
-  position = position;
-}
-
--- what the symbols of code are taken to be: their addresses in the tables
-abbrev pub table_targets : MachineType → Bases → PlacedCode → ℕ → ℕ
-table_targets machine bases c index = target_address (calling_placed machine bases) c.from index
-
--- the image with the code after it
-abbrev pub calling_memory : MachineType → ℕ → Bases → List Range
-calling_memory machine image_base bases =
-    image_of machine bases (calling_placed machine bases)
-    ++ code_ranges machine image_base (table_targets machine bases) (calling_at machine 0x1000 ∷ [])
+calling machine = object_with 0 (calling_code machine ∷ []) (
+    symbol_of_class (codes "main") 1 class_external
+    ∷ symbol_of_class (imp_symbol (symbol_on machine (codes "open"))) 0 class_external
+    ∷ [])
 
 -- What DLLs give, by hand: for an ordinal 0x1000_0000, for a name 16 more for each of its
 -- characters.
@@ -174,23 +135,6 @@ given_on I386 = given 0
 given_on ARMNT = given 0
 given_on AMD64 = given 4
 given_on ARM64 = given 4
-
--- The program and the code at 0x1000 meet all that the law of calls asks for; the call is relocated
--- to these bytes, which read this entry.
-pub record WorkedCall (machine : MachineType) (image_base : ℕ) (bases : Bases) (relocated : List ℕ)
-    (entry : ℕ) : Type 0 where
-  pub made : AllByRecursion (IsMade machine) (both_inputs machine)
-  pub program : IsProgram machine bases (both_inputs machine) (calling_objects machine)
-  pub can : CanJump machine image_base bases
-  pub beside : CodesBeside machine image_base bases (calling_objects machine)
-      (calling_at machine 0x1000 ∷ [])
-      (table_targets machine bases)
-  pub calls : HasCall machine (calling_at machine 0x1000) 4
-      (imp_symbol (symbol_on machine (codes "open")))
-  pub bytes : (code_range machine image_base (table_targets machine bases)
-      (calling_at machine 0x1000)).bytes
-      ≡ first_bytes machine ++ (relocated ++ last_bytes machine)
-  pub reads : call_reads machine (image_base + 0x1004) relocated ≡ Some (image_base + entry)
 
 -- code that calls `open` by its name, at offset 4: `sub rsp, 40`, `call open`, `add rsp, 40`, `ret`
 abbrev pub direct_code : ObjectSection

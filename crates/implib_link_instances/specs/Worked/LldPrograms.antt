@@ -20,7 +20,7 @@ use Rattle.implib_link.specs.Flavors.LldImports.{placed_by_lld}
 use Rattle.implib_link.specs.Flavors.LldThunks.{placed_thunk, thunk_section}
 use Rattle.implib_link.specs.Gnu.Calls.{arm64_branch26, i386_rel32}
 use Rattle.implib_link.specs.Gnu.Fields.{LinkedCode}
-use Rattle.implib_link_instances.specs.Worked.Programs.{symbol_of_class, symbol_on}
+use Rattle.implib_link_instances.specs.Worked.Programs.{object_with, symbol_of_class, symbol_on}
 
 -- the section `.rdata`, from 0x2000 on
 abbrev pub written_by_lld : List ℕ
@@ -151,18 +151,12 @@ object_section machine =
     (object_relocations machine)
 
 abbrev pub calling_object : MachineType → Object
-calling_object machine = record {
-  machine = machine_number machine;
-  time = 0;
-  optional_header_size = 0;
-  characteristics = 0;
-  sections = object_section machine ∷ [];
-  entries = ASymbol (symbol_of_class (symbol_on machine (codes "main")) 1 class_external)
-      ∷ ASymbol (symbol_of_class (imp_symbol (symbol_on machine (codes "zeta"))) 0 class_external)
-      ∷ ASymbol (symbol_of_class (imp_symbol (symbol_on machine (codes "gee"))) 0 class_external)
-      ∷ ASymbol (symbol_of_class (symbol_on machine (codes "mid")) 0 class_external)
-      ∷ [];
-}
+calling_object machine = object_with (machine_number machine) (object_section machine ∷ []) (
+    symbol_of_class (symbol_on machine (codes "main")) 1 class_external
+    ∷ symbol_of_class (imp_symbol (symbol_on machine (codes "zeta"))) 0 class_external
+    ∷ symbol_of_class (imp_symbol (symbol_on machine (codes "gee"))) 0 class_external
+    ∷ symbol_of_class (symbol_on machine (codes "mid")) 0 class_external
+    ∷ [])
 
 abbrev pub placed_object : MachineType → Placed
 placed_object machine =

@@ -26,6 +26,7 @@ use Rattle.implib_link.specs.Gnu.Pages.{HasPage, HasPageOffset}
 use Rattle.implib_link.specs.Gnu.Program.{null_descriptor}
 use Rattle.implib_link.specs.Gnu.Rebased.{Place}
 use Rattle.implib_link_instances.specs.Worked.Programs.{another, both_inputs, foo_input}
+use Rattle.implib_link_instances.specs.Worked.Programs.{object_with}
 use Rattle.implib_link_instances.specs.Worked.Programs.{input_objects, symbol_of_class, symbol_on}
 use Rattle.implib_link_instances.specs.Worked.Programs.{touching_4, touching_8, zed_input}
 
@@ -137,18 +138,12 @@ abbrev pub open_on : MachineType → List ℕ
 open_on machine = symbol_on machine (codes "open")
 
 abbrev pub passing : MachineType → Object
-passing machine = record {
-  machine = 0;
-  time = 0;
-  optional_header_size = 0;
-  characteristics = 0;
-  sections = passing_sections machine;
-  entries = ASymbol (symbol_of_class (codes "main") (passing_number machine) class_external)
-      ∷ ASymbol (symbol_of_class (imp_symbol (open_on machine)) 0 class_external)
-      ∷ ASymbol (symbol_of_class (codes "hello") 0 class_external)
-      ∷ ASymbol (symbol_of_class (open_on machine) 0 class_external)
-      ∷ [];
-}
+passing machine = object_with 0 (passing_sections machine) (
+    symbol_of_class (codes "main") (passing_number machine) class_external
+    ∷ symbol_of_class (imp_symbol (open_on machine)) 0 class_external
+    ∷ symbol_of_class (codes "hello") 0 class_external
+    ∷ symbol_of_class (open_on machine) 0 class_external
+    ∷ [])
 
 -- what is linked: this object, foo.dll's members, another object, zed.dll's members, the null
 -- descriptor

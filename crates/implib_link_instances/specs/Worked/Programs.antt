@@ -18,7 +18,7 @@ use Rattle.implib.specs.Link.LinkedMembers.{IsMade, LinkInput, linked_members, o
 use Rattle.implib.specs.Members.MemberSpec.{member_of}
 use Rattle.implib.specs.Members.Members.{member_specs}
 use Rattle.implib.specs.Members.ImportTables.{thunk_width, zeros}
-use Rattle.implib.specs.Formats.Object.{ASymbol, Object, ObjectSymbol}
+use Rattle.implib.specs.Formats.Object.{ASymbol, Object, ObjectSection, ObjectSymbol}
 use Rattle.implib.specs.Link.Placement.{Bases, Placed, placed_from}
 use Rattle.implib.specs.Renaming.{renamed}
 use Rattle.implib.specs.Link.Resolution.{symbol_address}
@@ -72,16 +72,21 @@ abbrev pub symbol_of_class : List ℕ → ℕ → ℕ → ObjectSymbol
 symbol_of_class name section_number class =
     record { name = name; value = 0; section = section_number; kind = 0; class = class }
 
--- an object with code and these symbols
-abbrev pub code_object : List ObjectSymbol → Object
-code_object symbols = record {
-  machine = 0;
+-- an object that was not made here, by its machine's number, sections and symbols
+abbrev pub object_with : ℕ → List ObjectSection → List ObjectSymbol → Object
+object_with machine sections symbols = record {
+  machine = machine;
   time = 0;
   optional_header_size = 0;
   characteristics = 0;
-  sections = section text_name (cnt_code + align_16bytes + mem_execute_read) (zeros 16) [] ∷ [];
+  sections = sections;
   entries = map ASymbol symbols;
 }
+
+-- an object with code and these symbols
+abbrev pub code_object : List ObjectSymbol → Object
+code_object = object_with 0
+    (section text_name (cnt_code + align_16bytes + mem_execute_read) (zeros 16) [] ∷ [])
 
 -- a program's own code, which names the entry of `open`, and code with a symbol of its own that is
 -- called as an export is

@@ -7,7 +7,7 @@ use Rattle.implib.specs.declared.machine.MachineType.{MachineType}
 use Rattle.implib.specs.declared.machine.MachineType.TheVariants.{I386, ARMNT, AMD64, ARM64}
 use Rattle.implib.specs.Formats.Constants.{arm64_pagebase_rel21, class_external, i386_dir32}
 use Rattle.implib.specs.Formats.Constants.{mem_execute_read}
-use Rattle.implib.specs.Formats.Object.{ASymbol, Object, ObjectSection}
+use Rattle.implib.specs.Formats.Object.{Object, ObjectSection}
 use Rattle.implib.specs.Link.Image.{Range, image_of}
 use Rattle.implib.specs.Link.Placement.{Bases, Placed, Unplaced, placed_from}
 use Rattle.implib.specs.Link.Resolution.{target_address}
@@ -23,6 +23,7 @@ use Rattle.implib_link.specs.Gnu.Stored.{i386_dir32nb}
 use Rattle.implib_link_instances.specs.Worked.Operands.{field, named_or, open_on, placed_or_passing}
 use Rattle.implib_link_instances.specs.Worked.Operands.{stub_linked, stub_section}
 use Rattle.implib_link_instances.specs.Worked.Programs.{another, both_inputs, foo_input}
+use Rattle.implib_link_instances.specs.Worked.Programs.{object_with}
 use Rattle.implib_link_instances.specs.Worked.Programs.{input_objects, symbol_of_class, touching_8}
 use Rattle.implib_link_instances.specs.Worked.Programs.{zed_input}
 
@@ -74,16 +75,10 @@ registering_section machine =
     section text_name mem_execute_read (registering_bytes machine) (registering_relocations machine)
 
 abbrev pub registering : MachineType → Object
-registering machine = record {
-  machine = 0;
-  time = 0;
-  optional_header_size = 0;
-  characteristics = 0;
-  sections = registering_section machine ∷ [];
-  entries = ASymbol (symbol_of_class (codes "table") 1 class_external)
-      ∷ ASymbol (symbol_of_class (open_on machine) 0 class_external)
-      ∷ [];
-}
+registering machine = object_with 0 (registering_section machine ∷ []) (
+    symbol_of_class (codes "table") 1 class_external
+    ∷ symbol_of_class (open_on machine) 0 class_external
+    ∷ [])
 
 -- what is linked: this object, foo.dll's members, another object, zed.dll's members, the null
 -- descriptor

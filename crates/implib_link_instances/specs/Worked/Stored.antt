@@ -13,7 +13,7 @@ use Rattle.implib.specs.Formats.Constants.{align_16bytes, amd64_rel32, arm64_pag
 use Rattle.implib.specs.Formats.Constants.{arm64_pageoffset_12l, class_external, cnt_code}
 use Rattle.implib.specs.Formats.Constants.{cnt_initialized_data, i386_dir32, mem_execute_read}
 use Rattle.implib.specs.Formats.Constants.{mem_read_write}
-use Rattle.implib.specs.Formats.Object.{ASymbol, Object, ObjectSection}
+use Rattle.implib.specs.Formats.Object.{Object, ObjectSection}
 use Rattle.implib.specs.Import.{imp_symbol}
 use Rattle.implib.specs.Link.Image.{Range}
 use Rattle.implib.specs.Link.Placement.{Placed, Unplaced}
@@ -31,7 +31,7 @@ use Rattle.implib_link.specs.Tables.{AreSteady}
 use Rattle.implib_link_instances.specs.Worked.LldPrograms.{addresses_on, linked_thunk, lld_image_on}
 use Rattle.implib_link_instances.specs.Worked.LldPrograms.{mid_on, shorts_on, taken_address}
 use Rattle.implib_link_instances.specs.Worked.Operands.{field}
-use Rattle.implib_link_instances.specs.Worked.Programs.{symbol_of_class, symbol_on}
+use Rattle.implib_link_instances.specs.Worked.Programs.{object_with, symbol_of_class, symbol_on}
 
 -- The code. I386: `call [__imp__zeta]`, `call [__imp__gee]`, `mov eax, offset _mid`, `ret`; AMD64:
 -- `sub rsp, 40`, the two calls, `lea rax, [rip + mid]`, `add rsp, 40`, `ret`; ARM64: `str x30, [sp,
@@ -140,18 +140,14 @@ abbrev pub mid_name : MachineType → List ℕ
 mid_name machine = symbol_on machine (codes "mid")
 
 abbrev pub holding_object : MachineType → Object
-holding_object machine = record {
-  machine = machine_number machine;
-  time = 0;
-  optional_header_size = 0;
-  characteristics = 0;
-  sections = picking_section machine ∷ held_section machine ∷ unwind_section machine ∷ [];
-  entries = ASymbol (symbol_of_class (symbol_on machine (codes "pick")) 1 class_external)
-      ∷ ASymbol (symbol_of_class (imp_symbol (symbol_on machine (codes "zeta"))) 0 class_external)
-      ∷ ASymbol (symbol_of_class (imp_symbol (symbol_on machine (codes "gee"))) 0 class_external)
-      ∷ ASymbol (symbol_of_class (mid_name machine) 0 class_external)
-      ∷ [];
-}
+holding_object machine =
+    object_with (machine_number machine)
+    (picking_section machine ∷ held_section machine ∷ unwind_section machine ∷ [])
+    (symbol_of_class (symbol_on machine (codes "pick")) 1 class_external
+    ∷ symbol_of_class (imp_symbol (symbol_on machine (codes "zeta"))) 0 class_external
+    ∷ symbol_of_class (imp_symbol (symbol_on machine (codes "gee"))) 0 class_external
+    ∷ symbol_of_class (mid_name machine) 0 class_external
+    ∷ [])
 
 abbrev pub placed_holding : MachineType → Placed
 placed_holding machine =

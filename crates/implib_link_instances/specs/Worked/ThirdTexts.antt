@@ -6,7 +6,7 @@ use Rattle.std.specs.Prelude.{◌≡◌, ℕ, ◌+◌, List, [], ◌∷◌, ◌+
 use Rattle.implib.specs.declared.machine.MachineType.TheVariants.{AMD64}
 use Rattle.implib.specs.Formats.Constants.{align_16bytes, amd64_rel32, class_external, cnt_code}
 use Rattle.implib.specs.Formats.Constants.{mem_execute_read}
-use Rattle.implib.specs.Formats.Object.{ASymbol, ObjectSection}
+use Rattle.implib.specs.Formats.Object.{ObjectSection}
 use Rattle.implib.specs.Formats.ShortImport.{ShortImport}
 use Rattle.implib.specs.Import.{Ask, Name}
 use Rattle.implib.specs.Link.Image.{Range}
@@ -23,7 +23,7 @@ use Rattle.implib_link.specs.Tables.{AreSteady, AreTables, Block, Table, importe
 use Rattle.implib_link.specs.Tables.{packed_tables}
 use Rattle.implib_link_instances.specs.Worked.LldPrograms.{short_on, taken_address}
 use Rattle.implib_link_instances.specs.Worked.Parts.{asking}
-use Rattle.implib_link_instances.specs.Worked.Programs.{symbol_of_class}
+use Rattle.implib_link_instances.specs.Worked.Programs.{object_with, symbol_of_class}
 
 -- the section `.rdata`, from 0x2000 on
 abbrev pub third_written : List ℕ
@@ -64,18 +64,12 @@ third_section = section text_name (cnt_code + align_16bytes + mem_execute_read)
 
 abbrev pub third_object : Placed
 third_object = record {
-  object = record {
-    machine = machine_number AMD64;
-    time = 0;
-    optional_header_size = 0;
-    characteristics = 0;
-    sections = third_section ∷ [];
-    entries = ASymbol (symbol_of_class (codes "main") 1 class_external)
-        ∷ ASymbol (symbol_of_class (codes "__imp_feed") 0 class_external)
-        ∷ ASymbol (symbol_of_class (codes "feed") 0 class_external)
-        ∷ ASymbol (symbol_of_class (codes "__imp_pat") 0 class_external)
-        ∷ [];
-  };
+  object = object_with (machine_number AMD64) (third_section ∷ []) (
+      symbol_of_class (codes "main") 1 class_external
+      ∷ symbol_of_class (codes "__imp_feed") 0 class_external
+      ∷ symbol_of_class (codes "feed") 0 class_external
+      ∷ symbol_of_class (codes "__imp_pat") 0 class_external
+      ∷ []);
   section_addresses = Unplaced ∷ [];
 }
 

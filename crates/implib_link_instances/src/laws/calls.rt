@@ -5,7 +5,7 @@ ghost use Rattle.implib_link_instances.specs.Worked.Calls.{WorkedReading};
 ghost use Rattle.implib_link_instances.specs.Worked.Calls.{WorkedChoices};
 ghost use Rattle.implib_link_instances.specs.Worked.Calls.{WorkedPointers};
 
-/// Calls and loads of pointers that were relocated by hand read their entries, on AMD64 and I386; a
+/// Loads of pointers that were relocated by hand read their entries, on AMD64 and I386; a
 /// loader that reads the image of a program that was linked by hand loads it.
 ///
 /// ARMNT's stub by hand, behind the import tables and in front of them.
