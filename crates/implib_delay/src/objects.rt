@@ -3,9 +3,9 @@
 ghost use Rattle.implib.specs.Definition.{export_view};
 ghost use Rattle.implib.specs.Formats.Layout.{contents_size, encoded_size};
 ghost use Rattle.implib.specs.Formats.Writer.{layout_of};
-ghost use Rattle.implib.specs.Import.{holds, imp_symbol, is_empty_text, name_asked};
+ghost use Rattle.implib.specs.Import.{holds, imp_symbol, is_empty_text};
 ghost use Rattle.implib.specs.Machine.{is_32bit};
-ghost use Rattle.implib.specs.Members.Gnu.{added, hint_name, section, thunk};
+ghost use Rattle.implib.specs.Members.Gnu.{hint_name, section, thunk};
 ghost use Rattle.implib.specs.Members.ImportTables.{relocation, thunk_flags, thunk_width, zeros};
 ghost use Rattle.implib.specs.Views.Making.{EncodesObject};
 ghost use Rattle.implib.specs.Views.Table.{CanBeHeld, section_row, symbol_row};
@@ -14,10 +14,10 @@ ghost use Rattle.implib_delay.specs.Names.{handle_symbol, helper_symbol, name_sy
 ghost use Rattle.implib_delay.specs.Objects.{export_object, export_sections, export_symbols};
 ghost use Rattle.implib_delay.specs.Objects.{head_object, tail_relocations};
 ghost use Rattle.implib_delay.specs.Objects.{mode_of, object_with, stub_relocations, tail_object};
-ghost use Rattle.implib_delay.specs.Objects.{thunk_relocations, unbound_entry, unwind_sections};
-ghost use Rattle.implib_delay.specs.Objects.{unwind_symbols, word_kind};
+ghost use Rattle.implib_delay.specs.Objects.{unbound_entry};
+ghost use Rattle.implib_delay.specs.Objects.{word_kind};
 ghost use Rattle.std.specs.List.{sum_by};
-ghost use Rattle.std.specs.Prelude.{[], false, true, map, take, ◌++◌, ◌∷◌, ◌≡◌, IfOk};
+ghost use Rattle.std.specs.Prelude.{[], false, true, map, take, ◌∷◌, ◌≡◌};
 ghost use Rattle.std.specs.Prelude.{if◌then◌else◌};
 ghost use Rattle.std.specs.Prelude.{min};
 

@@ -1,16 +1,12 @@
 //! Which definitions have no delayed imports, decided without memory.
 
-ghost use Rattle.implib.specs.Definition.{definition_view, export_view, given_name};
-ghost use Rattle.implib.specs.Fault.{cause_of};
-ghost use Rattle.implib.specs.Import.{holds, is_alias};
-ghost use Rattle.implib.specs.Members.NameRules.{asks_another, definition_names_refusal};
-ghost use Rattle.implib.specs.Members.NameRules.{import_name_refusal, library_name_refusal};
-ghost use Rattle.implib.specs.Members.NameRules.{name_refusal, names_refusal};
+ghost use Rattle.implib.specs.Definition.{definition_view, export_view};
+ghost use Rattle.implib.specs.Import.{is_alias};
 ghost use Rattle.implib.specs.declared.flavor.Flavor.TheVariants.{Gnu};
 ghost use Rattle.implib_delay.specs.Refusal.{delay_cause, input_refusal, kind_refusal};
 ghost use Rattle.implib_delay.specs.Refusal.{kinds_refusal, machine_refusal};
 ghost use Rattle.std.specs.Option.{option_map};
-ghost use Rattle.std.specs.Prelude.{None, Some, map, string_bytes, ◌≡◌};
+ghost use Rattle.std.specs.Prelude.{None, Some, ◌≡◌};
 
 use crate::error::DelayFault;
 use implib::def::{ModuleDef, ShortExport};

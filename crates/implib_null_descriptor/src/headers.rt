@@ -18,9 +18,9 @@ ghost use Rattle.implib_null_descriptor.specs.Named.{descriptor_symbols, named_d
 ghost use Rattle.implib_null_descriptor.specs.Named.{named_descriptor_spec};
 ghost use Rattle.implib_null_descriptor.specs.Named.{named_null, named_null_spec};
 ghost use Rattle.implib_null_descriptor.specs.Named.{named_null_symbol, named_specs};
-ghost use Rattle.std.specs.Prelude.{[], nat_eq, IfErr, IfOk, IsSomeAnd, OnOk, alloc_error, false};
+ghost use Rattle.std.specs.Prelude.{[], IfErr, IfOk, IsSomeAnd, OnOk, alloc_error, false};
 ghost use Rattle.std.specs.Prelude.{length};
-ghost use Rattle.std.specs.Prelude.{string_bytes, ◌+◌, ◌++◌, ◌<◌, ◌^◌, ◌∷◌, ◌≡◌};
+ghost use Rattle.std.specs.Prelude.{string_bytes, ◌+◌, ◌<◌, ◌^◌, ◌∷◌, ◌≡◌};
 
 use implib::coff::{ObjectWriter, Place, Section, Symbol, class, flags};
 use implib::import_tables::{ended_by_nul, image_relocation};
