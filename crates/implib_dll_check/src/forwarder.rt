@@ -82,8 +82,9 @@ enum Step<'a> {
     Ends(End<'a>),
 }
 
-// What is before the last full stop of a text, and what is behind it.
-fn split_last(text: &[u8]) -> Option<(&[u8], &[u8])>
+/// What is before the last full stop of a text, and what is behind it: of a forwarder the DLL and
+/// what it is asked for.
+pub fn split_last(text: &[u8]) -> Option<(&[u8], &[u8])>
     ensures { option_map (λ parts. (parts.0.now, parts.1.now)) result ≡ split_last text.now }
 {
     let mut end = text.len();

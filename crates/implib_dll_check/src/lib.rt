@@ -23,7 +23,9 @@ mod verdict;
 
 pub use dll_name::{loader_name, names_of};
 pub use folder::{Folder, Loaded, content_of, dll_path, named_dlls};
-pub use forwarder::{Beside, DllContent, End, MOST_FORWARDERS, NamedDll, Stop, ends, follow};
+pub use forwarder::{
+    Beside, DllContent, End, MOST_FORWARDERS, NamedDll, Stop, ends, follow, split_last,
+};
 pub use import::{Judgement, Loss, asks_in, judgements};
 pub use kind::{count_astray, mark_followed, unknown_dlls};
 pub use lacking::missing;
