@@ -1,0 +1,48 @@
+-- The options of names and letters, by the table of the program (this project's choice, after GNU
+-- dlltool, llvm-dlltool and Microsoft's LIB).
+use Rattle.std.specs.Prelude.{ℕ, Bool, false, ◌&&◌, ◌==◌, List, Option, None, Some, map}
+use Rattle.std.specs.List.{find}
+use Rattle.std.specs.Option.{option_map}
+use Rattle.std.specs.Str.{bytes_eq}
+use denote.Enum.Bare.{sameb}
+use Rattle.implib_options.specs.contracts.table.Words.{the_type}
+use Rattle.implib_options.specs.declared.table.Meaning.{Meaning}
+use Rattle.implib_options.specs.declared.table.Takes.{Takes}
+use Rattle.implib_options.specs.declared.table.TheConstants.{OPTIONS}
+use Rattle.implib_options.specs.declared.table.Words.{Words}
+
+-- what an option takes and means
+abbrev pub Kind : Type 0
+Kind = Takes × Meaning
+
+-- a row of the table: whose it is; its name and letter; what it takes and means
+abbrev pub Row : Type 0
+Row = Words × List ℕ × Option ℕ × Kind
+
+-- whether the row is of these words
+abbrev pub is_of : Words → Row → Bool
+is_of of row = sameb the_type row.0 of
+
+abbrev pub is_letter : ℕ → Option ℕ → Bool
+is_letter letter None = false
+is_letter letter (Some own) = own == letter
+
+-- what the first row of a name takes and means
+abbrev pub named_in : List Row → Words → List ℕ → Option Kind
+named_in rows of name = option_map (λ row. row.3) (find (λ row. is_of of row && bytes_eq row.1 name) rows)
+
+-- what the first row of a letter takes and means
+abbrev pub lettered_in : List Row → Words → ℕ → Option Kind
+lettered_in rows of letter =
+    option_map (λ row. row.3) (find (λ row. is_of of row && is_letter letter row.2) rows)
+
+-- the rows of the program
+abbrev pub options : List Row
+options = map (λ row. (row.0, row.1.now, row.2, (row.3, row.4))) OPTIONS
+
+-- what a name and a letter stand for
+unfoldable pub named : Words → List ℕ → Option Kind
+named of name = named_in options of name
+
+unfoldable pub lettered : Words → ℕ → Option Kind
+lettered of letter = lettered_in options of letter

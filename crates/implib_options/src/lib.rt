@@ -1,0 +1,6 @@
+//! The options of the programs `implib_dlltool` and `implib_check`, and how words spell them.
+#![tactic(auto)]
+
+pub mod given;
+pub mod lookup;
+pub mod table;

@@ -1,0 +1,48 @@
+//! The options of names and letters.
+
+ghost use Rattle.implib_options.specs.Table.{lettered, lettered_in, named, named_in};
+ghost use Rattle.std.specs.Prelude.{◌≡◌, map};
+
+use crate::table::{Meaning, OPTIONS, Row, Takes, Words};
+
+// What the first row of a name takes and means, if there is one.
+fn named_in(mut rows: &[Row], of: Words, name: &str) -> Option<(Takes, Meaning)>
+    ensures { result ≡ named_in (map (λ row. (row.0, row.1.now, row.2, (row.3, row.4))) rows.entry.now) of name.now }
+{
+    while let [row, rest @ ..] = rows {
+        if row.0 == of && row.1 == name {
+            return Some((row.3, row.4));
+        }
+        rows = rest;
+    }
+    None
+}
+
+// What the first row of a letter takes and means, if there is one.
+fn lettered_in(mut rows: &[Row], of: Words, letter: u8) -> Option<(Takes, Meaning)>
+    ensures { result ≡ lettered_in (map (λ row. (row.0, row.1.now, row.2, (row.3, row.4))) rows.entry.now) of letter }
+{
+    while let [row, rest @ ..] = rows {
+        if row.0 == of && row.2 == Some(letter) {
+            return Some((row.3, row.4));
+        }
+        rows = rest;
+    }
+    None
+}
+
+/// What the option of a name takes and means, if there is one.
+#[tactic(auto, unfolding(crate::specs::Table::named))]
+pub fn named(of: Words, name: &str) -> Option<(Takes, Meaning)>
+    ensures { result ≡ named of name.now }
+{
+    named_in(&OPTIONS, of, name)
+}
+
+/// What the option of a letter takes and means, if there is one.
+#[tactic(auto, unfolding(crate::specs::Table::lettered))]
+pub fn lettered(of: Words, letter: u8) -> Option<(Takes, Meaning)>
+    ensures { result ≡ lettered of letter }
+{
+    lettered_in(&OPTIONS, of, letter)
+}
