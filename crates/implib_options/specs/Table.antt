@@ -1,6 +1,6 @@
 -- The options of names and letters, by the table of the program (this project's choice, after GNU
 -- dlltool, llvm-dlltool and Microsoft's LIB).
-use Rattle.std.specs.Prelude.{ℕ, Bool, false, ◌&&◌, ◌==◌, List, Option, None, Some, map}
+use Rattle.std.specs.Prelude.{ℕ, Bool, false, ◌&&◌, ◌==◌, List, Option, None, Some, map, nat_lt, if◌then◌else◌}
 use Rattle.std.specs.List.{find}
 use Rattle.std.specs.Option.{option_map}
 use Rattle.std.specs.Str.{bytes_eq}
@@ -40,9 +40,9 @@ lettered_in rows of letter =
 abbrev pub options : List Row
 options = map (λ row. (row.0, row.1.now, row.2, (row.3, row.4))) OPTIONS
 
--- what a name and a letter stand for
+-- what a name and a letter, which is ASCII, stand for
 unfoldable pub named : Words → List ℕ → Option Kind
 named of name = named_in options of name
 
 unfoldable pub lettered : Words → ℕ → Option Kind
-lettered of letter = lettered_in options of letter
+lettered of letter = if nat_lt letter 128 then lettered_in options of letter else None

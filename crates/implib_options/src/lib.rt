@@ -4,3 +4,4 @@
 pub mod given;
 pub mod lookup;
 pub mod table;
+pub mod words;

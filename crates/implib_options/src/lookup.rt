@@ -1,7 +1,7 @@
 //! The options of names and letters.
 
 ghost use Rattle.implib_options.specs.Table.{lettered, lettered_in, named, named_in};
-ghost use Rattle.std.specs.Prelude.{◌≡◌, map};
+ghost use Rattle.std.specs.Prelude.{◌≡◌, ◌<◌, IsSome, map};
 
 use crate::table::{Meaning, OPTIONS, Row, Takes, Words};
 
@@ -39,10 +39,14 @@ pub fn named(of: Words, name: &str) -> Option<(Takes, Meaning)>
     named_in(&OPTIONS, of, name)
 }
 
-/// What the option of a letter takes and means, if there is one.
+/// What the option of a letter, which is ASCII, takes and means, if there is one.
 #[tactic(auto, unfolding(crate::specs::Table::lettered))]
 pub fn lettered(of: Words, letter: u8) -> Option<(Takes, Meaning)>
-    ensures { result ≡ lettered of letter }
+    ensures kind { result ≡ lettered of letter }
+    ensures ascii { IsSome result → letter < 128 }
 {
+    if letter >= 128 {
+        return None;
+    }
     lettered_in(&OPTIONS, of, letter)
 }
