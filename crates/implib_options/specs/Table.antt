@@ -1,7 +1,7 @@
 -- The options of names and letters, by the table of the program (this project's choice, after GNU
 -- dlltool, llvm-dlltool and Microsoft's LIB).
-use Rattle.std.specs.Prelude.{ℕ, Bool, false, ◌&&◌, ◌==◌, List, Option, None, Some, map, nat_lt, if◌then◌else◌}
-use Rattle.std.specs.List.{find}
+use Rattle.std.specs.Prelude.{ℕ, Bool, false, ◌&&◌, ◌==◌, List, [], Option, None, Some, map, nat_lt, if◌then◌else◌}
+use Rattle.std.specs.List.{find, flat_map}
 use Rattle.std.specs.Option.{option_map}
 use Rattle.std.specs.Str.{bytes_eq}
 use denote.Enum.Bare.{sameb}
@@ -46,3 +46,10 @@ named of name = named_in options of name
 
 unfoldable pub lettered : Words → ℕ → Option Kind
 lettered of letter = if nat_lt letter 128 then lettered_in options of letter else None
+
+-- the lines of `--help` of rows in some words, in order
+abbrev pub help_in : List (Words × List ℕ) → Words → List ℕ
+help_in rows of = flat_map (λ row. if sameb the_type row.0 of then row.1 else []) rows
+
+unfoldable pub help_lines : Words → List ℕ
+help_lines of = help_in (map (λ row. (row.0, row.5.now)) OPTIONS) of

@@ -2,6 +2,8 @@
 #![tactic(auto)]
 
 pub mod given;
+pub mod help;
+pub mod lib_words;
 pub mod lookup;
 pub mod table;
 pub mod words;
