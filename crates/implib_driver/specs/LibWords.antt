@@ -1,69 +1,55 @@
--- The words of a command line as Microsoft's LIB has them (its documentation, and what llvm-lib 19
--- does).
-use Rattle.std.specs.Prelude.{ℕ, Bool, true, false, not, ◌&&◌, ◌||◌, ◌==◌, List, [], ◌∷◌, length}
-use Rattle.std.specs.Prelude.{drop, map, Option, None, Some, Ok, Err, codes, if◌then◌else◌, is_some}
-use Rattle.std.specs.Prelude.{nat_eq, nat_lt, slice_index}
-use Rattle.std.specs.Char.{to_ascii_lowercase}
-use Rattle.std.specs.List.{after_first, before_first, ends_with, list_any, position_or_len}
-use Rattle.std.specs.Str.{byte, bytes_eq}
+-- The words of a command line: as Microsoft's LIB has them (its documentation, and what llvm-lib 19
+-- does), or as dlltool.
+use Rattle.std.specs.Prelude.{◌≡◌, ℕ, Bool, true, false, not, ◌||◌, List, [], ◌∷◌, ◌++◌, MatchBool}
+use Rattle.std.specs.Prelude.{Option, None, Some, Result, Ok, Err, codes, if◌then◌else◌, is_some}
+use Rattle.std.specs.Prelude.{nat_eq}
+use Rattle.std.specs.List.{ends_with}
+use Rattle.std.specs.Str.{bytes_eq}
 use Rattle.implib.specs.declared.machine.MachineType.TheVariants.{I386, ARMNT, AMD64, ARM64}
 use Rattle.implib_driver.specs.declared.lib_words.LibMachine.{LibMachine}
 use Rattle.implib_driver.specs.declared.lib_words.LibMachine.TheVariants as named
-use Rattle.implib_driver.specs.declared.lib_words.LibMeaning.{LibMeaning}
-use Rattle.implib_driver.specs.declared.lib_words.LibMeaning.TheVariants as meaning
-use Rattle.implib_driver.specs.declared.lib_words.LibWord.{LibWord}
-use Rattle.implib_driver.specs.declared.lib_words.LibWord.TheVariants as word
+use Rattle.implib_driver.specs.declared.lib_words.ReadWordsError.{ReadWordsError}
+use Rattle.implib_driver.specs.declared.lib_words.ReadWordsError.TheVariants as error
+use Rattle.implib_driver.specs.declared.lib_words.WordFault.{WordFault}
+use Rattle.implib_driver.specs.declared.lib_words.WordFault.TheVariants as fault
 use Rattle.implib_driver.specs.declared.machine.LibraryMachine.{LibraryMachine}
 use Rattle.implib_driver.specs.declared.machine.LibraryMachine.TheVariants.{Arm64ec, Ordinary}
-use Rattle.implib_driver.specs.declared.options.Setting.TheVariants.{Definition, Identify}
-use Rattle.implib_driver.specs.declared.options.Setting.TheVariants.{NativeDefinition, Output}
-use Rattle.implib_driver.specs.declared.options.Setting.TheVariants.{Machine, Dll, Flavor}
-use Rattle.implib_driver.specs.declared.options.Switch.TheVariants.{ExportAs, Help, KeepsDecorated}
-use Rattle.implib_driver.specs.declared.options.Switch.TheVariants.{ListsMembers, Verbose}
-use Rattle.implib_driver.specs.Arguments.{Given, IsFile, IsFurther, IsUnknown, IsUnsupported}
-use Rattle.implib_driver.specs.Arguments.{LacksValueIn, ListsDefinition, NamesNoMachine}
-use Rattle.implib_driver.specs.Arguments.{OccurrenceView, Reading, Switched, WantsDefinition}
-use Rattle.implib_driver.specs.Arguments.{WantsLibrary, WantsOutput, WordFaultView, all_given}
-use Rattle.implib_driver.specs.Arguments.{is_switched, last_given, occurrence_view, read_words}
-use Rattle.implib_driver.specs.Arguments.{with_front, word_fault_view}
 use Rattle.implib_driver.specs.Request.{holds_text}
+use Rattle.implib_options.specs.declared.given.Given.{Given}
+use Rattle.implib_options.specs.declared.table.Meaning.TheVariants.{Definition, ExportAs, Flavor}
+use Rattle.implib_options.specs.declared.table.Meaning.TheVariants.{Help, Identify, KeepsDecorated}
+use Rattle.implib_options.specs.declared.table.Meaning.TheVariants.{ListsMembers, Machine, Output}
+use Rattle.implib_options.specs.declared.table.Words.TheVariants.{Dlltool}
+use Rattle.implib_options.specs.Given.{GivenView, all, given_view, has, last, means}
+use Rattle.implib_options.specs.LibWords.{LibSaying, lib_saying, small}
+use Rattle.implib_options.specs.Words.{FaultView, IsFile, IsRead, IsUnsupported, fault_view}
 use Rattle.implib_rules.specs.Names.{last_part}
 
--- the names of LIB's and llvm-lib's options that have no meaning here
-abbrev pub is_lib_unsupported : List ℕ → Bool
-is_lib_unsupported name =
-    if bytes_eq name (codes "extract") then true
-    else if bytes_eq name (codes "remove") then true
-    else if bytes_eq name (codes "libpath") then true
-    else if bytes_eq name (codes "export") then true
-    else if bytes_eq name (codes "include") then true
-    else if bytes_eq name (codes "subsystem") then true
-    else if bytes_eq name (codes "ltcg") then true
-    else if bytes_eq name (codes "wx") then true
-    else if bytes_eq name (codes "errorreport") then true
-    else if bytes_eq name (codes "nodefaultlib") then true
-    else if bytes_eq name (codes "linkrepro") then true
-    else if bytes_eq name (codes "linkreprotarget") then true
-    else if bytes_eq name (codes "ignore") then true
-    else if bytes_eq name (codes "llvmlibempty") then true
-    else if bytes_eq name (codes "llvmlibthin") then true
-    else false
+-- what is wrong with words
+pub data WordFaultView : Type 0 where
+  -- a word spells no option
+  OfFault : FaultView → WordFaultView
+  -- the word names no machine
+  NamesNoMachine : List ℕ → WordFaultView
+  -- there is no definition
+  WantsDefinition : WordFaultView
+  -- there is no file for the library
+  WantsOutput : WordFaultView
+  -- there is no library whose members are listed
+  WantsLibrary : WordFaultView
+  -- the word is the file of a further one
+  IsFurther : List ℕ → WordFaultView
+  -- members are listed, and there is a definition
+  ListsDefinition : WordFaultView
 
--- what a name in small letters, without its `/` or `-`, stands for
-abbrev pub lib_option_named : List ℕ → LibMeaning
-lib_option_named name =
-    if bytes_eq name (codes "def") then meaning.Takes Definition
-    else if bytes_eq name (codes "defarm64native") then meaning.Takes NativeDefinition
-    else if bytes_eq name (codes "out") then meaning.Takes Output
-    else if bytes_eq name (codes "name") then meaning.Takes Dll
-    else if bytes_eq name (codes "machine") then meaning.Machine
-    else if bytes_eq name (codes "verbose") then meaning.Switches Verbose
-    else if bytes_eq name (codes "list") then meaning.Switches ListsMembers
-    else if bytes_eq name (codes "help") then meaning.Switches Help
-    else if bytes_eq name (codes "?") then meaning.Switches Help
-    else if bytes_eq name (codes "nologo") then meaning.Ignored
-    else if is_lib_unsupported name then meaning.Unsupported
-    else meaning.Unknown
+abbrev pub word_fault_view : WordFault → WordFaultView
+word_fault_view (fault.Word fault) = OfFault (fault_view fault)
+word_fault_view (fault.NoMachine word) = NamesNoMachine word.now
+word_fault_view fault.NoDefinition = WantsDefinition
+word_fault_view fault.NoOutput = WantsOutput
+word_fault_view fault.NoLibrary = WantsLibrary
+word_fault_view (fault.Further word) = IsFurther word.now
+word_fault_view fault.ListedDefinition = ListsDefinition
 
 -- the machines that LIB has or had, and that are not supported
 abbrev pub is_lib_machine_unsupported : List ℕ → Bool
@@ -108,118 +94,59 @@ machine_text (Ordinary AMD64) = codes "i386:x86-64"
 machine_text (Ordinary ARM64) = codes "arm64"
 machine_text Arm64ec = codes "arm64ec"
 
--- what one word says
-pub data LibWordView : Type 0 where
-  -- an option
-  Adds : OccurrenceView → LibWordView
-  -- an option without an effect
-  Nothing : LibWordView
-  -- it is refused
-  Refuses : WordFaultView → LibWordView
+-- what a word says: an option, or what is wrong
+abbrev pub Saying : Type 0
+Saying = Result GivenView WordFaultView
 
--- the view of a word of the program
-abbrev pub lib_word_view : LibWord → LibWordView
-lib_word_view (word.Adds option) = Adds (occurrence_view option)
-lib_word_view word.Nothing = Nothing
-lib_word_view (word.Refuses fault) = Refuses (word_fault_view fault)
-
--- a text in small letters
-abbrev pub small : List ℕ → List ℕ
-small text = map to_ascii_lowercase text
+abbrev pub option_view : Result Given WordFault → Saying
+option_view (Ok given) = Ok (given_view given)
+option_view (Err fault) = Err (word_fault_view fault)
 
 -- what a word says that names a machine
-abbrev pub lib_machine_word : LibMachine → List ℕ → LibWordView
-lib_machine_word (named.Known machine) word = Adds (Given Machine (machine_text machine))
-lib_machine_word named.Unsupported word = Refuses (IsUnsupported word)
-lib_machine_word named.Unknown word = Refuses (NamesNoMachine word)
+abbrev pub lib_machine_word : LibMachine → List ℕ → Saying
+lib_machine_word (named.Known machine) word = Ok (Machine, machine_text machine)
+lib_machine_word named.Unsupported word = Err (OfFault (IsUnsupported word))
+lib_machine_word named.Unknown word = Err (NamesNoMachine word)
 
--- a word without a meaning and a colon is the path of a file: after its `/` (47) is another one or
--- a full stop (46), and no `=` (61)
-abbrev pub is_path : List ℕ → Bool
-is_path [] = false
-is_path (b ∷ rest) = b == 47 && not (list_any (λ x. x == 61) rest)
-    && (list_any (λ x. x == 47) rest || list_any (λ x. x == 46) rest)
+-- what a word of LIB's says, with a machine by its name for `-m`
+abbrev pub lib_named : List ℕ → LibSaying → Saying
+lib_named word (Ok given) =
+    if means Machine given then lib_machine_word (lib_machine_named (small given.1)) word
+    else Ok given
+lib_named word (Err fault) = Err (OfFault fault)
 
--- A file, whose members are listed where that is asked for; `@` (64) begins the name of a file of
--- words.
-abbrev pub lib_file : List ℕ → LibWordView
-lib_file [] = Adds (Given Identify [])
-lib_file (b ∷ rest) =
-    if b == 64 then Refuses (IsFile (b ∷ rest)) else Adds (Given Identify (b ∷ rest))
+abbrev pub lib_option : List ℕ → Saying
+lib_option word = lib_named word (lib_saying word)
 
--- What a word without a meaning says. For example, `/home/a.lib` is a file, and `/foo` no option.
-abbrev pub lib_unknown : List ℕ → LibWordView
-lib_unknown word = if is_path word then lib_file word else Refuses (IsUnknown word)
+-- what words are read as: their options in order, or what is wrong first
+abbrev pub Reading : Type 0
+Reading = Result (List GivenView) WordFaultView
 
--- an option that is given with a colon and a value, which is not empty
-abbrev pub lib_valued : LibMeaning → List ℕ → List ℕ → LibWordView
-lib_valued (meaning.Takes setting) word value =
-    if length value == 0 then Refuses (LacksValueIn word) else Adds (Given setting value)
-lib_valued meaning.Machine word value =
-    if length value == 0 then Refuses (LacksValueIn word)
-    else lib_machine_word (lib_machine_named (small value)) word
-lib_valued (meaning.Switches switch) word value = Refuses (IsUnknown word)
-lib_valued meaning.Ignored word value = Refuses (IsUnknown word)
-lib_valued meaning.Unsupported word value = Refuses (IsUnsupported word)
-lib_valued meaning.Unknown word value = Refuses (IsUnknown word)
-
--- an option that is given without a colon
-abbrev pub lib_bare : LibMeaning → List ℕ → LibWordView
-lib_bare (meaning.Takes setting) word = Refuses (LacksValueIn word)
-lib_bare meaning.Machine word = Refuses (LacksValueIn word)
-lib_bare (meaning.Switches switch) word = Adds (Switched switch)
-lib_bare meaning.Ignored word = Nothing
-lib_bare meaning.Unsupported word = Refuses (IsUnsupported word)
-lib_bare meaning.Unknown word = lib_unknown word
-
--- the byte is `:`
-abbrev pub is_colon : ℕ → Bool
-is_colon b = b == 58
-
--- `/NAME`, and `/NAME:VALUE`, up to the first colon; the text is what follows the `/`
-abbrev pub lib_option : List ℕ → List ℕ → LibWordView
-lib_option word text =
-    if nat_lt (position_or_len is_colon text) (length text)
-    then lib_valued (lib_option_named (small (before_first is_colon text))) word
-    (after_first is_colon text)
-    else lib_bare (lib_option_named (small text)) word
-
--- whether an option begins with the byte: `/` or `-`
-abbrev pub is_mark : ℕ → Bool
-is_mark b = b == byte "/" || b == byte "-"
-
--- the text of an option, which is what follows its first byte
-abbrev pub lib_text : List ℕ → Option (List ℕ)
-lib_text word =
-    if length word == 0 then None
-    else if is_mark (slice_index word 0) then Some (drop 1 word)
-    else None
-
--- what a word says, by the text of its option
-abbrev pub lib_said : List ℕ → Option (List ℕ) → LibWordView
-lib_said word None = lib_file word
-lib_said word (Some text) = lib_option word text
-
--- what a word says
-abbrev pub lib_word_of : List ℕ → LibWordView
-lib_word_of word = lib_said word (lib_text word)
+-- with more options in front
+abbrev pub with_front : List GivenView → Reading → Reading
+with_front front (Ok given) = Ok (front ++ given)
+with_front front (Err fault) = Err fault
 
 -- a word, and what the words after it are read as
-abbrev pub lib_stepped : LibWordView → Reading → Reading
-lib_stepped (Adds option) rest = with_front (option ∷ []) rest
-lib_stepped Nothing rest = rest
-lib_stepped (Refuses fault) rest = Err fault
+abbrev pub lib_stepped : Saying → Reading → Reading
+lib_stepped (Ok given) rest = with_front (given ∷ []) rest
+lib_stepped (Err fault) rest = Err fault
 
--- what words are read as, one after another
+-- what words of LIB's are read as, one after another
 unfoldable pub read_each : List (List ℕ) → Reading
 read_each [] = Ok []
-read_each (word ∷ words) = lib_stepped (lib_word_of word) (read_each words)
+read_each (word ∷ words) = lib_stepped (lib_option word) (read_each words)
+
+-- words are refused for this, or memory was
+abbrev pub IsRefusalBy : (Reading → Type 0) → ReadWordsError → Type 0
+IsRefusalBy reads (error.Refused fault) = reads (Err (word_fault_view fault))
+IsRefusalBy reads error.OutOfMemory = Unit {0}
 
 -- What each library that is asked for in these words is made with: Microsoft's flavour; third
 -- texts, as by LIB for EXPORTAS and by llvm-lib for `==`; and on I386 decorated words as they are,
 -- as `_f@8`.
-abbrev pub lib_ways : List OccurrenceView
-lib_ways = Given Flavor (codes "msvc") ∷ Switched ExportAs ∷ Switched KeepsDecorated ∷ []
+abbrev pub lib_ways : List GivenView
+lib_ways = (Flavor, codes "msvc") ∷ (ExportAs, []) ∷ (KeepsDecorated, []) ∷ []
 
 -- what words are read as, after these
 abbrev pub options_of_lib : List (List ℕ) → Reading
@@ -227,30 +154,30 @@ options_of_lib words = with_front lib_ways (read_each words)
 
 -- what options for a library lack, or have too much, by their files: a definition and a file for
 -- the library, and no other
-abbrev pub lack_for_making : List OccurrenceView → List (List ℕ) → Option WordFaultView
-lack_for_making options (file ∷ files) = Some (IsFile file)
+abbrev pub lack_for_making : List GivenView → List (List ℕ) → Option WordFaultView
+lack_for_making options (file ∷ files) = Some (OfFault (IsFile file))
 lack_for_making options [] =
-    if not (is_some (last_given Definition options)) then Some WantsDefinition
-    else if not (is_some (last_given Output options)) then Some WantsOutput
+    if not (is_some (last Definition options)) then Some WantsDefinition
+    else if not (is_some (last Output options)) then Some WantsOutput
     else None
 
 -- the same of options for a list of members: one library, and no definition
-abbrev pub lack_for_listing : List OccurrenceView → List (List ℕ) → Option WordFaultView
+abbrev pub lack_for_listing : List GivenView → List (List ℕ) → Option WordFaultView
 lack_for_listing options [] = Some WantsLibrary
 lack_for_listing options (file ∷ further ∷ files) = Some (IsFurther further)
 lack_for_listing options (file ∷ []) =
-    if is_some (last_given Definition options) then Some ListsDefinition else None
+    if is_some (last Definition options) then Some ListsDefinition else None
 
 -- what options lack, or have too much, unless they ask for the help
-abbrev pub lack_of : List OccurrenceView → Option WordFaultView
+abbrev pub lack_of : List GivenView → Option WordFaultView
 lack_of options =
-    if is_switched Help options then None
-    else if is_switched ListsMembers options
-    then lack_for_listing options (all_given Identify options)
-    else lack_for_making options (all_given Identify options)
+    if has Help options then None
+    else if has ListsMembers options
+    then lack_for_listing options (all Identify options)
+    else lack_for_making options (all Identify options)
 
 -- the options, if they lack nothing
-abbrev pub unless_lacking : List OccurrenceView → Option WordFaultView → Reading
+abbrev pub unless_lacking : List GivenView → Option WordFaultView → Reading
 unless_lacking options None = Ok options
 unless_lacking options (Some fault) = Err fault
 
@@ -275,14 +202,18 @@ is_lib_called name =
 abbrev pub is_lib_name : List ℕ → Bool
 is_lib_name program = is_lib_called (small (last_part program))
 
--- what words are read as, where the program is called so
-abbrev pub read_by_name : List ℕ → List (List ℕ) → Reading
-read_by_name program words = if is_lib_name program then read_lib_words words else read_words words
+-- what words are read as, in LIB's words or in those of dlltool, whose grammar is that of the
+-- options' table
+abbrev pub IsReadBy : Bool → List (List ℕ) → Reading → Type 0
+IsReadBy true words reading = read_lib_words words ≡ reading
+IsReadBy false words (Ok given) = IsRead Dlltool words (Ok given)
+IsReadBy false words (Err (OfFault fault)) = IsRead Dlltool words (Err fault)
+IsReadBy false words (Err _) = ⊥
 
 -- what the words of a command line are read as, where the program is called so: after a first word
 -- `--lib` as LIB's
-abbrev pub words_read : List ℕ → List (List ℕ) → Reading
-words_read program [] = read_by_name program []
-words_read program (word ∷ words) =
-    if bytes_eq word (codes "--lib") then read_lib_words words
-    else read_by_name program (word ∷ words)
+abbrev pub AreRead : List ℕ → List (List ℕ) → Reading → Type 0
+AreRead program [] reading = IsReadBy (is_lib_name program) [] reading
+AreRead program (word ∷ words) reading =
+    MatchBool (bytes_eq word (codes "--lib")) (IsReadBy true words reading)
+    (IsReadBy (is_lib_name program) (word ∷ words) reading)

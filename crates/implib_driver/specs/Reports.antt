@@ -7,7 +7,7 @@ use Rattle.implib_driver.specs.declared.dll.DllRefusal.{DllRefusal}
 use Rattle.implib_driver.specs.declared.identity.NotIdentified.{NotIdentified}
 use Rattle.implib_driver.specs.declared.reporter.Complaint.{Complaint}
 use Rattle.implib_driver.specs.declared.reporter.Complaint.TheVariants as complaint
-use Rattle.implib_driver.specs.Arguments.{WordFaultView, word_fault_view}
+use Rattle.implib_driver.specs.LibWords.{WordFaultView, word_fault_view}
 use Rattle.implib_driver.specs.Request.{CallFaultView, call_fault_view}
 use Rattle.implib_rules.specs.declared.library.Refusal.{Refusal}
 use Rattle.implib_rules.specs.Warnings.{WarningView}

@@ -6,8 +6,9 @@
 //! [`placing`] do that over a [`disk`] and a [`reporter`]; those of the system are the program's.
 #![tactic(auto)]
 
+pub use implib_options as options;
+
 mod apart;
-pub mod arguments;
 mod arm64ec;
 mod definition_program;
 pub mod disk;
@@ -19,7 +20,6 @@ pub mod laws;
 pub mod lib_words;
 pub mod machine;
 pub mod message;
-pub mod options;
 pub mod placing;
 pub mod program;
 pub mod reporter;

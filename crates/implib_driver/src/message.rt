@@ -1,9 +1,8 @@
 //! What the program says of a call that it refuses, or that failed.
 
-use crate::arguments::WordFault;
 use crate::dll::DllRefusal;
 use crate::identity::NotIdentified;
-use crate::options::Setting;
+use crate::lib_words::WordFault;
 use crate::reporter::Complaint;
 use crate::request::CallFault;
 use implib::Fault;
@@ -11,30 +10,11 @@ use implib::def::Position;
 use implib_arm64ec::ImportsFault;
 use implib_libraries::arm64ec::Unimported;
 use implib_libraries::delayed::Undelayed;
+use implib_options::help::OptionName;
+use implib_options::table::Words;
+use implib_options::words::Fault as OptionFault;
 use implib_rules::{FaultMessage, Shown};
 use std::fmt;
-
-impl fmt::Display for Setting {
-    fn fmt<W: fmt::Write>(&self, f: &mut fmt::Formatter<W>) -> fmt::Result {
-        f.write_str(match self {
-            Setting::Definition => "-d",
-            Setting::NativeDefinition => "-N",
-            Setting::Output => "-l",
-            Setting::DelayedOutput => "-y",
-            Setting::Machine => "-m",
-            Setting::Dll => "-D",
-            Setting::Flavor => "--flavor",
-            Setting::Assembler => "-S",
-            Setting::AssemblerFlags => "-f",
-            Setting::TemporaryPrefix => "-t",
-            Setting::FurtherPrefix => "-p",
-            Setting::Identify => "-I",
-            Setting::Decorations => "--decorations",
-            Setting::Search => "--search",
-            Setting::Input => "FILE",
-        })
-    }
-}
 
 /// The long names of options, one of which a message may tell in full. `input-native-def` is none
 /// of them, so that `--input`, which GNU dlltool takes, is told as `--input-def`.
@@ -112,32 +92,47 @@ fn other_tool(word: &str) -> &'static str {
     }
 }
 
-impl<'a> fmt::Display for WordFault<'a> {
+// What is wrong with a word, in a user's words.
+#[derive(Drop)]
+struct FaultText<'a>(OptionFault<'a>);
+
+impl<'a> fmt::Display for FaultText<'a> {
     fn fmt<W: fmt::Write>(&self, f: &mut fmt::Formatter<W>) -> fmt::Result {
-        match self {
-            WordFault::Unsupported(word) => {
+        match self.0 {
+            OptionFault::Unsupported(word) => {
                 write!(f, "{}: not supported{}", Shown(word), other_tool(word))
             }
-            WordFault::Unknown(word) => match whole_name(word) {
+            OptionFault::Unknown(word) => match whole_name(word) {
                 Some(name) => {
                     write!(f, "{}: no such option; write --{name} in full", Shown(word))
                 }
                 None => write!(f, "{}: no such option", Shown(word)),
             },
-            WordFault::File(word) if word.as_bytes().starts_with(b"@") => {
+            OptionFault::File(word) if word.as_bytes().starts_with(b"@") => {
                 write!(f, "{}: files of options are not supported", Shown(word))
             }
-            WordFault::File(word) => {
+            OptionFault::File(word) => {
                 write!(
                     f,
                     "{}: no option; objects are not supported; llvm-lib makes libraries of them",
                     Shown(word)
                 )
             }
-            WordFault::NoValue(setting) => write!(f, "the option {setting} lacks its value"),
-            WordFault::NoValueIn(word) => {
+            OptionFault::NoValue(meaning) => {
+                let name = OptionName(Words::Dlltool, meaning);
+                write!(f, "the option {name} lacks its value")
+            }
+            OptionFault::NoValueIn(word) => {
                 write!(f, "{}: expected a colon and a value", Shown(word))
             }
+        }
+    }
+}
+
+impl<'a> fmt::Display for WordFault<'a> {
+    fn fmt<W: fmt::Write>(&self, f: &mut fmt::Formatter<W>) -> fmt::Result {
+        match self {
+            WordFault::Word(fault) => write!(f, "{}", FaultText(*fault)),
             WordFault::NoMachine(word) => write!(
                 f,
                 "{}: no such machine: expected x86, x64, arm, arm64 or arm64ec",

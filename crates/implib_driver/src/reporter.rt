@@ -5,9 +5,9 @@ ghost use Rattle.implib_driver.specs.Reports.{complaint_view};
 ghost use Rattle.implib_rules.specs.Warnings.{warning_view};
 ghost use Rattle.std.specs.Prelude.{[], ◌∷◌, List, Option};
 
-use crate::arguments::WordFault;
 use crate::dll::DllRefusal;
 use crate::identity::NotIdentified;
+use crate::lib_words::WordFault;
 use crate::request::CallFault;
 use implib_archive::WriteError;
 use implib_libraries::arm64ec::Unimported;

@@ -1,6 +1,6 @@
 -- The options that are given, and questions on them.
-use Rattle.std.specs.Prelude.{ℕ, Bool, true, false, List, Option, None, Some, if◌then◌else◌}
-use Rattle.std.specs.List.{filter_map, fold, list_any}
+use Rattle.std.specs.Prelude.{ℕ, Bool, true, false, List, [], ◌∷◌, Option, None, Some, if◌then◌else◌}
+use Rattle.std.specs.List.{filter_map, fold}
 use denote.Enum.Bare.{sameb}
 use Rattle.implib_options.specs.contracts.table.Meaning.{the_type}
 use Rattle.implib_options.specs.declared.given.Given.{Given}
@@ -30,9 +30,14 @@ abbrev pub last : Meaning → List GivenView → Option (List ℕ)
 last meaning given =
     fold (λ earlier option. if means meaning option then Some option.1 else earlier) None given
 
--- whether one is given
+-- whether there is a value
+abbrev pub has_values : List (List ℕ) → Bool
+has_values [] = false
+has_values (value ∷ values) = true
+
+-- whether an option that means this is given
 abbrev pub has : Meaning → List GivenView → Bool
-has meaning given = list_any (means meaning) given
+has meaning given = has_values (all meaning given)
 
 -- whether, of two meanings that undo each other, the first comes last
 abbrev pub is_last : Meaning → Meaning → List GivenView → Bool

@@ -67,7 +67,7 @@ pub fn has(given: &[Given<'_>], meaning: Meaning) -> bool
     ensures { result ≡ has meaning (map given_view given.now) }
 {
     for option in given {
-        if option.meaning == meaning {
+        if option.value_of(meaning).is_some() {
             return true;
         }
     }
