@@ -1,4 +1,3 @@
-pub mod LibReading
 pub mod Saying
 pub mod Calls
 pub mod Finishing

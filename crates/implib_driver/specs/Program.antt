@@ -25,7 +25,7 @@ use Rattle.implib_driver.specs.Reports.{OfIdentity, OfLeftOut, OfMemory, OfStub,
 use Rattle.implib_driver.specs.Reports.{OfUndelayed, OfWord}
 use Rattle.implib_driver.specs.Reports.{OfWriting, Refuses, Says}
 use Rattle.implib_driver.specs.declared.help.TheConstants.{END, FRONT, MIDDLE}
-use Rattle.implib_driver.specs.LibWords.{AreRead, Reading}
+use Rattle.implib_driver.specs.LibWords.{AreRead}
 use Rattle.implib_driver.specs.Apart.{AreApart, IsMisplaced}
 pub use Rattle.implib_driver.specs.Disk.{KeepsFiles, definition_in}
 pub use Rattle.implib_driver.specs.Verdicts.{answer_status, output_or_none, verdict}
@@ -42,6 +42,7 @@ use Rattle.implib_driver.specs.Stubs.{has_failing_stub}
 use Rattle.implib_options.specs.declared.table.Words.TheVariants.{Dlltool, Lib}
 use Rattle.implib_options.specs.Given.{GivenView, has_values}
 use Rattle.implib_options.specs.Table.{help_lines}
+use Rattle.implib_options.specs.Words.{Reading}
 use Rattle.implib_rules.specs.declared.library.Refusal.{Refusal}
 use Rattle.implib_rules.specs.Library.{CountsMembers, is_out_of_memory, status_of}
 use Rattle.implib_rules.specs.Names.{last_part}

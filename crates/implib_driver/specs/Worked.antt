@@ -6,11 +6,12 @@ use Rattle.std.specs.Str.{bytes_eq}
 use Rattle.std.specs.declared.io.ErrorKind.TheVariants.{NotFound}
 use Rattle.implib_driver.specs.Arm64ecProgram.{arm64ec_status}
 use Rattle.implib_driver.specs.Disk.{DiskView}
-use Rattle.implib_driver.specs.LibWords.{AreRead, IsReadBy, Reading, is_lib_name}
+use Rattle.implib_driver.specs.LibWords.{AreRead, IsReadBy, is_lib_name}
 use Rattle.implib_driver.specs.Placing.{IsUnplaced}
 use Rattle.implib_driver.specs.Program.{Devices, IsUncalled, answer_status, delay_status}
 use Rattle.implib_libraries.specs.declared.arm64ec.Arm64ecRefusal.TheVariants as refusal
 use Rattle.implib_libraries.specs.declared.delayed.DelayRefusal.TheVariants as delay
+use Rattle.implib_options.specs.Words.{Reading}
 use Rattle.implib_rules.specs.declared.library.LibraryError.TheVariants.{Refused}
 use Rattle.implib_rules.specs.declared.library.Refusal.TheVariants.{OutOfMemory}
 

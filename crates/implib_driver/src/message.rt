@@ -2,17 +2,16 @@
 
 use crate::dll::DllRefusal;
 use crate::identity::NotIdentified;
-use crate::lib_words::WordFault;
 use crate::reporter::Complaint;
 use crate::request::CallFault;
-use implib::Fault;
+use implib::Fault as DefinitionFault;
 use implib::def::Position;
 use implib_arm64ec::ImportsFault;
 use implib_libraries::arm64ec::Unimported;
 use implib_libraries::delayed::Undelayed;
 use implib_options::help::OptionName;
 use implib_options::table::Words;
-use implib_options::words::Fault as OptionFault;
+use implib_options::words::Fault;
 use implib_rules::{FaultMessage, Shown};
 use std::fmt;
 
@@ -92,64 +91,56 @@ fn other_tool(word: &str) -> &'static str {
     }
 }
 
-// What is wrong with a word, in a user's words.
+/// What is wrong with words, in a user's words.
 #[derive(Drop)]
-struct FaultText<'a>(OptionFault<'a>);
+pub struct WordMessage<'a>(pub Fault<'a>);
 
-impl<'a> fmt::Display for FaultText<'a> {
+impl<'a> fmt::Display for WordMessage<'a> {
     fn fmt<W: fmt::Write>(&self, f: &mut fmt::Formatter<W>) -> fmt::Result {
         match self.0 {
-            OptionFault::Unsupported(word) => {
+            Fault::Unsupported(word) => {
                 write!(f, "{}: not supported{}", Shown(word), other_tool(word))
             }
-            OptionFault::Unknown(word) => match whole_name(word) {
+            Fault::Unknown(word) => match whole_name(word) {
                 Some(name) => {
                     write!(f, "{}: no such option; write --{name} in full", Shown(word))
                 }
                 None => write!(f, "{}: no such option", Shown(word)),
             },
-            OptionFault::File(word) if word.as_bytes().starts_with(b"@") => {
+            Fault::File(word) if word.as_bytes().starts_with(b"@") => {
                 write!(f, "{}: files of options are not supported", Shown(word))
             }
-            OptionFault::File(word) => {
+            Fault::File(word) => {
                 write!(
                     f,
                     "{}: no option; objects are not supported; llvm-lib makes libraries of them",
                     Shown(word)
                 )
             }
-            OptionFault::NoValue(meaning) => {
+            Fault::NoValue(meaning) => {
                 let name = OptionName(Words::Dlltool, meaning);
                 write!(f, "the option {name} lacks its value")
             }
-            OptionFault::NoValueIn(word) => {
+            Fault::NoValueIn(word) => {
                 write!(f, "{}: expected a colon and a value", Shown(word))
             }
-        }
-    }
-}
-
-impl<'a> fmt::Display for WordFault<'a> {
-    fn fmt<W: fmt::Write>(&self, f: &mut fmt::Formatter<W>) -> fmt::Result {
-        match self {
-            WordFault::Word(fault) => write!(f, "{}", FaultText(*fault)),
-            WordFault::NoMachine(word) => write!(
+            Fault::NoMachine(word) => write!(
                 f,
                 "{}: no such machine: expected x86, x64, arm, arm64 or arm64ec",
                 Shown(word)
             ),
-            WordFault::NoDefinition => f.write_str(
+            Fault::NoDefinition => f.write_str(
                 "no definition: expected the option /def\n\
                  usage: implib_dlltool --lib /def:FILE /out:OUT [/machine:MACHINE] [/name:DLL]",
             ),
-            WordFault::NoOutput => f.write_str(
+            Fault::NoOutput => f.write_str(
                 "no name for the library's file: expected the option /out",
             ),
-            WordFault::NoLibrary => f.write_str("no library: expected its file beside /list"),
-            WordFault::Further(word) => {
+            Fault::NoLibrary => f.write_str("no library: expected its file beside /list"),
+            Fault::Further(word) => {
                 write!(f, "{}: expected one library beside /list", Shown(word))
             }
-            WordFault::ListedDefinition => f.write_str("/list: not together with /def"),
+            Fault::ListedDefinition => f.write_str("/list: not together with /def"),
         }
     }
 }
@@ -292,9 +283,9 @@ pub struct UnimportedMessage<'a>(pub &'a Unimported);
 impl<'a> fmt::Display for UnimportedMessage<'a> {
     fn fmt<W: fmt::Write>(&self, f: &mut fmt::Formatter<W>) -> fmt::Result {
         match self.0.fault {
-            ImportsFault::NulInDllName => { write!(f, "{}", FaultMessage(&Fault::NulInImportName)) }
+            ImportsFault::NulInDllName => { write!(f, "{}", FaultMessage(&DefinitionFault::NulInImportName)) }
             ImportsFault::NulInExport(index) => {
-                write!(f, "{}", FaultMessage(&Fault::NulInExport(index)))
+                write!(f, "{}", FaultMessage(&DefinitionFault::NulInExport(index)))
             }
             ImportsFault::Unreadable(_, place) => write!(
                 f,
@@ -302,7 +293,7 @@ impl<'a> fmt::Display for UnimportedMessage<'a> {
                  it a name is taken as it is"
             ),
             ImportsFault::MemberTooLong(_) => {
-                write!(f, "{}", FaultMessage(&Fault::MemberTooLong))
+                write!(f, "{}", FaultMessage(&DefinitionFault::MemberTooLong))
             }
         }
     }
@@ -319,7 +310,7 @@ pub fn position_of_unimported(why: &Unimported) -> Option<Position> {
 impl<'a> fmt::Display for Complaint<'a> {
     fn fmt<W: fmt::Write>(&self, f: &mut fmt::Formatter<W>) -> fmt::Result {
         match self {
-            Complaint::Word(fault) => write!(f, "{fault}"),
+            Complaint::Word(fault) => write!(f, "{}", WordMessage(*fault)),
             Complaint::Call(fault) => write!(f, "{fault}"),
             Complaint::NotUtf8("") => f.write_str("an argument is not UTF-8"),
             Complaint::NotUtf8(text) => write!(f, "{}: not UTF-8", Shown(text)),

@@ -22,12 +22,13 @@ use crate::dll::begins_dll;
 use crate::dll_program::{LibraryCall, answer_dll};
 use crate::help::{NAME, VERSION, help_text, subject_of};
 use crate::identity::{IdentifyError, identify};
-use crate::lib_words::{ReadWordsError, words_read};
+use crate::lib_words::words_read;
 use crate::reporter::{Complaint, Reporter};
 use crate::request::{CallError, CallFault, Identification, Request, Task, caller_of, task_of};
 use crate::telling::{complain, complain_uncalled, print, print_bytes};
 use implib_options::given::has;
 use implib_options::table::Meaning;
+use implib_options::words::ReadError;
 use std::alloc::{AllocError, Global};
 use std::env::Args;
 use std::io;
@@ -238,10 +239,10 @@ fn perform_call<D: Disk, I: Read, O: Write, T: Reporter>(
     let name = subject_of(call.program);
     let options = match words_read(alloc, call.program, call.words) {
         Ok(options) => options,
-        Err(ReadWordsError::Refused(fault)) => {
+        Err(ReadError::Refused(fault)) => {
             return complain(reporter, name, Complaint::Word(fault), 2);
         }
-        Err(ReadWordsError::OutOfMemory) => {
+        Err(ReadError::OutOfMemory) => {
             return complain(reporter, name, Complaint::OutOfMemory, 3);
         }
     };

@@ -8,7 +8,8 @@ use Rattle.implib_options.specs.declared.table.Takes.TheVariants.{Nothing, Refus
 use Rattle.implib_options.specs.declared.table.Words.{Words}
 use Rattle.implib_options.specs.Given.{GivenView}
 use Rattle.implib_options.specs.Table.{Kind, lettered}
-use Rattle.implib_options.specs.Words.{AddsLetters, IsLettered, IsUnknown, Saying, Text, Wrong, is_switch, is_switch_letter, last, saying, switch, unless_empty}
+use Rattle.implib_options.specs.Saying.{IsUnknown, Saying, Text, Wrong, saying}
+use Rattle.implib_options.specs.Words.{AddsLetters, IsLettered, is_switch, is_switch_letter, last, switch, unless_empty}
 
 -- a text that is empty, and one that is not
 pub empty : (text : Text) (is : Bool) → is ≡ (length text == 0) → is ≡ true → text ≡ []

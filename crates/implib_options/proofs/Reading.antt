@@ -9,7 +9,8 @@ use Rattle.implib_options.specs.declared.table.Words.{Words}
 use Rattle.implib_options.specs.declared.words.ReadError.{ReadError}
 use Rattle.implib_options.specs.declared.words.ReadError.TheVariants.{OutOfMemory, Refused}
 use Rattle.implib_options.specs.Given.{GivenView}
-use Rattle.implib_options.specs.Words.{Adds, AddsLetters, Begun, Ends, IsFile, IsLettered, IsRefusal, fault_view, nothing, LacksValue, lacking, past_end, IsRead, IsSaid, Leads, LeadsOn, Reading, Saying, Text, Whole, apart, ends, is_option, letters, long, long_saying, stop, whole, with_front}
+use Rattle.implib_options.specs.Saying.{Begun, Ends, IsFile, fault_view, LacksValue, Saying, Text, Whole}
+use Rattle.implib_options.specs.Words.{Adds, AddsLetters, IsLettered, IsRefusal, nothing, lacking, past_end, IsRead, IsSaid, Leads, LeadsOn, Reading, apart, ends, is_lib, is_option, letters, long, long_saying, stop, whole, with_front}
 
 -- options in front of options in front
 with_front-twice : (first second : List GivenView) (more : Reading) → with_front first (with_front second more) ≡ with_front (first ++ second) more
@@ -61,7 +62,7 @@ cut_two (b ∷ next ∷ text) bytes same utf8 is second =
     let second : next ≡ 45 = subst (λ w. get_or w 1 0 ≡ 45) same second in
     IsCharBoundary-after_ascii (b ∷ next ∷ text) 1 utf8 (omega arith) (omega (arith, second))
 
-module _ (of : Words) (given : List GivenView) where
+module _ (of : Words) (given : List GivenView) (own : is_lib of ≡ false) where
   -- letters behind `-`
   pub at_letters : (after : List GivenView) (more : Saying) (word bytes text : Text) → bytes ≡ word → is_option word ≡ true → get_or bytes 1 0 ≢ 45 → text ≡ drop 1 word
       → AddsLetters of word text given after more → Adds of word given after more
@@ -71,7 +72,7 @@ module _ (of : Words) (given : List GivenView) where
       let other : next ≢ 45 = subst (λ w. get_or w 1 0 ≢ 45) same other in
       let said = subst (λ w. IsLettered of (w ∷ next ∷ rest) text adds.front more) (sym (first b next rest is)) adds.is in
       let said : IsLettered of (45 ∷ next ∷ rest) (next ∷ rest) adds.front more = subst (λ t. IsLettered of (45 ∷ next ∷ rest) t adds.front more) cut said in
-      record { front = adds.front; added = adds.added; is = subst (λ w. IsSaid of (w ∷ next ∷ rest) adds.front more) (first b next rest is) (letters next rest adds.front more other said) }
+      record { front = adds.front; added = adds.added; is = subst (λ w. IsSaid of (w ∷ next ∷ rest) adds.front more) (first b next rest is) (letters next rest adds.front more own other said) }
 
   -- `--`
   pub at_end : (word bytes : Text) → bytes ≡ word → is_option word ≡ true → get_or bytes 1 0 ≡ 45 → length bytes ≡ 2 → Adds of word given given Ends
@@ -79,7 +80,7 @@ module _ (of : Words) (given : List GivenView) where
   at_end (b ∷ []) bytes same is second short = cc
   at_end (b ∷ next ∷ []) bytes same is second short =
       let second : 45 ≡ next = sym (subst (λ w. get_or w 1 0 ≡ 45) same second) in
-      record { front = []; added = sym (append-nil given); is = subst (λ w. IsSaid of w [] Ends) (ap (λ n. 45 ∷ n ∷ []) second ∙ ap (λ n. n ∷ next ∷ []) (first b next [] is)) stop }
+      record { front = []; added = sym (append-nil given); is = subst (λ w. IsSaid of w [] Ends) (ap (λ n. 45 ∷ n ∷ []) second ∙ ap (λ n. n ∷ next ∷ []) (first b next [] is)) (stop own) }
   at_end (b ∷ next ∷ letter ∷ text) bytes same is second short = absurd (omega (arith, subst (λ w. length w ≡ 2) same short))
 
   -- a name behind `--`
@@ -91,7 +92,7 @@ module _ (of : Words) (given : List GivenView) where
   at_long (b ∷ next ∷ letter ∷ rest) bytes text more same is second other cut says =
       let second : 45 ≡ next = sym (subst (λ w. get_or w 1 0 ≡ 45) same second) in
       let begins : 45 ∷ 45 ∷ letter ∷ rest ≡ b ∷ next ∷ letter ∷ rest = ap (λ n. 45 ∷ n ∷ letter ∷ rest) second ∙ ap (λ n. n ∷ next ∷ letter ∷ rest) (first b next (letter ∷ rest) is) in
-      let said : IsSaid of (b ∷ next ∷ letter ∷ rest) [] (long_saying of (b ∷ next ∷ letter ∷ rest) (letter ∷ rest)) = subst (λ w. IsSaid of w [] (long_saying of w (letter ∷ rest))) begins (long letter rest) in
+      let said : IsSaid of (b ∷ next ∷ letter ∷ rest) [] (long_saying of (b ∷ next ∷ letter ∷ rest) (letter ∷ rest)) = subst (λ w. IsSaid of w [] (long_saying of w (letter ∷ rest))) begins (long letter rest own) in
       record { front = []; added = sym (append-nil given); is = subst (IsSaid of (b ∷ next ∷ letter ∷ rest) []) (sym (says ∙ ap (long_saying of (b ∷ next ∷ letter ∷ rest)) cut)) said }
 
 -- the first of some words, and those after it
@@ -125,7 +126,7 @@ module _ (of : Words) (word : Text) (before middle after : List GivenView) (word
   on_lacking meaning none adds = subst (λ w. IsRead of (word ∷ w) (Err (LacksValue meaning))) (sym none) (lacking word adds.front meaning adds.is)
 
 -- an error in words that others led to is one in those
-pub refused_on : (of : Words) (words rest : List Text) (given : List GivenView) (error : ReadError) → Leads of words given rest → IsRefusal of rest error → IsRefusal of words error
+pub refused_on : (of : Words) (words rest : List Text) (given : List GivenView) (error : ReadError) → Leads of words given rest → IsRefusal (IsRead of rest) error → IsRefusal (IsRead of words) error
 refused_on of words rest given (Refused fault) led refused = led (Err (fault_view fault)) refused
 refused_on of words rest given OutOfMemory led refused = tt
 

@@ -1,4 +1,5 @@
 pub mod Table
 pub mod Given
-pub mod Words
+pub mod Saying
 pub mod LibWords
+pub mod Words

@@ -8,7 +8,7 @@ use denote.Enum.Bare.{sameb}
 use Rattle.implib_options.specs.contracts.table.Words.{the_type}
 use Rattle.implib_options.specs.declared.table.Meaning.{Meaning}
 use Rattle.implib_options.specs.declared.table.Takes.{Takes}
-use Rattle.implib_options.specs.declared.table.TheConstants.{OPTIONS}
+use Rattle.implib_options.specs.declared.table.TheConstants.{LIB_MACHINES, OPTIONS}
 use Rattle.implib_options.specs.declared.table.Words.{Words}
 
 -- what an option takes and means
@@ -46,6 +46,13 @@ named of name = named_in options of name
 
 unfoldable pub lettered : Words → ℕ → Option Kind
 lettered of letter = if nat_lt letter 128 then lettered_in options of letter else None
+
+-- the name for `-m` of the first machine of a name, and of a machine of LIB's
+abbrev pub machine_in : List (List ℕ × List ℕ) → List ℕ → Option (List ℕ)
+machine_in rows name = option_map (λ row. row.1) (find (λ row. bytes_eq row.0 name) rows)
+
+unfoldable pub lib_machine : List ℕ → Option (List ℕ)
+lib_machine name = machine_in (map (λ row. (row.0.now, row.1.now)) LIB_MACHINES) name
 
 -- the lines of `--help` of rows in some words, in order
 abbrev pub help_in : List (Words × List ℕ) → Words → List ℕ

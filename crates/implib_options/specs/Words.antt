@@ -1,69 +1,20 @@
 -- What words of a command line spell, over the table of options.
-use Rattle.std.specs.Prelude.{◌≡◌, ◌≢◌, ℕ, Bool, true, false, not, ◌&&◌, ◌⊎◌, ◌==◌, List, [], ◌∷◌}
-use Rattle.std.specs.Prelude.{◌++◌, length, Option, None, Some, Result, Ok, Err, if◌then◌else◌}
-use Rattle.std.specs.Prelude.{nat_lt}
+use Rattle.std.specs.Prelude.{◌≡◌, ◌≢◌, ℕ, Bool, true, false, ◌⊎◌, ◌==◌, List, [], ◌∷◌, ◌++◌, length}
+use Rattle.std.specs.Prelude.{Option, None, Some, Result, Ok, Err, if◌then◌else◌, nat_lt}
 use Rattle.std.specs.List.{after_first, before_first, position_or_len}
 use Rattle.implib_options.specs.declared.table.Meaning.{Meaning}
 use Rattle.implib_options.specs.declared.table.Meaning.TheVariants.{Input}
 use Rattle.implib_options.specs.declared.table.Takes.{Takes}
 use Rattle.implib_options.specs.declared.table.Takes.TheVariants.{Nothing, Refused, Value}
 use Rattle.implib_options.specs.declared.table.Words.{Words}
-use Rattle.implib_options.specs.declared.words.Fault.{Fault}
-use Rattle.implib_options.specs.declared.words.Fault.TheVariants as fault
+use Rattle.implib_options.specs.declared.table.Words.TheVariants.{Check, Dlltool, Lib}
 use Rattle.implib_options.specs.declared.words.ReadError.{ReadError}
 use Rattle.implib_options.specs.declared.words.ReadError.TheVariants as error
-use Rattle.implib_options.specs.declared.words.Said.{Said}
-use Rattle.implib_options.specs.declared.words.Said.TheVariants as said
-use Rattle.implib_options.specs.Given.{GivenView, given_view}
+use Rattle.implib_options.specs.Given.{GivenView}
+use Rattle.implib_options.specs.LibWords.{lib_saying}
+use Rattle.implib_options.specs.Saying.{Begun, Ends, FaultView, IsFile, LacksValue, Saying, Text}
+use Rattle.implib_options.specs.Saying.{Whole, Wrong, fault_view, file_saying, saying}
 use Rattle.implib_options.specs.Table.{Kind, lettered, named}
-
-abbrev pub Text : Type 0
-Text = List ℕ
-
--- what is wrong with a word
-pub data FaultView : Type 0 where
-  -- the option is refused by its name
-  IsUnsupported : Text → FaultView
-  -- there is no such option, or it takes no value and has one
-  IsUnknown : Text → FaultView
-  -- the word is no option, where only an option may stand, or names a file of options
-  IsFile : Text → FaultView
-  -- the last word is an option that lacks its value
-  LacksValue : Meaning → FaultView
-  -- the option of the word lacks its value
-  LacksValueIn : Text → FaultView
-
-abbrev pub fault_view : Fault → FaultView
-fault_view (fault.Unsupported word) = IsUnsupported word.now
-fault_view (fault.Unknown word) = IsUnknown word.now
-fault_view (fault.File word) = IsFile word.now
-fault_view (fault.NoValue meaning) = LacksValue meaning
-fault_view (fault.NoValueIn word) = LacksValueIn word.now
-
--- what a word says
-pub data Saying : Type 0 where
-  -- an option that is whole, or a file
-  Whole : GivenView → Saying
-  -- an option whose value is the next word
-  Begun : Meaning → Saying
-  -- no option follows
-  Ends : Saying
-  Wrong : FaultView → Saying
-
-abbrev pub said_view : Said → Saying
-said_view (said.Whole given) = Whole (given_view given)
-said_view (said.Begun meaning) = Begun meaning
-said_view said.Ends = Ends
-said_view (said.Wrong fault) = Wrong (fault_view fault)
-
--- what an option says that takes and means this, in a word that may have its value
-abbrev pub saying : Text → Option Kind → Option Text → Saying
-saying word None value = Wrong (IsUnknown word)
-saying word (Some (Refused, meaning)) value = Wrong (IsUnsupported word)
-saying word (Some (Nothing, meaning)) None = Whole (meaning, [])
-saying word (Some (Nothing, meaning)) (Some value) = Wrong (IsUnknown word)
-saying word (Some (Value, meaning)) None = Begun meaning
-saying word (Some (Value, meaning)) (Some value) = Whole (meaning, value)
 
 -- the byte is `=`
 abbrev pub is_equal_sign : ℕ → Bool
@@ -109,25 +60,28 @@ is_option [] = false
 is_option (b ∷ []) = false
 is_option (b ∷ next ∷ text) = b == 45
 
--- what a word says that is none: a file of this meaning, but for `@` (64) and the name of a file of
--- options, as GNU's programs take it
-abbrev pub file_saying : Meaning → Text → Saying
-file_saying meaning [] = Whole (meaning, [])
-file_saying meaning (b ∷ text) =
-    if b == 64 then Wrong (IsFile (b ∷ text)) else Whole (meaning, b ∷ text)
+-- whether the words are LIB's
+abbrev pub is_lib : Words → Bool
+is_lib Lib = true
+is_lib Dlltool = false
+is_lib Check = false
 
 -- what a word says: options of letters without a value in front, and its last option
 pub data IsSaid (of : Words) : Text → List GivenView → Saying → Type 0 where
   -- `--`
-  stop : IsSaid of (45 ∷ 45 ∷ []) [] Ends
+  stop : is_lib of ≡ false → IsSaid of (45 ∷ 45 ∷ []) [] Ends
   -- `--NAME` and `--NAME=VALUE`
-  long : (b : ℕ) (text : Text)
+  long : (b : ℕ) (text : Text) → is_lib of ≡ false
       → IsSaid of (45 ∷ 45 ∷ b ∷ text) [] (long_saying of (45 ∷ 45 ∷ b ∷ text) (b ∷ text))
   -- `-kdFILE`
-  letters : (b : ℕ) (text : Text) (front : List GivenView) (more : Saying) → b ≢ 45
-      → IsLettered of (45 ∷ b ∷ text) (b ∷ text) front more → IsSaid of (45 ∷ b ∷ text) front more
+  letters : (b : ℕ) (text : Text) (front : List GivenView) (more : Saying) → is_lib of ≡ false
+      → b ≢ 45 → IsLettered of (45 ∷ b ∷ text) (b ∷ text) front more
+      → IsSaid of (45 ∷ b ∷ text) front more
   -- `FILE`
-  file : (word : Text) → is_option word ≡ false → IsSaid of word [] (file_saying Input word)
+  file : (word : Text) → is_lib of ≡ false → is_option word ≡ false
+      → IsSaid of word [] (file_saying Input word)
+  -- `/NAME`, `/NAME:VALUE` and `FILE` to LIB
+  lib : (word : Text) → is_lib of ≡ true → IsSaid of word [] (lib_saying word)
 
 -- what words are read as: the options that they spell, in order, or what is wrong first
 abbrev pub Reading : Type 0
@@ -156,10 +110,10 @@ pub data IsRead (of : Words) : List Text → Reading → Type 0 where
   wrong : (word : Text) (words : List Text) (front : List GivenView) (fault : FaultView)
       → IsSaid of word front (Wrong fault) → IsRead of (word ∷ words) (Err fault)
 
--- words are refused for this, or memory was
-abbrev pub IsRefusal : Words → List Text → ReadError → Type 0
-IsRefusal of words (error.Refused fault) = IsRead of words (Err (fault_view fault))
-IsRefusal of words error.OutOfMemory = Unit {0}
+-- words that are read so are refused for this, or memory was
+abbrev pub IsRefusal : (Reading → Type 0) → ReadError → Type 0
+IsRefusal reads (error.Refused fault) = reads (Err (fault_view fault))
+IsRefusal reads error.OutOfMemory = Unit {0}
 
 -- the options of a word were added: those in front, and what else it says
 pub record Adds (of : Words) (word : Text) (before after : List GivenView) (more : Saying) :

@@ -3,7 +3,7 @@
 
 pub mod given;
 pub mod help;
-pub mod lib_words;
+mod lib_words;
 pub mod lookup;
 pub mod table;
 pub mod words;

@@ -23,85 +23,51 @@ pub enum Takes {
     Refused,
 }
 
-/// What an option means.
+/// What an option means; the lines of `--help` of its row say it.
 #[derive(Clone, Copy, Debug, PartialEq, Eq)]
 pub enum Meaning {
     /// No option: the file of a word that is none.
     Input,
-    /// The module definition, or the DLL. Which of them it is its bytes tell.
     Definition,
-    /// The import library.
     Output,
-    /// The library of delayed imports.
     DelayedOutput,
-    /// The native definition of a library for ARM64EC.
     NativeDefinition,
-    /// The machine.
     Machine,
-    /// The DLL's name, before the definition's own.
     Dll,
-    /// Whose linker a library is for.
     Flavor,
-    /// An assembler. None is needed.
     Assembler,
-    /// Options for an assembler.
     AssemblerFlags,
-    /// A name for temporary files.
     TemporaryPrefix,
-    /// A further export of each has this in front of its symbol.
     FurtherPrefix,
-    /// An import library, whose DLLs are named.
     Identify,
-    /// A library or a definition that has the symbols of a DLL's names.
     Decorations,
-    /// A folder with DLLs that forwarders lead to.
     Search,
-    /// On I386 names are asked for without `@` and what follows it.
     KillAt,
-    /// On I386 symbols are words as they are.
     NoLeadingUnderscore,
-    /// It undoes the option before it, and is the default.
     LeadingUnderscore,
-    /// A name that no other name type makes of its symbol is the third text of a short import.
     ExportAs,
-    /// Each name that the DLL is asked for gets an underscore.
     AddUnderscore,
-    /// Each with an `@` in it gets one.
     AddStdcallUnderscore,
-    /// For GNU's linker each export's object has the older symbol of its address too.
     CompatImplib,
-    /// A library that imports from several DLLs is refused.
     IdentifyStrict,
     /// On I386 a word with an `@` is a symbol as it is. LIB's words have it without an option.
     KeepsDecorated,
-    /// The names of a library's members are printed.
     ListsMembers,
-    /// Warnings are written.
     Verbose,
     Help,
     Version,
-    /// Definitions are read as LIB reads them: third texts, and decorated words as they are.
     LibWays,
-    /// The definition of a library or a DLL is written.
     Define,
-    /// The exports of a DLL that no import asks for are told too.
     ListsUnasked,
-    /// A line for each export of a DLL.
     ListsExports,
-    /// A line for each import of a library.
     ListsImports,
-    /// Whether two libraries mean the same.
     Same,
-    /// What libraries of one link do to each other.
     Together,
-    /// Whether a library works.
     Works,
-    /// Findings are written as JSON.
     Json,
-    /// It is taken, and has no effect: on exports that objects have, on files that are not made, or
-    /// on what is so in any case.
+    /// It is taken, and has no effect: it is about exports that objects have, about files that are
+    /// not made, or about what is so in any case.
     Ignored,
-    /// It is refused.
     Refused,
 }
 
@@ -344,4 +310,32 @@ pub const OPTIONS: [Row; 91] = [
     row!(Check "json" Nothing Json "  --json             a JSON object in place of each line\n"),
     row!(Check "help" b'h' Nothing Help "  -h, --help\n"),
     row!(Check "version" b'V' Nothing Version "  -V, --version\n"),
+];
+
+/// The machines that LIB and llvm-lib name, in small letters, each by its name for `-m`; nothing
+/// for one that is not supported. ARM64X is ARM64EC, whose library it has.
+pub const LIB_MACHINES: [(&'static str, &'static str); 23] = [
+    ("x86", "i386"),
+    ("i386", "i386"),
+    ("x64", "i386:x86-64"),
+    ("amd64", "i386:x86-64"),
+    ("arm", "arm"),
+    ("arm64", "arm64"),
+    ("arm64ec", "arm64ec"),
+    ("arm64x", "arm64ec"),
+    ("ebc", ""),
+    ("ia64", ""),
+    ("thumb", ""),
+    ("am33", ""),
+    ("m32r", ""),
+    ("ppc", ""),
+    ("mips", ""),
+    ("mips16", ""),
+    ("mipsfpu", ""),
+    ("mipsfpu16", ""),
+    ("mipsr41xx", ""),
+    ("sh3", ""),
+    ("sh3dsp", ""),
+    ("sh4", ""),
+    ("sh5", ""),
 ];

@@ -1,8 +1,10 @@
 //! The words of a command line, read as options.
 
 ghost use Rattle.implib_options.specs.Given.{GivenView, given_view};
+ghost use Rattle.implib_options.specs.Saying.{file_saying, said_view, saying};
 ghost use Rattle.implib_options.specs.Words.{Adds, AddsLetters, IsRead, IsRefusal, LeadsOn};
-ghost use Rattle.implib_options.specs.Words.{file_saying, is_option, is_switch, long_saying, said_view, saying, unless_empty};
+ghost use Rattle.implib_options.specs.Words.{is_lib, is_option, is_switch, long_saying};
+ghost use Rattle.implib_options.specs.Words.{unless_empty};
 ghost use Rattle.implib_options.specs.declared.words.ReadError.TheVariants.{OutOfMemory};
 ghost use Rattle.std.specs.Bool.{OnTrue};
 ghost use Rattle.std.specs.Option.{option_map};
@@ -10,11 +12,12 @@ ghost use Rattle.std.specs.Prelude.{◌≡◌, ◌<◌, ◌≤◌, ◌∷◌, If
 ghost use Rattle.std.specs.String.{string_bytes};
 
 use crate::given::Given;
+use crate::lib_words::lib_saying;
 use crate::lookup::{lettered, named};
 use crate::table::{Meaning, Takes, Words};
 use std::alloc::{AllocError, AllocFailed, Global};
 
-/// What is wrong with a word.
+/// What is wrong with the words of a command line; of LIB's alone what comes after `NoValue`.
 #[derive(Clone, Copy, Debug, PartialEq, Eq)]
 pub enum Fault<'a> {
     /// The option has no meaning here.
@@ -28,6 +31,18 @@ pub enum Fault<'a> {
     NoValue(Meaning),
     /// The option of the word lacks its colon or its value.
     NoValueIn(&'a str),
+    /// The word names no machine.
+    NoMachine(&'a str),
+    /// There is no definition.
+    NoDefinition,
+    /// There is no file for the library.
+    NoOutput,
+    /// There is no library whose members are listed.
+    NoLibrary,
+    /// The word is the file of a further one.
+    Further(&'a str),
+    /// Members are listed, and there is a definition.
+    ListedDefinition,
 }
 
 /// Why words are not read.
@@ -57,7 +72,7 @@ impl<'a, T: Drop> From<AllocFailed<T>> for ReadError<'a> {
 
 // What a word says.
 #[derive(Clone, Copy)]
-enum Said<'a> {
+pub(crate) enum Said<'a> {
     // An option that is whole, or a file.
     Whole(Given<'a>),
     // An option whose value is the next word.
@@ -113,7 +128,7 @@ fn is_option(word: &str) -> bool
 
 // What a word says that is no option: it is a file of this meaning, but for `@FILE`, a file of
 // options.
-fn file_saying(meaning: Meaning, word: &str) -> Said<'_>
+pub(crate) fn file_saying(meaning: Meaning, word: &str) -> Said<'_>
     ensures { said_view result ≡ file_saying meaning word.now }
 {
     match word.as_bytes() {
@@ -122,6 +137,16 @@ fn file_saying(meaning: Meaning, word: &str) -> Said<'_>
             meaning,
             value: word,
         }),
+    }
+}
+
+// Whether the words are LIB's.
+fn is_lib(of: Words) -> bool
+    ensures { result ≡ is_lib of }
+{
+    match of {
+        Words::Lib => true,
+        Words::Dlltool | Words::Check => false,
     }
 }
 
@@ -171,6 +196,7 @@ fn add_letters<'a>(
 
 // Adds the options of a word that come before its last one, and gives what that says.
 fn add_front<'a>(
+    alloc: Global,
     given: &mut Vec<Given<'a>>,
     of: Words,
     word: &'a str,
@@ -178,6 +204,10 @@ fn add_front<'a>(
     ensures { IfOk result (λ said. Adds of word.now
         (map given_view given.old.items) (map given_view given.new.items) (said_view said)) }
 {
+    if is_lib(of) {
+        let said = lib_saying(alloc, word)?;
+        return Ok(said);
+    }
     if !is_option(word) {
         return Ok(file_saying(Meaning::Input, word));
     }
@@ -194,6 +224,7 @@ fn add_front<'a>(
 
 // Adds the options of a word, with the next one where that is a value, and gives the words behind.
 fn add_word<'a>(
+    alloc: Global,
     given: &mut Vec<Given<'a>>,
     of: Words,
     word: &'a str,
@@ -203,9 +234,9 @@ fn add_word<'a>(
         (map given_view given.old.items) (word.now ∷ map string_bytes next.now)
         (map given_view given.new.items) (map string_bytes rest.now)) }
     ensures fewer { IfOk result (λ rest. length rest.now ≤ length next.now) }
-    ensures refused { IfErr result (IsRefusal of (word.now ∷ map string_bytes next.now)) }
+    ensures refused { IfErr result (IsRefusal (IsRead of (word.now ∷ map string_bytes next.now))) }
 {
-    match add_front(given, of, word)? {
+    match add_front(alloc, given, of, word)? {
         Said::Whole(option) => {
             given.push(option)?;
             Ok(next)
@@ -230,7 +261,9 @@ fn add_word<'a>(
 
 /// The options that words spell, in order, each with its value, and files among them as
 /// `Meaning::Input`: `--NAME`, `--NAME VALUE`, `--NAME=VALUE`, `-x`, `-x VALUE`, `-xVALUE`, letters
-/// without a value in one word with the last, as in `-kd FILE`; after `--` nothing follows.
+/// without a value in one word with the last, as in `-kd FILE`; after `--` nothing follows. LIB's are
+/// `/NAME` and `/NAME:VALUE`, with `/` or `-` and in letters of any case, with a machine by its name
+/// for `-m`, and files among them as `Meaning::Identify`.
 ///
 /// # Errors
 ///
@@ -243,12 +276,12 @@ pub fn read<'a>(
 ) -> Result<Vec<Given<'a>>, ReadError<'a>>
     ensures ok { IfOk result
         (λ given. IsRead of (map string_bytes words.now) (Ok (map given_view given.items))) }
-    ensures refused { IfErr result (IsRefusal of (map string_bytes words.now)) }
+    ensures refused { IfErr result (IsRefusal (IsRead of (map string_bytes words.now))) }
 {
     let mut given = Vec::new(alloc);
     let mut left = words;
     while let [word, next @ ..] = left {
-        match add_word(&mut given, of, word.as_str(), next) {
+        match add_word(alloc, &mut given, of, word.as_str(), next) {
             Ok(rest) => left = rest,
             Err(error) => return Err(error),
         }

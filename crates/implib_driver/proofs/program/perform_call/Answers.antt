@@ -1,12 +1,12 @@
 use Rattle.std.proofs.Common.{Err, inl, inr, map, refl}
 use Rattle.std.specs.String.{string_bytes}
-use Rattle.implib_driver.specs.LibWords.{word_fault_view}
 use Rattle.implib_driver.proofs.Calls.{does_task}
 use Rattle.implib_driver.proofs.program.perform_call.Goals as goal
+use Rattle.implib_options.specs.Saying.{fault_view}
 
 pub returns-in-Err-Refused : goal.returns-in-Err-Refused
 returns-in-Err-Refused g c =
-    inl (Err (word_fault_view c.in-Err-Refused.fault), rw c.in-Err-Refused.field-0-is at c.in-Err-Refused.ensures.refused,
+    inl (Err (fault_view c.in-Err-Refused.fault), rw c.in-Err-Refused.field-0-is at c.in-Err-Refused.ensures.refused,
     record { same_disk = refl; same_input = refl; same_output = refl; says = rw (← c.subject_of-name.ensures, ← c.in-Err-Refused.fault-is) c.complain.ensures.said; is_status = c.complain.ensures.status })
 
 pub returns-in-Ok-Help : goal.returns-in-Ok-Help

@@ -3,7 +3,8 @@ use Rattle.std.proofs.lemmas.Str.{IsCharBoundary-after_ascii}
 use Rattle.std.specs.Option.{option_map}
 use Rattle.std.proofs.lemmas.List.{map-append}
 use Rattle.implib_options.specs.Given.{given_view}
-use Rattle.implib_options.specs.Words.{AddsLetters, said_view, saying, unless_empty}
+use Rattle.implib_options.specs.Saying.{said_view, saying}
+use Rattle.implib_options.specs.Words.{AddsLetters, unless_empty}
 use Rattle.implib_options.proofs.Letters.{at_last, at_switch, empty, some}
 use Rattle.implib_options.proofs.words.add_letters.Goals as goal
 use Rattle.implib_options.proofs.words.add_letters.Goals.{then-is_empty-via-then-is_empty, then-is_empty-via-else-is_empty+then-not-is_switch}

@@ -2,7 +2,8 @@ use Rattle.std.proofs.Common.{◌<◌, ◌++◌, List, length, map}
 use denote.Text.{Utf8}
 use denote.Shadow.{shadow}
 use Rattle.implib_options.specs.Given.{GivenView, given_view}
-use Rattle.implib_options.specs.Words.{AddsLetters, IsLettered, Saying}
+use Rattle.implib_options.specs.Saying.{Saying}
+use Rattle.implib_options.specs.Words.{AddsLetters, IsLettered}
 use Rattle.implib_options.proofs.words.add_letters.Given as goal
 
 abbrev pub invariant-letters : goal.invariant-letters

@@ -2,7 +2,8 @@ use Rattle.std.proofs.Common.{◌≡◌, ◌∙◌, [], ◌∷◌, ap, map, subs
 use Rattle.std.proofs.lemmas.List.{map-append}
 use Rattle.std.specs.String.{string_bytes}
 use Rattle.implib_options.specs.Given.{given_view}
-use Rattle.implib_options.specs.Words.{Adds, said_view, wrong}
+use Rattle.implib_options.specs.Saying.{said_view}
+use Rattle.implib_options.specs.Words.{Adds, wrong}
 use Rattle.implib_options.proofs.Reading.{on_apart_at, on_end_at, on_lacking, on_past_end, on_whole, words_none, words_split}
 use Rattle.implib_options.proofs.words.add_word.Goals as goal
 

@@ -2,7 +2,7 @@ use Rattle.std.proofs.Common.{◌<◌, get_or, length, subst}
 use Rattle.std.proofs.lemmas.Str.{IsCharBoundary-after_ascii}
 use Rattle.std.specs.Bool.{OnTrue}
 use Rattle.implib_options.proofs.Letters.{some}
-use Rattle.implib_options.proofs.lib_words.lib_saying.Goals as goal
+use Rattle.implib_options.proofs.lib_words.lib_raw_saying.Goals as goal
 
 pub range_from-requires : goal.range_from-requires
 range_from-requires c =
