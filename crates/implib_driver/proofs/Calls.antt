@@ -1,7 +1,7 @@
 -- Lemmas on command lines.
 use Rattle.std.proofs.Common.{◌≡◌, ℕ, ◌<◌, Bool, List, [], ◌∷◌, Option, Ok, inl, length, map, arith, subst, sym}
 use Rattle.implib_driver.specs.LibWords.{AreRead}
-use Rattle.implib_driver.specs.Program.{Devices, DoesOptions, DoesRead, DoesTask, DoesWords, Runs, Texts, own_name, subject_of}
+use Rattle.implib_driver.specs.Program.{Devices, DoesOptions, DoesTask, DoesWords, Runs, Texts, own_name, subject_of}
 use Rattle.implib_options.specs.Given.{GivenView}
 use Rattle.implib_driver.specs.Request.{Asked, TaskView, caller_of, request_for, task_of}
 

@@ -52,8 +52,9 @@ is_lib_called name =
 abbrev pub is_lib_name : List ℕ → Bool
 is_lib_name program = is_lib_called (small (last_part program))
 
--- What each library that is asked for in LIB's words is made with: Microsoft's flavour; third texts,
--- as by LIB for EXPORTAS and by llvm-lib for `==`; and on I386 decorated words as they are, as `_f@8`.
+-- What each library that is asked for in LIB's words is made with: Microsoft's flavour; third
+-- texts, as by LIB for EXPORTAS and by llvm-lib for `==`; and on I386 decorated words as they are,
+-- as `_f@8`.
 abbrev pub lib_ways : List GivenView
 lib_ways = (Flavor, codes "msvc") ∷ (ExportAs, []) ∷ (KeepsDecorated, []) ∷ []
 

@@ -53,10 +53,7 @@ fn lack_for_listing<'a>(options: &[Given<'a>], files: &[&'a str]) -> Option<Faul
 }
 
 // What options lack, or have too much, unless they ask for the help.
-fn lack_of<'a>(
-    alloc: Global,
-    options: &[Given<'a>],
-) -> Result<Option<Fault<'a>>, AllocError>
+fn lack_of<'a>(alloc: Global, options: &[Given<'a>]) -> Result<Option<Fault<'a>>, AllocError>
     ensures { IfOk result (λ lack. option_map fault_view lack
         ≡ lack_of (map given_view options.now)) }
 {
@@ -160,17 +157,20 @@ fn read_by<'a>(
 ///
 /// # Errors
 ///
-/// The first fault of the words; of LIB's where none is and the help is not asked for, for a list of
-/// members that there is no library, a further one, or a definition; else a file that is no option,
-/// that there is no definition, or no file for the library. Before these, perhaps, `OutOfMemory`.
+/// The first fault of the words; of LIB's where none is and the help is not asked for, for a list
+/// of members that there is no library, a further one, or a definition; else a file that is no
+/// option, that there is no definition, or no file for the library. Before these, perhaps,
+/// `OutOfMemory`.
 pub fn words_read<'a>(
     alloc: Global,
     program: &str,
     words: &'a [String],
 ) -> Result<Vec<Given<'a>>, ReadError<'a>>
     ensures ok { IfOk result
-        (λ given. AreRead program.now (map string_bytes words.now) (Ok (map given_view given.items))) }
-    ensures refused { IfErr result (IsRefusal (AreRead program.now (map string_bytes words.now))) }
+        (λ given. AreRead program.now (map string_bytes words.now)
+        (Ok (map given_view given.items))) }
+    ensures refused { IfErr result
+        (IsRefusal (AreRead program.now (map string_bytes words.now))) }
 {
     if let [first, rest @ ..] = words {
         if first.as_str() == "--lib" {

@@ -121,9 +121,7 @@ impl<'a> fmt::Display for WordMessage<'a> {
                 let name = OptionName(Words::Dlltool, meaning);
                 write!(f, "the option {name} lacks its value")
             }
-            Fault::NoValueIn(word) => {
-                write!(f, "{}: expected a colon and a value", Shown(word))
-            }
+            Fault::NoValueIn(word) => { write!(f, "{}: expected a colon and a value", Shown(word)) }
             Fault::NoMachine(word) => write!(
                 f,
                 "{}: no such machine: expected x86, x64, arm, arm64 or arm64ec",
@@ -283,7 +281,9 @@ pub struct UnimportedMessage<'a>(pub &'a Unimported);
 impl<'a> fmt::Display for UnimportedMessage<'a> {
     fn fmt<W: fmt::Write>(&self, f: &mut fmt::Formatter<W>) -> fmt::Result {
         match self.0.fault {
-            ImportsFault::NulInDllName => { write!(f, "{}", FaultMessage(&DefinitionFault::NulInImportName)) }
+            ImportsFault::NulInDllName => {
+                write!(f, "{}", FaultMessage(&DefinitionFault::NulInImportName))
+            }
             ImportsFault::NulInExport(index) => {
                 write!(f, "{}", FaultMessage(&DefinitionFault::NulInExport(index)))
             }

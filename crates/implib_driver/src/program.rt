@@ -3,7 +3,8 @@
 ghost use Rattle.implib_driver.specs.Dll.{begins_dll};
 ghost use Rattle.implib_driver.specs.Identity.{identified};
 ghost use Rattle.implib_driver.specs.Program.{DoesWords, FinishesFor, FinishesRead, Identifies};
-ghost use Rattle.implib_driver.specs.Program.{IsUncalled, Makes, MakesApart, NamesDlls, OnlyComplains, Prints};
+ghost use Rattle.implib_driver.specs.Program.{IsUncalled, Makes, MakesApart, NamesDlls};
+ghost use Rattle.implib_driver.specs.Program.{OnlyComplains, Prints};
 ghost use Rattle.implib_driver.specs.Program.{Performs, Runs, devices, help_text, misuse, texts};
 ghost use Rattle.implib_driver.specs.Reports.{OfMemory};
 ghost use Rattle.implib_driver.specs.Request.{call_fault_view, request_for, request_view};

@@ -1,5 +1,5 @@
 -- Reading the letters of a word, from a place on.
-use Rattle.std.proofs.Common.{◌≡◌, ◌⊎◌, ◌∙◌, ◌<◌, ◌++◌, true, false, List, [], ◌∷◌, ℕ, Option, None, Some, ap, get_or, length, drop, append_assoc, append-nil, arith, inl, inr, refl, subst, sym}
+use Rattle.std.proofs.Common.{◌≡◌, ◌⊎◌, ◌∙◌, ◌<◌, ◌++◌, true, false, List, [], ◌∷◌, Option, Some, ap, get_or, length, drop, append_assoc, append-nil, arith, refl, subst, sym}
 use Rattle.std.proofs.lemmas.Bool.{eqb-true}
 use Rattle.std.specs.Prelude.{Bool, ◌==◌}
 use Rattle.implib_options.specs.declared.table.Meaning.{Meaning}
@@ -8,7 +8,7 @@ use Rattle.implib_options.specs.declared.table.Takes.TheVariants.{Nothing, Refus
 use Rattle.implib_options.specs.declared.table.Words.{Words}
 use Rattle.implib_options.specs.Given.{GivenView}
 use Rattle.implib_options.specs.Table.{Kind, lettered}
-use Rattle.implib_options.specs.Saying.{IsUnknown, Saying, Text, Wrong, saying}
+use Rattle.implib_options.specs.Saying.{Saying, Text, saying}
 use Rattle.implib_options.specs.Words.{AddsLetters, IsLettered, is_switch, is_switch_letter, last, switch, unless_empty}
 
 -- a text that is empty, and one that is not

@@ -1,5 +1,5 @@
 -- Reading words, one option after another.
-use Rattle.std.proofs.Common.{◌≡◌, ◌⊎◌, inl, inr, ◌≢◌, ◌∙◌, ◌<◌, ◌≤◌, ◌++◌, true, false, List, [], ◌∷◌, ℕ, Ok, Err, ap, get_or, length, map, take, ◌-◌, drop, append_assoc, append-nil, arith, refl, subst, sym}
+use Rattle.std.proofs.Common.{◌≡◌, ◌≢◌, ◌∙◌, ◌<◌, ◌≤◌, ◌++◌, true, false, List, [], ◌∷◌, ℕ, Ok, Err, ap, get_or, length, map, take, ◌-◌, drop, append_assoc, append-nil, arith, refl, subst, sym}
 use Rattle.std.proofs.lemmas.Bool.{eqb-true}
 use Rattle.std.proofs.lemmas.List.{take_all}
 use Rattle.std.specs.Str.{IsCharBoundary, IsUtf8}

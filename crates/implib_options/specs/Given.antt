@@ -1,5 +1,6 @@
 -- The options that are given, and questions on them.
-use Rattle.std.specs.Prelude.{ℕ, Bool, true, false, List, [], ◌∷◌, Option, None, Some, if◌then◌else◌}
+use Rattle.std.specs.Prelude.{ℕ, Bool, true, false, List, [], ◌∷◌, Option, None, Some}
+use Rattle.std.specs.Prelude.{if◌then◌else◌}
 use Rattle.std.specs.List.{filter_map, fold}
 use denote.Enum.Bare.{sameb}
 use Rattle.implib_options.specs.contracts.table.Meaning.{the_type}
@@ -42,5 +43,5 @@ has meaning given = has_values (all meaning given)
 -- whether, of two meanings that undo each other, the first comes last
 abbrev pub is_last : Meaning → Meaning → List GivenView → Bool
 is_last one other given =
-    fold (λ was option. if means one option then true else if means other option then false else was)
-    false given
+    fold (λ was option.
+    if means one option then true else if means other option then false else was) false given

@@ -1,5 +1,5 @@
 -- What a word says to Microsoft's LIB (its documentation, and what llvm-lib 19 does).
-use Rattle.std.specs.Prelude.{ℕ, Bool, false, not, ◌&&◌, ◌||◌, ◌==◌, List, [], ◌∷◌, length, map}
+use Rattle.std.specs.Prelude.{ℕ, Bool, false, not, ◌&&◌, ◌||◌, ◌==◌, [], ◌∷◌, length, map}
 use Rattle.std.specs.Prelude.{Option, None, Some, if◌then◌else◌, nat_lt}
 use Rattle.std.specs.Char.{to_ascii_lowercase}
 use Rattle.std.specs.List.{after_first, before_first, list_any, position_or_len}

@@ -1,6 +1,7 @@
 -- The options of names and letters, by the table of the program (this project's choice, after GNU
 -- dlltool, llvm-dlltool and Microsoft's LIB).
-use Rattle.std.specs.Prelude.{ℕ, Bool, false, ◌&&◌, ◌==◌, List, [], Option, None, Some, map, nat_lt, if◌then◌else◌}
+use Rattle.std.specs.Prelude.{ℕ, Bool, false, not, ◌&&◌, ◌==◌, List, [], ◌∷◌, ◌++◌, length, map}
+use Rattle.std.specs.Prelude.{Option, None, Some, if◌then◌else◌, nat_lt}
 use Rattle.std.specs.List.{find, flat_map}
 use Rattle.std.specs.Option.{option_map}
 use Rattle.std.specs.Str.{bytes_eq}
@@ -29,7 +30,8 @@ is_letter letter (Some own) = own == letter
 
 -- what the first row of a name takes and means
 abbrev pub named_in : List Row → Words → List ℕ → Option Kind
-named_in rows of name = option_map (λ row. row.3) (find (λ row. is_of of row && bytes_eq row.1 name) rows)
+named_in rows of name =
+    option_map (λ row. row.3) (find (λ row. is_of of row && bytes_eq row.1 name) rows)
 
 -- what the first row of a letter takes and means
 abbrev pub lettered_in : List Row → Words → ℕ → Option Kind
@@ -56,7 +58,9 @@ lib_machine name = machine_in (map (λ row. (row.0.now, row.1.now)) LIB_MACHINES
 
 -- the lines of `--help` of rows in some words, in order
 abbrev pub help_in : List (Words × List ℕ) → Words → List ℕ
-help_in rows of = flat_map (λ row. if sameb the_type row.0 of then row.1 else []) rows
+help_in rows of =
+    flat_map (λ row.
+    if sameb the_type row.0 of && not (length row.1 == 0) then row.1 ++ 10 ∷ [] else []) rows
 
 unfoldable pub help_lines : Words → List ℕ
 help_lines of = help_in (map (λ row. (row.0, row.5.now)) OPTIONS) of

@@ -14,8 +14,9 @@ fn push_rows(text: &mut String, rows: &[Row], of: Words) -> Result<(), AllocErro
         ++ help_in (map (λ row. (row.0, row.5.now)) rows.now) of) }
 {
     for row in rows {
-        if row.0 == of {
+        if row.0 == of && !row.5.is_empty() {
             text.push_str(row.5)?;
+            text.push_str("\n")?;
         }
     }
     Ok(())

@@ -9,7 +9,8 @@ use crate::table::{LIB_MACHINES, Meaning, OPTIONS, Row, Takes, Words};
 
 // What the first row of a name takes and means, if there is one.
 fn named_in(mut rows: &[Row], of: Words, name: &str) -> Option<(Takes, Meaning)>
-    ensures { result ≡ named_in (map (λ row. (row.0, row.1.now, row.2, (row.3, row.4))) rows.entry.now) of name.now }
+    ensures { result ≡ named_in
+        (map (λ row. (row.0, row.1.now, row.2, (row.3, row.4))) rows.entry.now) of name.now }
 {
     while let [row, rest @ ..] = rows {
         if row.0 == of && row.1 == name {
@@ -22,7 +23,8 @@ fn named_in(mut rows: &[Row], of: Words, name: &str) -> Option<(Takes, Meaning)>
 
 // What the first row of a letter takes and means, if there is one.
 fn lettered_in(mut rows: &[Row], of: Words, letter: u8) -> Option<(Takes, Meaning)>
-    ensures { result ≡ lettered_in (map (λ row. (row.0, row.1.now, row.2, (row.3, row.4))) rows.entry.now) of letter }
+    ensures { result ≡ lettered_in
+        (map (λ row. (row.0, row.1.now, row.2, (row.3, row.4))) rows.entry.now) of letter }
 {
     while let [row, rest @ ..] = rows {
         if row.0 == of && row.2 == Some(letter) {

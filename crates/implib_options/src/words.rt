@@ -83,11 +83,7 @@ pub(crate) enum Said<'a> {
 }
 
 // What an option says that takes and means this, in a word that may have its value.
-fn saying<'a>(
-    word: &'a str,
-    kind: Option<(Takes, Meaning)>,
-    value: Option<&'a str>,
-) -> Said<'a>
+fn saying<'a>(word: &'a str, kind: Option<(Takes, Meaning)>, value: Option<&'a str>) -> Said<'a>
     ensures { said_view result
         ≡ saying word.now kind (option_map (λ text. text.now) value.entry) }
 {
@@ -261,9 +257,9 @@ fn add_word<'a>(
 
 /// The options that words spell, in order, each with its value, and files among them as
 /// `Meaning::Input`: `--NAME`, `--NAME VALUE`, `--NAME=VALUE`, `-x`, `-x VALUE`, `-xVALUE`, letters
-/// without a value in one word with the last, as in `-kd FILE`; after `--` nothing follows. LIB's are
-/// `/NAME` and `/NAME:VALUE`, with `/` or `-` and in letters of any case, with a machine by its name
-/// for `-m`, and files among them as `Meaning::Identify`.
+/// without a value in one word with the last, as in `-kd FILE`; after `--` nothing follows. LIB's
+/// are `/NAME` and `/NAME:VALUE`, with `/` or `-` and in letters of any case, with a machine by its
+/// name for `-m`, and files among them as `Meaning::Identify`.
 ///
 /// # Errors
 ///

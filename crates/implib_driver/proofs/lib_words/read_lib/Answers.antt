@@ -1,7 +1,7 @@
-use Rattle.std.proofs.Common.{◌≡◌, ◌∙◌, ◌++◌, List, None, Ok, ℕ, ap, map, subst, sym}
+use Rattle.std.proofs.Common.{◌∙◌, List, Ok, ℕ, ap, map, subst, sym}
 use Rattle.std.specs.Option.{option_map}
 use Rattle.std.specs.String.{string_bytes}
-use Rattle.implib_driver.specs.LibWords.{IsReadAsLib, lack_of, lacking, lib_ways, whole, wrong}
+use Rattle.implib_driver.specs.LibWords.{IsReadAsLib, lack_of, lacking, whole, wrong}
 use Rattle.implib_driver.proofs.lib_words.read_lib.Goals as goal
 use Rattle.implib_options.specs.declared.table.Words.TheVariants.{Lib}
 use Rattle.implib_options.specs.declared.words.ReadError.{ReadError}

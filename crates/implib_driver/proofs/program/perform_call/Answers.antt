@@ -6,8 +6,11 @@ use Rattle.implib_options.specs.Saying.{fault_view}
 
 pub returns-in-Err-Refused : goal.returns-in-Err-Refused
 returns-in-Err-Refused g c =
-    inl (Err (fault_view c.in-Err-Refused.fault), rw c.in-Err-Refused.field-0-is at c.in-Err-Refused.ensures.refused,
-    record { same_disk = refl; same_input = refl; same_output = refl; says = rw (← c.subject_of-name.ensures, ← c.in-Err-Refused.fault-is) c.complain.ensures.said; is_status = c.complain.ensures.status })
+    inl (
+      Err (fault_view c.in-Err-Refused.fault),
+      rw c.in-Err-Refused.field-0-is at c.in-Err-Refused.ensures.refused,
+      record { same_disk = refl; same_input = refl; same_output = refl; says = rw (← c.subject_of-name.ensures, ← c.in-Err-Refused.fault-is) c.complain.ensures.said; is_status = c.complain.ensures.status },
+    )
 
 pub returns-in-Ok-Help : goal.returns-in-Ok-Help
 returns-in-Ok-Help g c =

@@ -1,4 +1,4 @@
-use Rattle.std.proofs.Common.{◌≡◌, None, Some, drop, map, if◌then◌else◌}
+use Rattle.std.proofs.Common.{◌≡◌, Some, drop, map, if◌then◌else◌}
 use Rattle.std.specs.List.{fold}
 use Rattle.std.specs.Option.{option_map}
 use Rattle.implib_options.specs.Given.{given_view, last, means}

@@ -1,5 +1,5 @@
-use Rattle.std.proofs.Common.{◌≡◌, ◌<◌, ◌∙◌, ◌++◌, [], append-nil, subst, sym}
-use Rattle.implib_options.specs.Words.{Adds, IsSaid, file, lib}
+use Rattle.std.proofs.Common.{◌∙◌, [], append-nil, subst, sym}
+use Rattle.implib_options.specs.Words.{IsSaid, file, lib}
 use Rattle.implib_options.proofs.Reading.{at_end, at_letters, at_long, cut_one, cut_two}
 use Rattle.implib_options.proofs.words.add_front.Goals as goal
 

@@ -1,10 +1,7 @@
-use Rattle.std.proofs.Common.{◌≡◌, ◌⊎◌, ◌∙◌, ◌<◌, ◌++◌, true, false, List, [], ◌∷◌, Some, None, ap, get_or, length, drop, map, arith, inl, inr, rules, refl, subst, sym}
+use Rattle.std.proofs.Common.{◌∙◌, ◌<◌, Some, None, ap, get_or, drop, map, inl, inr, refl, subst, sym}
 use Rattle.std.proofs.lemmas.Str.{IsCharBoundary-after_ascii}
-use Rattle.std.specs.Option.{option_map}
 use Rattle.std.proofs.lemmas.List.{map-append}
 use Rattle.implib_options.specs.Given.{given_view}
-use Rattle.implib_options.specs.Saying.{said_view, saying}
-use Rattle.implib_options.specs.Words.{AddsLetters, unless_empty}
 use Rattle.implib_options.proofs.Letters.{at_last, at_switch, empty, some}
 use Rattle.implib_options.proofs.words.add_letters.Goals as goal
 use Rattle.implib_options.proofs.words.add_letters.Goals.{then-is_empty-via-then-is_empty, then-is_empty-via-else-is_empty+then-not-is_switch}
@@ -26,12 +23,12 @@ returns-then-is_empty c =
     c.unless_empty.ensures c.saying.ensures
 
 pub letters-preserved : goal.letters-preserved
-letters-preserved c = 
-  let more = some c.range_from-rest.result.now c.is_empty.result c.is_empty.ensures c.if-is_empty.false in
-  record {
-  utf8 = c.range_from-rest.utf8;
-  some = more;
-  led = rw c.range_from-rest.ensures.value (at_switch c.args.of c.args.word.now c.args.letters.now _ (map given_view c.letters.given.items) (map given_view c.push.new.self.items) c.letters.text.now c.as_bytes.result.now c.in-Some.takes c.in-Some.meaning
-      c.letters.invariant.led c.as_bytes.ensures.value c.letters.invariant.some (rw c.range_from-rest.ensures.value at more) c.in-Some.ensures.kind (sym c.is_switch.ensures ∙ c.if-not-is_switch.false)
-      (ap (map given_view) c.in_ok-push.ensures.items ∙ map-append given_view _ _));
-}
+letters-preserved c =
+    let more = some c.range_from-rest.result.now c.is_empty.result c.is_empty.ensures c.if-is_empty.false in
+    record {
+      utf8 = c.range_from-rest.utf8;
+      some = more;
+      led = rw c.range_from-rest.ensures.value (at_switch c.args.of c.args.word.now c.args.letters.now _ (map given_view c.letters.given.items) (map given_view c.push.new.self.items) c.letters.text.now c.as_bytes.result.now c.in-Some.takes c.in-Some.meaning
+          c.letters.invariant.led c.as_bytes.ensures.value c.letters.invariant.some (rw c.range_from-rest.ensures.value at more) c.in-Some.ensures.kind (sym c.is_switch.ensures ∙ c.if-not-is_switch.false)
+          (ap (map given_view) c.in_ok-push.ensures.items ∙ map-append given_view _ _));
+    }

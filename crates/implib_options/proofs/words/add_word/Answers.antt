@@ -1,4 +1,4 @@
-use Rattle.std.proofs.Common.{◌≡◌, ◌∙◌, [], ◌∷◌, ap, map, subst}
+use Rattle.std.proofs.Common.{◌∙◌, [], ap, map, subst}
 use Rattle.std.proofs.lemmas.List.{map-append}
 use Rattle.std.specs.String.{string_bytes}
 use Rattle.implib_options.specs.Given.{given_view}
