@@ -3,3 +3,4 @@ pub mod Given
 pub mod Saying
 pub mod LibWords
 pub mod Words
+pub mod Laws

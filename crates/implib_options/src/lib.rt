@@ -3,6 +3,7 @@
 
 pub mod given;
 pub mod help;
+pub mod laws;
 mod lib_words;
 pub mod lookup;
 pub mod table;
