@@ -14,7 +14,7 @@ meaning_in other (Some kind) = kind.1
 
 -- what letters say
 one_lettering : (of : Words) (word letters : Text) (f g : List GivenView) (s t : Saying) → IsLettered of word letters f s → IsLettered of word letters g t → (f ≡ g) × (s ≡ t)
-one_lettering of word _ _ _ _ _ (switch l1 b1 t1 m1 f1 s1 k1 r1) (switch l2 b2 t2 m2 f2 s2 k2 r2) = 
+one_lettering of word _ _ _ _ _ (switch l1 b1 t1 m1 f1 s1 k1 r1) (switch l2 b2 t2 m2 f2 s2 k2 r2) =
     let rest = one_lettering of word _ _ _ _ _ r1 r2 in
     (ap (λ m. (m, []) ∷ f1) (ap (meaning_in m1) (sym k1 ∙ k2)) ∙ ap (λ f. (m2, []) ∷ f) rest.0, rest.1)
 one_lettering of word _ _ _ _ _ (switch l1 b1 t1 m1 f1 s1 k1 r1) (last l2 t2 (inl none)) = let is = ap is_switch_letter k1 in cc
