@@ -5,7 +5,7 @@ ghost use Rattle.implib_driver.specs.Identity.{identified};
 ghost use Rattle.implib_driver.specs.Program.{DoesWords, FinishesFor, FinishesRead, Identifies};
 ghost use Rattle.implib_driver.specs.Program.{IsUncalled, Makes, MakesApart, NamesDlls};
 ghost use Rattle.implib_driver.specs.Program.{OnlyComplains, Prints};
-ghost use Rattle.implib_driver.specs.Program.{Performs, Runs, devices, help_text, misuse, texts};
+ghost use Rattle.implib_driver.specs.Program.{Performs, Runs, devices, help_text, misuse};
 ghost use Rattle.implib_driver.specs.Reports.{OfMemory};
 ghost use Rattle.implib_driver.specs.Request.{call_fault_view, request_for, request_view};
 ghost use Rattle.implib_options.specs.Given.{given_view};
@@ -231,7 +231,7 @@ fn perform_call<D: Disk, I: Read, O: Write, T: Reporter>(
     reporter: &mut T,
 ) -> u8
     requires { (D.view disk.old).left ≡ None }
-    ensures { DoesWords D.is_known (texts help_text VERSION.now) call.entry.program.now
+    ensures { DoesWords D.is_known call.entry.program.now
         (map string_bytes call.entry.words.now)
         (devices (I.remaining input.old) (D.view disk.old) (T.said reporter.old))
         (devices (I.remaining input.new) (D.view disk.new) (T.said reporter.new))
@@ -277,7 +277,7 @@ pub fn run<D: Disk, I: Read, O: Write, T: Reporter>(
     reporter: &mut T,
 ) -> u8
     requires { (D.view disk.old).left ≡ None }
-    ensures { Runs D.is_known (texts help_text VERSION.now) (map string_bytes arguments.now)
+    ensures { Runs D.is_known (map string_bytes arguments.now)
         (devices (I.remaining input.old) (D.view disk.old) (T.said reporter.old))
         (devices (I.remaining input.new) (D.view disk.new) (T.said reporter.new))
         (O.contents printer.old) (O.contents printer.new) result }
@@ -317,8 +317,7 @@ fn perform_list<D: Disk, I: Read, O: Write, T: Reporter>(
     reporter: &mut T,
 ) -> u8
     requires { (D.view disk.old).left ≡ None }
-    ensures { Performs D.is_known (texts help_text VERSION.now)
-        (map string_bytes (into_iter_items list))
+    ensures { Performs D.is_known (map string_bytes (into_iter_items list))
         (devices (I.remaining input.old) (D.view disk.old) (T.said reporter.old))
         (devices (I.remaining input.new) (D.view disk.new) (T.said reporter.new))
         (O.contents printer.old) (O.contents printer.new) result }
@@ -353,8 +352,7 @@ pub fn perform<D: Disk, I: Read, O: Write, T: Reporter>(
 ) -> u8
     requires { (D.view disk.old).left ≡ None }
     ensures runs { IfOk command_line.entry.arguments
-        (λ list. Performs D.is_known (texts help_text VERSION.now)
-        (map string_bytes (into_iter_items list))
+        (λ list. Performs D.is_known (map string_bytes (into_iter_items list))
         (devices (I.remaining input.old) (D.view disk.old) (T.said reporter.old))
         (devices (I.remaining input.new) (D.view disk.new) (T.said reporter.new))
         (O.contents printer.old) (O.contents printer.new) result) }
