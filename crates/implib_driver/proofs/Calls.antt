@@ -1,25 +1,25 @@
 -- Lemmas on command lines.
 use Rattle.std.proofs.Common.{◌≡◌, ℕ, ◌<◌, Bool, List, [], ◌∷◌, Option, Ok, inl, length, map, arith, subst, sym}
-use Rattle.implib_driver.specs.Arguments.{OccurrenceView}
-use Rattle.implib_driver.specs.LibWords.{words_read}
-use Rattle.implib_driver.specs.Program.{Devices, DoesOptions, DoesRead, DoesTask, DoesWords, Runs, Texts, own_name, subject_of}
+use Rattle.implib_driver.specs.LibWords.{AreRead}
+use Rattle.implib_driver.specs.Program.{Devices, DoesOptions, DoesTask, DoesWords, Runs, own_name, subject_of}
+use Rattle.implib_options.specs.Given.{GivenView}
 use Rattle.implib_driver.specs.Request.{Asked, TaskView, caller_of, request_for, task_of}
 
 -- a command line without arguments
-pub runs_without : {A : Type 0} (view : A → List ℕ) (arguments : List A) (known : Bool) (texts : Texts) (before after : Devices) (printed prints : Option (List ℕ)) (status : ℕ)
+pub runs_without : {A : Type 0} (view : A → List ℕ) (arguments : List A) (known : Bool) (before after : Devices) (printed prints : Option (List ℕ)) (status : ℕ)
     → length arguments < 1
-    → DoesWords known texts own_name (map view arguments) before after printed prints status
-    → Runs known texts (map view arguments) before after printed prints status
-runs_without view [] known texts before after printed prints status none does = does
-runs_without view (argument ∷ arguments) known texts before after printed prints status none does = absurd (omega arith)
+    → DoesWords known own_name (map view arguments) before after printed prints status
+    → Runs known (map view arguments) before after printed prints status
+runs_without view [] known before after printed prints status none does = does
+runs_without view (argument ∷ arguments) known before after printed prints status none does = absurd (omega arith)
 
-module _ (known : Bool) (texts : Texts) (program : List ℕ) (words : List (List ℕ)) (options : List OccurrenceView) (are : words_read program words ≡ Ok options)
+module _ (known : Bool) (program : List ℕ) (words : List (List ℕ)) (options : List GivenView) (are : AreRead program words (Ok options))
     (before after : Devices) (printed prints : Option (List ℕ)) (status : ℕ) where
-  -- what is done for options is done for the words that they are read of
-  pub does_options : DoesOptions known texts program options before after printed prints status → DoesWords known texts program words before after printed prints status
-  does_options does = inl (subst (λ read. DoesRead known texts program read before after printed prints status) (sym are) does)
+  -- what is done for options is done for the words that spell them
+  pub does_options : DoesOptions known program options before after printed prints status → DoesWords known program words before after printed prints status
+  does_options does = inl (Ok options, are, does)
 
   -- what is done for a task is done for the words that ask for it
-  pub does_task : (asked : Asked TaskView) → task_of (caller_of program) options ≡ asked → DoesTask known texts (subject_of program) (request_for (caller_of program) options) asked before after printed prints status
-      → DoesWords known texts program words before after printed prints status
-  does_task asked is does = does_options (inl (subst (λ task. DoesTask known texts (subject_of program) (request_for (caller_of program) options) task before after printed prints status) (sym is) does))
+  pub does_task : (asked : Asked TaskView) → task_of (caller_of program) options ≡ asked → DoesTask known (subject_of program) (request_for (caller_of program) options) asked before after printed prints status
+      → DoesWords known program words before after printed prints status
+  does_task asked is does = does_options (inl (subst (λ task. DoesTask known (subject_of program) (request_for (caller_of program) options) task before after printed prints status) (sym is) does))

@@ -1,6 +1,3 @@
-pub mod Reading
-pub mod Letters
-pub mod LibReading
 pub mod Saying
 pub mod Calls
 pub mod Finishing

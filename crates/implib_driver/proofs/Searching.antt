@@ -9,7 +9,7 @@ use Rattle.implib_dll_check.specs.Folders.{IsRight, Listing, RightDllsExtend, co
 use Rattle.implib_dll_check.specs.Forwarding.{Known, known_in}
 use Rattle.implib_dll_check.specs.Kinds.{KnownDllsDecideKinds, is_astray, kinds_followed, unknown_dlls}
 use Rattle.implib_dll_check.specs.declared.folder.Loaded.{Loaded}
-use Rattle.implib_driver.specs.Arguments.{has_values}
+use Rattle.implib_options.specs.Given.{has_values}
 use Rattle.implib_driver.specs.Search.{AreFollowed, beside_folders}
 
 -- one more that was loaded

@@ -12,7 +12,7 @@ use Rattle.implib_driver.specs.declared.dll.DllCallError.{DllCallError}
 use Rattle.implib_driver.specs.declared.dll.DllCallError.TheVariants.{Call, Dll}
 use Rattle.implib_driver.specs.declared.dll.DllRefusal.{DllRefusal}
 use Rattle.implib_driver.specs.declared.dll.DllRefusal.TheVariants.{OutOfMemory}
-use Rattle.implib_driver.specs.Arguments.{has_values}
+use Rattle.implib_options.specs.Given.{has_values}
 use Rattle.implib_driver.specs.Disk.{DiskView, failing}
 use Rattle.implib_driver.specs.Dll.{IsRefusalOfReading, IsRefusalOfRequest, IsRequested, IsUnlisted}
 use Rattle.implib_driver.specs.Dll.{IsUnmade, MembersOfDll, ReadsDll, SuitsDll, dll_status}

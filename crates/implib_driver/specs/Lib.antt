@@ -1,5 +1,3 @@
-pub mod Options
-pub mod Arguments
 pub mod Identity
 pub mod Machines
 pub mod Request

@@ -1,6 +1,6 @@
 -- What a run of the program does (this project's own).
-use Rattle.std.specs.Prelude.{◌≡◌, ◌≢◌, ◌⊎◌, ℕ, Bool, true, false, List, [], ◌∷◌, Option, None}
-use Rattle.std.specs.Prelude.{Some, Result, Ok, Err, IfSome, codes, drop, is_some, length}
+use Rattle.std.specs.Prelude.{◌≡◌, ◌≢◌, ◌⊎◌, ℕ, Bool, true, false, List, [], ◌∷◌, ◌++◌, Option}
+use Rattle.std.specs.Prelude.{None, Some, Result, Ok, Err, IfSome, codes, drop, is_some, length}
 use Rattle.std.specs.Prelude.{if◌then◌else◌}
 use Rattle.std.specs.Io.KnownBytes.{Appends}
 use Rattle.std.specs.Str.{bytes_eq}
@@ -11,7 +11,6 @@ use Rattle.implib.specs.declared.flavor.Flavor.TheVariants.{Gnu, Msvc}
 use Rattle.implib.specs.declared.machine.MachineType.{MachineType}
 use Rattle.implib.specs.Import.{is_empty_text}
 use Rattle.implib.specs.Members.MemberSpec.{MemberView}
-use Rattle.implib_driver.specs.Arguments.{OccurrenceView, WordFaultView, has_values}
 use Rattle.implib_driver.specs.Disk.{DiskView}
 use Rattle.implib_driver.specs.declared.identity.NotIdentified.{NotIdentified}
 use Rattle.implib_driver.specs.declared.identity.Wanted.{Wanted}
@@ -25,7 +24,8 @@ use Rattle.implib_driver.specs.Reports.{ComplaintView, Complains, Line, OfArgume
 use Rattle.implib_driver.specs.Reports.{OfIdentity, OfLeftOut, OfMemory, OfStub, OfSystem}
 use Rattle.implib_driver.specs.Reports.{OfUndelayed, OfWord}
 use Rattle.implib_driver.specs.Reports.{OfWriting, Refuses, Says}
-use Rattle.implib_driver.specs.LibWords.{words_read}
+use Rattle.implib_driver.specs.declared.help.TheConstants.{END, FRONT, MIDDLE, VERSION}
+use Rattle.implib_driver.specs.LibWords.{AreRead}
 use Rattle.implib_driver.specs.Apart.{AreApart, IsMisplaced}
 pub use Rattle.implib_driver.specs.Disk.{KeepsFiles, definition_in}
 pub use Rattle.implib_driver.specs.Verdicts.{answer_status, output_or_none, verdict}
@@ -39,6 +39,10 @@ use Rattle.implib_driver.specs.Request.{CallFaultView, DecoratesDefinition, Requ
 use Rattle.implib_driver.specs.Request.{SearchesForDefinition, TaskView, caller_of, request_for}
 use Rattle.implib_driver.specs.Request.{task_of}
 use Rattle.implib_driver.specs.Stubs.{has_failing_stub}
+use Rattle.implib_options.specs.declared.table.Words.TheVariants.{Dlltool, Lib}
+use Rattle.implib_options.specs.Given.{GivenView, has_values}
+use Rattle.implib_options.specs.Table.{help_lines}
+use Rattle.implib_options.specs.Words.{Reading}
 use Rattle.implib_rules.specs.declared.library.Refusal.{Refusal}
 use Rattle.implib_rules.specs.Library.{CountsMembers, is_out_of_memory, status_of}
 use Rattle.implib_rules.specs.Names.{last_part}
@@ -411,50 +415,48 @@ pub record Identifies (name path : List ℕ) (wanted : Wanted) (before after : D
       IsIdentified name path wanted before after printed prints status
       ⊎ IsUnidentified path before after printed prints status
 
--- the texts of the help and of the version
-pub record Texts : Type 0 where
-  pub help : List ℕ
-  pub version : List ℕ
-
-abbrev pub texts : List ℕ → List ℕ → Texts
-texts help version = record { help = help; version = version }
+-- what the program prints for `--help`: the options, and those in LIB's words, with a text in front
+-- of each and behind them
+abbrev pub help_text : List ℕ
+help_text = FRONT.now ++ help_lines Dlltool ++ MIDDLE.now ++ help_lines Lib ++ END.now
 
 -- what is done for what options ask for
-abbrev pub DoesTask : Bool → Texts → List ℕ → ForMachine → Asked TaskView → Devices → Devices →
+abbrev pub DoesTask : Bool → List ℕ → ForMachine → Asked TaskView → Devices → Devices →
     Option (List ℕ) → Option (List ℕ) → ℕ → Type 0
-DoesTask known texts name machines (Ok AsksHelp) before after printed prints status =
-    OnlyPrints name texts.help before after printed prints status
-DoesTask known texts name machines (Ok AsksVersion) before after printed prints status =
-    OnlyPrints name texts.version before after printed prints status
-DoesTask known texts name machines (Ok (AsksIdentity path wanted)) before after printed prints
+DoesTask known name machines (Ok AsksHelp) before after printed prints status =
+    OnlyPrints name help_text before after printed prints status
+DoesTask known name machines (Ok AsksVersion) before after printed prints status =
+    OnlyPrints name VERSION.now before after printed prints status
+DoesTask known name machines (Ok (AsksIdentity path wanted)) before after printed prints
     status =
     Identifies name path wanted before after printed prints status
-DoesTask known texts name machines (Ok (Asks request)) before after printed prints status =
+DoesTask known name machines (Ok (Asks request)) before after printed prints status =
     MakesApart known name machines request before after printed prints status
-DoesTask known texts name machines (Err fault) before after printed prints status =
+DoesTask known name machines (Err fault) before after printed prints status =
     Complained name (OfCall fault) 2 before after printed prints status
 
 -- what is done for options, where the program is called so, unless memory is refused
-abbrev pub DoesOptions : Bool → Texts → List ℕ → List OccurrenceView → Devices → Devices →
+abbrev pub DoesOptions : Bool → List ℕ → List GivenView → Devices → Devices →
     Option (List ℕ) → Option (List ℕ) → ℕ → Type 0
-DoesOptions known texts program options before after printed prints status =
-    DoesTask known texts (subject_of program) (request_for (caller_of program) options)
+DoesOptions known program options before after printed prints status =
+    DoesTask known (subject_of program) (request_for (caller_of program) options)
     (task_of (caller_of program) options) before after printed prints status
     ⊎ Complained (subject_of program) OfMemory 3 before after printed prints status
 
 -- what is done for words that are read so
-abbrev pub DoesRead : Bool → Texts → List ℕ → Result (List OccurrenceView) WordFaultView → Devices →
-    Devices → Option (List ℕ) → Option (List ℕ) → ℕ → Type 0
-DoesRead known texts program (Ok options) before after printed prints status =
-    DoesOptions known texts program options before after printed prints status
-DoesRead known texts program (Err fault) before after printed prints status =
+abbrev pub DoesRead : Bool → List ℕ → Reading → Devices → Devices → Option (List ℕ) →
+    Option (List ℕ) → ℕ → Type 0
+DoesRead known program (Ok options) before after printed prints status =
+    DoesOptions known program options before after printed prints status
+DoesRead known program (Err fault) before after printed prints status =
     Complained (subject_of program) (OfWord fault) 2 before after printed prints status
 
 -- what is done for words, where the program is called so, unless memory is refused
-abbrev pub DoesWords : Bool → Texts → List ℕ → List (List ℕ) → Devices → Devices → Option (List ℕ) →
+abbrev pub DoesWords : Bool → List ℕ → List (List ℕ) → Devices → Devices → Option (List ℕ) →
     Option (List ℕ) → ℕ → Type 0
-DoesWords known texts program words before after printed prints status =
-    DoesRead known texts program (words_read program words) before after printed prints status
+DoesWords known program words before after printed prints status =
+    ((reading : Reading) × AreRead program words reading
+    × DoesRead known program reading before after printed prints status)
     ⊎ Complained (subject_of program) OfMemory 3 before after printed prints status
 
 -- the name that the program is called by: the first argument
@@ -463,18 +465,18 @@ called_by [] = own_name
 called_by (program ∷ words) = program
 
 -- what a run does for a command line
-abbrev pub Runs : Bool → Texts → List (List ℕ) → Devices → Devices → Option (List ℕ) →
+abbrev pub Runs : Bool → List (List ℕ) → Devices → Devices → Option (List ℕ) →
     Option (List ℕ) → ℕ → Type 0
-Runs known texts arguments before after printed prints status =
-    DoesWords known texts (called_by arguments) (drop 1 arguments) before after printed prints
+Runs known arguments before after printed prints status =
+    DoesWords known (called_by arguments) (drop 1 arguments) before after printed prints
     status
 
 -- what is done for the arguments of a process: where memory for them is refused, the program goes
 -- by its own name
-abbrev pub Performs : Bool → Texts → List (List ℕ) → Devices → Devices → Option (List ℕ) →
+abbrev pub Performs : Bool → List (List ℕ) → Devices → Devices → Option (List ℕ) →
     Option (List ℕ) → ℕ → Type 0
-Performs known texts arguments before after printed prints status =
-    Runs known texts arguments before after printed prints status
+Performs known arguments before after printed prints status =
+    Runs known arguments before after printed prints status
     ⊎ Complained own_name OfMemory 3 before after printed prints status
 
 -- the command line cannot be read: an argument, which is told, is not UTF-8, or the system failed

@@ -7,15 +7,15 @@ use Rattle.implib_driver.specs.declared.dll.DllRefusal.{DllRefusal}
 use Rattle.implib_driver.specs.declared.identity.NotIdentified.{NotIdentified}
 use Rattle.implib_driver.specs.declared.reporter.Complaint.{Complaint}
 use Rattle.implib_driver.specs.declared.reporter.Complaint.TheVariants as complaint
-use Rattle.implib_driver.specs.Arguments.{WordFaultView, word_fault_view}
 use Rattle.implib_driver.specs.Request.{CallFaultView, call_fault_view}
+use Rattle.implib_options.specs.Saying.{FaultView, fault_view}
 use Rattle.implib_rules.specs.declared.library.Refusal.{Refusal}
 use Rattle.implib_rules.specs.Warnings.{WarningView}
 
 -- what the program complains of
 pub data ComplaintView : Type 0 where
   -- a word of the command line
-  OfWord : WordFaultView → ComplaintView
+  OfWord : FaultView → ComplaintView
   -- what the options ask for
   OfCall : CallFaultView → ComplaintView
   -- an argument that is not UTF-8, as far as it can be shown
@@ -51,7 +51,7 @@ pub data ComplaintView : Type 0 where
 
 -- the view of a complaint of the program
 abbrev pub complaint_view : Complaint → ComplaintView
-complaint_view (complaint.Word fault) = OfWord (word_fault_view fault)
+complaint_view (complaint.Word fault) = OfWord (fault_view fault)
 complaint_view (complaint.Call fault) = OfCall (call_fault_view fault)
 complaint_view (complaint.NotUtf8 text) = OfArgument text.now
 complaint_view complaint.OutOfMemory = OfMemory

@@ -11,23 +11,8 @@ use Rattle.implib.specs.declared.flavor.Flavor.{Flavor}
 use Rattle.implib.specs.declared.flavor.Flavor.TheVariants.{Msvc, Gnu}
 use Rattle.implib.specs.declared.machine.MachineType.{MachineType}
 use Rattle.implib.specs.declared.machine.MachineType.TheVariants.{I386, ARMNT, AMD64, ARM64}
-use Rattle.implib_driver.specs.declared.options.Setting.TheVariants.{NativeDefinition}
-use Rattle.implib_driver.specs.declared.options.Setting.TheVariants.{DelayedOutput, Definition}
-use Rattle.implib_driver.specs.declared.options.Setting.TheVariants.{Input, Output, Machine, Dll}
-use Rattle.implib_driver.specs.declared.options.Setting.TheVariants.{Flavor as FlavorSetting}
-use Rattle.implib_driver.specs.declared.options.Setting.TheVariants.{Assembler, AssemblerFlags}
-use Rattle.implib_driver.specs.declared.options.Setting.TheVariants.{TemporaryPrefix, FurtherPrefix}
-use Rattle.implib_driver.specs.declared.options.Setting.TheVariants.{Identify, Decorations, Search}
 use Rattle.implib_driver.specs.declared.identity.Wanted.{Wanted}
 use Rattle.implib_driver.specs.declared.identity.Wanted.TheVariants.{Dlls, Members, OneDll}
-use Rattle.implib_driver.specs.declared.options.Switch.TheVariants.{Help, IdentifyStrict}
-use Rattle.implib_driver.specs.declared.options.Switch.TheVariants.{KeepsDecorated, KillAt}
-use Rattle.implib_driver.specs.declared.options.Switch.TheVariants.{ListsMembers, LeadingUnderscore}
-use Rattle.implib_driver.specs.declared.options.Switch.TheVariants.{NoLeadingUnderscore, Verbose}
-use Rattle.implib_driver.specs.declared.options.Switch.TheVariants.{Version, ExportAs}
-use Rattle.implib_driver.specs.declared.options.Switch.TheVariants.{AddUnderscore}
-use Rattle.implib_driver.specs.declared.options.Switch.TheVariants.{AddStdcallUnderscore}
-use Rattle.implib_driver.specs.declared.options.Switch.TheVariants.{CompatImplib}
 use Rattle.implib_driver.specs.declared.machine.LibraryMachine.{LibraryMachine}
 use Rattle.implib_driver.specs.declared.machine.LibraryMachine.TheVariants.{Arm64ec, Ordinary}
 use Rattle.implib_driver.specs.declared.request.Arm64ecWish.{Arm64ecWish}
@@ -42,10 +27,24 @@ use Rattle.implib_driver.specs.declared.request.CallFault.TheVariants as fault
 use Rattle.implib_driver.specs.declared.request.Request.{Request}
 use Rattle.implib_driver.specs.declared.request.Task.{Task}
 use Rattle.implib_driver.specs.declared.request.Task.TheVariants as task
-use Rattle.implib_driver.specs.Arguments.{OccurrenceView, all_given, is_last, is_switched}
-use Rattle.implib_driver.specs.Arguments.{last_given, occurrence_view}
 use Rattle.implib.specs.Conversions.{flavor_named}
 use Rattle.implib.specs.Machine.{has_leading_underscore}
+use Rattle.implib_options.specs.declared.table.Meaning.TheVariants.{NativeDefinition, DelayedOutput}
+use Rattle.implib_options.specs.declared.table.Meaning.TheVariants.{Definition, Input, Output}
+use Rattle.implib_options.specs.declared.table.Meaning.TheVariants.{Machine, Dll}
+use Rattle.implib_options.specs.declared.table.Meaning.TheVariants.{Flavor as FlavorSetting}
+use Rattle.implib_options.specs.declared.table.Meaning.TheVariants.{Assembler, AssemblerFlags}
+use Rattle.implib_options.specs.declared.table.Meaning.TheVariants.{TemporaryPrefix, FurtherPrefix}
+use Rattle.implib_options.specs.declared.table.Meaning.TheVariants.{Identify, Decorations, Search}
+use Rattle.implib_options.specs.declared.table.Meaning.TheVariants.{Help, IdentifyStrict}
+use Rattle.implib_options.specs.declared.table.Meaning.TheVariants.{KeepsDecorated, KillAt}
+use Rattle.implib_options.specs.declared.table.Meaning.TheVariants.{ListsMembers, LeadingUnderscore}
+use Rattle.implib_options.specs.declared.table.Meaning.TheVariants.{NoLeadingUnderscore, Verbose}
+use Rattle.implib_options.specs.declared.table.Meaning.TheVariants.{Version, ExportAs}
+use Rattle.implib_options.specs.declared.table.Meaning.TheVariants.{AddUnderscore}
+use Rattle.implib_options.specs.declared.table.Meaning.TheVariants.{AddStdcallUnderscore}
+use Rattle.implib_options.specs.declared.table.Meaning.TheVariants.{CompatImplib}
+use Rattle.implib_options.specs.Given.{GivenView, all, given_view, has, is_last, last}
 use Rattle.implib_rules.specs.Additions.{AdditionsView}
 use Rattle.implib_rules.specs.Linked.{NamingView}
 use Rattle.implib_rules.specs.Names.{last_part}
@@ -86,7 +85,7 @@ request_view r = record {
   library = library_options_view r.library;
   arm64ec = option_map wish_view r.arm64ec;
   decorations = option_map (λ text. text.now) r.decorations;
-  search = all_given Search (map occurrence_view r.options.now);
+  search = all Search (map given_view r.options.now);
   older_symbols = r.older_symbols;
   is_verbose = r.is_verbose;
 }
@@ -275,11 +274,11 @@ caller_of program = record {
 
 -- whether an option is given that only GNU dlltool has a use for: those who do link by GNU's
 -- linker, whatever the ending of the library's name (rustc ends it in .lib)
-abbrev pub has_gnu_habits : List OccurrenceView → Bool
+abbrev pub has_gnu_habits : List GivenView → Bool
 has_gnu_habits options =
-    is_some (last_given Assembler options) || is_some (last_given AssemblerFlags options)
-    || is_some (last_given TemporaryPrefix options)
-    || is_some (last_given DelayedOutput options)
+    is_some (last Assembler options) || is_some (last AssemblerFlags options)
+    || is_some (last TemporaryPrefix options)
+    || is_some (last DelayedOutput options)
 
 -- the flavour by the ending of a file's name
 abbrev pub flavor_by_ending : Option (List ℕ) → Flavor
@@ -320,8 +319,8 @@ machine_or unnamed None = unnamed_machine unnamed
 machine_or unnamed (Some name) = known_machine name (machine_named name)
 
 -- the machine that options name, or the one without a name
-abbrev pub machine_in : Option LibraryMachine → List OccurrenceView → Asked LibraryMachine
-machine_in unnamed options = machine_or unnamed (last_given Machine options)
+abbrev pub machine_in : Option LibraryMachine → List GivenView → Asked LibraryMachine
+machine_in unnamed options = machine_or unnamed (last Machine options)
 
 -- the flavour, if its name is one
 abbrev pub known_flavor : List ℕ → Option Flavor → Asked Flavor
@@ -334,10 +333,10 @@ flavor_or unnamed None = Ok unnamed
 flavor_or unnamed (Some name) = known_flavor name (flavor_named name)
 
 -- the flavour for a machine and a library of this file
-abbrev pub flavor_in : CalledAs → MachineType → Option (List ℕ) → List OccurrenceView → Asked Flavor
+abbrev pub flavor_in : CalledAs → MachineType → Option (List ℕ) → List GivenView → Asked Flavor
 flavor_in called machine output options =
     flavor_or (default_flavor called machine (has_gnu_habits options) output)
-    (last_given FlavorSetting options)
+    (last FlavorSetting options)
 
 -- the DLL's name, unless it is empty or ends in a directory
 abbrev pub dll_or : Option (List ℕ) → Asked (Option (List ℕ))
@@ -345,8 +344,8 @@ dll_or None = Ok None
 dll_or (Some name) = if nat_eq (length (last_part name)) 0 then Err HasEmptyDll else Ok (Some name)
 
 -- the DLL's name that options give
-abbrev pub dll_in : List OccurrenceView → Asked (Option (List ℕ))
-dll_in options = dll_or (last_given Dll options)
+abbrev pub dll_in : List GivenView → Asked (Option (List ℕ))
+dll_in options = dll_or (last Dll options)
 
 -- a library's file, which is not standard output (whose place it would take, Apart says)
 abbrev pub output_or : Option (List ℕ) → Asked (Option (List ℕ))
@@ -357,11 +356,11 @@ output_or (Some path) =
     else Ok (Some path)
 
 -- the files of the library, and of that of delayed imports, that options give
-abbrev pub output_in : List OccurrenceView → Asked (Option (List ℕ))
-output_in options = output_or (last_given Output options)
+abbrev pub output_in : List GivenView → Asked (Option (List ℕ))
+output_in options = output_or (last Output options)
 
-abbrev pub delayed_in : List OccurrenceView → Asked (Option (List ℕ))
-delayed_in options = output_or (last_given DelayedOutput options)
+abbrev pub delayed_in : List GivenView → Asked (Option (List ℕ))
+delayed_in options = output_or (last DelayedOutput options)
 
 -- the file of the native definition, which has a name, and is not standard input if the definition
 -- is
@@ -383,10 +382,10 @@ arm64ec_or Arm64ec Msvc definition given =
     with (native_or definition given) (λ native. Ok (Some native))
 
 -- what options ask for beside a library for ARM64EC, if the machine is that
-abbrev pub arm64ec_in : LibraryMachine → Flavor → List ℕ → List OccurrenceView →
+abbrev pub arm64ec_in : LibraryMachine → Flavor → List ℕ → List GivenView →
     Asked (Option (Option (List ℕ)))
 arm64ec_in machine flavor definition options =
-    arm64ec_or machine flavor definition (last_given NativeDefinition options)
+    arm64ec_or machine flavor definition (last NativeDefinition options)
 
 -- Whether imports can be delayed: I386 and AMD64 have the code, and Microsoft's linkers delay the
 -- imports of an ordinary library by their option `/delayload`.
@@ -405,23 +404,23 @@ delay_for machine flavor (Some path) = can_delay machine flavor
 
 -- How options want names to be read. Of the two about C's underscore the last counts, and one is
 -- asked for only where there is one.
-abbrev pub naming_in : MachineType → List OccurrenceView → Asked NamingView
+abbrev pub naming_in : MachineType → List GivenView → Asked NamingView
 naming_in machine options =
     if is_last LeadingUnderscore NoLeadingUnderscore options && not (has_leading_underscore machine)
     then Err HasNoUnderscore
     else Ok (record {
       is_plain = is_last NoLeadingUnderscore LeadingUnderscore options;
-      kills_at = is_switched KillAt options;
-      exports_as = is_switched ExportAs options;
-      keeps_decorated = is_switched KeepsDecorated options;
+      kills_at = has KillAt options;
+      exports_as = has ExportAs options;
+      keeps_decorated = has KeepsDecorated options;
     })
 
 -- what options add to the exports
-abbrev pub additions_in : List OccurrenceView → AdditionsView
+abbrev pub additions_in : List GivenView → AdditionsView
 additions_in options = record {
-  prefix = last_given FurtherPrefix options;
-  underscore = is_switched AddUnderscore options;
-  stdcall_underscore = is_switched AddStdcallUnderscore options;
+  prefix = last FurtherPrefix options;
+  underscore = has AddUnderscore options;
+  stdcall_underscore = has AddStdcallUnderscore options;
 }
 
 -- older symbols of addresses, if they are asked for, which no short import can declare
@@ -431,8 +430,8 @@ older_symbols_or Msvc false = Ok false
 older_symbols_or Gnu asked = Ok asked
 
 -- whether options ask for older symbols of addresses
-abbrev pub older_symbols_in : Flavor → List OccurrenceView → Asked Bool
-older_symbols_in flavor options = older_symbols_or flavor (is_switched CompatImplib options)
+abbrev pub older_symbols_in : Flavor → List GivenView → Asked Bool
+older_symbols_in flavor options = older_symbols_or flavor (has CompatImplib options)
 
 -- the definition's file, which has a name
 abbrev pub definition_or : Option (List ℕ) → Asked (List ℕ)
@@ -440,7 +439,7 @@ definition_or None = Err LacksDefinition
 definition_or (Some path) = if bytes_eq path [] then Err HasEmptyDefinition else Ok path
 
 -- the library that is asked for, of this definition
-abbrev pub request_of : Caller → List OccurrenceView → Option (List ℕ) → Asked RequestView
+abbrev pub request_of : Caller → List GivenView → Option (List ℕ) → Asked RequestView
 request_of caller options given =
     with (definition_or given) (λ definition.
     with (output_in options) (λ output.
@@ -464,10 +463,10 @@ request_of caller options given =
         additions = additions_in options;
       };
       arm64ec = arm64ec;
-      decorations = last_given Decorations options;
-      search = all_given Search options;
+      decorations = last Decorations options;
+      search = all Search options;
       older_symbols = older_symbols;
-      is_verbose = is_switched Verbose options;
+      is_verbose = has Verbose options;
     })))))))))))
 
 -- the file to make a library of: the definition's, or the one that is given without an option, but
@@ -479,15 +478,15 @@ input_of (Some definition) (path ∷ []) = Err HasTwoInputs
 input_of definition (path ∷ other ∷ paths) = Err HasTwoInputs
 
 -- the file that options give to make a library of
-abbrev pub input_in : List OccurrenceView → Asked (Option (List ℕ))
-input_in options = input_of (last_given Definition options) (all_given Input options)
+abbrev pub input_in : List GivenView → Asked (Option (List ℕ))
+input_in options = input_of (last Definition options) (all Input options)
 
 -- the library that options ask for
-abbrev pub request_in : Caller → List OccurrenceView → Asked RequestView
+abbrev pub request_in : Caller → List GivenView → Asked RequestView
 request_in caller options = with (input_in options) (request_of caller options)
 
 -- the library that options ask for where it is one of a DLL for this machine
-abbrev pub request_for : Caller → List OccurrenceView → MachineType → Asked RequestView
+abbrev pub request_for : Caller → List GivenView → MachineType → Asked RequestView
 request_for caller options machine =
     request_in (record caller { machine = Some (Ordinary machine) }) options
 
@@ -502,16 +501,16 @@ identity_or task wanted None = task
 identity_or task wanted (Some library) = Ok (AsksIdentity library wanted)
 
 -- what is printed of a library
-abbrev pub wanted_of : List OccurrenceView → Wanted
+abbrev pub wanted_of : List GivenView → Wanted
 wanted_of options =
-    if is_switched ListsMembers options then Members
-    else if is_switched IdentifyStrict options then OneDll
+    if has ListsMembers options then Members
+    else if has IdentifyStrict options then OneDll
     else Dlls
 
 -- what options ask for, where the program is called so
-abbrev pub task_of : Caller → List OccurrenceView → Asked TaskView
+abbrev pub task_of : Caller → List GivenView → Asked TaskView
 task_of caller options =
-    if is_switched Help options then Ok AsksHelp
-    else if is_switched Version options then Ok AsksVersion
+    if has Help options then Ok AsksHelp
+    else if has Version options then Ok AsksVersion
     else identity_or (made (request_in caller options)) (wanted_of options)
-    (last_given Identify options)
+    (last Identify options)

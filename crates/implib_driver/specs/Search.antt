@@ -1,6 +1,6 @@
 -- Of which kinds the exports of a DLL are through the DLLs of some folders (this project's choice;
 -- docs/DLLTOOL.md, "From a DLL").
-use Rattle.std.specs.Prelude.{◌≡◌, ◌⊎◌, ℕ, List, None, Option, Some, count_by, true}
+use Rattle.std.specs.Prelude.{◌≡◌, ℕ, List, None, Option, Some, count_by, true}
 use Rattle.std.specs.Option.{option_map}
 use Rattle.implib.specs.Definition.{ExportView}
 use Rattle.implib_dll.specs.Exports.{Exports}

@@ -2,7 +2,6 @@
 
 ghost use Rattle.implib.specs.Definition.{export_view};
 ghost use Rattle.implib_dll.specs.Views.{exports_view};
-ghost use Rattle.implib_driver.specs.Arguments.{has_values, occurrence_view};
 ghost use Rattle.implib_driver.specs.Dll.{IsRefusalOfRequest, IsRequested, ReadsDll, dll_status};
 ghost use Rattle.implib_driver.specs.DllProgram.{FinishesBytes, FinishesDll, FinishesExports};
 ghost use Rattle.implib_driver.specs.DllProgram.{FinishesKinds, FinishesList, FinishesListed};
@@ -12,13 +11,12 @@ ghost use Rattle.implib_driver.specs.DllProgram.{undecorated_status};
 ghost use Rattle.implib_driver.specs.Reports.{Complains, OfDll, Says, complaint_view};
 ghost use Rattle.implib_driver.specs.Request.{request_for, request_view};
 ghost use Rattle.implib_libraries.specs.FromDll.Definition.{exports_of};
+ghost use Rattle.implib_options.specs.Given.{given_view, has_values};
 ghost use Rattle.std.specs.Prelude.{◌≡◌, [], ◌∷◌, IfErr, IfOk, None, Some, map, true};
 
-use crate::arguments::{Occurrence, is_given};
 use crate::disk::Disk;
 use crate::dll::{DllCallError, DllRefusal, dll_exports, list_of_dll, members_of_dll};
 use crate::machine::LibraryMachine;
-use crate::options::Setting;
 use crate::placing::put;
 use crate::reporter::{Complaint, Reporter};
 use crate::request::{CallError, CallFault, Caller, Request, request_in};
@@ -30,6 +28,8 @@ use implib_dll::Exports;
 use implib_dll_check::loader_name;
 use implib_libraries::from_dll::machine_of;
 use implib_libraries::of_dll::{NotDecorations, count_missing, decorate, decorations_in};
+use implib_options::given::{Given, has};
+use implib_options::table::Meaning;
 use implib_rules::members::LibraryMembers;
 use implib_rules::name::last_part;
 use std::alloc::{AllocError, Global};
@@ -39,7 +39,7 @@ use std::mem;
 #[derive(Clone, Copy, Debug)]
 pub(crate) struct LibraryCall<'a> {
     pub(crate) caller: Caller,
-    pub(crate) options: &'a [Occurrence<'a>],
+    pub(crate) options: &'a [Given<'a>],
     pub(crate) request: Request<'a>,
 }
 
@@ -76,10 +76,10 @@ fn request_of_dll<'a>(
     call: &LibraryCall<'a>,
 ) -> Result<Request<'a>, DllCallError<'a>>
     ensures asked { IfOk result (λ request. IsRequested
-        (request_for call.now.caller (map occurrence_view call.now.options.now))
+        (request_for call.now.caller (map given_view call.now.options.now))
         (exports_view exports.now) (request_view request)) }
     ensures refused { IfErr result (IsRefusalOfRequest
-        (request_for call.now.caller (map occurrence_view call.now.options.now))
+        (request_for call.now.caller (map given_view call.now.options.now))
         (exports_view exports.now)) }
 {
     let Ok(machine) = machine_of(exports) else {
@@ -353,7 +353,7 @@ fn answer_kinds<D: Disk, T: Reporter>(
         (exports_view exports.now) (request_view request.now)
         (D.view disk.old) (D.view disk.new) (T.said reporter.old) (T.said reporter.new) result }
 {
-    if is_given(request.options, Setting::Search) {
+    if has(request.options, Meaning::Search) {
         return answer_searching(alloc, bytes, exports, list, disk, request, reporter);
     }
     answer_listed(alloc, exports, list, disk, request, reporter)
@@ -395,7 +395,7 @@ pub(crate) fn answer_dll<D: Disk, T: Reporter>(
 ) -> u8
     requires { (D.view disk.old).left ≡ None }
     ensures { FinishesDll D.is_known
-        (request_for call.now.caller (map occurrence_view call.now.options.now)) bytes.now
+        (request_for call.now.caller (map given_view call.now.options.now)) bytes.now
         (request_view call.now.request).definition (D.view disk.old) (D.view disk.new)
         (T.said reporter.old) (T.said reporter.new) result }
 {

@@ -1,40 +1,19 @@
 //! What the program says of a call that it refuses, or that failed.
 
-use crate::arguments::WordFault;
 use crate::dll::DllRefusal;
 use crate::identity::NotIdentified;
-use crate::options::Setting;
 use crate::reporter::Complaint;
 use crate::request::CallFault;
-use implib::Fault;
+use implib::Fault as DefinitionFault;
 use implib::def::Position;
 use implib_arm64ec::ImportsFault;
 use implib_libraries::arm64ec::Unimported;
 use implib_libraries::delayed::Undelayed;
+use implib_options::help::OptionName;
+use implib_options::table::Words;
+use implib_options::words::Fault;
 use implib_rules::{FaultMessage, Shown};
 use std::fmt;
-
-impl fmt::Display for Setting {
-    fn fmt<W: fmt::Write>(&self, f: &mut fmt::Formatter<W>) -> fmt::Result {
-        f.write_str(match self {
-            Setting::Definition => "-d",
-            Setting::NativeDefinition => "-N",
-            Setting::Output => "-l",
-            Setting::DelayedOutput => "-y",
-            Setting::Machine => "-m",
-            Setting::Dll => "-D",
-            Setting::Flavor => "--flavor",
-            Setting::Assembler => "-S",
-            Setting::AssemblerFlags => "-f",
-            Setting::TemporaryPrefix => "-t",
-            Setting::FurtherPrefix => "-p",
-            Setting::Identify => "-I",
-            Setting::Decorations => "--decorations",
-            Setting::Search => "--search",
-            Setting::Input => "FILE",
-        })
-    }
-}
 
 /// The long names of options, one of which a message may tell in full. `input-native-def` is none
 /// of them, so that `--input`, which GNU dlltool takes, is told as `--input-def`.
@@ -112,49 +91,54 @@ fn other_tool(word: &str) -> &'static str {
     }
 }
 
-impl<'a> fmt::Display for WordFault<'a> {
+/// What is wrong with words, in a user's words.
+#[derive(Drop)]
+pub struct WordMessage<'a>(pub Fault<'a>);
+
+impl<'a> fmt::Display for WordMessage<'a> {
     fn fmt<W: fmt::Write>(&self, f: &mut fmt::Formatter<W>) -> fmt::Result {
-        match self {
-            WordFault::Unsupported(word) => {
+        match self.0 {
+            Fault::Unsupported(word) => {
                 write!(f, "{}: not supported{}", Shown(word), other_tool(word))
             }
-            WordFault::Unknown(word) => match whole_name(word) {
+            Fault::Unknown(word) => match whole_name(word) {
                 Some(name) => {
                     write!(f, "{}: no such option; write --{name} in full", Shown(word))
                 }
                 None => write!(f, "{}: no such option", Shown(word)),
             },
-            WordFault::File(word) if word.as_bytes().starts_with(b"@") => {
+            Fault::File(word) if word.as_bytes().starts_with(b"@") => {
                 write!(f, "{}: files of options are not supported", Shown(word))
             }
-            WordFault::File(word) => {
+            Fault::File(word) => {
                 write!(
                     f,
                     "{}: no option; objects are not supported; llvm-lib makes libraries of them",
                     Shown(word)
                 )
             }
-            WordFault::NoValue(setting) => write!(f, "the option {setting} lacks its value"),
-            WordFault::NoValueIn(word) => {
-                write!(f, "{}: expected a colon and a value", Shown(word))
+            Fault::NoValue(meaning) => {
+                let name = OptionName(Words::Dlltool, meaning);
+                write!(f, "the option {name} lacks its value")
             }
-            WordFault::NoMachine(word) => write!(
+            Fault::NoValueIn(word) => { write!(f, "{}: expected a colon and a value", Shown(word)) }
+            Fault::NoMachine(word) => write!(
                 f,
                 "{}: no such machine: expected x86, x64, arm, arm64 or arm64ec",
                 Shown(word)
             ),
-            WordFault::NoDefinition => f.write_str(
+            Fault::NoDefinition => f.write_str(
                 "no definition: expected the option /def\n\
                  usage: implib_dlltool --lib /def:FILE /out:OUT [/machine:MACHINE] [/name:DLL]",
             ),
-            WordFault::NoOutput => f.write_str(
+            Fault::NoOutput => f.write_str(
                 "no name for the library's file: expected the option /out",
             ),
-            WordFault::NoLibrary => f.write_str("no library: expected its file beside /list"),
-            WordFault::Further(word) => {
+            Fault::NoLibrary => f.write_str("no library: expected its file beside /list"),
+            Fault::Further(word) => {
                 write!(f, "{}: expected one library beside /list", Shown(word))
             }
-            WordFault::ListedDefinition => f.write_str("/list: not together with /def"),
+            Fault::ListedDefinition => f.write_str("/list: not together with /def"),
         }
     }
 }
@@ -297,9 +281,11 @@ pub struct UnimportedMessage<'a>(pub &'a Unimported);
 impl<'a> fmt::Display for UnimportedMessage<'a> {
     fn fmt<W: fmt::Write>(&self, f: &mut fmt::Formatter<W>) -> fmt::Result {
         match self.0.fault {
-            ImportsFault::NulInDllName => { write!(f, "{}", FaultMessage(&Fault::NulInImportName)) }
+            ImportsFault::NulInDllName => {
+                write!(f, "{}", FaultMessage(&DefinitionFault::NulInImportName))
+            }
             ImportsFault::NulInExport(index) => {
-                write!(f, "{}", FaultMessage(&Fault::NulInExport(index)))
+                write!(f, "{}", FaultMessage(&DefinitionFault::NulInExport(index)))
             }
             ImportsFault::Unreadable(_, place) => write!(
                 f,
@@ -307,7 +293,7 @@ impl<'a> fmt::Display for UnimportedMessage<'a> {
                  it a name is taken as it is"
             ),
             ImportsFault::MemberTooLong(_) => {
-                write!(f, "{}", FaultMessage(&Fault::MemberTooLong))
+                write!(f, "{}", FaultMessage(&DefinitionFault::MemberTooLong))
             }
         }
     }
@@ -324,7 +310,7 @@ pub fn position_of_unimported(why: &Unimported) -> Option<Position> {
 impl<'a> fmt::Display for Complaint<'a> {
     fn fmt<W: fmt::Write>(&self, f: &mut fmt::Formatter<W>) -> fmt::Result {
         match self {
-            Complaint::Word(fault) => write!(f, "{fault}"),
+            Complaint::Word(fault) => write!(f, "{}", WordMessage(*fault)),
             Complaint::Call(fault) => write!(f, "{fault}"),
             Complaint::NotUtf8("") => f.write_str("an argument is not UTF-8"),
             Complaint::NotUtf8(text) => write!(f, "{}: not UTF-8", Shown(text)),

@@ -1,13 +1,14 @@
 //! The program: its arguments, its run over files, and its exit status.
 
-ghost use Rattle.implib_driver.specs.Arguments.{occurrence_view};
 ghost use Rattle.implib_driver.specs.Dll.{begins_dll};
 ghost use Rattle.implib_driver.specs.Identity.{identified};
 ghost use Rattle.implib_driver.specs.Program.{DoesWords, FinishesFor, FinishesRead, Identifies};
-ghost use Rattle.implib_driver.specs.Program.{IsUncalled, Makes, MakesApart, NamesDlls, OnlyComplains};
-ghost use Rattle.implib_driver.specs.Program.{Performs, Runs, devices, misuse, texts};
+ghost use Rattle.implib_driver.specs.Program.{IsUncalled, Makes, MakesApart, NamesDlls};
+ghost use Rattle.implib_driver.specs.Program.{OnlyComplains, Prints};
+ghost use Rattle.implib_driver.specs.Program.{Performs, Runs, devices, help_text, misuse};
 ghost use Rattle.implib_driver.specs.Reports.{OfMemory};
 ghost use Rattle.implib_driver.specs.Request.{call_fault_view, request_for, request_view};
+ghost use Rattle.implib_options.specs.Given.{given_view};
 ghost use Rattle.std.specs.IoError.{error_kind};
 ghost use Rattle.std.specs.Option.{option_map};
 ghost use Rattle.std.specs.Prelude.{◌≡◌, ◌⊎◌, IfErr, IfOk, List, None, Option, map, ℕ};
@@ -15,19 +16,20 @@ ghost use Rattle.std.specs.String.{string_bytes};
 ghost use Rattle.std.specs.Vec.Iter.{into_iter_items};
 
 use crate::apart::misplaced;
-use crate::arguments::{ReadWordsError, is_given};
 use crate::arm64ec::answer_arm64ec;
 use crate::definition_program::{answer_text, bytes_of};
 use crate::disk::Disk;
 use crate::dll::begins_dll;
 use crate::dll_program::{LibraryCall, answer_dll};
-use crate::help::{HELP, NAME, VERSION, subject_of};
+use crate::help::{NAME, VERSION, help_text, subject_of};
 use crate::identity::{IdentifyError, identify};
 use crate::lib_words::words_read;
-use crate::options::Setting;
 use crate::reporter::{Complaint, Reporter};
 use crate::request::{CallError, CallFault, Identification, Request, Task, caller_of, task_of};
 use crate::telling::{complain, complain_uncalled, print, print_bytes};
+use implib_options::given::has;
+use implib_options::table::Meaning;
+use implib_options::words::ReadError;
 use std::alloc::{AllocError, Global};
 use std::env::Args;
 use std::io;
@@ -40,7 +42,7 @@ fn misuse(request: &Request<'_>) -> Option<CallFault<'static>>
     if request.decorations.is_some() {
         return Some(CallFault::DecoratedDefinition);
     }
-    if is_given(request.options, Setting::Search) {
+    if has(request.options, Meaning::Search) {
         return Some(CallFault::SearchedDefinition);
     }
     None
@@ -78,7 +80,7 @@ fn answer<D: Disk, I: Read, T: Reporter>(
 ) -> u8
     requires { (D.view disk.old).left ≡ None }
     ensures { FinishesRead D.is_known
-        (request_for call.now.caller (map occurrence_view call.now.options.now))
+        (request_for call.now.caller (map given_view call.now.options.now))
         (begins_dll bytes.now)
         (I.remaining input.old) bytes.now (request_view call.now.request) (D.view disk.old)
         (D.view disk.new) (T.said reporter.old) (T.said reporter.new) result }
@@ -103,7 +105,7 @@ fn make<D: Disk, I: Read, T: Reporter>(
 ) -> u8
     requires { (D.view disk.old).left ≡ None }
     ensures { Makes D.is_known
-        (request_for call.now.caller (map occurrence_view call.now.options.now))
+        (request_for call.now.caller (map given_view call.now.options.now))
         (request_view call.now.request)
         (devices (I.remaining input.old) (D.view disk.old) (T.said reporter.old))
         (devices (I.remaining input.new) (D.view disk.new) (T.said reporter.new)) result }
@@ -129,7 +131,7 @@ fn make_apart<D: Disk, I: Read, T: Reporter>(
 ) -> u8
     requires { (D.view disk.old).left ≡ None }
     ensures { (printed : Option (List ℕ)) → MakesApart D.is_known name.now
-        (request_for call.now.caller (map occurrence_view call.now.options.now))
+        (request_for call.now.caller (map given_view call.now.options.now))
         (request_view call.now.request)
         (devices (I.remaining input.old) (D.view disk.old) (T.said reporter.old))
         (devices (I.remaining input.new) (D.view disk.new) (T.said reporter.new))
@@ -194,6 +196,24 @@ fn identify_library<D: Disk, O: Write, T: Reporter>(
     }
 }
 
+// Prints the help, and gives the exit status.
+fn print_help<O: Write, T: Reporter>(
+    alloc: Global,
+    printer: &mut O,
+    reporter: &mut T,
+    name: &str,
+) -> u8
+    ensures { Prints name.now help_text (T.said reporter.old) (T.said reporter.new)
+        (O.contents printer.old) (O.contents printer.new) result
+        ⊎ OnlyComplains name.now OfMemory 3 (T.said reporter.old) (T.said reporter.new)
+        (O.contents printer.old) (O.contents printer.new) result }
+{
+    match help_text(alloc) {
+        Ok(text) => print(printer, reporter, name, text.as_str()),
+        Err(_) => complain(reporter, name, Complaint::OutOfMemory, 3),
+    }
+}
+
 // How the program is called: by this name, with these words after it.
 #[derive(Clone, Copy, Debug)]
 struct Call<'a> {
@@ -211,7 +231,7 @@ fn perform_call<D: Disk, I: Read, O: Write, T: Reporter>(
     reporter: &mut T,
 ) -> u8
     requires { (D.view disk.old).left ≡ None }
-    ensures { DoesWords D.is_known (texts HELP.now VERSION.now) call.entry.program.now
+    ensures { DoesWords D.is_known call.entry.program.now
         (map string_bytes call.entry.words.now)
         (devices (I.remaining input.old) (D.view disk.old) (T.said reporter.old))
         (devices (I.remaining input.new) (D.view disk.new) (T.said reporter.new))
@@ -220,16 +240,16 @@ fn perform_call<D: Disk, I: Read, O: Write, T: Reporter>(
     let name = subject_of(call.program);
     let options = match words_read(alloc, call.program, call.words) {
         Ok(options) => options,
-        Err(ReadWordsError::Refused(fault)) => {
+        Err(ReadError::Refused(fault)) => {
             return complain(reporter, name, Complaint::Word(fault), 2);
         }
-        Err(ReadWordsError::OutOfMemory) => {
+        Err(ReadError::OutOfMemory) => {
             return complain(reporter, name, Complaint::OutOfMemory, 3);
         }
     };
     let caller = caller_of(call.program);
     match task_of(alloc, options.as_slice(), caller) {
-        Ok(Task::Help) => print(printer, reporter, name, HELP),
+        Ok(Task::Help) => print_help(alloc, printer, reporter, name),
         Ok(Task::Version) => print(printer, reporter, name, VERSION),
         Ok(Task::Identify(wish)) => identify_library(alloc, name, disk, wish, printer, reporter),
         Ok(Task::Make(request)) => {
@@ -257,7 +277,7 @@ pub fn run<D: Disk, I: Read, O: Write, T: Reporter>(
     reporter: &mut T,
 ) -> u8
     requires { (D.view disk.old).left ≡ None }
-    ensures { Runs D.is_known (texts HELP.now VERSION.now) (map string_bytes arguments.now)
+    ensures { Runs D.is_known (map string_bytes arguments.now)
         (devices (I.remaining input.old) (D.view disk.old) (T.said reporter.old))
         (devices (I.remaining input.new) (D.view disk.new) (T.said reporter.new))
         (O.contents printer.old) (O.contents printer.new) result }
@@ -297,8 +317,7 @@ fn perform_list<D: Disk, I: Read, O: Write, T: Reporter>(
     reporter: &mut T,
 ) -> u8
     requires { (D.view disk.old).left ≡ None }
-    ensures { Performs D.is_known (texts HELP.now VERSION.now)
-        (map string_bytes (into_iter_items list))
+    ensures { Performs D.is_known (map string_bytes (into_iter_items list))
         (devices (I.remaining input.old) (D.view disk.old) (T.said reporter.old))
         (devices (I.remaining input.new) (D.view disk.new) (T.said reporter.new))
         (O.contents printer.old) (O.contents printer.new) result }
@@ -333,8 +352,7 @@ pub fn perform<D: Disk, I: Read, O: Write, T: Reporter>(
 ) -> u8
     requires { (D.view disk.old).left ≡ None }
     ensures runs { IfOk command_line.entry.arguments
-        (λ list. Performs D.is_known (texts HELP.now VERSION.now)
-        (map string_bytes (into_iter_items list))
+        (λ list. Performs D.is_known (map string_bytes (into_iter_items list))
         (devices (I.remaining input.old) (D.view disk.old) (T.said reporter.old))
         (devices (I.remaining input.new) (D.view disk.new) (T.said reporter.new))
         (O.contents printer.old) (O.contents printer.new) result) }

@@ -5,13 +5,13 @@ ghost use Rattle.implib_driver.specs.Reports.{complaint_view};
 ghost use Rattle.implib_rules.specs.Warnings.{warning_view};
 ghost use Rattle.std.specs.Prelude.{[], ◌∷◌, List, Option};
 
-use crate::arguments::WordFault;
 use crate::dll::DllRefusal;
 use crate::identity::NotIdentified;
 use crate::request::CallFault;
 use implib_archive::WriteError;
 use implib_libraries::arm64ec::Unimported;
 use implib_libraries::delayed::Undelayed;
+use implib_options::words::Fault;
 use implib_rules::library::Refusal;
 use implib_rules::warnings::Warning;
 use std::io;
@@ -20,7 +20,7 @@ use std::io;
 #[derive(Debug, Drop)]
 pub enum Complaint<'a> {
     /// A word of the command line is refused.
-    Word(WordFault<'a>),
+    Word(Fault<'a>),
     /// What the options ask for is refused.
     Call(CallFault<'a>),
     /// An argument is not UTF-8: this one, as far as it can be shown.

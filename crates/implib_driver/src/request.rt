@@ -1,9 +1,9 @@
 //! What the options of a command line ask for.
 
-ghost use Rattle.implib_driver.specs.Arguments.{all_given, occurrence_view};
 ghost use Rattle.implib_driver.specs.Machines.{machine_type};
-ghost use Rattle.implib_driver.specs.declared.options.Setting.TheVariants.{Input};
 ghost use Rattle.implib_driver.specs.declared.request.CallFault.TheVariants.{TwoInputs};
+ghost use Rattle.implib_options.specs.Given.{all, given_view};
+ghost use Rattle.implib_options.specs.declared.table.Meaning.TheVariants.{Input};
 ghost use Rattle.implib_rules.specs.Additions.{additions_view};
 ghost use Rattle.implib_rules.specs.Linked.{naming_view};
 ghost use Rattle.implib_driver.specs.Request.{additions_in, arm64ec_in, native_or};
@@ -23,11 +23,11 @@ ghost use Rattle.implib_driver.specs.Request.{task_of, task_view, wanted_of};
 ghost use Rattle.std.specs.Option.{option_map, option_to_list};
 ghost use Rattle.std.specs.Prelude.{◌≡◌, ◌<◌, Err, IfErr, IfOk, Ok, OnOk, length, map};
 
-use crate::arguments::{Occurrence, is_last, is_switched, last_given};
 use crate::identity::Wanted;
 use crate::machine::{LibraryMachine, library_machine_called};
-use crate::options::{Setting, Switch};
 use implib::{Flavor, MachineType};
+use implib_options::given::{Given, has, is_last, last};
+use implib_options::table::Meaning;
 use implib_rules::additions::Additions;
 use implib_rules::linked::Naming;
 use implib_rules::name::last_part;
@@ -58,7 +58,7 @@ pub struct Request<'a> {
     /// The file that has the symbols of a DLL's names, if one is given.
     pub decorations: Option<&'a str>,
     /// The options, of which `--search` gives the folders of further DLLs.
-    pub options: &'a [Occurrence<'a>],
+    pub options: &'a [Given<'a>],
     /// Whether addresses have their older symbols too (`-C`).
     pub older_symbols: bool,
     /// Whether warnings are written (`-v`).
@@ -297,13 +297,13 @@ pub fn caller_of(program: &str) -> Caller
 }
 
 // Whether an option is given that only GNU dlltool has a use for.
-fn has_gnu_habits(options: &[Occurrence<'_>]) -> bool
-    ensures { result ≡ has_gnu_habits (map occurrence_view options.now) }
+fn has_gnu_habits(options: &[Given<'_>]) -> bool
+    ensures { result ≡ has_gnu_habits (map given_view options.now) }
 {
-    last_given(options, Setting::Assembler).is_some()
-        || last_given(options, Setting::AssemblerFlags).is_some()
-        || last_given(options, Setting::TemporaryPrefix).is_some()
-        || last_given(options, Setting::DelayedOutput).is_some()
+    last(options, Meaning::Assembler).is_some()
+        || last(options, Meaning::AssemblerFlags).is_some()
+        || last(options, Meaning::TemporaryPrefix).is_some()
+        || last(options, Meaning::DelayedOutput).is_some()
 }
 
 // The flavour by the ending of a file's name.
@@ -342,15 +342,15 @@ fn default_flavor(
 // The machine that the options name, or that of the program's name.
 fn machine_in<'a>(
     alloc: Global,
-    options: &[Occurrence<'a>],
+    options: &[Given<'a>],
     unnamed: Option<LibraryMachine>,
 ) -> Result<LibraryMachine, CallError<'a>>
     ensures ok { IfOk result
-        (λ machine. machine_in unnamed (map occurrence_view options.now) ≡ Ok machine) }
+        (λ machine. machine_in unnamed (map given_view options.now) ≡ Ok machine) }
     ensures refused { IfErr result
-        (IsCallRefusal (machine_in unnamed (map occurrence_view options.now))) }
+        (IsCallRefusal (machine_in unnamed (map given_view options.now))) }
 {
-    let Some(name) = last_given(options, Setting::Machine) else {
+    let Some(name) = last(options, Meaning::Machine) else {
         return match unnamed {
             Some(machine) => Ok(machine),
             None => Err(CallError::Refused(CallFault::OtherArchitecture)),
@@ -364,19 +364,19 @@ fn machine_in<'a>(
 
 // The flavour that the options name, or the default.
 fn flavor_in<'a>(
-    options: &[Occurrence<'a>],
+    options: &[Given<'a>],
     called_as: CalledAs,
     machine: MachineType,
     output: Option<&str>,
 ) -> Result<Flavor, CallFault<'a>>
     ensures ok { IfOk result (λ flavor.
         flavor_in called_as machine (option_map (λ text. text.now) output.entry)
-        (map occurrence_view options.now) ≡ Ok flavor) }
+        (map given_view options.now) ≡ Ok flavor) }
     ensures refused { IfErr result (λ fault.
         flavor_in called_as machine (option_map (λ text. text.now) output.entry)
-        (map occurrence_view options.now) ≡ Err (call_fault_view fault)) }
+        (map given_view options.now) ≡ Err (call_fault_view fault)) }
 {
-    let Some(name) = last_given(options, Setting::Flavor) else {
+    let Some(name) = last(options, Meaning::Flavor) else {
         return Ok(default_flavor(called_as, machine, has_gnu_habits(options), output));
     };
     match Flavor::from_str(name) {
@@ -386,13 +386,13 @@ fn flavor_in<'a>(
 }
 
 // The name of the DLL that the options give.
-fn dll_in<'a>(options: &[Occurrence<'a>]) -> Result<Option<&'a str>, CallFault<'a>>
+fn dll_in<'a>(options: &[Given<'a>]) -> Result<Option<&'a str>, CallFault<'a>>
     ensures ok { IfOk result (λ dll.
-        dll_in (map occurrence_view options.now) ≡ Ok (option_map (λ text. text.now) dll)) }
+        dll_in (map given_view options.now) ≡ Ok (option_map (λ text. text.now) dll)) }
     ensures refused { IfErr result (λ fault.
-        dll_in (map occurrence_view options.now) ≡ Err (call_fault_view fault)) }
+        dll_in (map given_view options.now) ≡ Err (call_fault_view fault)) }
 {
-    let Some(name) = last_given(options, Setting::Dll) else {
+    let Some(name) = last(options, Meaning::Dll) else {
         return Ok(None);
     };
     if last_part(name).is_empty() {
@@ -416,23 +416,23 @@ fn output_given(given: Option<&str>) -> Result<Option<&str>, CallFault<'_>>
 }
 
 // The file of the library that the options give.
-fn output_in<'a>(options: &[Occurrence<'a>]) -> Result<Option<&'a str>, CallFault<'a>>
-    ensures ok { IfOk result (λ output. output_in (map occurrence_view options.now)
+fn output_in<'a>(options: &[Given<'a>]) -> Result<Option<&'a str>, CallFault<'a>>
+    ensures ok { IfOk result (λ output. output_in (map given_view options.now)
         ≡ Ok (option_map (λ text. text.now) output)) }
     ensures refused { IfErr result (λ fault.
-        output_in (map occurrence_view options.now) ≡ Err (call_fault_view fault)) }
+        output_in (map given_view options.now) ≡ Err (call_fault_view fault)) }
 {
-    output_given(last_given(options, Setting::Output))
+    output_given(last(options, Meaning::Output))
 }
 
 // The file of the library of delayed imports that the options give.
-fn delayed_in<'a>(options: &[Occurrence<'a>]) -> Result<Option<&'a str>, CallFault<'a>>
-    ensures ok { IfOk result (λ output. delayed_in (map occurrence_view options.now)
+fn delayed_in<'a>(options: &[Given<'a>]) -> Result<Option<&'a str>, CallFault<'a>>
+    ensures ok { IfOk result (λ output. delayed_in (map given_view options.now)
         ≡ Ok (option_map (λ text. text.now) output)) }
     ensures refused { IfErr result (λ fault.
-        delayed_in (map occurrence_view options.now) ≡ Err (call_fault_view fault)) }
+        delayed_in (map given_view options.now) ≡ Err (call_fault_view fault)) }
 {
-    output_given(last_given(options, Setting::DelayedOutput))
+    output_given(last(options, Meaning::DelayedOutput))
 }
 
 // The file of the native definition, which is not standard input if the definition is.
@@ -455,17 +455,17 @@ fn native_given<'a>(
 
 // What the options ask for beside a library for ARM64EC, if the machine is that.
 fn arm64ec_in<'a>(
-    options: &[Occurrence<'a>],
+    options: &[Given<'a>],
     machine: LibraryMachine,
     flavor: Flavor,
     definition: &str,
 ) -> Result<Option<Arm64ecWish<'a>>, CallFault<'a>>
     ensures ok { IfOk result (λ wish. arm64ec_in machine flavor definition.now
-        (map occurrence_view options.now) ≡ Ok (option_map wish_view wish)) }
+        (map given_view options.now) ≡ Ok (option_map wish_view wish)) }
     ensures refused { IfErr result (λ fault. arm64ec_in machine flavor definition.now
-        (map occurrence_view options.now) ≡ Err (call_fault_view fault)) }
+        (map given_view options.now) ≡ Err (call_fault_view fault)) }
 {
-    let given = last_given(options, Setting::NativeDefinition);
+    let given = last(options, Meaning::NativeDefinition);
     match machine {
         LibraryMachine::Ordinary(_) if given.is_some() => Err(CallFault::NativeElsewhere),
         LibraryMachine::Ordinary(_) => Ok(None),
@@ -504,16 +504,16 @@ fn test_delay<'a>(
 }
 
 // How the options want names to be read.
-fn naming_in<'a>(options: &[Occurrence<'a>], machine: MachineType) -> Result<Naming, CallFault<'a>>
+fn naming_in<'a>(options: &[Given<'a>], machine: MachineType) -> Result<Naming, CallFault<'a>>
     ensures ok { IfOk result (λ naming.
-        naming_in machine (map occurrence_view options.now) ≡ Ok (naming_view naming)) }
+        naming_in machine (map given_view options.now) ≡ Ok (naming_view naming)) }
     ensures refused { IfErr result (λ fault.
-        naming_in machine (map occurrence_view options.now) ≡ Err (call_fault_view fault)) }
+        naming_in machine (map given_view options.now) ≡ Err (call_fault_view fault)) }
 {
     let has_underscore = is_last(
         options,
-        Switch::LeadingUnderscore,
-        Switch::NoLeadingUnderscore,
+        Meaning::LeadingUnderscore,
+        Meaning::NoLeadingUnderscore,
     );
     if has_underscore && !machine.has_leading_underscore() {
         return Err(CallFault::NoUnderscore);
@@ -521,23 +521,23 @@ fn naming_in<'a>(options: &[Occurrence<'a>], machine: MachineType) -> Result<Nam
     Ok(Naming {
         is_plain: is_last(
             options,
-            Switch::NoLeadingUnderscore,
-            Switch::LeadingUnderscore,
+            Meaning::NoLeadingUnderscore,
+            Meaning::LeadingUnderscore,
         ),
-        kills_at: is_switched(options, Switch::KillAt),
-        exports_as: is_switched(options, Switch::ExportAs),
-        keeps_decorated: is_switched(options, Switch::KeepsDecorated),
+        kills_at: has(options, Meaning::KillAt),
+        exports_as: has(options, Meaning::ExportAs),
+        keeps_decorated: has(options, Meaning::KeepsDecorated),
     })
 }
 
 // Whether the options ask for older symbols of addresses, which are for GNU's linker.
-fn older_symbols_in<'a>(options: &[Occurrence<'a>], flavor: Flavor) -> Result<bool, CallFault<'a>>
+fn older_symbols_in<'a>(options: &[Given<'a>], flavor: Flavor) -> Result<bool, CallFault<'a>>
     ensures ok { IfOk result (λ asked.
-        older_symbols_in flavor (map occurrence_view options.now) ≡ Ok asked) }
+        older_symbols_in flavor (map given_view options.now) ≡ Ok asked) }
     ensures refused { IfErr result (λ fault.
-        older_symbols_in flavor (map occurrence_view options.now) ≡ Err (call_fault_view fault)) }
+        older_symbols_in flavor (map given_view options.now) ≡ Err (call_fault_view fault)) }
 {
-    let is_asked = is_switched(options, Switch::CompatImplib);
+    let is_asked = has(options, Meaning::CompatImplib);
     match flavor {
         Flavor::Msvc if is_asked => Err(CallFault::NoOlderSymbols),
         Flavor::Msvc | Flavor::Gnu => Ok(is_asked),
@@ -545,46 +545,44 @@ fn older_symbols_in<'a>(options: &[Occurrence<'a>], flavor: Flavor) -> Result<bo
 }
 
 // What the options add to the exports.
-fn additions_in<'a>(options: &[Occurrence<'a>]) -> Additions<'a>
-    ensures { additions_view result ≡ additions_in (map occurrence_view options.now) }
+fn additions_in<'a>(options: &[Given<'a>]) -> Additions<'a>
+    ensures { additions_view result ≡ additions_in (map given_view options.now) }
 {
     Additions {
-        prefix: last_given(options, Setting::FurtherPrefix),
-        underscore: is_switched(options, Switch::AddUnderscore),
-        stdcall_underscore: is_switched(options, Switch::AddStdcallUnderscore),
+        prefix: last(options, Meaning::FurtherPrefix),
+        underscore: has(options, Meaning::AddUnderscore),
+        stdcall_underscore: has(options, Meaning::AddStdcallUnderscore),
     }
 }
 
 // The one file that is given without an option, if there is one.
-fn only_input<'a>(options: &[Occurrence<'a>]) -> Result<Option<&'a str>, CallFault<'a>>
-    ensures ok { IfOk result (λ input. all_given Input (map occurrence_view options.now)
+fn only_input<'a>(options: &[Given<'a>]) -> Result<Option<&'a str>, CallFault<'a>>
+    ensures ok { IfOk result (λ input. all Input (map given_view options.now)
         ≡ option_to_list (option_map (λ text. text.now) input)) }
     ensures refused { IfErr result (λ fault. (fault ≡ TwoInputs)
-        × (1 < length (all_given Input (map occurrence_view options.now)))) }
+        × (1 < length (all Input (map given_view options.now)))) }
 {
     let mut found = None;
     for option in options {
-        if let Occurrence::Given(given, value) = option {
-            if given.is(Setting::Input) {
-                if found.is_some() {
-                    return Err(CallFault::TwoInputs);
-                }
-                found = Some(*value);
+        if option.meaning == Meaning::Input {
+            if found.is_some() {
+                return Err(CallFault::TwoInputs);
             }
+            found = Some(option.value);
         }
     }
     Ok(found)
 }
 
 // The file that a library is to be made of, if there is one.
-fn input_in<'a>(options: &[Occurrence<'a>]) -> Result<Option<&'a str>, CallFault<'a>>
+fn input_in<'a>(options: &[Given<'a>]) -> Result<Option<&'a str>, CallFault<'a>>
     ensures ok { IfOk result (λ input.
-        input_in (map occurrence_view options.now) ≡ Ok (option_map (λ text. text.now) input)) }
+        input_in (map given_view options.now) ≡ Ok (option_map (λ text. text.now) input)) }
     ensures refused { IfErr result (λ fault.
-        input_in (map occurrence_view options.now) ≡ Err (call_fault_view fault)) }
+        input_in (map given_view options.now) ≡ Err (call_fault_view fault)) }
 {
     let input = only_input(options)?;
-    let definition = last_given(options, Setting::Definition);
+    let definition = last(options, Meaning::Definition);
     match input {
         None => Ok(definition),
         Some(path) => match definition {
@@ -597,13 +595,13 @@ fn input_in<'a>(options: &[Occurrence<'a>]) -> Result<Option<&'a str>, CallFault
 // The library that the options ask for.
 pub(crate) fn request_in<'a>(
     alloc: Global,
-    options: &'a [Occurrence<'a>],
+    options: &'a [Given<'a>],
     caller: Caller,
 ) -> Result<Request<'a>, CallError<'a>>
     ensures ok { IfOk result (λ request.
-        request_in caller (map occurrence_view options.now) ≡ Ok (request_view request)) }
+        request_in caller (map given_view options.now) ≡ Ok (request_view request)) }
     ensures refused { IfErr result
-        (IsCallRefusal (request_in caller (map occurrence_view options.now))) }
+        (IsCallRefusal (request_in caller (map given_view options.now))) }
 {
     let Some(definition) = input_in(options)? else {
         return Err(CallError::Refused(CallFault::NoDefinition));
@@ -634,20 +632,20 @@ pub(crate) fn request_in<'a>(
             additions,
         },
         arm64ec,
-        decorations: last_given(options, Setting::Decorations),
+        decorations: last(options, Meaning::Decorations),
         options,
         older_symbols,
-        is_verbose: is_switched(options, Switch::Verbose),
+        is_verbose: has(options, Meaning::Verbose),
     })
 }
 
 // What is printed of a library.
-fn wanted_of(options: &[Occurrence<'_>]) -> Wanted
-    ensures { result ≡ wanted_of (map occurrence_view options.now) }
+fn wanted_of(options: &[Given<'_>]) -> Wanted
+    ensures { result ≡ wanted_of (map given_view options.now) }
 {
-    if is_switched(options, Switch::ListsMembers) {
+    if has(options, Meaning::ListsMembers) {
         Wanted::Members
-    } else if is_switched(options, Switch::IdentifyStrict) {
+    } else if has(options, Meaning::IdentifyStrict) {
         Wanted::OneDll
     } else {
         Wanted::Dlls
@@ -669,21 +667,21 @@ fn wanted_of(options: &[Occurrence<'_>]) -> Wanted
 /// machine.
 pub fn task_of<'a>(
     alloc: Global,
-    options: &'a [Occurrence<'a>],
+    options: &'a [Given<'a>],
     caller: Caller,
 ) -> Result<Task<'a>, CallError<'a>>
     ensures ok { IfOk result (λ task.
-        task_of caller (map occurrence_view options.now) ≡ Ok (task_view task)) }
+        task_of caller (map given_view options.now) ≡ Ok (task_view task)) }
     ensures refused { IfErr result
-        (IsCallRefusal (task_of caller (map occurrence_view options.now))) }
+        (IsCallRefusal (task_of caller (map given_view options.now))) }
 {
-    if is_switched(options, Switch::Help) {
+    if has(options, Meaning::Help) {
         return Ok(Task::Help);
     }
-    if is_switched(options, Switch::Version) {
+    if has(options, Meaning::Version) {
         return Ok(Task::Version);
     }
-    if let Some(library) = last_given(options, Setting::Identify) {
+    if let Some(library) = last(options, Meaning::Identify) {
         return Ok(Task::Identify(Identification {
             library,
             wanted: wanted_of(options),

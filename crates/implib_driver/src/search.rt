@@ -11,7 +11,7 @@ ghost use Rattle.implib_dll.specs.Views.{exports_view};
 ghost use Rattle.implib_dll_check.specs.Folders.{AreKnown, IsRight, Listing, dll_path, folder_view};
 ghost use Rattle.implib_dll_check.specs.Folders.{listings, loaded_view};
 ghost use Rattle.implib_driver.specs.Apart.{AreSame};
-ghost use Rattle.implib_driver.specs.Arguments.{has_values};
+ghost use Rattle.implib_options.specs.Given.{has_values};
 ghost use Rattle.implib_driver.specs.Dll.{ReadsDll};
 ghost use Rattle.implib_driver.specs.Request.{request_view};
 ghost use Rattle.implib_driver.specs.Search.{AreFollowed, FailsToSearch, IsSearched, TakesDll};
@@ -22,10 +22,8 @@ ghost use Rattle.std.specs.Option.{option_map};
 ghost use Rattle.std.specs.Prelude.{◌≡◌, ℕ, All, IfErr, IfOk, IfSome, List, None, OnOk, false, map, true};
 ghost use Rattle.std.specs.String.{string_bytes};
 
-use crate::arguments::all_given;
 use crate::disk::Disk;
 use crate::dll::dll_exports;
-use crate::options::Setting;
 use crate::request::Request;
 use implib::def::ShortExport;
 use implib_dll::Exports;
@@ -34,6 +32,8 @@ use implib_dll_check::{
     Beside, Folder, Loaded, count_astray, dll_path, mark_followed, named_dlls, names_of,
     unknown_dlls,
 };
+use implib_options::given::all;
+use implib_options::table::Meaning;
 use implib_rules::name::last_part;
 use std::alloc::{AllocError, AllocFailed, Global};
 use std::io;
@@ -354,7 +354,7 @@ pub fn search<D: Disk>(
     ensures failed { IfErr result (FailsToSearch (D.view disk.old) (D.view disk.new)
         (request_view request.now).output) }
 {
-    let paths = all_given(alloc, request.options, Setting::Search)?;
+    let paths = all(alloc, request.options, Meaning::Search)?;
     let folders = folders_at(alloc, disk, &paths)?;
     let names = own_names(alloc, exports, request)?;
     let output = request.output;

@@ -18,7 +18,7 @@ use implib_devices::console::Message;
 use implib_devices::files::{Made, SystemDisk, folder_of, settle, with_mode};
 use implib_driver::disk::Disk;
 use implib_driver::message::NAMES;
-use implib_driver::options::{Meaning, option_named};
+use implib_driver::options::{lookup, table};
 use implib_driver::reporter::{Complaint, Reporter};
 use implib_rules::library::Refusal;
 use std::alloc::{AllocError, Global};
@@ -125,7 +125,7 @@ impl OpenFile for Unsynced {
 /// Tells the options that messages tell, and which of them are none.
 fn tell_hints(text: &mut String) -> Result<(), AllocError> {
     for name in NAMES {
-        let answer = if option_named(name) == Meaning::Unknown {
+        let answer = if lookup::named(table::Words::Dlltool, name).is_none() {
             "no option"
         } else {
             "an option"

@@ -1,8 +1,8 @@
-use Rattle.std.proofs.Common.{[], ◌∷◌, ◌≡◌, ◌⊎◌, ◌∙◌, None, ap, false, if◌then◌else◌, inl, inr, refl, sym, true}
+use Rattle.std.proofs.Common.{[], ◌∷◌, ◌≡◌, ◌⊎◌, ◌∙◌, None, false, inl, inr, refl, subst, sym, true}
+use Rattle.std.specs.Prelude.{MatchBool}
 use Rattle.std.proofs.lemmas.Bool.{true≢false}
-use Rattle.implib_driver.specs.Arguments.{read_words}
 use Rattle.implib_driver.specs.Disk.{DiskView}
-use Rattle.implib_driver.specs.LibWords.{read_by_name, read_lib_words}
+use Rattle.implib_driver.specs.LibWords.{IsReadBy, is_lib_name}
 use Rattle.implib_driver.specs.Placing.{IsUnplaced}
 use Rattle.implib_driver.specs.Worked.{AnswersTold}
 use Rattle.implib_driver.proofs.laws.answers_told.Goals as goal
@@ -22,10 +22,10 @@ worked = record {
   no_memory_for_native = refl;
   no_arguments = λ before after printed prints status called. called.is_status;
   nothing_left = none_left;
-  as_before = λ program word words named first.
-      ap (λ is. if is then read_lib_words words else read_by_name program (word ∷ words)) first
-      ∙ ap (λ is. if is then read_lib_words (word ∷ words) else read_words (word ∷ words)) named;
-  as_before_without_words = λ program named. ap (λ is. if is then read_lib_words [] else read_words []) named;
+  as_before = λ program word words reading named first read.
+      subst (λ is. IsReadBy is (word ∷ words) reading) named
+      (subst (λ is. MatchBool is (IsReadBy true words reading) (IsReadBy (is_lib_name program) (word ∷ words) reading)) first read);
+  as_before_without_words = λ program reading named read. subst (λ is. IsReadBy is [] reading) named read;
 }
 
 pub returns : goal.returns

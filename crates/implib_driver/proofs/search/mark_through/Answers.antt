@@ -8,7 +8,7 @@ use Rattle.implib_dll_check.specs.Folders.{loaded_view}
 use Rattle.implib_dll_check.specs.Forwarding.{Beside, known_in}
 use Rattle.implib_dll_check.specs.ForwardingViews.{known_view}
 use Rattle.implib_dll_check.specs.Kinds.{is_astray, unknown_dlls}
-use Rattle.implib_driver.specs.Arguments.{has_values}
+use Rattle.implib_options.specs.Given.{has_values}
 use Rattle.implib_driver.proofs.Searching.{marked_through, no_values}
 use Rattle.implib_driver.proofs.search.mark_through.Goals as goal
 

@@ -1,0 +1,6 @@
+pub mod Table
+pub mod Given
+pub mod Saying
+pub mod LibWords
+pub mod Words
+pub mod Laws
