@@ -16,7 +16,6 @@ pub mod Packed
 pub mod Jumps
 pub mod Stubs
 pub mod Definers
-pub mod Bounds
 pub mod Keeps
 pub mod Steady
 pub mod Moved
@@ -35,10 +34,7 @@ pub mod Apart
 pub mod Beside
 pub mod Writing
 pub mod Runs
-pub mod Whole
-pub mod OtherLibraries
 pub mod Choices
 pub mod MovedPrograms
 pub mod LinkedCodes
 pub mod Aliases
-pub mod A32

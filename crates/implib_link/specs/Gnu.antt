@@ -7,14 +7,11 @@ pub mod Calls
 pub mod Fields
 pub mod Operands
 pub mod Packed
-pub mod Bounds
 pub mod Rebased
 pub mod Moves
 pub mod Stored
 pub mod Pointers
 pub mod Pages
 pub mod Writing
-pub mod OtherLibraries
 pub mod Choices
 pub mod Aliases
-pub mod A32

@@ -110,7 +110,7 @@ jump_reads ARM64 address bytes =
 -- that all of it is below 2^32; ARM64, that the image's base and the address tables' are multiples
 -- of 8, as thunks are.
 -- ARMNT's stubs cannot: they are A32 code with a relative field where they load an address, so they
--- jump elsewhere (Gnu/A32).
+-- jump elsewhere.
 abbrev pub CanJump : MachineType → ℕ → Bases → Type 0
 CanJump I386 image_base bases = image_base + 2 ^ 31 ≤ 2 ^ 32
 CanJump ARMNT image_base bases = ⊥

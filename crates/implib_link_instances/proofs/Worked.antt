@@ -1,8 +1,6 @@
 -- What is worked by hand, computed.
-pub mod A32
 pub mod Aliases
 pub mod BothFlavors
-pub mod Bounds
 pub mod Calls
 pub mod Closed
 pub mod CommandLines
@@ -18,7 +16,6 @@ pub mod Loads
 pub mod MsvcSearch
 pub mod Opened
 pub mod Operands
-pub mod OtherLibraries
 pub mod OtherNames
 pub mod Packed
 pub mod Parts

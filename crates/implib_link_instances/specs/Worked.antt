@@ -1,5 +1,4 @@
 -- Programs, expansions and searches worked by hand.
-pub mod A32
 pub mod Aliases
 pub mod BothFlavors
 pub mod Calls
@@ -15,7 +14,6 @@ pub mod Loads
 pub mod MsvcSearch
 pub mod NoShorts
 pub mod Operands
-pub mod OtherLibraries
 pub mod OtherNames
 pub mod Parts
 pub mod Plainly

@@ -1,24 +1,14 @@
 -- Programs of members for GNU's linker alone, in the words of definitions without a flavour.
-use Rattle.std.proofs.Common.{◌≡◌, ℕ, zero, suc, ◌+◌, ◌*◌, List, [], ◌∷◌, ◌++◌, length, map, Some, refl, ap, sym, ◌∙◌, subst}
-use Rattle.std.specs.Prelude.{bytes_eq, not, option_map, slice_get}
+use Rattle.std.proofs.Common.{◌≡◌, ℕ, zero, suc, ◌+◌, List, [], ◌∷◌, ◌++◌, length, map, refl, ap, sym, ◌∙◌, subst}
+use Rattle.std.specs.Prelude.{bytes_eq, not}
 use Rattle.std.specs.List.{AllByRecursion, IsDistinct, filter}
-use Rattle.std.proofs.lemmas.Option.{slice_get-map}
 use Rattle.implib.specs.declared.machine.MachineType.{MachineType}
 use Rattle.implib.specs.declared.flavor.Flavor.TheVariants.{Gnu}
-use Rattle.implib.specs.Definition.{ExportView}
 use Rattle.implib.specs.Formats.Object.{Object}
-use Rattle.implib.specs.Import.{imp_symbol}
 use Rattle.implib.specs.Link.LinkedMembers.{IsMade, LinkInput, all_linked, chosen_exports, linked_members, objects_in}
-use Rattle.implib.specs.Link.Placement.{Bases, placed_from}
-use Rattle.implib.specs.Link.Resolution.{definitions_of}
-use Rattle.implib.specs.Members.ImportTables.{thunk_width}
-use Rattle.implib.proofs.Link.LinkedBlocks.{blocks_objects}
-use Rattle.implib.proofs.Link.LinkedInputs.{block_of, gnu_inputs_objects}
-use Rattle.implib_link.specs.Flavors.Program.{AreEndedByLinker, AreProgramObjects, IsFoundByName, IsMadeFor, IsProgram, LinksAmong, OfLinker, all_members, dll_names_in, gnu_input, symbols_listed, thunks_of}
+use Rattle.implib_link.specs.Flavors.Program.{AreEndedByLinker, AreProgramObjects, IsFoundByName, IsMadeFor, OfLinker, all_members, dll_names_in, gnu_input, symbols_listed, thunks_of}
 use Rattle.implib_link.specs.Gnu.Program.{ClaimsNone, has_tables, linked_symbols, null_descriptor, thunks_before}
-use Rattle.implib_link.proofs.Flavors.Loaded.{entry_of}
 use Rattle.implib_link.proofs.Gnu.Alone.{all_kept, members_have, none_left}
-use Rattle.implib_link.proofs.Gnu.Blocks.{objects_behind}
 
 pub gnu_members : (machine : MachineType) (inputs : List LinkInput) → all_members machine (map gnu_input inputs) ≡ all_linked machine inputs
 gnu_members machine [] = refl
@@ -57,14 +47,6 @@ gnu_objects machine inputs objects distinct tables others = record {
   found = gnu_found inputs;
 }
 
-pub gnu_kept : (machine : MachineType) (b : Bases) (inputs : List LinkInput) (objects : List Object) → AllByRecursion (IsMade machine) inputs → IsProgram machine b inputs objects →
-    filter has_tables objects ≡ blocks_objects machine (map block_of inputs) (null_descriptor ∷ [])
-gnu_kept machine b inputs objects made program =
-    program.held.ended.tables
-    ∙ ap (λ ms. objects_in ms ++ null_descriptor ∷ []) (gnu_members machine inputs)
-    ∙ ap (λ members. members ++ null_descriptor ∷ []) (gnu_inputs_objects machine inputs made)
-    ∙ objects_behind machine (map block_of inputs) (null_descriptor ∷ [])
-
 -- the members and the null descriptor are such objects by themselves
 pub members_are_objects : (machine : MachineType) (inputs : List LinkInput) → AllByRecursion (IsMade machine) inputs → IsDistinct bytes_eq (linked_symbols machine inputs) →
     AreProgramObjects machine OfLinker (map gnu_input inputs) (objects_in (all_linked machine inputs) ++ null_descriptor ∷ [])
@@ -72,12 +54,3 @@ members_are_objects machine inputs made distinct =
     let objects : List Object = objects_in (all_linked machine inputs) ++ null_descriptor ∷ [] in
     gnu_objects machine inputs objects distinct (all_kept objects (members_have machine inputs made))
     (subst (AllByRecursion (ClaimsNone (linked_symbols machine inputs))) (sym (none_left objects (members_have machine inputs made))) tt)
-
--- the entry of the j-th chosen export
-pub gnu_entry_of : (machine : MachineType) (bases : Bases) (inputs : List LinkInput) (objects : List Object) (i j : ℕ) (p : LinkInput) (e : ExportView) → LinksAmong machine bases inputs objects →
-    slice_get inputs i ≡ Some p → slice_get (chosen_exports p.definition p.chosen) j ≡ Some e →
-    definitions_of (imp_symbol e.name) (placed_from bases objects)
-    ≡ record { name = imp_symbol e.name; address = Some (bases.addresses + thunk_width machine * thunks_before i inputs + thunk_width machine * j) } ∷ []
-gnu_entry_of machine bases inputs objects i j p e links input chosen =
-    entry_of machine OfLinker bases (map gnu_input inputs) objects i j (gnu_input p) e links (slice_get-map gnu_input inputs i ∙ ap (option_map gnu_input) input) chosen
-    ∙ ap (λ n. record { name = imp_symbol e.name; address = Some (bases.addresses + thunk_width machine * n + thunk_width machine * j) } ∷ []) (gnu_thunks i inputs)

@@ -22,7 +22,7 @@ use Rattle.implib_link.specs.Flavors.LldTables.{IsAskable, IsImportable, thunks_
 use Rattle.implib_link.proofs.Flavors.LldGroups.{OneDll, grouped_all, grouped_holds, grouped_one, grouped_times, in_place}
 use Rattle.implib_link.proofs.Flavors.LldTables.{StandAt, directory_stands, pieces_stand}
 use Rattle.implib_link.proofs.Gnu.Blocks.{table_sum}
-use Rattle.implib_link.proofs.Gnu.OtherLibraries.{definitions_parts}
+use Rattle.implib_link.proofs.Gnu.Others.{definitions_parts}
 use Rattle.implib_link.proofs.Gnu.Program.{gets_address}
 use Rattle.implib_link.proofs.Search.Counts.{distinct_from, few_from}
 use Rattle.implib_link.proofs.Search.Lists.{contains_among, all_from}

@@ -1,7 +1,8 @@
 -- Objects without import tables change nothing of those that have them.
 use Rattle.std.proofs.Common.{◌≡◌, ℕ, ◌≤◌, arith, true, false, List, [], ◌∷◌, ◌++◌, None, refl, ap, sym, ◌∙◌, subst, inl, inr, codes, bytes_eq}
 use Rattle.std.specs.Prelude.{◌==◌, ◌&&◌, nat_le, not, take}
-use Rattle.std.specs.List.{AllByRecursion, filter, filter_map, list_any}
+use Rattle.std.specs.List.{AllByRecursion, filter, filter_map, flat_map, list_any}
+use Rattle.std.proofs.lemmas.Grind.{flat_map-append}
 use Rattle.std.proofs.lemmas.Bool.{and_parts, cases_Bool, false_from_ne_true, leb-true, ne_eqb, or_parts, true≢false}
 use Rattle.std.proofs.lemmas.List.Elements.{filter-append}
 use Rattle.std.proofs.lemmas.Slice.Eq.{bytes_eq-Decides}
@@ -11,7 +12,7 @@ use Rattle.implib.specs.Formats.File.{is_defined_external}
 use Rattle.implib.specs.Link.Image.{contributions, contributions_in}
 use Rattle.implib.specs.Formats.Object.{ASymbol, Auxiliary, Entry, Object, ObjectSection, ObjectSymbol}
 use Rattle.implib.specs.Link.Placement.{Bases, Group, Unplaced, SectionAddress, Placed, ends_after, group_named, section_address_of, placed_from, section_addresses_of}
-use Rattle.implib.specs.Link.Resolution.{SymbolDefinition, defined_by_entry, definitions, definitions_of}
+use Rattle.implib.specs.Link.Resolution.{SymbolDefinition, defined_by, defined_by_entry, definitions, definitions_of}
 use Rattle.implib_link.specs.Gnu.Program.{claimed_name, claimed_names, has_tables, is_reference, is_shared, is_table}
 
 -- a name that begins otherwise is that of no group
@@ -120,3 +121,8 @@ definitions_kept name b (o ∷ objects) none =
           let parts : (list_any (bytes_eq name) (claimed_names o) ≡ false) × AllByRecursion (λ o. list_any (bytes_eq name) (claimed_names o) ≡ false) (filter (λ o. not (has_tables o)) objects) = rw is at none in
           rw (is, defines_none name (section_addresses_of b o.sections) o.entries parts.0, no_ends b o.sections is) (definitions_kept name b objects parts.1)
     ]
+
+pub definitions_parts : (name : List ℕ) (front rest : List Placed) → definitions_of name (front ++ rest) ≡ definitions_of name front ++ definitions_of name rest
+definitions_parts name front rest =
+    ap (filter (λ (d : SymbolDefinition). bytes_eq name d.name)) (flat_map-append defined_by front rest)
+    ∙ filter-append (λ (d : SymbolDefinition). bytes_eq name d.name) (definitions front) (definitions rest)

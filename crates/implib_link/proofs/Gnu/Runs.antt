@@ -1,33 +1,25 @@
 -- Objects after others, of which is known only that their relocations are within their sections.
-use Rattle.std.proofs.Common.{◌≡◌, ℕ, ◌+◌, ◌-◌, List, [], ◌∷◌, ◌++◌, length, Option, Some, None, refl, ap, sym, ◌∙◌, subst, inl, inr, false}
-use Rattle.std.specs.Prelude.{bytes_eq}
-use Rattle.std.specs.List.{AllByRecursion, filter_map, list_any}
+use Rattle.std.proofs.Common.{◌≡◌, ℕ, ◌+◌, ◌-◌, List, [], ◌∷◌, ◌++◌, length, Option, Some, None, refl, ap, sym, ◌∙◌, subst, inl, inr}
+use Rattle.std.specs.List.{AllByRecursion}
 use Rattle.std.proofs.lemmas.Bool.{cases_Bool}
 use Rattle.std.proofs.lemmas.Grind.{flat_map-append}
 use Rattle.std.proofs.lemmas.List.{append_assoc}
-use Rattle.std.proofs.lemmas.List.Elements.{filter-append}
 use Rattle.implib.specs.declared.machine.MachineType.{MachineType}
-use Rattle.implib.specs.Definition.{ExportView}
-use Rattle.implib.specs.Members.Gnu.{export_object, head_object, tail_object}
-use Rattle.implib.specs.Members.ImportTables.{thunk_width, zeros}
+use Rattle.implib.specs.Members.ImportTables.{zeros}
 use Rattle.implib.specs.Formats.Object.{Object, ObjectSection}
 use Rattle.implib.specs.Link.Image.{Contribution, Range, contribution_at, contributions, contributions_in, contributions_of, filled, relocated}
 use Rattle.implib.specs.Link.Load.{BytesAt}
 use Rattle.implib.specs.Link.Placement.{Addresses, Bases, Descriptors, DllNames, Group, HintNames, Lookups, Placed, address_after, base_of, end_after, ends_after, group_named, placed_from, same_group, section_address_of, section_addresses_of}
-use Rattle.implib.specs.Link.Resolution.{SymbolDefinition, defined_by_entry, definitions, definitions_of}
-use Rattle.implib.proofs.Link.Linked.{LocatedFrom, aligned_block, ends_of_block}
-use Rattle.implib.proofs.Link.LinkedBlocks.{Block, blocks_objects, ends_of_blocks}
-use Rattle.implib.proofs.Link.Placement.{AreAligned, after_head, aligned, aligned_after, aligned_head, ends_of_all, ends_of_export, ends_of_exports, ends_of_head, ends_of_tail, export, head, length-thunk, tail}
+use Rattle.implib.proofs.Link.Linked.{LocatedFrom}
 use Rattle.implib.proofs.Link.Ranges.{located_parts}
-use Rattle.std.proofs.lemmas.List.{length-replicate}
-use Rattle.implib_link.specs.Gnu.OtherLibraries.{ends_behind}
 use Rattle.implib_link.specs.Gnu.Packed.{end_with, group_end, sections_end}
-use Rattle.implib_link.specs.Gnu.Program.{claimed_names}
-use Rattle.implib_link.proofs.Gnu.Others.{defines_none}
 use Rattle.implib_link.proofs.Gnu.Packed.{end_of_section, end_of_sections, same_base, span, span_objects}
 use Rattle.implib_link.proofs.Gnu.Sized.{AreWithin, IsSized, length-relocated}
-use Rattle.implib.specs.LibraryName.{NamesOfDll}
-use Rattle.implib_link.proofs.Gnu.Loaded.{plus_none}
+
+-- the ends after objects that are placed one after another
+unfoldable pub ends_behind : Bases → List Object → Bases
+ends_behind b [] = b
+ends_behind b (o ∷ objects) = ends_behind (ends_after b o.sections) objects
 
 pub placed_parts : (b : Bases) (front rest : List Object) → placed_from b (front ++ rest) ≡ placed_from b front ++ placed_from (ends_behind b front) rest
 unfolding ends_behind
@@ -144,43 +136,4 @@ module _ (machine : MachineType) (linked : List Placed) (image : List Range) (b 
     dll_names = (parts DllNames located.dll_names).1;
   }
 
--- what objects that do not claim a name define of it
-pub none_defined : (name : List ℕ) (b : Bases) (objects : List Object) → AllByRecursion (λ o. list_any (bytes_eq name) (claimed_names o) ≡ false) objects →
-    definitions_of name (placed_from b objects) ≡ []
-none_defined name b [] none = refl
-none_defined name b (o ∷ objects) none =
-    let own : List SymbolDefinition = filter_map (defined_by_entry (section_addresses_of b o.sections)) o.entries in
-    let others : List SymbolDefinition = definitions (placed_from (ends_after b o.sections) objects) in
-    filter-append (λ (d : SymbolDefinition). bytes_eq name d.name) own others
-    ∙ ap (λ ds. ds ++ definitions_of name (placed_from (ends_after b o.sections) objects)) (defines_none name (section_addresses_of b o.sections) o.entries none.0)
-    ∙ none_defined name (ends_after b o.sections) objects none.1
-
 -- The ends after members.
-
-head_ends : (machine : MachineType) (dll : NamesOfDll) (b : Bases) → AreAligned b → ends_after b (head machine dll).sections ≡ ends_of_head machine dll b
-unfolding head_object
-head_ends machine dll b even = rw (aligned b.descriptors even.descriptors, aligned b.lookups even.lookups, aligned b.addresses even.addresses, plus_none b.lookups, plus_none b.addresses) refl
-
-export_ends : (machine : MachineType) (dll : NamesOfDll) (b : Bases) (e : ExportView) → AreAligned b → ends_after b (export machine dll e).sections ≡ ends_of_export machine dll b e
-unfolding export_object
-export_ends machine dll b e even = rw (aligned b.lookups even.lookups, aligned b.addresses even.addresses, length-thunk machine e) refl
-
-tail_ends : (machine : MachineType) (dll : NamesOfDll) (b : Bases) → AreAligned b → ends_after b (tail machine dll).sections ≡ ends_of_tail machine dll b
-unfolding tail_object
-tail_ends machine dll b even = rw (aligned b.lookups even.lookups, aligned b.addresses even.addresses, length-replicate {A = ℕ} (thunk_width machine) 0) refl
-
-exports_ends : (machine : MachineType) (dll : NamesOfDll) (b : Bases) (es : List ExportView) (rest : List Object) → AreAligned b →
-    ends_behind b (after_head machine dll es rest) ≡ ends_behind (ends_of_all machine dll b es) rest
-unfolding ends_behind ends_of_exports
-exports_ends machine dll b [] rest even = ap (λ ends. ends_behind ends rest) (tail_ends machine dll b even)
-exports_ends machine dll b (e ∷ es) rest even =
-    ap (λ ends. ends_behind ends (after_head machine dll es rest)) (export_ends machine dll b e even)
-    ∙ exports_ends machine dll (ends_of_export machine dll b e) es rest (aligned_after machine dll b e even)
-
-pub blocks_ends : (machine : MachineType) (b : Bases) (blocks : List Block) → AreAligned b → ends_behind b (blocks_objects machine blocks []) ≡ ends_of_blocks machine b blocks
-unfolding ends_behind ends_of_blocks
-blocks_ends machine b [] even = refl
-blocks_ends machine b (k ∷ blocks) even =
-    ap (λ ends. ends_behind ends (after_head machine k.dll k.exports (blocks_objects machine blocks []))) (head_ends machine k.dll b even)
-    ∙ exports_ends machine k.dll (ends_of_head machine k.dll b) k.exports (blocks_objects machine blocks []) (aligned_head machine k.dll b even)
-    ∙ blocks_ends machine (ends_of_block machine k.dll b k.exports) blocks (aligned_block machine k.dll b k.exports even)

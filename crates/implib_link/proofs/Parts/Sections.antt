@@ -1,9 +1,9 @@
 -- Where an object's sections of a group are, and what they are filled in with.
-use Rattle.std.proofs.Common.{◌≡◌, ℕ, zero, suc, ◌+◌, ◌%◌, true, false, List, [], ◌∷◌, ◌++◌, length, Option, Some, None, refl, ap, sym, ◌∙◌, subst, inl, inr}
-use Rattle.std.specs.Prelude.{slice_get}
+use Rattle.std.proofs.Common.{◌≡◌, ℕ, zero, suc, ◌+◌, ◌%◌, true, false, List, [], ◌∷◌, ◌++◌, length, Option, Some, None, refl, ap, sym, ◌∙◌, subst, inl, inr, arith}
+use Rattle.std.specs.Prelude.{◌==◌, ◌||◌, slice_get}
 use Rattle.std.specs.List.{AllByRecursion}
 use Rattle.std.specs.Option.{option_and_then}
-use Rattle.std.proofs.lemmas.Bool.{cases_Bool}
+use Rattle.std.proofs.lemmas.Bool.{cases_Bool, eqb-true}
 use Rattle.implib.specs.declared.machine.MachineType.{MachineType}
 use Rattle.implib.specs.Formats.Object.{ObjectSection}
 use Rattle.implib.specs.Link.Image.{Contribution, Range, contribution_at, contributions_in, filled, relocated}
@@ -16,7 +16,18 @@ use Rattle.implib_link.specs.Gnu.Packed.{end_with, sections_end}
 use Rattle.implib_link.specs.Parts.{fits_four, is_of, one_of, sections_of}
 use Rattle.implib_link.proofs.Gnu.Packed.{end_of_section, same_base}
 use Rattle.implib_link.proofs.Gnu.Sized.{AreWithin, length-relocated}
-use Rattle.implib_link.proofs.Gnu.Whole.{stays}
+
+-- a multiple of 4 is one of 1, 2 and 4
+pub stays : (step n : ℕ) → (((step == 1) || ((step == 2) || (step == 4))) ≡ true) → n % 4 ≡ 0 → next_multiple step n ≡ n
+unfolding next_multiple
+stays step n one even =
+    elim (cases_Bool (step == 1)) [
+      | inl is ↦ rw (eqb-true step 1 is) (omega arith)
+      | inr is ↦ elim (cases_Bool (step == 2)) [
+        | inl is_2 ↦ rw (eqb-true step 2 is_2) (omega arith)
+        | inr is_2 ↦ rw (eqb-true step 4 (rw (is, is_2) at one)) (omega arith)
+      ]
+    ]
 
 -- One section.
 

@@ -9,7 +9,6 @@ ghost use Rattle.implib_link.specs.Flavors.LldThunks.{BranchArrivesByThunk, Thun
 ghost use Rattle.implib_link.specs.Flavors.Program.{Ending, FlavorInput, IsCode, IsMadeFor};
 ghost use Rattle.implib_link.specs.Flavors.Program.{IsProgramOf, exports_chosen, symbol_in};
 ghost use Rattle.implib_link.specs.Flavors.Program.{thunks_of};
-ghost use Rattle.implib_link.specs.Gnu.A32.{A32JumpReads, OfArmStubs, distance_from};
 ghost use Rattle.implib_link.specs.Gnu.Calls.{CanBranch, Defines, DirectCallArrives, HasDirectCall};
 ghost use Rattle.implib_link.specs.Gnu.Calls.{PlacedCode, StubAt};
 ghost use Rattle.implib_link.specs.Gnu.Fields.{DefinesIn, LinkedCode, placed_code};
@@ -19,7 +18,7 @@ ghost use Rattle.implib_link.specs.Gnu.Rebased.{StubArrives};
 ghost use Rattle.implib_link.specs.InMemory.{OfStubs, OfThunks, WhereLoaded};
 ghost use Rattle.implib_link.specs.Stub.{CanJump, JumpsThrough};
 ghost use Rattle.std.specs.List.{AllByRecursion, Contains};
-ghost use Rattle.std.specs.Prelude.{◌≡◌, ◌+◌, ◌*◌, ◌^◌, ◌≤◌, ◌++◌, ℕ, List, Some, slice_get};
+ghost use Rattle.std.specs.Prelude.{◌≡◌, ◌+◌, ◌*◌, ◌++◌, ℕ, List, Some, slice_get};
 
 /// The stub of each chosen export of code jumps through the export's own entry, wherever its code
 /// is placed; for Microsoft's linker it is that of the short import's expansion. Whatever placed
@@ -85,14 +84,4 @@ pub fn stubs_of_any_tables_jump()
         CanBranch machine (c.position + offset) d.position →
         BranchArrivesByThunk machine image_base (written ++ memory) (c.position + offset) after
         given)) }
-{}
-
-/// ARMNT's stub, by A32's rule of its two loads: in memory at any base, its jump reads its target
-/// where the distance of its entry from its own end is, and so never at its entry. The linker puts
-/// into its field what its type asks, and the image is below 2^32.
-pub fn armnt_stubs_miss_their_entries()
-    ensures reads { OfArmStubs (λ image_base memory d t entry.
-        (t.value ≡ 0) × A32JumpReads memory d.position (distance_from (d.position + 8) entry)) }
-    ensures misses { OfArmStubs (λ image_base memory d t entry.
-        image_base + 2 ^ 31 ≤ 2 ^ 32 → A32JumpReads memory d.position (image_base + entry) → ⊥) }
 {}

@@ -14,7 +14,7 @@ use Rattle.implib_link.proofs.Gnu.Memory.{byte_first}
 use Rattle.implib_link_instances.proofs.Worked.Lemmas.{are_located, differ, entry_is, number, same_bytes, value}
 use Rattle.implib_link_instances.proofs.Worked.Operands.{passing_fields}
 use Rattle.implib_link_instances.proofs.Worked.Stored.{worked_holdings}
-use Rattle.implib_link_instances.specs.Refused.Code.{RefusedA32JumpReads, RefusedAllLeadTo, RefusedBranchArrives, RefusedBranchArrivesByThunk, RefusedBranchStays, RefusedCallArrives, RefusedDirectCallArrives, RefusedFields, RefusedHoldAddress, RefusedHoldsFurther, RefusedInstructionArrives, RefusedLoadArrives, RefusedOperandArrives, RefusedPageArrives, RefusedPairArrives, RefusedPointerArrives, RefusedPointsTo, RefusedResolves, RefusedStubArrives, RefusedStubAt, RefusedSumArrives, RefusedThunkArrives, asking_f, back, calling_nops, empty_code, nops, one, one_code, page_back, placed_f}
+use Rattle.implib_link_instances.specs.Refused.Code.{RefusedAllLeadTo, RefusedBranchArrives, RefusedBranchArrivesByThunk, RefusedBranchStays, RefusedCallArrives, RefusedDirectCallArrives, RefusedFields, RefusedHoldAddress, RefusedHoldsFurther, RefusedInstructionArrives, RefusedLoadArrives, RefusedOperandArrives, RefusedPageArrives, RefusedPairArrives, RefusedPointerArrives, RefusedPointsTo, RefusedResolves, RefusedStubArrives, RefusedStubAt, RefusedSumArrives, RefusedThunkArrives, asking_f, back, calling_nops, empty_code, nops, one, one_code, page_back, placed_f}
 use Rattle.implib_link_instances.specs.Worked.Operands.{field, passing_at}
 use Rattle.implib_link_instances.specs.Worked.Programs.{symbol_of_class}
 use Rattle.implib_link_instances.specs.Worked.Stored.{held_at, picking_at, unwind_at}
@@ -54,14 +54,6 @@ eight = 0x90 ∷ seven
 
 nop : (n : ℕ) → NumberAt nops 4 0x1000 n → n ≡ 0x9090_9090
 nop n there = number_once nops 4 0x1000 n 0x9090_9090 there (number nops 4 0x1000 0x9090_9090 four refl refl refl)
-
-pub refused_a32_jump_reads : RefusedA32JumpReads
-refused_a32_jump_reads = record {
-  load_there = λ x. absent 0x1000 4 x.load (omega arith) x.load_there;
-  is_load = λ x. differ 0x9090_9000 0xE59F_C000 (sym (ap (with_bits 0 12 0) (nop x.load x.load_there)) ∙ x.is_load) (omega arith);
-  literal_there = λ x. absent (0x1008 + bits_of 0 12 x.load) 4 0x40_0060 (omega arith) x.literal_there;
-  jump_there = λ x. absent 0x1004 4 0xE59C_F000 (omega arith) x.jump_there;
-}
 
 pub refused_call_arrives : RefusedCallArrives
 refused_call_arrives = record {

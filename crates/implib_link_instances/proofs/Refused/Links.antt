@@ -20,7 +20,6 @@ use Rattle.implib_link.specs.Directory.{DirectoryAt}
 use Rattle.implib_link.specs.Flavors.Expansion.{expanded_in}
 use Rattle.implib_link.specs.Flavors.LldImports.{grouped}
 use Rattle.implib_link.specs.Flavors.Program.{FlavorInput, OfMember, SymbolsAt, SymbolsGet, exports_chosen, gnu_input, members_linked, objects_taken, own_names}
-use Rattle.implib_link.specs.Gnu.OtherLibraries.{ends_behind, members_from, rows_before}
 use Rattle.implib_link.specs.Search.Archives.{archive_of}
 use Rattle.implib_link.specs.Search.BothFlavors.{IsImportedOfBoth, archive_of_both}
 use Rattle.implib_link.specs.Search.Closed.{IsAliasTaken, IsImported, listed_in}
@@ -32,7 +31,7 @@ use Rattle.implib_link_instances.proofs.Worked.Calls.{one_of}
 use Rattle.implib_link_instances.proofs.Worked.Lemmas.{differ, no_definition, none_at, none_in, none_passes, number, value}
 use Rattle.implib_link_instances.proofs.Worked.LldPrograms.{lld_opened}
 use Rattle.implib_link_instances.proofs.Worked.Opened.{searched}
-use Rattle.implib_link_instances.specs.Refused.Links.{RefusedFlavorTextLinks, RefusedFlavorTextsLink, RefusedInputImports, RefusedIsImported, RefusedIsImportedBy, RefusedIsImportedOfBoth, RefusedIsTaken, RefusedJumpsThrough, RefusedLinksBeside, RefusedLinksClosed, RefusedLinksClosedForBoth, RefusedLldLinks, RefusedProgramLinks, RefusedRunLinks, asking_entry, f_in, f_input, f_library, f_run, f_short, for_gnu, four_before, jump, later_short, listing, nul_within, unchosen, with_symbol}
+use Rattle.implib_link_instances.specs.Refused.Links.{RefusedFlavorTextLinks, RefusedFlavorTextsLink, RefusedInputImports, RefusedIsImported, RefusedIsImportedBy, RefusedIsImportedOfBoth, RefusedIsTaken, RefusedJumpsThrough, RefusedLinksClosed, RefusedLinksClosedForBoth, RefusedLldLinks, RefusedProgramLinks, asking_entry, f_in, f_input, f_library, f_short, for_gnu, jump, later_short, listing, nul_within, unchosen, with_symbol}
 use Rattle.implib_link_instances.specs.Refused.Tables.{zero_image}
 use Rattle.implib_link_instances.specs.Worked.Programs.{code_object, symbol_of_class, touching_8}
 use Rattle.implib_link_instances.specs.Worked.Sources.{source_in, zed_meant, zed_text}
@@ -115,24 +114,6 @@ refused_program_links = record {
   defined = λ x. no_definition _ x.defined.0.1;
   listed = λ x. no_definition _ x.listed.0.1;
   claimed = λ x. none_passes (bytes_eq (codes "more")) (codes "more") (own_names OfMember AMD64 []) refl ((x.claimed (codes "more")).0 (0, omega arith, refl)) refl;
-}
-
-pub refused_run_links : RefusedRunLinks
-unfolding searched
-refused_run_links = record {
-  imports = λ x. no_definition _ (x.imports 0 f_input refl).top;
-  targets = λ x. nowhere x.targets.0.1.1.1.0.1.1.0.0 x.targets.0.1.1.1.0.1.1.0.1;
-  defined = λ x. no_definition _ x.defined.0.1;
-}
-
-pub refused_links_beside : RefusedLinksBeside
-unfolding searched DirectoryAt members_from ends_behind rows_before
-refused_links_beside = record {
-  linked = λ x. none_in _ x.linked.0.0.from_members.0;
-  members = λ x. no_definition _ ((x.members 0 f_run refl).imports 0 f_input refl).top;
-  rows = λ x. differ 4 8 (sym (x.rows 0 four_before refl)) (omega arith);
-  directory = λ x. nothing_there (zeros 20) 4 (omega arith) x.directory;
-  listed = λ x. no_definition _ x.listed.0.1;
 }
 
 f_listed : Contains (listed_in (archive_of (f_library ∷ []))) (codes "f")

@@ -30,7 +30,7 @@ use Rattle.implib.specs.Members.ImportTables.{thunk_width}
 use Rattle.implib.specs.Members.Members.{refusal, renamed_refusal}
 use Rattle.implib.specs.Members.WeakExternal.{weak_object}
 use Rattle.implib.specs.Formats.Layout.{auxiliary_bytes, auxiliary_count, contents, contents_offset, contents_size, encoded, encoded_size, header_bytes, name_field, offsets_from, pointer_or_zero, record_count, records, relocation_bytes, section_header, section_headers, string_bytes_of, string_offsets, string_size, string_table, strings_size, symbol_bytes, symbol_table_offset}
-use Rattle.implib.specs.Link.Resolution.{address_or_zero, definitions_of, is_undefined_external, symbol_address, target_address}
+use Rattle.implib.specs.Link.Resolution.{definitions_of, is_undefined_external, symbol_address}
 use Rattle.implib.specs.Formats.Writer.{layout_of, long_names, name_location, symbol_written, with_long_name, with_name}
 use Rattle.implib.proofs.Link.Ranges.{Among, apart_as_they_rise}
 use Rattle.implib.specs.Worked.Statements.{plain_export}
@@ -201,13 +201,6 @@ none_wanted codes all c d index s t c_held d_held at undefined defines named =
     let same : bytes_eq s.name t.name ≡ true = subst (λ n. bytes_eq s.name n ≡ true) (sym named) (same_text s.name) in
     let is : is_wanted t.name (ASymbol s) ≡ true = and_from (is_undefined_external s) (bytes_eq s.name t.name) undefined same in
     true≢false (sym is ∙ not-true (is_wanted t.name (ASymbol s)) four)
-
-pub resolves_by_tables : (linked : List Placed) (codes : List PlacedCode) → list_all (λ (c : PlacedCode). all_unwanted codes c.from.object.entries) codes ≡ true →
-    Resolves linked codes (λ c index. target_address linked c.from index)
-resolves_by_tables linked codes all = record {
-  tables = λ c index address entry held at is. rw at (ap address_or_zero is);
-  code = λ c d index s t c_held d_held at undefined defines named. absurd (none_wanted codes all c d index s t c_held d_held at undefined defines named);
-}
 
 pointer : (machine : MachineType) → IsX86 machine → WorkedPointer machine (image_base machine) (touching machine) (if is_32bit machine then 0xA1 ∷ 0x64 ∷ 0 ∷ 0x40 ∷ 0 ∷ [] else 0x48 ∷ 0x8B ∷ 5 ∷ 0x7D ∷ 0xF0 ∷ 0xFF ∷ 0xFF ∷ []) (if is_32bit machine then 0x64 else 0x88)
 unfolding opened_of_programs alias_specs encoded_size weak_object has_tables

@@ -5,11 +5,11 @@ use Rattle.implib.specs.declared.coff.object.Relocation.{Relocation}
 use Rattle.implib_link.specs.Gnu.Calls.{PlacedCode, IsAside, HasInstructions, moved_by}
 use Rattle.implib.specs.Link.LinkedMembers.{LinkInput, objects_in, all_linked}
 use Rattle.implib.specs.declared.machine.MachineType.{MachineType}
-use Rattle.std.proofs.Common.{◌≡◌, ℕ, ◌^◌, Bool, true, false, List, [], ◌∷◌, refl, nat_lt, length, ◌++◌, map, Some, ◌+◌}
-use Rattle.std.specs.Prelude.{◌&&◌, bytes_eq, if◌then◌else◌, not, ◌%◌, slice_get, ◌==◌, take, drop}
+use Rattle.std.proofs.Common.{◌≡◌, ℕ, ◌^◌, ◌≤◌, Bool, true, false, List, [], ◌∷◌, refl, nat_lt, length, ◌++◌, map, Some, ◌+◌}
+use Rattle.std.specs.Prelude.{◌&&◌, bytes_eq, if◌then◌else◌, not, ◌%◌, slice_get, ◌==◌, take, drop, nat_le}
 use Rattle.std.specs.Fmt.{digits}
 use Rattle.std.specs.List.{AllByRecursion, IsDistinct, list_all, list_any, filter}
-use Rattle.std.proofs.lemmas.Bool.{and_parts, not-true, eqb-true, ltb-true}
+use Rattle.std.proofs.lemmas.Bool.{and_parts, leb-true, not-true, eqb-true, ltb-true}
 use Rattle.implib.specs.declared.machine.MachineType.TheVariants.{AMD64, ARM64, ARMNT, I386}
 use Rattle.implib.specs.Machine.{is_32bit}
 use Rattle.implib_link_instances.proofs.Worked.Lemmas.{touching}
@@ -19,13 +19,14 @@ use Rattle.implib.specs.Link.Image.{with_address, IsBase, image_of, IsAdmissible
 use Rattle.implib.specs.Members.GnuMembers.{alias_specs, export_spec, head_spec, tail_spec}
 use Rattle.implib.specs.Members.Members.{refusal, renamed_refusal}
 use Rattle.implib.specs.Members.WeakExternal.{weak_object}
-use Rattle.implib.specs.Formats.Object.{Object, before_nul, bytes_at, data_at, each_at, entries_at, name_of, object_in, object_of_header, relocation_at, relocation_of, section_at, section_of, strings_at, symbol_of, u16_at, u32_at, up_to_nul, ASymbol}
+use Rattle.implib.specs.Formats.Object.{Object, ObjectSection, before_nul, bytes_at, data_at, each_at, entries_at, name_of, object_in, object_of_header, relocation_at, relocation_of, section_at, section_of, strings_at, symbol_of, u16_at, u32_at, up_to_nul, ASymbol}
 use Rattle.implib.specs.Formats.Layout.{auxiliary_bytes, auxiliary_count, contents, contents_offset, contents_size, header_bytes, encoded, encoded_size, name_field, offsets_from, pointer_or_zero, record_count, records, relocation_bytes, section_header, section_headers, string_bytes_of, string_offsets, string_size, string_table, strings_size, symbol_bytes, symbol_table_offset}
 use Rattle.implib.specs.Link.Placement.{next_multiple, Bases, placed_from}
 use Rattle.implib.specs.Formats.Writer.{long_names, name_location, layout_of, symbol_written, with_long_name, with_name}
 use Rattle.implib.proofs.Link.Ranges.{apart_as_they_rise, ends_below, rise_below}
 use Rattle.implib_link.specs.Gnu.Program.{ClaimsNone, claimed_names, has_tables, linked_symbols, null_descriptor}
 use Rattle.implib_link.specs.Flavors.Program.{IsProgram}
+use Rattle.implib_link.specs.Parts.{HoldsFields}
 use Rattle.implib_link.specs.Gnu.Operands.{HasInstruction, IsOperand, Names}
 use Rattle.implib_link.specs.Gnu.Fields.{LinkedCode, MeetsAlone}
 use Rattle.implib_link_instances.specs.Worked.Programs.{WorkedProgram, WorkedPrograms, expected_4, expected_8, symbol_of_class, both_inputs}
@@ -162,3 +163,23 @@ worked_programs = record {
   i386 = worked_program I386 (λ is. cc);
   armnt = worked_program ARMNT (λ is. cc);
 }
+
+relocations_within : (size : ℕ) (relocations : List Relocation) → list_all (λ r. nat_le (r.offset + 4) size) relocations ≡ true → AllByRecursion (λ r. r.offset + 4 ≤ size) relocations
+relocations_within size [] all = tt
+relocations_within size (r ∷ relocations) all =
+    let parts = and_parts (nat_le (r.offset + 4) size) (list_all (λ r. nat_le (r.offset + 4) size) relocations) all in
+    (leb-true (r.offset + 4) size parts.0, relocations_within size relocations parts.1)
+
+sections_within : (sections : List ObjectSection) → list_all (λ s. list_all (λ r. nat_le (r.offset + 4) (length s.bytes)) s.relocations) sections ≡ true →
+    AllByRecursion (λ s. AllByRecursion (λ r. r.offset + 4 ≤ length s.bytes) s.relocations) sections
+sections_within [] all = tt
+sections_within (s ∷ sections) all =
+    let parts = and_parts (list_all (λ r. nat_le (r.offset + 4) (length s.bytes)) s.relocations) (list_all (λ s. list_all (λ r. nat_le (r.offset + 4) (length s.bytes)) s.relocations) sections) all in
+    (relocations_within (length s.bytes) s.relocations parts.0, sections_within sections parts.1)
+
+pub all_hold_fields : (objects : List Object) → list_all (λ o. list_all (λ s. list_all (λ r. nat_le (r.offset + 4) (length s.bytes)) s.relocations) o.sections) objects ≡ true →
+    AllByRecursion HoldsFields objects
+all_hold_fields [] all = tt
+all_hold_fields (o ∷ objects) all =
+    let parts = and_parts (list_all (λ s. list_all (λ r. nat_le (r.offset + 4) (length s.bytes)) s.relocations) o.sections) (list_all (λ o. list_all (λ s. list_all (λ r. nat_le (r.offset + 4) (length s.bytes)) s.relocations) o.sections) objects) all in
+    (sections_within o.sections parts.0, all_hold_fields objects parts.1)

@@ -8,7 +8,6 @@ use Rattle.implib.specs.Link.Placement.{Addresses, At, Placed, Unplaced}
 use Rattle.implib.specs.Members.Gnu.{section}
 use Rattle.implib.specs.Members.ImportTables.{table_flags, zeros}
 use Rattle.implib_link.specs.Flavors.LldThunks.{BranchArrivesByThunk, ThunkArrives}
-use Rattle.implib_link.specs.Gnu.A32.{A32JumpReads}
 use Rattle.implib_link.specs.Gnu.Calls.{CallArrives, DirectCallArrives, PlacedCode, Resolves}
 use Rattle.implib_link.specs.Gnu.Calls.{StubAt}
 use Rattle.implib_link.specs.Gnu.Fields.{LinkedCode}
@@ -46,13 +45,6 @@ page_back =
 
 abbrev pub one : List ℕ
 one = 0 ∷ []
-
--- no memory; and four bytes, which are no load
-pub record RefusedA32JumpReads : Type 0 where
-  pub load_there : A32JumpReads [] 0x1000 0x40_0060 → ⊥
-  pub is_load : A32JumpReads nops 0x1000 0x40_0060 → ⊥
-  pub literal_there : A32JumpReads [] 0x1000 0x40_0060 → ⊥
-  pub jump_there : A32JumpReads [] 0x1000 0x40_0060 → ⊥
 
 pub record RefusedCallArrives : Type 0 where
   pub here : CallArrives AMD64 base [] 0x1000 [] → ⊥

@@ -14,10 +14,9 @@ use Rattle.implib.specs.Members.MemberSpec.{MemberView}
 use Rattle.implib.specs.Worked.Members.{of_dll}
 use Rattle.implib.specs.Worked.Statements.{plain_export}
 use Rattle.implib_link.specs.Flavors.LldImports.{IsImportedBy, LldLinks}
-use Rattle.implib_link.specs.Flavors.Program.{FlavorInput, InputImports, IsTaken, OfLinker}
-use Rattle.implib_link.specs.Flavors.Program.{OfMember, ProgramLinks, gnu_input}
+use Rattle.implib_link.specs.Flavors.Program.{FlavorInput, InputImports, IsTaken, OfLinker, OfMember}
+use Rattle.implib_link.specs.Flavors.Program.{ProgramLinks, gnu_input}
 use Rattle.implib_link.specs.Flavors.Texts.{FlavorTextLinks, FlavorTextsLink}
-use Rattle.implib_link.specs.Gnu.OtherLibraries.{LinksBeside, Run, RunLinks}
 use Rattle.implib_link.specs.Search.Archives.{Library}
 use Rattle.implib_link.specs.Search.BothFlavors.{FlavorLibrary, IsImportedOfBoth}
 use Rattle.implib_link.specs.Search.BothFlavors.{LinksClosedForBoth}
@@ -133,26 +132,6 @@ pub record RefusedProgramLinks : Type 0 where
   pub defined : ProgramLinks AMD64 OfLinker touching_8 [] (losing ∷ []) → ⊥
   pub listed : ProgramLinks AMD64 OfLinker touching_8 f_inputs [] → ⊥
   pub claimed : ProgramLinks AMD64 OfMember touching_8 [] (claiming_more ∷ []) → ⊥
-
--- f.dll's members; and another library without imports, which has four bytes among the descriptors
-abbrev pub f_run : Run
-f_run = record { objects = []; imports = []; inputs = f_input ∷ [] }
-
-abbrev pub four_before : Run
-four_before =
-    record { objects = table_of (codes ".idata$2") (zeros 4) ∷ []; imports = []; inputs = [] }
-
-pub record RefusedRunLinks : Type 0 where
-  pub imports : RunLinks AMD64 [] [] touching_8 f_run → ⊥
-  pub targets : RunLinks AMD64 [] [] touching_8 f_run → ⊥
-  pub defined : RunLinks AMD64 [] [] touching_8 f_run → ⊥
-
-pub record RefusedLinksBeside : Type 0 where
-  pub linked : LinksBeside AMD64 touching_8 (f_run ∷ []) [] → ⊥
-  pub members : LinksBeside AMD64 touching_8 (f_run ∷ []) [] → ⊥
-  pub rows : LinksBeside AMD64 touching_8 (four_before ∷ []) [] → ⊥
-  pub directory : LinksBeside AMD64 touching_8 [] [] → ⊥
-  pub listed : LinksBeside AMD64 touching_8 (f_run ∷ []) [] → ⊥
 
 -- a member without an object, that is listed for `f`; f.dll's library, and it without its members
 abbrev pub listing : MemberView

@@ -1,9 +1,8 @@
 -- What is said of no import tables, and what no loader finds or writes. A record `RefusedX` has for
 -- each field of `X` what this field refuses.
-use Rattle.std.specs.Prelude.{List, Some, [], codes, map, ℕ, ◌^◌, ◌≡◌, ◌∷◌}
+use Rattle.std.specs.Prelude.{List, Some, [], codes, ℕ, ◌≡◌, ◌∷◌}
 use Rattle.implib.specs.declared.machine.MachineType.TheVariants.{AMD64}
 use Rattle.implib.specs.Formats.Constants.{class_external}
-use Rattle.implib.specs.Formats.Object.{Object}
 use Rattle.implib.specs.Import.{Ask, Ordinal}
 use Rattle.implib.specs.Link.Image.{Range}
 use Rattle.implib.specs.Link.Placement.{Addresses, At, Placed, Unplaced}
@@ -12,7 +11,6 @@ use Rattle.implib.specs.Members.ImportTables.{table_flags, zeros}
 use Rattle.implib_link.specs.Directory.{DirectoryAt, FindsBy, Imported, StopsAt, WalkFinds}
 use Rattle.implib_link.specs.Flavors.Program.{AreClaimed, OfLinker, OfMember, SymbolsAt, SymbolsGet}
 use Rattle.implib_link.specs.Flavors.Program.{WhereMember}
-use Rattle.implib_link.specs.Gnu.Bounds.{AreBounded, BeginsWith, HaveEvenHints, IsEven, IsInEntry}
 use Rattle.implib_link.specs.Gnu.Calls.{amd64_addr64}
 use Rattle.implib_link.specs.Gnu.Loaded.{HoldsAt, Writes}
 use Rattle.implib_link.specs.Gnu.Program.{GetsAddress, null_descriptor}
@@ -22,8 +20,7 @@ use Rattle.implib_link.specs.Search.Exists.{LieWithin}
 use Rattle.implib_link.specs.Tables.{AreSteady, AreTables, AreTablesLoaded, IsInTable, RiseFrom}
 use Rattle.implib_link.specs.Tables.{Table, Tables}
 use Rattle.implib_link_instances.specs.Worked.Operands.{field}
-use Rattle.implib_link_instances.specs.Worked.Programs.{both_inputs, code_object, symbol_of_class}
-use Rattle.implib_link_instances.specs.Worked.Programs.{touching_8}
+use Rattle.implib_link_instances.specs.Worked.Programs.{code_object, symbol_of_class}
 
 -- an empty range at an address, and the descriptor of no DLL at 0x1000
 abbrev pub range_at : ℕ → Range
@@ -60,28 +57,6 @@ pub record RefusedFillsBy : Type 0 where
 pub record RefusedHoldsAt : Type 0 where
   pub once : HoldsAt [] [] (codes "f") [] → ⊥
   pub located : HoldsAt [] [] (codes "f") (zeros 8) → ⊥
-
--- the tables at 120 of the worked program: nothing of no DLLs; and what is behind all of them
-pub record RefusedIsInEntry : Type 0 where
-  pub from : IsInEntry AMD64 touching_8 [] 0 → ⊥
-  pub among : IsInEntry AMD64 touching_8 [] 120 → ⊥
-  pub at_most : IsInEntry AMD64 touching_8 (both_inputs AMD64) 176 → ⊥
-  pub below : IsInEntry AMD64 touching_8 (both_inputs AMD64) 176 → ⊥
-
--- an object with a table at 0x1000 and these symbols
-abbrev pub table_with : List (List ℕ) → Placed
-table_with names = record {
-  object = record (code_object (map (λ n. symbol_of_class n 1 class_external) names)) {
-    sections = section (codes ".idata$5") table_flags (zeros 8) [] ∷ [];
-  };
-  section_addresses = At Addresses 0x1000 ∷ [];
-}
-
-pub record RefusedBeginsWith : Type 0 where
-  pub among : BeginsWith [] (codes ".idata$5") 0x1000 → ⊥
-  pub held : BeginsWith (table_with [] ∷ []) (codes ".idata$5") 0x1000 → ⊥
-  pub named : BeginsWith (table_with (codes "f" ∷ []) ∷ []) (codes ".idata$5") 0x1000 → ⊥
-  pub located : BeginsWith (table_with (codes ".idata$5" ∷ []) ∷ []) (codes ".idata$5") 0x1001 → ⊥
 
 -- a table without entries at an address, and one of `f`
 abbrev pub table_at : ℕ → Table
@@ -130,11 +105,6 @@ with_address = record {
   section_addresses = At Addresses 0x1000 ∷ [];
 }
 
--- an object with a byte in the place of a hint and a name, at any address
-abbrev pub odd_hint : Object
-odd_hint = record (code_object [])
-    { sections = section (codes ".idata$6") 0x10_0000 (0 ∷ []) [] ∷ [] }
-
 pub record RefusedLoaders : Type 0 where
   pub directory_at : DirectoryAt [] 8 0x1000 [] → ⊥
   pub stops_at : StopsAt [] 0x1000 → ⊥
@@ -149,22 +119,6 @@ pub record RefusedLoaders : Type 0 where
   pub gets_address : GetsAddress (asking ∷ []) (codes "f") 0x1000 → ⊥
   pub rise_from : RiseFrom 8 0x1001 (table_at 0x1000 ∷ []) → ⊥
   pub are_steady : AreSteady AMD64 (with_address ∷ []) → ⊥
-  pub is_even : IsEven (record { address = 183; bytes = [] }) → ⊥
-  pub even_hints : HaveEvenHints AMD64 touching_8 (odd_hint ∷ odd_hint ∷ []) → ⊥
   pub lie_within : LieWithin 0x1001 0x2000 (range_at 0x1000 ∷ []) → ⊥
   pub where_member : WhereMember OfMember (codes "f" ≡ codes "g") → ⊥
   pub are_claimed : AreClaimed OfLinker [] (codes "f" ∷ []) → ⊥
-
--- No objects: no table is at 120 and none is as long as one of f.dll's thunks; tables that begin at
--- 2^31; and no symbols of the entries. That each address is in an entry follows from `begins` and
--- `size`.
-pub record RefusedAreBounded : Type 0 where
-  pub held : AreBounded AMD64 touching_8 [] [] → ⊥
-  pub begins : AreBounded AMD64 touching_8 [] [] → ⊥
-  pub named : AreBounded AMD64 touching_8 [] [] → ⊥
-  pub size : AreBounded AMD64 touching_8 (both_inputs AMD64) [] → ⊥
-  pub below : AreBounded AMD64 (record touching_8 { addresses = 2 ^ 31 }) [] [] → ⊥
-  pub entries : AreBounded AMD64 touching_8 (both_inputs AMD64) [] → ⊥
-  pub directory_held : AreBounded AMD64 touching_8 [] [] → ⊥
-  pub directory_begins : AreBounded AMD64 touching_8 [] [] → ⊥
-  pub directory_size : AreBounded AMD64 touching_8 [] [] → ⊥

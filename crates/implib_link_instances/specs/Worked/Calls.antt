@@ -169,11 +169,6 @@ pub record WorkedReading : Type 0 where
   pub amd64_ends : (written : List Range)
       × ReadsAndWrites (program_image AMD64 touching_8) 8 (given_on AMD64) 2 4 written
 
--- the stub of `open`, which is the fourth object's, at 0x1040
-abbrev pub placed_or_calling : MachineType → Option Placed → Placed
-placed_or_calling machine None = record { object = calling machine; section_addresses = [] }
-placed_or_calling machine (Some p) = p
-
 -- code that reads a pointer under the symbol of index 1, at offset 4
 abbrev pub loading_code : MachineType → ObjectSection
 loading_code machine = section text_name (cnt_code + align_16bytes + mem_execute_read)
@@ -286,13 +281,3 @@ pub record WorkedChoices : Type 0 where
       AllByRecursion (λ c. IsRelocated ARM64 0x1_4000_0000 (targets (placed_code c)) c.position
       c.code c.bytes) linked →
       AreBeside ARM64 0x1_4000_0000 touching_8 branching_objects linked (as_placed targets))
-
-abbrev pub far_4 : Bases
-far_4 = record {
-  descriptors = 0x5204;
-  directory_ends = 0x5240;
-  lookups = 0x5240;
-  addresses = 0x525C;
-  hint_names = 0x5278;
-  dll_names = 0x5298;
-}

@@ -5,8 +5,8 @@ use Rattle.std.specs.Prelude.{List, [], codes, length, map, slice_index, ℕ, �
 use Rattle.implib.specs.declared.machine.MachineType.{MachineType}
 use Rattle.implib.specs.declared.machine.MachineType.TheVariants.{AMD64, I386}
 use Rattle.implib.specs.Import.{Ask, Name, Ordinal}
-use Rattle.implib.specs.Link.Image.{IsAdmissible, Range, contributions}
-use Rattle.implib.specs.Link.Placement.{Bases, HintNames}
+use Rattle.implib.specs.Link.Image.{IsAdmissible, Range}
+use Rattle.implib.specs.Link.Placement.{Bases}
 use Rattle.implib.specs.Members.ImportTables.{thunk_width, zeros}
 use Rattle.implib_link.specs.Directory.{WalkFinds, imported}
 use Rattle.implib_link.specs.Gnu.Loaded.{Writes}
@@ -20,7 +20,6 @@ use Rattle.implib.specs.Link.Linked.{AllLink}
 use Rattle.implib.specs.Link.LinkedMembers.{all_linked, objects_in}
 use Rattle.implib_link.specs.Gnu.Packed.{packed, packed_end}
 use Rattle.implib_link.specs.Gnu.Program.{null_descriptor}
-use Rattle.implib_link.specs.Gnu.Bounds.{AreBounded, HaveEvenHints}
 
 -- what DLLs give by hand: the ordinal or the name's first letter, the DLL's first letter, and zeros
 abbrev pub gives_by_hand : MachineType → List ℕ → Ask → List ℕ
@@ -132,21 +131,3 @@ pub record WorkedPackings : Type 0 where
   pub any_order : AllLink AMD64 touching_8 (both_inputs AMD64)
       (objects_in (all_linked AMD64 (both_inputs AMD64)))
   pub touching : IsProgram AMD64 touching_8 (both_inputs AMD64) (alone AMD64)
-
--- The program of a machine is bounded as the law says: by these addresses, with so many bytes of
--- address tables, the directory's 60 bytes, and hints at these addresses.
-pub record WorkedBound (machine : MachineType) (bases : Bases) (start size : ℕ)
-    (hints : List ℕ) : Type 0 where
-  pub bounds : AreBounded machine bases (both_inputs machine) (program_objects machine)
-  pub start_is : bounds.table.start ≡ start
-  pub size_is : length bounds.table.bytes ≡ size
-  pub directory_is : length bounds.directory.bytes ≡ 60
-  pub even : HaveEvenHints machine bases (program_objects machine)
-  pub hints_are : map (λ c. c.address)
-      (contributions machine (program_placed machine bases) HintNames
-      (program_placed machine bases)) ≡ hints
-
--- on two machines: seven thunks each, from where the bases say
-pub record WorkedBounds : Type 0 where
-  pub amd64 : WorkedBound AMD64 touching_8 120 56 (176 ∷ 176 ∷ 184 ∷ 192 ∷ 200 ∷ [])
-  pub i386 : WorkedBound I386 touching_4 92 28 (120 ∷ 120 ∷ 128 ∷ 136 ∷ 144 ∷ [])

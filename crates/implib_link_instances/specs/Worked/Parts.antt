@@ -1,13 +1,13 @@
 -- Programs of libraries of GNU dlltool 2.40 and of ones made here, by the parts that they are of:
--- the program of OtherLibraries, and one of kernel32.dll and zoo.dll that GNU ld 2.40 and ld.lld
--- 19.1.7 linked on AMD64 and on I386, whose files are here byte by byte.
+-- one of kernel32.dll and zoo.dll that GNU ld 2.40 and ld.lld 19.1.7 linked on AMD64 and on I386,
+-- whose files are here byte by byte.
 use Rattle.std.specs.Prelude.{Bool, List, None, Option, Some, [], bytes_eq, codes, drop, false}
 use Rattle.std.specs.Prelude.{if◌then◌else◌, length, map, slice_get, take, true, ℕ, ◌++◌, ◌-◌, ◌∷◌}
 use Rattle.std.specs.Prelude.{◌≡◌}
-use Rattle.std.specs.List.{AllByRecursion}
+use Rattle.std.specs.List.{AllByRecursion, filter_map}
 use Rattle.implib.specs.declared.machine.MachineType.{MachineType}
 use Rattle.implib.specs.declared.machine.MachineType.TheVariants.{AMD64, I386}
-use Rattle.implib.specs.Formats.Object.{Object, ObjectSection}
+use Rattle.implib.specs.Formats.Object.{Object, ObjectSection, object_in}
 use Rattle.implib.specs.Import.{Ask, Name}
 use Rattle.implib.specs.Link.Image.{Range, image_of}
 use Rattle.implib.specs.Link.LinkedMembers.{LinkInput}
@@ -23,12 +23,15 @@ use Rattle.implib_link.specs.Gnu.Reading.{ReadsAndWrites}
 use Rattle.implib_link.specs.Parts.{IsPart, IsProgramOfParts, Part, older_part_of, part_of}
 use Rattle.implib_link.specs.Tables.{AreSteady, AreTables, Table, TableEntry}
 use Rattle.implib_link_instances.specs.Worked.LldPrograms.{taken_address}
-use Rattle.implib_link_instances.specs.Worked.OtherLibraries.{objects_of}
 use Rattle.implib_link_instances.specs.Worked.Programs.{chosen_input, input_objects}
 use Rattle.implib.specs.Definition.{DefinitionView, ExportView}
 use Rattle.implib.specs.Members.MemberSpec.{member_of}
 use Rattle.implib.specs.Members.OlderSymbols.{AreOlderMembersOf, older_specs}
 use Rattle.implib.specs.Renaming.{renamed}
+
+-- the objects in some bytes
+abbrev pub objects_of : List (List ℕ) → List Object
+objects_of files = filter_map object_in files
 
 -- dlltool's files for kernel32.dll on AMD64, head, export and tail; and an object of GNU C, which
 -- calls through entries and by a bare name

@@ -1,7 +1,7 @@
 //! What the conclusions of the laws refuse: a record `RefusedX` has for each field of `X` something
 //! that this field refuses.
 
-ghost use Rattle.implib_link_instances.specs.Refused.Code.{RefusedA32JumpReads, RefusedAllLeadTo};
+ghost use Rattle.implib_link_instances.specs.Refused.Code.{RefusedAllLeadTo};
 ghost use Rattle.implib_link_instances.specs.Refused.Code.{RefusedBranchArrives};
 ghost use Rattle.implib_link_instances.specs.Refused.Code.{RefusedBranchArrivesByThunk};
 ghost use Rattle.implib_link_instances.specs.Refused.Code.{RefusedBranchStays, RefusedCallArrives};
@@ -15,11 +15,11 @@ ghost use Rattle.implib_link_instances.specs.Refused.Code.{RefusedPointerArrives
 ghost use Rattle.implib_link_instances.specs.Refused.Code.{RefusedResolves, RefusedStubArrives};
 ghost use Rattle.implib_link_instances.specs.Refused.Code.{RefusedStubAt, RefusedSumArrives};
 ghost use Rattle.implib_link_instances.specs.Refused.Code.{RefusedThunkArrives};
-ghost use Rattle.implib_link_instances.specs.Refused.Tables.{RefusedAreBounded, RefusedAreTables};
+ghost use Rattle.implib_link_instances.specs.Refused.Tables.{RefusedAreTables};
 ghost use Rattle.implib_link_instances.specs.Refused.Tables.{RefusedAreTablesLoaded};
-ghost use Rattle.implib_link_instances.specs.Refused.Tables.{RefusedBeginsWith, RefusedFillsBy};
+ghost use Rattle.implib_link_instances.specs.Refused.Tables.{RefusedFillsBy};
 ghost use Rattle.implib_link_instances.specs.Refused.Tables.{RefusedFindsBy, RefusedHoldsAt};
-ghost use Rattle.implib_link_instances.specs.Refused.Tables.{RefusedIsInEntry, RefusedIsInTable};
+ghost use Rattle.implib_link_instances.specs.Refused.Tables.{RefusedIsInTable};
 ghost use Rattle.implib_link_instances.specs.Refused.Tables.{RefusedLoaders};
 ghost use Rattle.implib_link_instances.specs.Refused.Links.{RefusedFlavorTextLinks};
 ghost use Rattle.implib_link_instances.specs.Refused.Links.{RefusedFlavorTextsLink};
@@ -27,10 +27,9 @@ ghost use Rattle.implib_link_instances.specs.Refused.Links.{RefusedInputImports,
 ghost use Rattle.implib_link_instances.specs.Refused.Links.{RefusedIsImportedBy};
 ghost use Rattle.implib_link_instances.specs.Refused.Links.{RefusedIsImportedOfBoth};
 ghost use Rattle.implib_link_instances.specs.Refused.Links.{RefusedIsTaken, RefusedJumpsThrough};
-ghost use Rattle.implib_link_instances.specs.Refused.Links.{RefusedLinksBeside, RefusedLinksClosed};
+ghost use Rattle.implib_link_instances.specs.Refused.Links.{RefusedLinksClosed};
 ghost use Rattle.implib_link_instances.specs.Refused.Links.{RefusedLinksClosedForBoth};
 ghost use Rattle.implib_link_instances.specs.Refused.Links.{RefusedLldLinks, RefusedProgramLinks};
-ghost use Rattle.implib_link_instances.specs.Refused.Links.{RefusedRunLinks};
 ghost use Rattle.implib_link_instances.specs.Refused.Searches.{RefusedImportsWanted};
 ghost use Rattle.implib_link_instances.specs.Refused.Searches.{RefusedIsLinkedOfWanted};
 ghost use Rattle.implib_link_instances.specs.Refused.Searches.{RefusedIsWeakData};
@@ -52,7 +51,6 @@ ghost use Rattle.implib_link_instances.specs.Refused.Archives.{RefusedLldArrives
 
 /// Code of `nop`s and no memory are no calls, loads, stubs or held addresses.
 pub fn refused_code()
-    ensures refused_a32_jump_reads { RefusedA32JumpReads }
     ensures refused_call_arrives { RefusedCallArrives }
     ensures refused_load_arrives { RefusedLoadArrives }
     ensures refused_stub_arrives { RefusedStubArrives }
@@ -81,13 +79,10 @@ pub fn refused_tables()
     ensures refused_finds_by { RefusedFindsBy }
     ensures refused_fills_by { RefusedFillsBy }
     ensures refused_holds_at { RefusedHoldsAt }
-    ensures refused_is_in_entry { RefusedIsInEntry }
-    ensures refused_begins_with { RefusedBeginsWith }
     ensures refused_is_in_table { RefusedIsInTable }
     ensures refused_are_tables { RefusedAreTables }
     ensures refused_are_tables_loaded { RefusedAreTablesLoaded }
     ensures refused_loaders { RefusedLoaders }
-    ensures refused_are_bounded { RefusedAreBounded }
 {}
 
 /// No objects are no link of what is imported.
@@ -97,8 +92,6 @@ pub fn refused_links()
     ensures refused_lld_links { RefusedLldLinks }
     ensures refused_is_taken { RefusedIsTaken }
     ensures refused_program_links { RefusedProgramLinks }
-    ensures refused_run_links { RefusedRunLinks }
-    ensures refused_links_beside { RefusedLinksBeside }
     ensures refused_links_closed { RefusedLinksClosed }
     ensures refused_links_closed_for_both { RefusedLinksClosedForBoth }
     ensures refused_is_imported { RefusedIsImported }
