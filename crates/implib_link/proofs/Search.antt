@@ -2,14 +2,10 @@
 pub mod Lists
 pub mod Search
 pub mod Plainly
-pub mod Numbers
 pub mod Ends
 pub mod ArchiveGroups
 pub mod ArchiveMembers
 pub mod Archives
-pub mod One
-pub mod Searched
-pub mod Sorted
 pub mod Msvc
 pub mod Counts
 pub mod Arranged
@@ -28,7 +24,6 @@ pub mod GnuAlone
 pub mod Taken
 pub mod Chosen
 pub mod Found
-pub mod MsvcOne
 pub mod BothArranged
 pub mod BothClosed
 pub mod BothGiven

@@ -8,7 +8,6 @@ pub mod closed;
 pub mod command_lines;
 pub mod image;
 pub mod lld;
-pub mod msvc_search;
 pub mod no_shorts;
 pub mod operands;
 pub mod other_names;

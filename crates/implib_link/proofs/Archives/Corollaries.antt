@@ -1,32 +1,15 @@
 -- The laws of searches, of bytes.
-use Rattle.std.proofs.Common.{◌≡◌, ℕ, List, [], ◌∷◌, ◌++◌, bytes_eq, map, sym, subst, Option}
-use Rattle.std.specs.List.{AllByRecursion, Contains, IsDistinct, filter_map, flat_map}
-use Rattle.implib.specs.declared.flavor.Flavor.TheVariants.{Gnu as GnuFlavor, Msvc}
-use Rattle.implib.specs.declared.machine.MachineType.{MachineType}
-use Rattle.implib.specs.Definition.{DefinitionView}
-use Rattle.implib.specs.Formats.Object.{Object, object_in}
-use Rattle.implib.specs.Link.Placement.{Bases}
-use Rattle.implib.specs.Members.Members.{AreMembersOf}
+use Rattle.std.proofs.Common.{◌≡◌, ℕ, List, [], ◌∷◌, ◌++◌, map, sym, subst, Option}
+use Rattle.std.specs.List.{Contains, filter_map}
+use Rattle.implib.specs.Formats.Object.{Object}
 use Rattle.implib.specs.Members.MemberSpec.{MemberView}
-use Rattle.implib.specs.Members.MsvcObjects.{descriptor_symbol}
 use Rattle.implib_archive.specs.declared.kind.Kind.{Kind}
-use Rattle.implib_link.specs.Archives.InBytes.{Asks, LinkerMember, asks_for, asks_on, asks_with, is_undefined, asks_as, asks_with_as}
+use Rattle.implib_link.specs.Archives.InBytes.{Asks, LinkerMember, is_undefined, asks_as, asks_with_as}
 use Rattle.implib_link.specs.Archives.Results.{HaveArchive, IsEnding, IsSearchOf, TakesJust}
 use Rattle.implib_link.proofs.Archives.InBytes.{AreTakenBy, PullsBy, TakesBy, kept_of_map, search_of, takes_just}
-use Rattle.implib_link.specs.Flavors.Expansion.{descriptor_symbol_by_name, expanded_in}
-use Rattle.implib_link.specs.Gnu.Program.{ClaimsNone, HaveSame}
-use Rattle.implib_link.specs.Search.Archives.{IsArchive, Library, NamesNoHeadOrTailOf, TakesOfLibraries, archive_of, wanted_with}
-use Rattle.implib_link.specs.Search.Closed.{AreLinkedFor, LinksClosed, listed_in, unresolved, wanted_in, AreTakenIntoAs, PullsIntoAs, TakesIntoAs}
-use Rattle.implib_link.specs.Search.Given.{AreGiven}
-use Rattle.implib_link.specs.Search.Msvc.{NamesNoHeader, msvc_if_any, shorts_wanted}
-use Rattle.implib_link.specs.Search.Search.{NamesNoHeadOrTail, exports_wanted, linked_if_any, names_undefined, left_as, claimed_as, AreTakenInTurnAs, PullsInAs, TakesAs, objects_as}
-use Rattle.implib_link.proofs.Search.Ends.{into_ends, search_ends}
-use Rattle.implib_link.proofs.Search.Archives.{libraries_taken}
-use Rattle.implib_link.proofs.Search.Closed.{closed_links}
-use Rattle.implib_link.proofs.Search.Given.{given_closes}
-use Rattle.implib_link.proofs.Search.MsvcOne.{search_takes}
-use Rattle.implib_link.proofs.Search.One.{takes_wanted}
-use Rattle.implib.specs.LibraryName.{linked_dll, linked_name}
+use Rattle.implib_link.specs.Search.Closed.{unresolved, AreTakenIntoAs, PullsIntoAs, TakesIntoAs}
+use Rattle.implib_link.specs.Search.Search.{left_as, claimed_as, AreTakenInTurnAs, PullsInAs, TakesAs, objects_as}
+use Rattle.implib_link.proofs.Search.Ends.{into_ends}
 
 -- The searches, by what they look at.
 
@@ -119,44 +102,6 @@ pub searched_given : (reads : List ℕ → Option Object) (kind : Kind) (linker 
 searched_given reads kind linker members own ready =
     takes_just kind linker members (asks_with_as reads own) (TakesIntoAs reads members own) ready (given_taken reads members own)
 
-pub bytes_take_wanted : (kind : Kind) (linker : LinkerMember) (machine : MachineType) (d : DefinitionView) (members : List MemberView) (wanted : List (List ℕ)) → HaveArchive kind linker members
-    → AreMembersOf d machine GnuFlavor members → IsDistinct bytes_eq (flat_map (λ m. m.symbols) members) → NamesNoHeadOrTail machine (linked_name d) wanted
-    → TakesJust kind linker members (asks_for wanted) (λ taken. HaveSame taken (linked_if_any d machine (exports_wanted d wanted)))
-bytes_take_wanted kind linker machine d members wanted ready made distinct plain =
-    takes_just kind linker members (asks_for wanted) (λ taken. HaveSame taken (linked_if_any d machine (exports_wanted d wanted))) ready
-    (λ taken takes. takes_wanted machine d members taken wanted made distinct plain (wanted_taken object_in members wanted taken takes))
-
-pub bytes_of_libraries : (kind : Kind) (linker : LinkerMember) (machine : MachineType) (libraries : List Library) (wanted : List (List ℕ)) → HaveArchive kind linker (archive_of libraries) → IsArchive machine libraries
-    → TakesJust kind linker (archive_of libraries) (asks_for wanted) (λ taken. NamesNoHeadOrTailOf machine libraries (wanted_with wanted taken) → TakesOfLibraries machine libraries wanted taken)
-bytes_of_libraries kind linker machine libraries wanted ready archive =
-    takes_just kind linker (archive_of libraries) (asks_for wanted) (λ taken. NamesNoHeadOrTailOf machine libraries (wanted_with wanted taken) → TakesOfLibraries machine libraries wanted taken) ready
-    (λ taken takes plain. libraries_taken machine libraries taken wanted archive plain (wanted_taken object_in (archive_of libraries) wanted taken takes))
-
-pub bytes_close : (kind : Kind) (linker : LinkerMember) (machine : MachineType) (libraries : List Library) (own : List Object) → HaveArchive kind linker (archive_of libraries) → IsArchive machine libraries
-    → TakesJust kind linker (archive_of libraries) (asks_with own) (λ taken. (arranged : List Library) (bases : Bases) (objects : List Object) → AreLinkedFor machine libraries own taken arranged bases objects
-    → AllByRecursion (ClaimsNone (listed_in taken ++ names_undefined taken)) own → NamesNoHeadOrTailOf machine libraries (wanted_in own taken) → LinksClosed machine libraries own taken arranged bases objects)
-bytes_close kind linker machine libraries own ready archive =
-    takes_just kind linker (archive_of libraries) (asks_with own) (λ taken. (arranged : List Library) (bases : Bases) (objects : List Object) → AreLinkedFor machine libraries own taken arranged bases objects
-    → AllByRecursion (ClaimsNone (listed_in taken ++ names_undefined taken)) own → NamesNoHeadOrTailOf machine libraries (wanted_in own taken) → LinksClosed machine libraries own taken arranged bases objects) ready
-    (λ taken takes arranged bases objects linked claims names. closed_links machine libraries own taken arranged bases objects archive
-    (record { takes = given_taken object_in (archive_of libraries) own taken takes; linked = linked; claims = claims; names = names }))
-
-pub bytes_close_given : (kind : Kind) (linker : LinkerMember) (machine : MachineType) (libraries : List Library) (own : List Object) → HaveArchive kind linker (archive_of libraries) → IsArchive machine libraries → AreGiven machine libraries own
-    → TakesJust kind linker (archive_of libraries) (asks_with own) (λ taken. (arranged : List Library) (bases : Bases) (objects : List Object) → AreLinkedFor machine libraries own taken arranged bases objects
-    → LinksClosed machine libraries own taken arranged bases objects)
-bytes_close_given kind linker machine libraries own ready archive given =
-    takes_just kind linker (archive_of libraries) (asks_with own) (λ taken. (arranged : List Library) (bases : Bases) (objects : List Object) → AreLinkedFor machine libraries own taken arranged bases objects
-    → LinksClosed machine libraries own taken arranged bases objects) ready
-    (λ taken takes arranged bases objects linked. closed_links machine libraries own taken arranged bases objects archive
-    (given_closes machine libraries own taken arranged bases objects archive given (given_taken object_in (archive_of libraries) own taken takes) linked))
-
-pub bytes_take_short : (kind : Kind) (linker : LinkerMember) (machine : MachineType) (d : DefinitionView) (members : List MemberView) (wanted : List (List ℕ)) → HaveArchive kind linker members
-    → AreMembersOf d machine Msvc members → IsDistinct bytes_eq (flat_map (λ m. m.symbols) members) → descriptor_symbol_by_name d.import_name ≡ descriptor_symbol (linked_dll d) → NamesNoHeader (linked_dll d) wanted
-    → TakesJust kind linker members (asks_on machine wanted) (λ taken. HaveSame taken (msvc_if_any d machine (shorts_wanted d wanted)))
-bytes_take_short kind linker machine d members wanted ready made distinct found plain =
-    takes_just kind linker members (asks_on machine wanted) (λ taken. HaveSame taken (msvc_if_any d machine (shorts_wanted d wanted))) ready
-    (λ taken takes. search_takes machine d members taken wanted made distinct found plain (wanted_taken (expanded_in machine) members wanted taken takes))
-
 -- Searches in the bytes exist, and come to an end.
 
 pub found_wanted : (reads : List ℕ → Option Object) (kind : Kind) (linker : LinkerMember) (members : List MemberView) (wanted : List (List ℕ)) (found : List MemberView) → HaveArchive kind linker members →
@@ -172,17 +117,7 @@ found_given reads kind linker members own found ready takes =
 pub ending : (kind : Kind) (linker : LinkerMember) (members : List MemberView) (asks : Asks) (found : List MemberView) → IsSearchOf kind linker members asks found → IsEnding kind linker members asks
 ending kind linker members asks found search = (search.taken, search.takes)
 
-pub ends_wanted : (kind : Kind) (linker : LinkerMember) (members : List MemberView) (wanted : List (List ℕ)) → HaveArchive kind linker members → IsEnding kind linker members (asks_for wanted)
-ends_wanted kind linker members wanted ready =
-    let found = search_ends object_in members wanted in
-    ending kind linker members (asks_for wanted) found.0 (found_wanted object_in kind linker members wanted found.0 ready found.1)
-
 pub ends_with : (reads : List ℕ → Option Object) (kind : Kind) (linker : LinkerMember) (members : List MemberView) (own : List Object) → HaveArchive kind linker members → IsEnding kind linker members (asks_with_as reads own)
 ends_with reads kind linker members own ready =
     let found = into_ends reads members own in
     ending kind linker members (asks_with_as reads own) found.0 (found_given reads kind linker members own found.0 ready found.1)
-
-pub ends_short : (kind : Kind) (linker : LinkerMember) (machine : MachineType) (members : List MemberView) (wanted : List (List ℕ)) → HaveArchive kind linker members → IsEnding kind linker members (asks_on machine wanted)
-ends_short kind linker machine members wanted ready =
-    let found = search_ends (expanded_in machine) members wanted in
-    ending kind linker members (asks_on machine wanted) found.0 (found_wanted (expanded_in machine) kind linker members wanted found.0 ready found.1)

@@ -1,29 +1,19 @@
 -- What a linker takes of an archive of libraries for GNU's linker: what it takes of one of libraries in either flavour.
-use Rattle.std.proofs.Common.{ℕ, List, ◌++◌, map, sym, subst, inl, inr}
+use Rattle.std.proofs.Common.{ℕ, List, ◌++◌, sym, subst, inl, inr}
 use Rattle.implib.specs.declared.machine.MachineType.{MachineType}
-use Rattle.implib.specs.Formats.Object.{Object, object_in}
+use Rattle.implib.specs.Formats.Object.{object_in}
 use Rattle.implib.specs.Link.LinkedMembers.{all_linked}
-use Rattle.implib.specs.Link.Placement.{Bases}
 use Rattle.implib.specs.Members.MemberSpec.{MemberView}
 use Rattle.implib.proofs.Link.Ranges.{Among, all_among}
-use Rattle.implib_link.specs.Flavors.Program.{IsProgram, LinksAmong, OfLinker, gnu_input}
 use Rattle.implib_link.specs.Gnu.Program.{HaveSame}
 use Rattle.implib_link.specs.Search.Archives.{IsArchive, IsWeakData, Library, NamesNoHeadOrTailOf, TakesOfLibraries, archive_of, inputs_wanted, is_weak, others_among, wanted_with, weak_among}
 use Rattle.implib_link.specs.Search.BothFlavors.{IsWeakOfBoth, gnu_among, msvc_among}
 use Rattle.implib_link.specs.Search.MsvcArchives.{shorts_linked}
 use Rattle.implib_link.specs.Search.Search.{Takes, TakesAs}
-use Rattle.implib_link.proofs.Flavors.GnuPrograms.{gnu_made}
-use Rattle.implib_link.proofs.Flavors.Program.{program_links}
-use Rattle.implib_link.proofs.Search.Arranged.{inputs_made}
 use Rattle.implib_link.proofs.Search.GnuAlone.{archive_alone, gnu_alone, gnu_libraries, members_alone, names_alone, no_msvc, reads_plainly}
 use Rattle.implib_link.proofs.Search.Lists.{all_from, contains_among}
 use Rattle.implib_link.proofs.Search.Search.{in_nothing}
 use Rattle.implib_link.proofs.Search.Taken.{others_are, weak_are}
-
-pub libraries_link : (machine : MachineType) (libraries : List Library) (wanted : List (List ℕ)) (bases : Bases) (objects : List Object) → IsArchive machine libraries →
-    IsProgram machine bases (inputs_wanted libraries wanted) objects → LinksAmong machine bases (inputs_wanted libraries wanted) objects
-libraries_link machine libraries wanted bases objects archive program =
-    program_links machine OfLinker bases (map gnu_input (inputs_wanted libraries wanted)) objects (gnu_made machine (inputs_wanted libraries wanted) (inputs_made machine libraries wanted archive.made)) program
 
 -- a weak external of an alias is one of data, where there is no library for Microsoft's linker
 weak_data : (libraries : List Library) (names : List (List ℕ)) (m : MemberView) → IsWeakOfBoth (gnu_libraries libraries) names m → IsWeakData libraries names m

@@ -1,5 +1,5 @@
 -- What is linked of an archive of libraries, where the libraries may be in another order.
-use Rattle.std.proofs.Common.{◌≡◌, ℕ, ◌+◌, ◌≤◌, Bool, List, [], ◌∷◌, ◌++◌, refl, ap, sym, ◌∙◌, subst, inl, inr, arith}
+use Rattle.std.proofs.Common.{◌≡◌, ℕ, ◌+◌, ◌≤◌, Bool, List, [], ◌∷◌, ◌++◌, ap, sym, ◌∙◌, subst, inl, inr, arith}
 use Rattle.std.specs.Prelude.{IsPermutation, reverse}
 use Rattle.std.specs.List.{AllByRecursion, cons_option, filter, flat_map}
 use Rattle.std.proofs.lemmas.Bool.{cases_Bool}
@@ -7,13 +7,13 @@ use Rattle.std.proofs.lemmas.List.Sorted.{Contains-permutation, IsPermutation-re
 use Rattle.implib.specs.declared.machine.MachineType.{MachineType}
 use Rattle.implib.specs.Definition.{ExportView}
 use Rattle.implib.specs.Import.{is_alias}
-use Rattle.implib.specs.Link.LinkedMembers.{IsMade, LinkInput, all_linked, chosen_exports}
+use Rattle.implib.specs.Link.LinkedMembers.{IsMade, LinkInput, chosen_exports}
 use Rattle.implib.specs.Members.Gnu.{archive_symbols, head_symbol, iname_symbol}
 use Rattle.implib.proofs.Link.LinkedBlocks.{linked_symbols}
 use Rattle.implib.proofs.Link.LinkedMembers.{among_contains}
 use Rattle.implib.proofs.Link.Ranges.{Among, all_among}
 use Rattle.implib_link.specs.Search.Archives.{IsArchive, IsLibrary, Library, exports_of, input_if_any, inputs_wanted, symbols_of_export, symbols_of_library}
-use Rattle.implib_link.specs.Search.Search.{exports_wanted, is_wanted, linked_if_any}
+use Rattle.implib_link.specs.Search.Search.{exports_wanted, is_wanted}
 use Rattle.implib_link.proofs.Search.Lists.{all_from as all_each, contains_among}
 use Rattle.implib_link.proofs.Search.Counts.{distinct_from, few_from, times, times_both, times_moved}
 use Rattle.implib_link.proofs.Search.Search.{passing_chosen}
@@ -21,11 +21,6 @@ use Rattle.implib.specs.LibraryName.{NamesOfDll, names_for}
 use Rattle.implib.specs.declared.flavor.Flavor.TheVariants.{Gnu}
 
 -- What is linked of libraries.
-
-pub input_linked : (machine : MachineType) (l : Library) (chosen : List ℕ) (others : List LinkInput) →
-    all_linked machine (cons_option (input_if_any l chosen) others) ≡ linked_if_any l.definition machine chosen ++ all_linked machine others
-input_linked machine l [] others = refl
-input_linked machine l (n ∷ chosen) others = refl
 
 input_made : (machine : MachineType) (l : Library) (chosen : List ℕ) (others : List LinkInput) → IsLibrary machine l → AllByRecursion (IsMade machine) others →
     AllByRecursion (IsMade machine) (cons_option (input_if_any l chosen) others)

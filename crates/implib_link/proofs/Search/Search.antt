@@ -1,27 +1,22 @@
 -- What a linker takes of the members for GNU's linker.
-use Rattle.std.proofs.Common.{◌≡◌, ℕ, zero, suc, ◌+◌, ◌<◌, Bool, length, true, List, [], ◌∷◌, ◌++◌, Option, Some, None, refl, ap, sym, ◌∙◌, subst, inl, inr, ◌⊎◌, arith}
-use Rattle.std.specs.Prelude.{bytes_eq, slice_get, slice_index}
-use Rattle.std.specs.List.{IsDistinct, filter, filter_map, list_any}
+use Rattle.std.proofs.Common.{◌≡◌, ℕ, zero, suc, ◌+◌, Bool, length, true, List, [], ◌∷◌, ◌++◌, Option, Some, None, refl, ap, sym, ◌∙◌, subst, inl, inr, ◌⊎◌, arith}
+use Rattle.std.specs.Prelude.{bytes_eq, slice_get}
+use Rattle.std.specs.List.{filter, filter_map, list_any}
 use Rattle.std.proofs.lemmas.Bool.{cases_Bool}
-use Rattle.std.proofs.lemmas.List.{append_assoc, append_cancel_left, length-append}
-use Rattle.implib.specs.declared.flavor.Flavor.TheVariants.{Gnu}
+use Rattle.std.proofs.lemmas.List.{append_assoc, length-append}
 use Rattle.implib.specs.declared.machine.MachineType.{MachineType}
-use Rattle.implib.specs.Definition.{DefinitionView, ExportView}
-use Rattle.implib.specs.Members.Gnu.{archive_symbols, export_name, export_object, head_object, head_symbol, iname_symbol, numbered_name, mangled_name, tail_object, weak_address_name}
-use Rattle.implib.specs.Import.{imp_symbol, is_alias, public_exports}
-use Rattle.implib.specs.Link.LinkedMembers.{linked_members, numbered_spec}
+use Rattle.implib.specs.Definition.{ExportView}
+use Rattle.implib.specs.Members.Gnu.{archive_symbols, export_object, head_object, head_symbol, iname_symbol, tail_object}
+use Rattle.implib.specs.Import.{imp_symbol}
+use Rattle.implib.specs.Link.LinkedMembers.{numbered_spec}
 use Rattle.std.specs.Option.{option_map}
-use Rattle.implib.specs.Members.Members.{AreMembersOf}
-use Rattle.implib.specs.Members.MemberSpec.{MemberView, MemberSpec, member_of}
-use Rattle.implib.specs.Members.GnuMembers.{alias_specs, export_spec, gnu_specs, head_spec, numbered_specs, numbered_specs_of, tail_spec}
-use Rattle.implib.specs.Members.WeakExternal.{weak_spec}
-use Rattle.implib.specs.Renaming.{renamed}
-use Rattle.implib.proofs.Link.LinkedMembers.{among_map, among_reverse}
+use Rattle.implib.specs.Members.MemberSpec.{MemberSpec, member_of}
+use Rattle.implib.specs.Members.GnuMembers.{export_spec, head_spec, numbered_specs, numbered_specs_of, tail_spec}
 use Rattle.implib.proofs.Link.Placement.{export, head, tail}
 use Rattle.implib.proofs.Link.Ranges.{Among, among_back, among_first, among_front, among_later}
-use Rattle.implib_link.specs.Search.Search.{is_wanted, undefined_in, linked_if_any, numbers_passing}
-use Rattle.implib_link.proofs.Search.Lists.{all_listed, among_any, among_either, among_mapped, any_among, one_member, any_from, any_of, kept_into, kept_from}
-use Rattle.implib.specs.LibraryName.{NamesOfDll, linked_name, names_for}
+use Rattle.implib_link.specs.Search.Search.{is_wanted, undefined_in, numbers_passing}
+use Rattle.implib_link.proofs.Search.Lists.{among_any, among_either, any_among, any_from, any_of, kept_into, kept_from}
+use Rattle.implib.specs.LibraryName.{NamesOfDll}
 use Rattle.std.proofs.lemmas.Option.{same_Some}
 
 -- What specifications there are.
@@ -39,9 +34,6 @@ numbered_in machine dll (x ∷ exports) start (suc n) e p is held =
     let position : start + suc n ≡ start + 1 + n = omega arith in
     among_back p (numbered_specs_of machine dll start x) (numbered_specs machine dll (start + 1) exports)
     (numbered_in machine dll exports (start + 1) n e p is (subst (λ n. Among p (numbered_specs_of machine dll n e)) position held))
-
-pub name_differs : (n m : ℕ) → n ≡ m → m < n → ⊥
-name_differs n m same below = omega arith
 
 -- The numbers of wanted exports.
 
@@ -161,68 +153,6 @@ pub in_nothing : {X : Type 0} (x : X) → Among x [] → ⊥
 unfolding Among
 in_nothing x held = held
 
-names_apart : (dll : List ℕ) (n : ℕ) → weak_address_name dll n ≡ export_name dll n → ⊥
-unfolding numbered_name
-names_apart dll n same = name_differs 0x78 0x73 (ap (λ text. slice_index text 3) (append_cancel_left (mangled_name dll) _ _ same)) (omega arith)
-
--- some export is wanted
-pub record AnyWanted (exports : List ExportView) (wanted : List (List ℕ)) : Type 0 where
-  pub number : ℕ
-  pub export : ExportView
-  pub is : slice_get exports number ≡ Some export
-  pub want : is_wanted wanted export ≡ true
-
--- a member is that of an export
-pub record IsExport (machine : MachineType) (dll : List ℕ) (exports : List ExportView) (m : MemberView) : Type 0 where
-  pub number : ℕ
-  pub export : ExportView
-  pub is : slice_get exports number ≡ Some export
-  pub same : m ≡ member_of (export_spec machine dll number export)
-
--- a member that is needed for wanted names
-pub data Needed (machine : MachineType) (dll : NamesOfDll) (exports : List ExportView) (wanted : List (List ℕ)) (m : MemberView) : Type 0 where
-  TheTail : m ≡ member_of (tail_spec machine dll) → AnyWanted exports wanted → Needed machine dll exports wanted m
-  TheHead : m ≡ member_of (head_spec machine dll.linked) → AnyWanted exports wanted → Needed machine dll exports wanted m
-  AnExport : (x : IsExport machine dll.linked exports m) → is_wanted wanted x.export ≡ true → Needed machine dll exports wanted m
-
-module _ (d : DefinitionView) (machine : MachineType) (members : List MemberView) (made : AreMembersOf d machine Gnu members)
-    (distinct : IsDistinct bytes_eq (all_listed members)) where
-  abbrev pub public : List ExportView
-  public = public_exports (renamed d)
-
-  abbrev pub the_export : ℕ → ExportView → MemberView
-  the_export n e = member_of (export_spec machine (linked_name d) n e)
-
-  specified : (p : MemberSpec) → Among p (gnu_specs machine (names_for Gnu d) public) → Among (member_of p) members
-  specified p held = subst (Among (member_of p)) (sym made.made) (among_map member_of p (gnu_specs machine (names_for Gnu d) public) held)
-
-  member_spec_held : (n : ℕ) (e : ExportView) (p : MemberSpec) → slice_get public n ≡ Some e → Among p (numbered_specs_of machine (linked_name d) n e) → Among (member_of p) members
-  member_spec_held n e p is held =
-      let position : n ≡ 0 + n = omega arith in
-      specified p (among_later _ _ _ (among_later _ _ _ (among_reverse p (numbered_specs machine (linked_name d) 0 public)
-      (numbered_in machine (linked_name d) public 0 n e p is (subst (λ k. Among p (numbered_specs_of machine (linked_name d) k e)) position held)))))
-
-  pub export_held : (n : ℕ) (e : ExportView) → slice_get public n ≡ Some e → Among (the_export n e) members
-  export_held n e is =
-      member_spec_held n e (export_spec machine (linked_name d) n e) is
-      (among_back (export_spec machine (linked_name d) n e) (alias_specs machine (linked_name d) n e) (export_spec machine (linked_name d) n e ∷ []) (among_first _ _))
-
-  abbrev alias_of : ℕ → ExportView → MemberSpec
-  alias_of n e = weak_spec machine (weak_address_name (linked_name d) n) (imp_symbol e.name) (imp_symbol e.alias_target)
-
-  alias_there : (n : ℕ) (e : ExportView) → is_alias e.alias_target e.name ≡ true → Among (alias_of n e) (alias_specs machine (linked_name d) n e)
-  unfolding alias_specs
-  alias_there n e alias = rw alias (among_later _ _ _ (among_first _ _))
-
-  -- an alias is listed for a symbol of its export
-  pub no_alias : (n : ℕ) (e : ExportView) → slice_get public n ≡ Some e → is_alias e.alias_target e.name ≡ true → ⊥
-  unfolding export_spec
-  no_alias n e is alias =
-      names_apart (linked_name d) n (ap (λ (m : MemberView). m.name)
-      (one_member members (imp_symbol e.name) (member_of (alias_of n e)) (the_export n e) distinct
-      (member_spec_held n e (alias_of n e) is (among_front (alias_of n e) (alias_specs machine (linked_name d) n e) (export_spec machine (linked_name d) n e ∷ []) (alias_there n e alias)))
-      (export_held n e is) (among_first _ _) (address_listed e)))
-
 -- What is linked of chosen exports.
 
 -- numbers are of exactly the wanted exports
@@ -253,51 +183,3 @@ member_spec_linked machine dll exports chosen p (inr held) =
       | inl own ↦ inr (inr (chosen_member_spec machine dll.linked exports chosen p own))
       | inr last ↦ inr (inl (only_one p (tail_spec machine dll) last))
     ]
-
-some_chosen : (d : DefinitionView) (machine : MachineType) (chosen : List ℕ) (k : ℕ) (m : MemberView) → Among k chosen → Among m (linked_members d machine chosen) →
-    Among m (linked_if_any d machine chosen)
-some_chosen d machine [] k m held is = absurd (in_nothing k held)
-some_chosen d machine (n ∷ chosen) k m held is = is
-
--- what is linked, if any is, and one of the chosen numbers
-linked_some : (d : DefinitionView) (machine : MachineType) (chosen : List ℕ) (m : MemberView) → Among m (linked_if_any d machine chosen) →
-    (k : ℕ) × Among k chosen × Among m (linked_members d machine chosen)
-linked_some d machine [] m held = absurd (in_nothing m held)
-linked_some d machine (n ∷ chosen) m held = (n, among_first n chosen, held)
-
-module _ (d : DefinitionView) (machine : MachineType) (wanted : List (List ℕ)) (chosen : List ℕ) (are : AreWanted (public_exports (renamed d)) wanted chosen) where
-  pub member_spec_in : (p : MemberSpec) → Among p (member_specs_linked machine (names_for Gnu d) (public_exports (renamed d)) chosen) → Among (member_of p) (linked_members d machine chosen)
-  member_spec_in p held = among_map member_of p (member_specs_linked machine (names_for Gnu d) (public_exports (renamed d)) chosen) held
-
-  pub linked_if_needed : (m : MemberView) → Needed machine (names_for Gnu d) (public_exports (renamed d)) wanted m → Among m (linked_if_any d machine chosen)
-  linked_if_needed m (TheTail same any) =
-      some_chosen d machine chosen any.number m (are.all any.number any.export any.is any.want) (subst (λ x. Among x (linked_members d machine chosen)) (sym same)
-      (member_spec_in (tail_spec machine (names_for Gnu d)) (among_later _ _ _
-      (among_back _ (filter_map (numbered_spec machine (linked_name d) (public_exports (renamed d))) chosen) (tail_spec machine (names_for Gnu d) ∷ []) (among_first _ _)))))
-  linked_if_needed m (TheHead same any) =
-      some_chosen d machine chosen any.number m (are.all any.number any.export any.is any.want) (subst (λ x. Among x (linked_members d machine chosen)) (sym same)
-      (member_spec_in (head_spec machine (linked_name d)) (among_first _ _)))
-  linked_if_needed m (AnExport x want) =
-      some_chosen d machine chosen x.number m (are.all x.number x.export x.is want) (subst (λ y. Among y (linked_members d machine chosen)) (sym x.same)
-      (member_spec_in (export_spec machine (linked_name d) x.number x.export) (among_later _ _ _
-      (among_front _ (filter_map (numbered_spec machine (linked_name d) (public_exports (renamed d))) chosen) (tail_spec machine (names_for Gnu d) ∷ [])
-      (member_spec_chosen machine (linked_name d) (public_exports (renamed d)) chosen x.number x.export (are.all x.number x.export x.is want) x.is)))))
-
-  some_of : (k : ℕ) → Among k chosen → AnyWanted (public_exports (renamed d)) wanted
-  some_of k held = let found = are.only k held in record { number = k; export = found.0; is = found.1; want = found.2 }
-
-  needed_member_spec : (m : MemberView) (p : MemberSpec) → m ≡ member_of p → AnyWanted (public_exports (renamed d)) wanted →
-      (p ≡ head_spec machine (linked_name d)) ⊎ ((p ≡ tail_spec machine (names_for Gnu d)) ⊎ Chosen machine (linked_name d) (public_exports (renamed d)) chosen p) →
-      Needed machine (names_for Gnu d) (public_exports (renamed d)) wanted m
-  needed_member_spec m p same any (inl e) = TheHead (same ∙ ap member_of e) any
-  needed_member_spec m p same any (inr (inl e)) = TheTail (same ∙ ap member_of e) any
-  needed_member_spec m p same any (inr (inr c)) =
-      let found = are.only c.0 c.2 in
-      let own : c.1 ≡ found.0 = same_Some c.1 found.0 (sym c.3 ∙ found.1) in
-      AnExport (record { number = c.0; export = c.1; is = c.3; same = same ∙ ap member_of c.4 }) (subst (λ e. is_wanted wanted e ≡ true) (sym own) found.2)
-
-  pub needed_if_linked : (m : MemberView) → Among m (linked_if_any d machine chosen) → Needed machine (names_for Gnu d) (public_exports (renamed d)) wanted m
-  needed_if_linked m held =
-      let some = linked_some d machine chosen m held in
-      let p = among_mapped member_of m (member_specs_linked machine (names_for Gnu d) (public_exports (renamed d)) chosen) some.2 in
-      needed_member_spec m p.0 p.2 (some_of some.0 some.1) (member_spec_linked machine (names_for Gnu d) (public_exports (renamed d)) chosen p.0 p.1)

@@ -1,28 +1,19 @@
 -- Archive search: which members of an archive a linker takes for the names that are undefined. The
 -- archive lists symbols for each member; what a member leaves to others is read in its bytes.
 -- Nothing in the search knows who wrote the members.
-use Rattle.std.specs.Prelude.{◌≡◌, ℕ, ◌+◌, Bool, false, List, [], ◌∷◌, ◌++◌, bytes_eq, map, not}
+use Rattle.std.specs.Prelude.{◌≡◌, ℕ, ◌+◌, Bool, false, List, [], ◌∷◌, ◌++◌, bytes_eq}
 use Rattle.std.specs.Prelude.{Option, Some, None, if◌then◌else◌}
-use Rattle.std.specs.List.{AllByRecursion, Contains, IsDistinct, filter, filter_map, flat_map}
+use Rattle.std.specs.List.{Contains, filter_map, flat_map}
 use Rattle.std.specs.List.{list_any}
-use Rattle.implib.specs.declared.flavor.Flavor.TheVariants.{Gnu}
 use Rattle.implib.specs.declared.machine.MachineType.{MachineType}
 use Rattle.implib.specs.Definition.{DefinitionView, ExportView}
 use Rattle.implib.specs.Members.Gnu.{archive_symbols, head_symbol, iname_symbol}
 use Rattle.implib.specs.Import.{public_exports}
-use Rattle.implib.specs.Link.Image.{IsAdmissible}
 use Rattle.implib.specs.Link.Linked.{undefined_name}
-use Rattle.implib.specs.Link.LinkedMembers.{linked_members, objects_in}
-use Rattle.implib.specs.Members.MemberSpec.{MemberView, member_of}
-use Rattle.implib.specs.Members.GnuMembers.{head_spec, tail_spec}
-use Rattle.implib.specs.Members.Members.{AreMembersOf}
+use Rattle.implib.specs.Members.MemberSpec.{MemberView}
 use Rattle.implib.specs.Formats.Object.{Object, object_in}
-use Rattle.implib.specs.Link.Placement.{Bases}
 use Rattle.implib.specs.Renaming.{renamed}
-use Rattle.implib_link.specs.Gnu.Program.{ClaimsNone, HaveSame, claimed_names, has_tables}
-use Rattle.implib_link.specs.Gnu.Program.{null_descriptor}
-use Rattle.implib_link.specs.Flavors.Program.{LinksAmong}
-use Rattle.implib.specs.LibraryName.{NamesOfDll, linked_name}
+use Rattle.implib_link.specs.Gnu.Program.{claimed_names}
 
 -- whether the archive lists a name for a member
 abbrev pub is_listed_for : List ℕ → MemberView → Bool
@@ -81,10 +72,6 @@ pub record TakesAs (reads : List ℕ → Option Object) (archive : List MemberVi
 abbrev pub names_undefined : List MemberView → List (List ℕ)
 names_undefined = left_as object_in
 
--- members are taken one after another
-abbrev pub IsTakenInTurn : List MemberView → List (List ℕ) → List MemberView → Type 0
-IsTakenInTurn = AreTakenInTurnAs object_in
-
 -- what the linker takes
 abbrev pub Takes : List MemberView → List (List ℕ) → List MemberView → Type 0
 Takes = TakesAs object_in
@@ -106,66 +93,9 @@ numbers_passing test number (e ∷ exports) =
 abbrev pub exports_wanted : DefinitionView → List (List ℕ) → List ℕ
 exports_wanted d wanted = numbers_passing (is_wanted wanted) 0 (public_exports (renamed d))
 
--- the head, the members of chosen exports and the tail; nothing where no export is chosen
-abbrev pub linked_if_any : DefinitionView → MachineType → List ℕ → List MemberView
-linked_if_any d machine [] = []
-linked_if_any d machine (n ∷ chosen) = linked_members d machine (n ∷ chosen)
-
 -- no wanted name is one of the two by which only members name each other: the descriptor's and the
 -- DLL name's
 pub record NamesNoHeadOrTail (machine : MachineType) (dll : List ℕ)
     (wanted : List (List ℕ)) : Type 0 where
   pub head : list_any (bytes_eq (head_symbol machine dll)) wanted ≡ false
   pub name : list_any (bytes_eq (iname_symbol machine dll)) wanted ≡ false
-
--- What holds of what a linker takes of an archive of a definition's members for GNU's linker, where
--- all symbols that it lists differ and no wanted name is one of those two: of the members, what is
--- taken, and the wanted names.
-abbrev pub OfTaken : (MachineType → DefinitionView → List MemberView → List MemberView →
-    List (List ℕ) → Type 0) → Type 0
-OfTaken Holds =
-    (machine : MachineType) (d : DefinitionView) (members taken : List MemberView)
-    (wanted : List (List ℕ)) →
-    AreMembersOf d machine Gnu members →
-    IsDistinct bytes_eq (flat_map (λ m. m.symbols) members) →
-    NamesNoHeadOrTail machine (linked_name d) wanted →
-    Takes members wanted taken →
-    Holds machine d members taken wanted
-
--- what is taken, each member once, in an order in which the head is first and the tail last, as
--- linkers have it that sort by member name
-pub record IsArranged (machine : MachineType) (dll : NamesOfDll)
-    (taken arranged : List MemberView) : Type 0 where
-  pub between : List MemberView
-  pub order : arranged
-      ≡ member_of (head_spec machine dll.linked)
-      ∷ (between ++ member_of (tail_spec machine dll) ∷ [])
-  pub same : HaveSame taken arranged
-  pub once : IsDistinct bytes_eq (map (λ m. m.name) arranged)
-
--- members are what is linked of exactly the wanted exports, in some order
-pub record IsLinkedOfWanted (machine : MachineType) (d : DefinitionView) (wanted : List (List ℕ))
-    (arranged : List MemberView) : Type 0 where
-  pub chosen : List ℕ
-  pub same : HaveSame chosen (exports_wanted d wanted)
-  pub linked : arranged ≡ linked_members d machine chosen
-
--- A program of what a linker took of an archive, in such an order, and of other objects: the
--- objects with import tables are those members and, after them, the null descriptor; the others
--- claim no symbol of theirs.
-pub record IsLinkedWith (machine : MachineType) (dll : NamesOfDll) (bases : Bases)
-    (taken : List MemberView) (objects : List Object) : Type 0 where
-  pub arranged : List MemberView
-  pub is_arranged : IsArranged machine dll taken arranged
-  pub tables : filter has_tables objects ≡ objects_in arranged ++ null_descriptor ∷ []
-  pub others : AllByRecursion (ClaimsNone (flat_map (λ m. m.symbols) arranged))
-      (filter (λ o. not (has_tables o)) objects)
-  pub admissible : IsAdmissible machine bases objects
-
--- the objects link to a program that imports exactly the wanted exports, in some order
-pub record ImportsWanted (machine : MachineType) (d : DefinitionView) (members : List MemberView)
-    (wanted : List (List ℕ)) (bases : Bases) (objects : List Object) : Type 0 where
-  pub chosen : List ℕ
-  pub same : HaveSame chosen (exports_wanted d wanted)
-  pub links : LinksAmong machine bases
-      (record { definition = d; members = members; chosen = chosen } ∷ []) objects

@@ -1,13 +1,8 @@
 //! Laws of archive search in bytes. The functions do nothing: their contracts are the laws.
 
-ghost use Rattle.implib.specs.Definition.{DefinitionView};
 ghost use Rattle.implib.specs.Formats.Object.{Object, object_in};
 ghost use Rattle.implib.specs.Link.Placement.{Bases};
-ghost use Rattle.implib.specs.LibraryName.{linked_dll, linked_name};
 ghost use Rattle.implib.specs.Members.MemberSpec.{MemberView};
-ghost use Rattle.implib.specs.Members.Members.{AreMembersOf};
-ghost use Rattle.implib.specs.Members.MsvcObjects.{descriptor_symbol};
-ghost use Rattle.implib.specs.declared.flavor.Flavor.TheVariants.{Gnu, Msvc};
 ghost use Rattle.implib.specs.declared.machine.MachineType.{MachineType};
 ghost use Rattle.implib_archive.specs.Archive.{archive_of as archive_bytes};
 ghost use Rattle.implib_archive.specs.Refusal.{refusal_of};
@@ -16,34 +11,30 @@ ghost use Rattle.implib_archive.specs.declared.kind.Kind.{Kind};
 ghost use Rattle.implib_link.specs.Archives.BothWay.{AreLinkedForBoth, BothArrive};
 ghost use Rattle.implib_link.specs.Archives.Files.{ArchiveFile, HasMembers, HasMembersAs};
 ghost use Rattle.implib_link.specs.Archives.Files.{members_in_files, members_read};
-ghost use Rattle.implib_link.specs.Archives.InBytes.{LinkerMember, asks_for, asks_on, asks_with};
+ghost use Rattle.implib_link.specs.Archives.InBytes.{LinkerMember, asks_with};
 ghost use Rattle.implib_link.specs.Archives.InBytes.{asks_as, asks_with_as, asks_with_on};
 ghost use Rattle.implib_link.specs.Archives.LldFiles.{SearchesByLld};
 ghost use Rattle.implib_link.specs.Archives.LldWay.{AreCalledAlike, LldArrives, read_by_lld};
 ghost use Rattle.implib_link.specs.Archives.Results.{HaveArchive, IsEnding, IsSearchOf};
 ghost use Rattle.implib_link.specs.Archives.Results.{LeadsToFirst, TakesJust};
 ghost use Rattle.implib_link.specs.Archives.Way.{CallsArrive};
-ghost use Rattle.implib_link.specs.Flavors.Expansion.{descriptor_symbol_by_name, expanded_in};
-ghost use Rattle.implib_link.specs.Gnu.Program.{ClaimsNone};
-ghost use Rattle.implib_link.specs.Search.Archives.{IsArchive, Library, NamesNoHeadOrTailOf};
-ghost use Rattle.implib_link.specs.Search.Archives.{TakesOfLibraries, archive_of, wanted_with};
+ghost use Rattle.implib_link.specs.Flavors.Expansion.{expanded_in};
+ghost use Rattle.implib_link.specs.Search.Archives.{IsArchive, Library};
+ghost use Rattle.implib_link.specs.Search.Archives.{archive_of};
 ghost use Rattle.implib_link.specs.Search.BothFlavors.{AreGivenForBoth, FlavorLibrary};
 ghost use Rattle.implib_link.specs.Search.BothFlavors.{IsFlavorArchive, archive_of_both};
 ghost use Rattle.implib_link.specs.Search.BothFlavors.{msvc_among};
-ghost use Rattle.implib_link.specs.Search.Closed.{AreLinkedFor, LinksClosed, listed_in, unresolved};
-ghost use Rattle.implib_link.specs.Search.Closed.{TakesIntoAs, wanted_in};
+ghost use Rattle.implib_link.specs.Search.Closed.{AreLinkedFor, unresolved};
+ghost use Rattle.implib_link.specs.Search.Closed.{TakesIntoAs};
 ghost use Rattle.implib_link.specs.Search.CommandLines.{Input, SearchesFlavors, SearchesLibraries};
 ghost use Rattle.implib_link.specs.Search.CommandLines.{given_with};
 ghost use Rattle.implib_link.specs.Search.CommandLines.{objects_given, others_of};
 ghost use Rattle.implib_link.specs.Search.Given.{AreGiven};
 ghost use Rattle.implib_link.specs.Search.Sweeps.{members_at};
-ghost use Rattle.implib_link.specs.Search.Msvc.{NamesNoHeader, msvc_if_any, shorts_wanted};
 ghost use Rattle.implib_link.specs.Search.MsvcArchives.{IsMsvcArchive, short_inputs};
-ghost use Rattle.implib_link.specs.Search.Search.{NamesNoHeadOrTail, exports_wanted};
-ghost use Rattle.implib_link.specs.Gnu.Program.{HaveSame};
-ghost use Rattle.implib_link.specs.Search.Search.{TakesAs, linked_if_any, names_undefined};
-ghost use Rattle.std.specs.List.{AllByRecursion, IsDistinct, flat_map};
-ghost use Rattle.std.specs.Prelude.{◌≡◌, ◌<◌, ◌++◌, ℕ, Bool, List, Option, None, bytes_eq};
+ghost use Rattle.implib_link.specs.Search.Search.{TakesAs};
+ghost use Rattle.std.specs.List.{IsDistinct, flat_map};
+ghost use Rattle.std.specs.Prelude.{◌≡◌, ◌<◌, ℕ, Bool, List, Option, None, bytes_eq};
 ghost use Rattle.std.specs.Prelude.{length};
 
 /// The bytes of the archive of members are an archive in the sense of searches: a name leads to the
@@ -88,89 +79,6 @@ pub fn archives_have_their_members()
         0 < length (flat_map (λ m. m.symbols) members) →
         IsDistinct bytes_eq (flat_map (λ m. m.symbols) members) →
         HasMembersAs Coff (archive_bytes Coff members) members }
-{}
-
-/// A search in the bytes comes to an end, whichever name the linker takes up first: for any names,
-/// also of short imports, and for any objects.
-pub fn searches_end()
-    ensures wanted { (kind : Kind) (linker : LinkerMember) (members : List MemberView)
-        (wanted : List (List ℕ)) →
-        HaveArchive kind linker members → IsEnding kind linker members (asks_for wanted) }
-    ensures given { (kind : Kind) (linker : LinkerMember) (members : List MemberView)
-        (own : List Object) →
-        HaveArchive kind linker members → IsEnding kind linker members (asks_with own) }
-    ensures short { (kind : Kind) (linker : LinkerMember) (machine : MachineType)
-        (members : List MemberView) (wanted : List (List ℕ)) →
-        HaveArchive kind linker members →
-        IsEnding kind linker members (asks_on machine wanted) }
-{}
-
-/// In the bytes of the archive of a definition's members for GNU's linker a linker takes exactly
-/// the head, the members of the exports that are wanted and the tail; nothing, where no export is
-/// wanted.
-///
-/// All listed symbols differ, so no export has an alias.
-pub fn search_takes_wanted()
-    ensures { (kind : Kind) (linker : LinkerMember) (machine : MachineType) (d : DefinitionView)
-        (members : List MemberView) (wanted : List (List ℕ)) →
-        HaveArchive kind linker members →
-        AreMembersOf d machine Gnu members →
-        IsDistinct bytes_eq (flat_map (λ m. m.symbols) members) →
-        NamesNoHeadOrTail machine (linked_name d) wanted →
-        TakesJust kind linker members (asks_for wanted)
-        (λ taken. HaveSame taken (linked_if_any d machine (exports_wanted d wanted))) }
-{}
-
-/// In the bytes of an archive of the members of several libraries a linker takes exactly what is
-/// linked of the wanted exports of each, and weak externals, whose targets are then wanted, too.
-pub fn libraries_are_searched()
-    ensures { (kind : Kind) (linker : LinkerMember) (machine : MachineType)
-        (libraries : List Library) (wanted : List (List ℕ)) →
-        HaveArchive kind linker (archive_of libraries) →
-        IsArchive machine libraries →
-        TakesJust kind linker (archive_of libraries) (asks_for wanted)
-        (λ taken. NamesNoHeadOrTailOf machine libraries (wanted_with wanted taken) →
-        TakesOfLibraries machine libraries wanted taken) }
-{}
-
-/// In the bytes of an archive of libraries a linker takes for given objects what closes the
-/// program, if the objects claim none of its symbols, and no head's or tail's symbol is wanted; or,
-/// asked of the objects alone, if they may be given.
-pub fn closed_program_links()
-    ensures closed { (kind : Kind) (linker : LinkerMember) (machine : MachineType)
-        (libraries : List Library) (own : List Object) →
-        HaveArchive kind linker (archive_of libraries) →
-        IsArchive machine libraries →
-        TakesJust kind linker (archive_of libraries) (asks_with own)
-        (λ taken. (arranged : List Library) (bases : Bases) (objects : List Object) →
-        AreLinkedFor machine libraries own taken arranged bases objects →
-        AllByRecursion (ClaimsNone (listed_in taken ++ names_undefined taken)) own →
-        NamesNoHeadOrTailOf machine libraries (wanted_in own taken) →
-        LinksClosed machine libraries own taken arranged bases objects) }
-    ensures given { (kind : Kind) (linker : LinkerMember) (machine : MachineType)
-        (libraries : List Library) (own : List Object) →
-        HaveArchive kind linker (archive_of libraries) →
-        IsArchive machine libraries →
-        AreGiven machine libraries own →
-        TakesJust kind linker (archive_of libraries) (asks_with own)
-        (λ taken. (arranged : List Library) (bases : Bases) (objects : List Object) →
-        AreLinkedFor machine libraries own taken arranged bases objects →
-        LinksClosed machine libraries own taken arranged bases objects) }
-{}
-
-/// In the bytes of the archive of a definition's members for Microsoft's linker a linker takes
-/// exactly the short imports that are wanted, the import descriptor, the null descriptor and the
-/// null thunk; nothing, where no export is wanted.
-pub fn search_takes_short_imports()
-    ensures { (kind : Kind) (linker : LinkerMember) (machine : MachineType) (d : DefinitionView)
-        (members : List MemberView) (wanted : List (List ℕ)) →
-        HaveArchive kind linker members →
-        AreMembersOf d machine Msvc members →
-        IsDistinct bytes_eq (flat_map (λ m. m.symbols) members) →
-        descriptor_symbol_by_name d.import_name ≡ descriptor_symbol (linked_dll d) →
-        NamesNoHeader (linked_dll d) wanted →
-        TakesJust kind linker members (asks_on machine wanted)
-        (λ taken. HaveSame taken (msvc_if_any d machine (shorts_wanted d wanted))) }
 {}
 
 /// The whole way for GNU's linker: what a linker takes in an archive's bytes for given objects

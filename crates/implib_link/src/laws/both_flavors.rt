@@ -1,12 +1,16 @@
 //! Laws of an archive in which some libraries' members are for GNU's linker and others' for
 //! Microsoft's.
 
+ghost use Rattle.implib.specs.Definition.{DefinitionView};
 ghost use Rattle.implib.specs.Formats.Object.{Object};
+ghost use Rattle.implib.specs.LibraryName.{names_for};
 ghost use Rattle.implib.specs.Link.Image.{image_of};
 ghost use Rattle.implib.specs.Link.Placement.{Bases, placed_from};
 ghost use Rattle.implib.specs.Members.MemberSpec.{MemberView};
+ghost use Rattle.implib.specs.declared.flavor.Flavor.TheVariants.{Msvc};
 ghost use Rattle.implib.specs.declared.machine.MachineType.{MachineType};
-ghost use Rattle.implib_link.specs.Flavors.Program.{all_members, objects_taken};
+ghost use Rattle.implib_link.specs.Flavors.Expansion.{before_last_stop};
+ghost use Rattle.implib_link.specs.Flavors.Program.{IsFoundByName, all_members, objects_taken};
 ghost use Rattle.implib_link.specs.Gnu.Packed.{packed, packed_end};
 ghost use Rattle.implib_link.specs.Gnu.Program.{has_tables};
 ghost use Rattle.implib_link.specs.Search.BothExists.{HasClosedForBoth, tables_end_of_both};
@@ -23,8 +27,8 @@ ghost use Rattle.implib_link.specs.Search.MsvcArchives.{first_null, short_inputs
 ghost use Rattle.implib_link.specs.Search.MsvcArchives.{weak_in, TakesIntoFor};
 ghost use Rattle.implib_link.specs.Gnu.Program.{HaveSame};
 ghost use Rattle.std.specs.List.{AllByRecursion, filter};
-ghost use Rattle.std.specs.Prelude.{◌≡◌, ◌<◌, ◌^◌, ◌++◌, ℕ, IsPermutation, List, false, length};
-ghost use Rattle.std.specs.Prelude.{not};
+ghost use Rattle.std.specs.Prelude.{◌≡◌, ◌<◌, ◌^◌, ◌++◌, ℕ, IsPermutation, List, Some, false};
+ghost use Rattle.std.specs.Prelude.{length, not};
 
 /// From such an archive a linker takes exactly the members of the exports that are wanted, by the
 /// program or by an alias that is taken, with what their libraries have besides, and weak externals
@@ -115,4 +119,12 @@ pub fn objects_given_for_both_flavors_are_closed()
         0 < first →
         tables_end_of_both first libraries < 2 ^ 31 →
         HasClosedForBoth machine libraries own first }
+{}
+
+/// Linkers find the descriptor of a library for Microsoft's linker by its DLL's name, whatever the
+/// name's ending, where the library's name is the DLL's up to its last full stop.
+pub fn descriptors_are_found()
+    ensures { (d : DefinitionView) →
+        d.library_name ≡ Some (before_last_stop d.import_name) →
+        IsFoundByName Msvc (names_for Msvc d) }
 {}

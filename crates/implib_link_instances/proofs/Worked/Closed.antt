@@ -26,7 +26,7 @@ use Rattle.implib_link.proofs.Search.Closing.{claims_apart, takes_into}
 use Rattle.implib_link.proofs.Search.Ends.{into_ends}
 use Rattle.implib_link.proofs.Search.Given.{given_closes}
 use Rattle.implib_link.proofs.Search.Lists.{contains_among}
-use Rattle.implib_link_instances.proofs.Worked.Search.{both_takes, worked_archives}
+use Rattle.implib_link_instances.proofs.Worked.Search.{below_limit, both_takes, worked_archives}
 use Rattle.implib_link_instances.proofs.Worked.Programs.{claims_none_by, distinct_by, opened, worked_programs}
 use Rattle.implib.specs.Link.Placement.{next_multiple}
 use Rattle.implib_link.specs.Search.Exists.{AreChosenFor, HasClosed, objects_closed, tables_end}
@@ -80,10 +80,6 @@ plain = (record { head = refl; name = refl }, (record { head = refl; name = refl
 
 abbrev inputs : List LinkInput
 inputs = inputs_in zed_first own closed_taken
-
--- a number below 2^31, by computing
-below_limit : (n : ℕ) → nat_lt n (2 ^ 31) ≡ true → n < 2 ^ 31
-below_limit n is = ltb-true n (2 ^ 31) is
 
 is_closed : IsClosed AMD64 two_libraries own closed_taken zed_first closed_bases closed_objects
 unfolding opened alias_specs encoded_size weak_object is_weak left_as undefined_in references_of claims_of has_tables group_end sections_end

@@ -17,7 +17,6 @@ use Rattle.implib_link.specs.Search.Search.{AreTakenInTurnAs, claimed_as, first_
 use Rattle.implib_link_instances.specs.Worked.MsvcSearch.{WorkedMsvcArchives, WorkedMsvcSearch, WorkedMsvcSearches, baz_member, four_taken, one_wanted, short_members, shorts_of_both, three_on, two_msvc}
 use Rattle.implib_link_instances.specs.Worked.Programs.{symbol_on}
 use Rattle.implib_link.proofs.Search.Lists.{contains_among}
-use Rattle.implib_link.proofs.Search.MsvcOne.{search_takes}
 use Rattle.implib_link.proofs.Search.Ends.{search_bounded, search_ends}
 use Rattle.implib_link_instances.proofs.Worked.Programs.{distinct_by, opened}
 use Rattle.implib_link_instances.proofs.Worked.Lemmas.{IsX86}
@@ -58,18 +57,7 @@ unfolding opened refusal renamed_refusal encoded_size expanded_in short_import_i
 searched ARMNT none = absurd none
 searched ARM64 none = absurd none
 searched machine _ = record {
-  made = record { accepted = refl; made = refl; ordinals = refl };
-  distinct = distinct_by (flat_map (λ m. m.symbols) (short_members machine)) refl;
-  found = refl;
-  plain = record { descriptor = refl; null_descriptor = refl; null_thunk = refl };
-  numbers = refl;
   takes = takes;
-  just = search_takes machine (three_on machine) (short_members machine) (four_taken machine) (one_wanted machine)
-      (record { accepted = refl; made = refl; ordinals = refl })
-      (distinct_by (flat_map (λ m. m.symbols) (short_members machine)) refl)
-      refl
-      (record { descriptor = refl; null_descriptor = refl; null_thunk = refl })
-      takes;
   nothing = record { in_turn = tt; ended = settled_ends (expanded_in machine) (short_members machine) (codes "printf" ∷ []) [] refl };
   unfinished = λ takes. takes.ended to_descriptor (the_descriptor machine) (pulls_in_now (expanded_in machine) (short_members machine) (one_wanted machine) (baz_member machine ∷ []) to_descriptor (the_descriptor machine) refl refl refl refl);
   unasked = takes_none machine (short_members machine) (codes "printf") (baz_member machine) refl;

@@ -14,12 +14,10 @@ use Rattle.implib_link.specs.Search.Closed.{AreTakenIntoAs, IsAliasTaken, IsUsed
 use Rattle.implib_link.specs.Search.Closed.{TakesIntoAs}
 use Rattle.implib_link.specs.Search.MsvcArchives.{IsWeakShort, IsWeakTaken}
 use Rattle.implib_link.specs.Search.Plainly.{IsWeakAmong}
-use Rattle.implib_link.specs.Search.Search.{ImportsWanted, IsLinkedOfWanted, TakesAs}
+use Rattle.implib_link.specs.Search.Search.{TakesAs}
 use Rattle.implib_link_instances.specs.Refused.Links.{f_library, listing, own}
-use Rattle.implib_link_instances.specs.Worked.Search.{library_of, members_of, three, wanted}
-use Rattle.implib_link_instances.specs.Worked.Search.{by_name, searched_objects}
+use Rattle.implib_link_instances.specs.Worked.Search.{library_of}
 use Rattle.implib_link_instances.specs.Worked.Closed.{foo_alias}
-use Rattle.implib_link_instances.specs.Worked.Programs.{touching_8}
 
 pub record RefusedPullsIntoAs : Type 0 where
   pub named : PullsIntoAs object_in (listing ∷ []) [] [] (codes "f") listing → ⊥
@@ -64,15 +62,6 @@ pub record RefusedIsWeakShort : Type 0 where
   pub is : IsWeakShort (f_library ∷ []) (codes "g" ∷ []) listing → ⊥
   pub named : IsWeakShort (f_library ∷ []) [] listing → ⊥
   pub listed : IsWeakShort (f_library ∷ []) [] (record listing { symbols = [] }) → ⊥
-
--- nothing is linked, though `bar` and `qux` are wanted; and they are, though nothing is wanted
-pub record RefusedIsLinkedOfWanted : Type 0 where
-  pub same : IsLinkedOfWanted AMD64 three [] by_name → ⊥
-  pub linked : IsLinkedOfWanted AMD64 three wanted [] → ⊥
-
-pub record RefusedImportsWanted : Type 0 where
-  pub same : ImportsWanted AMD64 three (members_of three) [] touching_8 searched_objects → ⊥
-  pub links : ImportsWanted AMD64 three (members_of three) wanted touching_8 [] → ⊥
 
 pub record RefusedSearches : Type 0 where
   pub have_same : HaveSame (codes "f" ∷ []) [] → ⊥

@@ -14,7 +14,7 @@ use Rattle.implib.specs.Renaming.{renamed}
 use Rattle.implib.specs.Worked.Members.{of_dll}
 use Rattle.implib.specs.Worked.Statements.{plain_export}
 use Rattle.implib_link.specs.Flavors.Expansion.{descriptor_symbol_by_name}
-use Rattle.implib_link.specs.Search.Msvc.{NamesNoHeader, TakesFor, msvc_if_any, shorts_wanted}
+use Rattle.implib_link.specs.Search.Msvc.{NamesNoHeader, TakesFor}
 use Rattle.implib_link.specs.Gnu.Program.{HaveSame}
 use Rattle.implib_link_instances.specs.Worked.Programs.{symbol_on}
 use Rattle.implib.specs.LibraryName.{own_names}
@@ -54,18 +54,11 @@ four_taken machine =
     ∷ baz_member machine
     ∷ []
 
--- The members of three exports are an archive that the law speaks of. For one of them a linker may
--- take its short import, then the import descriptor, and for it the null descriptor and the null
+-- For one of three exports a linker may take its short import, then the import descriptor, and for it the null descriptor and the null
 -- thunk; neither of the other two. A name of another library takes nothing. A short import alone is
 -- no end of the search, and a name that it is not listed for does not take it.
 pub record WorkedMsvcSearch (machine : MachineType) : Type 0 where
-  pub made : AreMembersOf (three_on machine) machine Msvc (short_members machine)
-  pub distinct : IsDistinct bytes_eq (flat_map (λ m. m.symbols) (short_members machine))
-  pub found : descriptor_symbol_by_name (codes "foo.dll") ≡ descriptor_symbol (codes "foo.dll")
-  pub plain : NamesNoHeader (codes "foo.dll") (one_wanted machine)
-  pub numbers : shorts_wanted (three_on machine) (one_wanted machine) ≡ 1 ∷ []
   pub takes : TakesFor machine (short_members machine) (one_wanted machine) (four_taken machine)
-  pub just : HaveSame (four_taken machine) (msvc_if_any (three_on machine) machine (1 ∷ []))
   pub nothing : TakesFor machine (short_members machine) (codes "printf" ∷ []) []
   pub unfinished : TakesFor machine (short_members machine) (one_wanted machine)
       (baz_member machine ∷ []) → ⊥

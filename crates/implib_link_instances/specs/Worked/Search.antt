@@ -12,9 +12,8 @@ use Rattle.implib.specs.Members.MemberSpec.{MemberView, member_of}
 use Rattle.implib.specs.Renaming.{renamed}
 use Rattle.implib.specs.Worked.Members.{of_dll}
 use Rattle.implib.specs.Worked.Statements.{plain_export}
-use Rattle.implib_link.specs.Search.Search.{ImportsWanted, IsArranged, IsLinkedOfWanted}
-use Rattle.implib_link.specs.Search.Search.{IsLinkedWith, NamesNoHeadOrTail, OfTaken, Takes}
-use Rattle.implib_link.specs.Search.Search.{exports_wanted, first_listed, linked_if_any}
+use Rattle.implib_link.specs.Search.Search.{NamesNoHeadOrTail, Takes}
+use Rattle.implib_link.specs.Search.Search.{exports_wanted, first_listed}
 use Rattle.implib_link.specs.Search.Archives.{IsArchive, Library, NamesNoHeadOrTailOf}
 use Rattle.implib_link.specs.Search.Archives.{TakesOfLibraries, archive_of, inputs_wanted}
 use Rattle.implib_link.specs.Search.Archives.{wanted_with, weak_among}
@@ -66,16 +65,12 @@ MayTake d names taken_names =
     (taken : List MemberView) × Takes (members_of d) names taken
     × (map (λ m. m.name) taken ≡ taken_names)
 
--- The members of three exports are an archive that the law speaks of. For these names a linker may
--- take the first function's member, then the head, for it the tail, and at last the variable's; not
--- the other function's. A name of another library takes nothing. The descriptor's symbol takes the
--- head and the tail and no export, which the laws leave out; a variable's bare name finds its
--- alias, where it has one.
+-- For these names a linker may take of the members of three exports the first function's member,
+-- then the head, for it the tail, and at last the variable's; not the other function's. A name of
+-- another library takes nothing. The descriptor's symbol takes the head and the tail and no export,
+-- which the laws leave out; a variable's bare name finds its alias, where it has one. A search ends,
+-- and takes no more members than there are.
 pub record WorkedSearch : Type 0 where
-  pub made : AreMembersOf three AMD64 Gnu (members_of three)
-  pub distinct : IsDistinct bytes_eq (flat_map (λ m. m.symbols) (members_of three))
-  pub plain : NamesNoHeadOrTail AMD64 (codes "foo.dll") wanted
-  pub numbers : exports_wanted three wanted ≡ 0 ∷ 2 ∷ []
   pub firsts :
       map (found three)
       (codes "bar" ∷ codes "__imp_bar" ∷ codes "printf" ∷ codes "__imp_qux" ∷ codes "qux" ∷ [])
@@ -88,6 +83,9 @@ pub record WorkedSearch : Type 0 where
   pub head_and_tail : MayTake three (codes "_head_foo_dll" ∷ [])
       (codes "foo_dll_a_t.o" ∷ codes "foo_dll_a_h.o" ∷ [])
   pub alias_first : found aliased (codes "bar") ≡ Some (codes "foo_dll_a_w00000.o")
+  pub ends : (taken : List MemberView) × Takes (members_of three) wanted taken
+  pub bounded : (taken : List MemberView) → Takes (members_of three) wanted taken →
+      length taken ≤ length (members_of three)
 
 abbrev pub library_of : DefinitionView → Library
 library_of d = record { definition = d; members = members_of d }
@@ -122,73 +120,6 @@ pub record WorkedArchives : Type 0 where
   pub plain : NamesNoHeadOrTailOf AMD64 two_libraries (wanted_with both_wanted taken)
   pub chosen : map (λ p. p.chosen) (inputs_wanted two_libraries (wanted_with both_wanted taken))
       ≡ (1 ∷ []) ∷ (0 ∷ []) ∷ []
-
--- the members that are taken of the three exports' archive: the head, `bar`, `qux` and the tail
-abbrev pub head_member : MemberView
-head_member = member_of (head_spec AMD64 (codes "foo.dll"))
-
-abbrev pub bar_member : MemberView
-bar_member = member_of (export_spec AMD64 (codes "foo.dll") 0 (plain_export (codes "bar")))
-
-abbrev pub qux_export : ExportView
-qux_export = record empty_export { name = codes "qux"; is_data = true }
-
-abbrev pub qux_member : MemberView
-qux_member = member_of (export_spec AMD64 (codes "foo.dll") 2 qux_export)
-
-abbrev pub tail_member : MemberView
-tail_member = member_of (tail_spec AMD64 (own_names (codes "foo.dll")))
-
--- as a linker took them, the last one first, and in the order of their names
-abbrev pub as_taken : List MemberView
-as_taken = qux_member ∷ tail_member ∷ head_member ∷ bar_member ∷ []
-
-abbrev pub by_name : List MemberView
-by_name = head_member ∷ bar_member ∷ qux_member ∷ tail_member ∷ []
-
--- what is linked: a program's own code, these, and the null descriptor
-abbrev pub searched_objects : List Object
-searched_objects =
-    code_object (symbol_of_class (codes "main") 1 class_external
-    ∷ symbol_of_class (codes "bar") 0 class_external ∷ [])
-    ∷ (objects_in by_name ++ null_descriptor ∷ [])
-
--- What was taken for the wanted names is exactly what the law says; by names it is in order; a
--- program of it imports `bar` and `qux` alone. A search ends, and this one took no more members
--- than there are.
-pub record WorkedSearched : Type 0 where
-  pub takes : Takes (members_of three) wanted as_taken
-  pub just : HaveSame as_taken (linked_if_any three AMD64 (0 ∷ 2 ∷ []))
-  pub holds_of_some : OfTaken (λ machine d members taken wanted. ⊥) → ⊥
-  pub some : Contains (exports_wanted three wanted) 0
-  pub same : HaveSame as_taken by_name
-  pub ascending : IsAscending (map (λ m. m.name) by_name)
-  pub arranged : IsArranged AMD64 (own_names (codes "foo.dll")) as_taken by_name
-  pub of_wanted : IsLinkedOfWanted AMD64 three wanted by_name
-  pub program : IsLinkedWith AMD64 (own_names (codes "foo.dll")) (packed 1 searched_objects)
-      as_taken searched_objects
-  pub imports : ImportsWanted AMD64 three (members_of three) wanted (packed 1 searched_objects)
-      searched_objects
-  pub ends : (taken : List MemberView) × Takes (members_of three) wanted taken
-  pub bounded : length as_taken ≤ length (members_of three)
-
--- what is linked of the two libraries: of foo.dll `baz`, of zed.dll `queue`, with the null
--- descriptor
-abbrev pub libraries_objects : List MemberView → List Object
-libraries_objects taken =
-    objects_in (all_linked AMD64 (inputs_wanted two_libraries (wanted_with both_wanted taken)))
-    ++ null_descriptor ∷ []
-
--- What was taken of the two libraries is exactly what the law says, and a program of it imports
--- exactly the wanted exports.
-pub record WorkedLibraries : Type 0 where
-  pub taken : List MemberView
-  pub takes : Takes (archive_of two_libraries) both_wanted taken
-  pub just : TakesOfLibraries AMD64 two_libraries both_wanted taken
-  pub program : IsProgram AMD64 (packed 1 (libraries_objects taken))
-      (inputs_wanted two_libraries (wanted_with both_wanted taken)) (libraries_objects taken)
-  pub links : LinksAmong AMD64 (packed 1 (libraries_objects taken))
-      (inputs_wanted two_libraries (wanted_with both_wanted taken)) (libraries_objects taken)
 
 -- an object that defines `x`, and one that defines `f` and leaves `x` to others
 abbrev pub of_x : Object

@@ -30,8 +30,6 @@ ghost use Rattle.implib_link_instances.specs.Refused.Links.{RefusedIsTaken, Refu
 ghost use Rattle.implib_link_instances.specs.Refused.Links.{RefusedLinksClosed};
 ghost use Rattle.implib_link_instances.specs.Refused.Links.{RefusedLinksClosedForBoth};
 ghost use Rattle.implib_link_instances.specs.Refused.Links.{RefusedLldLinks, RefusedProgramLinks};
-ghost use Rattle.implib_link_instances.specs.Refused.Searches.{RefusedImportsWanted};
-ghost use Rattle.implib_link_instances.specs.Refused.Searches.{RefusedIsLinkedOfWanted};
 ghost use Rattle.implib_link_instances.specs.Refused.Searches.{RefusedIsWeakData};
 ghost use Rattle.implib_link_instances.specs.Refused.Searches.{RefusedIsWeakShort};
 ghost use Rattle.implib_link_instances.specs.Refused.Searches.{RefusedPullsIntoAs, RefusedSearches};
@@ -110,8 +108,6 @@ pub fn refused_searches()
     ensures refused_takes_of_both { RefusedTakesOfBoth }
     ensures refused_is_weak_data { RefusedIsWeakData }
     ensures refused_is_weak_short { RefusedIsWeakShort }
-    ensures refused_is_linked_of_wanted { RefusedIsLinkedOfWanted }
-    ensures refused_imports_wanted { RefusedImportsWanted }
     ensures refused_searches { RefusedSearches }
 {}
 

@@ -3,6 +3,7 @@
 ghost use Rattle.implib_link_instances.specs.Worked.Search.{WorkedArchives};
 ghost use Rattle.implib_link_instances.specs.Worked.Search.{WorkedFound};
 ghost use Rattle.implib_link_instances.specs.Worked.MsvcSearch.{WorkedMsvcArchives};
+ghost use Rattle.implib_link_instances.specs.Worked.MsvcSearch.{WorkedMsvcSearches};
 ghost use Rattle.implib_link_instances.specs.Worked.Search.{WorkedNamedApart};
 ghost use Rattle.implib_link_instances.specs.Worked.Plainly.{WorkedPlainly};
 ghost use Rattle.implib_link_instances.specs.Worked.Search.{WorkedSearch};
@@ -19,7 +20,8 @@ ghost use Rattle.implib_link_instances.specs.Worked.Search.{WorkedSweeps};
 ///
 /// Libraries that are named apart, by hand.
 ///
-/// Searches by hand of two libraries, one of which has an alias.
+/// Searches by hand of the members for Microsoft's linker, on AMD64 and I386, and of two libraries,
+/// one of which has an alias.
 pub fn worked_searches()
     ensures worked_search { WorkedSearch }
     ensures worked_archives { WorkedArchives }
@@ -27,5 +29,6 @@ pub fn worked_searches()
     ensures worked_plainly { WorkedPlainly }
     ensures worked_found { WorkedFound }
     ensures worked_named_apart { WorkedNamedApart }
+    ensures worked_msvc_searches { WorkedMsvcSearches }
     ensures worked_msvc_archives { WorkedMsvcArchives }
 {}
