@@ -1,7 +1,6 @@
 -- The same, proved.
 pub mod Corollaries
 pub mod InBytes
-pub mod Way
 pub mod LldWay
 pub mod BothWay
 pub mod Files

@@ -5,15 +5,11 @@ pub mod Plainly
 pub mod Ends
 pub mod ArchiveGroups
 pub mod ArchiveMembers
-pub mod Archives
 pub mod Msvc
 pub mod Counts
 pub mod Arranged
-pub mod Closed
 pub mod Closing
-pub mod Given
 pub mod Rooms
-pub mod Exists
 pub mod MsvcMembers
 pub mod MsvcArchives
 pub mod MsvcRooms
@@ -29,7 +25,6 @@ pub mod BothClosed
 pub mod BothGiven
 pub mod BothRooms
 pub mod BothExists
-pub mod NoShorts
 pub mod Sweeps
 pub mod CommandLines
 pub mod Wanting

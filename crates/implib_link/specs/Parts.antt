@@ -2,9 +2,9 @@
 -- whatever maker, and the table that is read of them: a head with the descriptor, objects with an
 -- entry each, and a tail that ends both tables, as GNU dlltool's libraries have them, and those
 -- that are made here for GNU's linker.
-use Rattle.std.specs.Prelude.{◌≡◌, ℕ, ◌+◌, ◌*◌, ◌-◌, ◌^◌, ◌≤◌, Bool, ◌&&◌, ◌||◌, ◌==◌, nat_lt, not, true}
-use Rattle.std.specs.Prelude.{false, List, [], ◌∷◌, ◌++◌, bytes_eq, drop, map, slice_get, take}
-use Rattle.std.specs.Prelude.{Option, Some, length, None, if◌then◌else◌}
+use Rattle.std.specs.Prelude.{◌≡◌, ℕ, ◌+◌, ◌*◌, ◌-◌, ◌^◌, ◌≤◌, Bool, ◌&&◌, ◌||◌, ◌==◌, nat_lt, not}
+use Rattle.std.specs.Prelude.{true, false, List, [], ◌∷◌, ◌++◌, bytes_eq, drop, map, slice_get}
+use Rattle.std.specs.Prelude.{take, Option, Some, length, None, if◌then◌else◌}
 use Rattle.std.specs.List.{AllByRecursion, IsDistinct, filter, filter_map, flat_map, list_all}
 use Rattle.std.specs.List.{list_any}
 use Rattle.std.specs.Option.{option_and_then, option_map}

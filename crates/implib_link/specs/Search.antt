@@ -9,7 +9,6 @@ pub mod MsvcArchives
 pub mod NamedApart
 pub mod BothFlavors
 pub mod BothExists
-pub mod NoShorts
 pub mod Sweeps
 pub mod CommandLines
 pub mod Wanting

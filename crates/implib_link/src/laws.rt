@@ -4,11 +4,9 @@
 pub mod archives;
 pub mod both_flavors;
 pub mod choices;
-pub mod closed;
 pub mod command_lines;
 pub mod image;
 pub mod lld;
-pub mod no_shorts;
 pub mod operands;
 pub mod other_names;
 pub mod packed;

@@ -4,7 +4,6 @@ pub mod BothFlavors
 pub mod Calls
 pub mod Closed
 pub mod CommandLines
-pub mod Exists
 pub mod Expansion
 pub mod Files
 pub mod FlavorLines
@@ -12,7 +11,7 @@ pub mod Flavors
 pub mod LldPrograms
 pub mod Loads
 pub mod MsvcSearch
-pub mod NoShorts
+pub mod ByLinker
 pub mod Operands
 pub mod OtherNames
 pub mod Parts

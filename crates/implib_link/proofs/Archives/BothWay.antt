@@ -1,5 +1,5 @@
 -- The whole way for libraries of both flavours, by the laws on it.
-use Rattle.std.proofs.Common.{◌<◌, ◌+◌, ◌*◌, Bool, List, ℕ, length, map, ◌∙◌}
+use Rattle.std.proofs.Common.{◌+◌, ◌*◌, Bool, List, ℕ, length, map, ◌∙◌}
 use Rattle.std.specs.List.{AllByRecursion}
 use Rattle.implib.specs.declared.machine.MachineType.{MachineType}
 use Rattle.implib.specs.Formats.Object.{Object}
@@ -7,8 +7,7 @@ use Rattle.implib.specs.Link.Placement.{Bases}
 use Rattle.implib.specs.Members.ImportTables.{thunk_width}
 use Rattle.implib.specs.Members.MemberSpec.{MemberView}
 use Rattle.implib_archive.specs.declared.kind.Kind.{Kind}
-use Rattle.implib_link.specs.Archives.BothWay.{AreLinkedForBoth, BothArrive}
-use Rattle.implib_link.specs.Archives.Files.{ArchiveFile, members_in_files}
+use Rattle.implib_link.specs.Archives.BothWay.{AreLinkedFor, CallsArrive}
 use Rattle.implib_link.specs.Search.CommandLines.{Input, SearchesFlavors, given_with, objects_given, others_of}
 use Rattle.implib_link.specs.Search.Sweeps.{members_at}
 use Rattle.implib_link.proofs.Search.CommandLines.{takes_of_libraries}
@@ -16,10 +15,9 @@ use Rattle.implib_link.specs.Archives.InBytes.{LinkerMember, asks_with_on}
 use Rattle.implib_link.specs.Archives.Results.{HaveArchive, TakesJust}
 use Rattle.implib_link.proofs.Archives.Corollaries.{given_taken}
 use Rattle.implib_link.proofs.Archives.InBytes.{takes_just}
-use Rattle.implib_link.specs.Flavors.Program.{OfMember, FlavorInput, IsMadeFor, ask_in, dll_of, symbol_in, thunks_of}
-use Rattle.implib_link.specs.Search.BothFlavors.{AreGivenForBoth, FlavorLibrary, IsFlavorArchive, LinksClosedForBoth, archive_of_both, inputs_of_both, msvc_among}
-use Rattle.implib_link.specs.Search.Closed.{unresolved}
-use Rattle.implib_link.specs.Search.MsvcArchives.{short_inputs, TakesIntoFor, wanted_for}
+use Rattle.implib_link.specs.Flavors.Program.{Ending, FlavorInput, IsMadeFor, ask_in, dll_of, symbol_in, thunks_of}
+use Rattle.implib_link.specs.Search.BothFlavors.{AreGiven, FlavorLibrary, IsFlavorArchive, LinksClosed, archive_of_both, inputs_in}
+use Rattle.implib_link.specs.Search.MsvcArchives.{TakesIntoFor, wanted_for}
 use Rattle.implib_link.proofs.Flavors.Steady.{program_tables_none}
 use Rattle.implib_link.proofs.Search.BothArranged.{both_made}
 use Rattle.implib_link.proofs.Search.BothClosed.{closed_links_of_both}
@@ -31,44 +29,43 @@ use Rattle.implib_link.specs.Tables.{AreTables, Tables, block_of_flavor, tables_
 use Rattle.implib_link.specs.Flavors.Expansion.{expanded_in}
 use Rattle.implib.specs.Import.{imp_symbol}
 
-pub both_arrive : (machine : MachineType) (libraries : List FlavorLibrary) (own : List Object) (taken : List MemberView) (arranged : List FlavorLibrary) (bases : Bases) (objects : List Object) →
-    IsFlavorArchive machine libraries → AreGivenForBoth machine libraries own → 0 < length (short_inputs (msvc_among libraries) (unresolved own)) → TakesIntoFor machine (archive_of_both libraries) own taken →
-    AreLinkedForBoth machine libraries own taken arranged bases objects → BothArrive machine libraries own taken arranged bases objects
-both_arrive machine libraries own taken arranged bases objects archive given some takes linked =
-    let closed = both_given_closes machine libraries own taken arranged objects linked.before linked.behind archive given takes some linked.order linked.others linked.members linked.tables in
-    let links : LinksClosedForBoth machine libraries own taken arranged bases objects =
-    closed_links_of_both machine libraries own taken arranged bases objects archive
+pub both_arrive : (machine : MachineType) (ending : Ending) (libraries : List FlavorLibrary) (own : List Object) (taken : List MemberView) (arranged : List FlavorLibrary) (bases : Bases) (objects : List Object) →
+    IsFlavorArchive machine libraries → AreGiven machine libraries own → TakesIntoFor machine (archive_of_both libraries) own taken →
+    AreLinkedFor machine ending libraries own taken arranged bases objects → CallsArrive machine ending libraries own taken arranged bases objects
+both_arrive machine ending libraries own taken arranged bases objects archive given takes linked =
+    let closed = both_given_closes machine ending libraries own taken arranged objects archive given takes linked.order linked.others linked.ended in
+    let links : LinksClosed machine ending libraries own taken arranged bases objects =
+    closed_links_of_both machine ending libraries own taken arranged bases objects archive
     (record { closed = closed; admissible = linked.admissible; lookups = linked.lookups; addresses = linked.addresses; follows = linked.follows }) in
-    let inputs : List FlavorInput = inputs_of_both machine arranged own taken in
+    let inputs : List FlavorInput = inputs_in machine arranged own taken in
     let made : AllByRecursion (IsMadeFor machine) inputs = both_made machine libraries archive arranged linked.order (wanted_for machine own taken) in
     let own_tables : Tables = tables_at machine bases objects (map (block_of_flavor machine) inputs) in
-    let tables : AreTables machine own_tables = program_tables machine OfMember bases inputs objects made links.program in
+    let tables : AreTables machine own_tables = program_tables machine ending bases inputs objects made links.program in
     record {
       links = links;
       ends = λ gives n written wide reads. (tables_read machine own_tables gives n written tables wide reads).0 ∙ program_count machine bases inputs objects;
       calls = λ image_base codes targets gives n written i j p e c offset can beside wide reads input chosen held has.
-          (calls_beside machine image_base own_tables codes targets gives tables (program_tables_none machine OfMember bases inputs objects made links.program.held.ended) beside n written wide reads (imp_symbol (symbol_in p.flavor e)) (dll_of p)
+          (calls_beside machine image_base own_tables codes targets gives tables (program_tables_none machine ending bases inputs objects made links.program.held.ended) beside n written wide reads (imp_symbol (symbol_in p.flavor e)) (dll_of p)
           (ask_in p.flavor machine e) (bases.addresses + thunk_width machine * thunks_of i inputs) j (program_entry machine bases inputs objects i j p e input chosen) (can_read machine image_base bases (thunks_of i inputs) can)).calls
           c offset held has;
     }
 
 pub bytes_lead_to_both : (kind : Kind) (linker : LinkerMember) (machine : MachineType) (libraries : List FlavorLibrary) (own : List Object) → HaveArchive kind linker (archive_of_both libraries) →
-    IsFlavorArchive machine libraries → AreGivenForBoth machine libraries own → 0 < length (short_inputs (msvc_among libraries) (unresolved own)) →
-    TakesJust kind linker (archive_of_both libraries) (asks_with_on machine own) (λ taken. (arranged : List FlavorLibrary) (bases : Bases) (objects : List Object) →
-    AreLinkedForBoth machine libraries own taken arranged bases objects → BothArrive machine libraries own taken arranged bases objects)
-bytes_lead_to_both kind linker machine libraries own ready archive given some =
+    IsFlavorArchive machine libraries → AreGiven machine libraries own →
+    TakesJust kind linker (archive_of_both libraries) (asks_with_on machine own) (λ taken. (ending : Ending) (arranged : List FlavorLibrary) (bases : Bases) (objects : List Object) →
+    AreLinkedFor machine ending libraries own taken arranged bases objects → CallsArrive machine ending libraries own taken arranged bases objects)
+bytes_lead_to_both kind linker machine libraries own ready archive given =
     takes_just kind linker (archive_of_both libraries) (asks_with_on machine own)
-    (λ taken. (arranged : List FlavorLibrary) (bases : Bases) (objects : List Object) → AreLinkedForBoth machine libraries own taken arranged bases objects → BothArrive machine libraries own taken arranged bases objects) ready
-    (λ taken takes arranged bases objects linked. both_arrive machine libraries own taken arranged bases objects archive given some (given_taken (expanded_in machine) (archive_of_both libraries) own taken takes) linked)
+    (λ taken. (ending : Ending) (arranged : List FlavorLibrary) (bases : Bases) (objects : List Object) → AreLinkedFor machine ending libraries own taken arranged bases objects →
+    CallsArrive machine ending libraries own taken arranged bases objects) ready
+    (λ taken takes ending arranged bases objects linked. both_arrive machine ending libraries own taken arranged bases objects archive given (given_taken (expanded_in machine) (archive_of_both libraries) own taken takes) linked)
 
--- The files of a command line.
-pub files_lead_to_both : (machine : MachineType) (libraries : List FlavorLibrary) (files : List ArchiveFile) (inputs : List Input) (is_given : MemberView → Bool) (taken : List ℕ) (arranged : List FlavorLibrary) (bases : Bases) (objects : List Object) →
-    SearchesFlavors machine libraries (members_in_files files) inputs is_given taken → IsFlavorArchive machine libraries →
-    AreGivenForBoth machine libraries (given_with (expanded_in machine) is_given (objects_given inputs) (members_at (members_in_files files) taken)) →
-    0 < length (short_inputs (msvc_among libraries) (unresolved (given_with (expanded_in machine) is_given (objects_given inputs) (members_at (members_in_files files) taken)))) →
-    AreLinkedForBoth machine libraries (given_with (expanded_in machine) is_given (objects_given inputs) (members_at (members_in_files files) taken)) (others_of is_given (members_at (members_in_files files) taken)) arranged bases objects →
-    BothArrive machine libraries (given_with (expanded_in machine) is_given (objects_given inputs) (members_at (members_in_files files) taken)) (others_of is_given (members_at (members_in_files files) taken)) arranged bases objects
-files_lead_to_both machine libraries files inputs is_given taken arranged bases objects searches archive given some linked =
-    let members = members_in_files files in
-    both_arrive machine libraries (given_with (expanded_in machine) is_given (objects_given inputs) (members_at members taken)) (others_of is_given (members_at members taken)) arranged bases objects archive given some
+-- The archives of a command line.
+pub lines_lead_to_both : (machine : MachineType) (ending : Ending) (libraries : List FlavorLibrary) (members : List MemberView) (inputs : List Input) (is_given : MemberView → Bool) (taken : List ℕ) (arranged : List FlavorLibrary)
+    (bases : Bases) (objects : List Object) → SearchesFlavors machine libraries members inputs is_given taken → IsFlavorArchive machine libraries →
+    AreGiven machine libraries (given_with (expanded_in machine) is_given (objects_given inputs) (members_at members taken)) →
+    AreLinkedFor machine ending libraries (given_with (expanded_in machine) is_given (objects_given inputs) (members_at members taken)) (others_of is_given (members_at members taken)) arranged bases objects →
+    CallsArrive machine ending libraries (given_with (expanded_in machine) is_given (objects_given inputs) (members_at members taken)) (others_of is_given (members_at members taken)) arranged bases objects
+lines_lead_to_both machine ending libraries members inputs is_given taken arranged bases objects searches archive given linked =
+    both_arrive machine ending libraries (given_with (expanded_in machine) is_given (objects_given inputs) (members_at members taken)) (others_of is_given (members_at members taken)) arranged bases objects archive given
     (takes_of_libraries (expanded_in machine) (archive_of_both libraries) members inputs is_given taken searches) linked

@@ -4,12 +4,11 @@ use Rattle.std.specs.List.{Contains, filter_map}
 use Rattle.implib.specs.Formats.Object.{Object}
 use Rattle.implib.specs.Members.MemberSpec.{MemberView}
 use Rattle.implib_archive.specs.declared.kind.Kind.{Kind}
-use Rattle.implib_link.specs.Archives.InBytes.{Asks, LinkerMember, is_undefined, asks_as, asks_with_as}
-use Rattle.implib_link.specs.Archives.Results.{HaveArchive, IsEnding, IsSearchOf, TakesJust}
+use Rattle.implib_link.specs.Archives.InBytes.{LinkerMember, is_undefined, asks_as, asks_with_as}
+use Rattle.implib_link.specs.Archives.Results.{HaveArchive, IsSearchOf, TakesJust}
 use Rattle.implib_link.proofs.Archives.InBytes.{AreTakenBy, PullsBy, TakesBy, kept_of_map, search_of, takes_just}
 use Rattle.implib_link.specs.Search.Closed.{unresolved, AreTakenIntoAs, PullsIntoAs, TakesIntoAs}
 use Rattle.implib_link.specs.Search.Search.{left_as, claimed_as, AreTakenInTurnAs, PullsInAs, TakesAs, objects_as}
-use Rattle.implib_link.proofs.Search.Ends.{into_ends}
 
 -- The searches, by what they look at.
 
@@ -113,11 +112,3 @@ pub found_given : (reads : List ℕ → Option Object) (kind : Kind) (linker : L
     TakesIntoAs reads members own found → IsSearchOf kind linker members (asks_with_as reads own) found
 found_given reads kind linker members own found ready takes =
     search_of kind linker members (asks_with_as reads own) found ready (taken_given reads members own found takes)
-
-pub ending : (kind : Kind) (linker : LinkerMember) (members : List MemberView) (asks : Asks) (found : List MemberView) → IsSearchOf kind linker members asks found → IsEnding kind linker members asks
-ending kind linker members asks found search = (search.taken, search.takes)
-
-pub ends_with : (reads : List ℕ → Option Object) (kind : Kind) (linker : LinkerMember) (members : List MemberView) (own : List Object) → HaveArchive kind linker members → IsEnding kind linker members (asks_with_as reads own)
-ends_with reads kind linker members own ready =
-    let found = into_ends reads members own in
-    ending kind linker members (asks_with_as reads own) found.0 (found_given reads kind linker members own found.0 ready found.1)

@@ -21,12 +21,11 @@ use Rattle.implib_link.specs.Flavors.LldImports.{IsImportedBy, IsLldProgram, Lld
 use Rattle.implib_link.specs.Flavors.LldTables.{IsAskable, IsImportable, thunks_until}
 use Rattle.implib_link.proofs.Flavors.LldGroups.{OneDll, grouped_all, grouped_holds, grouped_one, grouped_times, in_place}
 use Rattle.implib_link.proofs.Flavors.LldTables.{StandAt, directory_stands, pieces_stand}
-use Rattle.implib_link.proofs.Gnu.Blocks.{table_sum}
+use Rattle.implib_link.proofs.Gnu.Blocks.{table_sum, plus_sum as next_row}
 use Rattle.implib_link.proofs.Gnu.Others.{definitions_parts}
 use Rattle.implib_link.proofs.Gnu.Program.{gets_address}
 use Rattle.implib_link.proofs.Search.Counts.{distinct_from, few_from}
 use Rattle.implib_link.proofs.Search.Lists.{contains_among, all_from}
-use Rattle.implib_link.proofs.Gnu.Blocks.{plus_sum as next_row}
 use Rattle.implib_link.proofs.Gnu.Loaded.{times_none as nothing_before, times_next as next_entry, plus_none}
 use Rattle.std.proofs.lemmas.Option.{slice_get-map}
 use Rattle.std.specs.Option.{option_map}

@@ -1,37 +1,26 @@
 -- What is linked of an archive of libraries, where the libraries may be in another order.
 use Rattle.std.proofs.Common.{◌≡◌, ℕ, ◌+◌, ◌≤◌, Bool, List, [], ◌∷◌, ◌++◌, ap, sym, ◌∙◌, subst, inl, inr, arith}
 use Rattle.std.specs.Prelude.{IsPermutation, reverse}
-use Rattle.std.specs.List.{AllByRecursion, cons_option, filter, flat_map}
+use Rattle.std.specs.List.{filter, flat_map}
 use Rattle.std.proofs.lemmas.Bool.{cases_Bool}
-use Rattle.std.proofs.lemmas.List.Sorted.{Contains-permutation, IsPermutation-reverse, IsPermutation-sym}
+use Rattle.std.proofs.lemmas.List.Sorted.{Contains-permutation, IsPermutation-reverse}
 use Rattle.implib.specs.declared.machine.MachineType.{MachineType}
 use Rattle.implib.specs.Definition.{ExportView}
 use Rattle.implib.specs.Import.{is_alias}
-use Rattle.implib.specs.Link.LinkedMembers.{IsMade, LinkInput, chosen_exports}
+use Rattle.implib.specs.Link.LinkedMembers.{chosen_exports}
 use Rattle.implib.specs.Members.Gnu.{archive_symbols, head_symbol, iname_symbol}
 use Rattle.implib.proofs.Link.LinkedBlocks.{linked_symbols}
 use Rattle.implib.proofs.Link.LinkedMembers.{among_contains}
-use Rattle.implib.proofs.Link.Ranges.{Among, all_among}
-use Rattle.implib_link.specs.Search.Archives.{IsArchive, IsLibrary, Library, exports_of, input_if_any, inputs_wanted, symbols_of_export, symbols_of_library}
+use Rattle.implib.proofs.Link.Ranges.{Among}
+use Rattle.implib_link.specs.Search.Archives.{Library, exports_of, symbols_of_export, symbols_of_library}
 use Rattle.implib_link.specs.Search.Search.{exports_wanted, is_wanted}
-use Rattle.implib_link.proofs.Search.Lists.{all_from as all_each, contains_among}
-use Rattle.implib_link.proofs.Search.Counts.{distinct_from, few_from, times, times_both, times_moved}
+use Rattle.implib_link.proofs.Search.Lists.{contains_among}
+use Rattle.implib_link.proofs.Search.Counts.{times, times_both, times_moved}
 use Rattle.implib_link.proofs.Search.Search.{passing_chosen}
 use Rattle.implib.specs.LibraryName.{NamesOfDll, names_for}
 use Rattle.implib.specs.declared.flavor.Flavor.TheVariants.{Gnu}
 
 -- What is linked of libraries.
-
-input_made : (machine : MachineType) (l : Library) (chosen : List ℕ) (others : List LinkInput) → IsLibrary machine l → AllByRecursion (IsMade machine) others →
-    AllByRecursion (IsMade machine) (cons_option (input_if_any l chosen) others)
-input_made machine l [] others made rest = rest
-input_made machine l (n ∷ chosen) others made rest = (made, rest)
-
-pub inputs_made : (machine : MachineType) (libraries : List Library) (names : List (List ℕ)) → AllByRecursion (IsLibrary machine) libraries →
-    AllByRecursion (IsMade machine) (inputs_wanted libraries names)
-inputs_made machine [] names made = tt
-inputs_made machine (l ∷ libraries) names made =
-    input_made machine l (exports_wanted l.definition names) (inputs_wanted libraries names) made.0 (inputs_made machine libraries names made.1)
 
 -- Elements of lists in another order.
 
@@ -39,14 +28,6 @@ pub among_moved : {X : Type 0} (x : X) (xs ys : List X) → IsPermutation xs ys 
 among_moved x xs ys moved held = contains_among x ys (Contains-permutation xs ys x moved (among_contains x xs held))
 
 -- Libraries in another order are an archive, and the same members are linked of them.
-
-pub archive_moved : (machine : MachineType) (libraries arranged : List Library) → IsPermutation libraries arranged → IsArchive machine libraries → IsArchive machine arranged
-archive_moved machine libraries arranged moved archive = record {
-  made = all_each (IsLibrary machine) arranged
-      (λ l held. all_among (IsLibrary machine) l libraries (among_moved l arranged libraries (IsPermutation-sym libraries arranged moved) held) archive.made);
-  distinct = distinct_from (flat_map (symbols_of_library machine) arranged) (λ name.
-      subst (λ n. n ≤ 1) (sym (times_moved (symbols_of_library machine) name libraries arranged moved)) (few_from (flat_map (symbols_of_library machine) libraries) archive.distinct name));
-}
 
 -- The exports that are chosen are those that are wanted, in their order.
 

@@ -17,16 +17,16 @@ use Rattle.implib.specs.Members.MsvcObjects.{descriptor_symbol, null_descriptor_
 use Rattle.implib.proofs.Link.LinkedMembers.{among_map}
 use Rattle.implib.proofs.Link.Ranges.{Among, all_among, among_back, among_first, among_flat, among_front, among_later}
 use Rattle.implib_link.specs.Flavors.Expansion.{expanded_in}
-use Rattle.implib_link.specs.Flavors.Program.{all_members, objects_taken}
+use Rattle.implib_link.specs.Flavors.Program.{AreEnded, Ending, objects_taken}
 use Rattle.implib_link.specs.Gnu.Program.{ClaimsNone, has_tables, HaveSame}
 use Rattle.implib_link.specs.Search.Archives.{Library, exports_of}
-use Rattle.implib_link.specs.Search.BothFlavors.{AreClosedForBoth, AreGivenForBoth, FlavorLibrary, IsFlavorArchive, NamesNoMembers, archive_of_both, gnu_among, headers_of_both, inputs_of_both, kept_of_both, msvc_among, symbols_in, targets_of_both, wanted_of_both}
+use Rattle.implib_link.specs.Search.BothFlavors.{AreClosed, AreGiven, FlavorLibrary, IsFlavorArchive, NamesNoMembers, archive_of_both, gnu_among, headers_of_both, inputs_in, symbols_kept, msvc_among, symbols_in, targets_of_both, wanted_at_most}
 use Rattle.implib_link.specs.Search.Closed.{listed_in, unresolved}
 use Rattle.implib_link.specs.Search.Given.{alias_targets, heads_of, is_data_alias, symbols_wanted, tails_of}
 use Rattle.implib_link.specs.Search.Msvc.{NamesNoHeader, left_in}
 use Rattle.implib_link.specs.Search.MsvcArchives.{first_null, is_import_wanted, is_short_alias, is_weak_in, short_inputs, weak_in, TakesIntoFor, wanted_for, headers_of, import_symbols_wanted, short_targets}
 use Rattle.implib_link.specs.Search.Search.{AreTakenInTurnAs, NamesNoHeadOrTail, is_wanted, left_as, objects_as, undefined_in}
-use Rattle.implib_link.proofs.Search.Chosen.{any_too, chosen_too, is_chosen, short_some, some_short}
+use Rattle.implib_link.proofs.Search.Chosen.{chosen_too, is_chosen, short_some, some_short}
 use Rattle.implib_link.proofs.Search.Closing.{in_turn_for, none_claimed, not_there, pulled, there_not}
 use Rattle.implib_link.proofs.Search.FlavorGroups.{gnu_there, msvc_there}
 use Rattle.implib_link.proofs.Search.Found.{IsReader, expands, found, left_by_role, weak_by_role}
@@ -43,12 +43,12 @@ data_target libraries l n e held at alias is_data =
     among_flat (λ (x : Library). map (λ (y : ExportView). y.alias_target) (filter is_data_alias (exports_of x))) l libraries e.alias_target held
     (among_map (λ (x : ExportView). x.alias_target) e (filter is_data_alias (exports_of l)) (passes is_data_alias e (exports_of l) (among_at e (exports_of l) n at) one))
 
-module _ (machine : MachineType) (libraries : List FlavorLibrary) (archive : IsFlavorArchive machine libraries) (own : List Object) (given : AreGivenForBoth machine libraries own) where
+module _ (machine : MachineType) (libraries : List FlavorLibrary) (archive : IsFlavorArchive machine libraries) (own : List Object) (given : AreGiven machine libraries own) where
   abbrev pub kept : List (List ℕ)
-  kept = kept_of_both machine libraries own
+  kept = symbols_kept machine libraries own
 
   abbrev pub most : List (List ℕ)
-  most = wanted_of_both libraries own
+  most = wanted_at_most libraries own
 
   abbrev wanted_symbols : List (List ℕ)
   wanted_symbols = symbols_wanted (gnu_among libraries) most ++ import_symbols_wanted (msvc_among libraries) most
@@ -163,11 +163,11 @@ module _ (machine : MachineType) (libraries : List FlavorLibrary) (archive : IsF
     names_none = record {
       gnu = all_each (λ (l : Library). NamesNoHeadOrTail machine (linked_name l.definition) wanted) (gnu_among libraries) (λ l held.
           let none : NamesNoHeadOrTail machine (linked_name l.definition) most =
-          all_among (λ (x : Library). NamesNoHeadOrTail machine (linked_name x.definition) (wanted_of_both libraries own)) l (gnu_among libraries) held given.names.gnu in
+          all_among (λ (x : Library). NamesNoHeadOrTail machine (linked_name x.definition) (wanted_at_most libraries own)) l (gnu_among libraries) held given.names.gnu in
           record { head = fewer (head_symbol machine (linked_name l.definition)) none.head; name = fewer (iname_symbol machine (linked_name l.definition)) none.name });
       msvc = all_each (λ (l : Library). NamesNoHeader (linked_dll l.definition) wanted) (msvc_among libraries) (λ l held.
           let none : NamesNoHeader (linked_dll l.definition) most =
-          all_among (λ (x : Library). NamesNoHeader (linked_dll x.definition) (wanted_of_both libraries own)) l (msvc_among libraries) held given.names.msvc in
+          all_among (λ (x : Library). NamesNoHeader (linked_dll x.definition) (wanted_at_most libraries own)) l (msvc_among libraries) held given.names.msvc in
           record {
             descriptor = fewer (descriptor_symbol (linked_dll l.definition)) none.descriptor;
             null_descriptor = fewer null_descriptor_symbol none.null_descriptor;
@@ -222,29 +222,17 @@ module _ (machine : MachineType) (libraries : List FlavorLibrary) (archive : IsF
         listed_kept x.has.library x.has.role name x.has.held x.has.is x.why
         (subst (Among name) (listed_as machine x.has.library.flavor x.has.library.library x.has.role) (subst (λ (y : MemberView). Among name y.symbols) x.has.same listed))) left_of
 
-some_wanted : (machine : MachineType) (shorts : List Library) (own : List Object) (taken : List MemberView) → 0 < length (short_inputs shorts (unresolved own)) → 0 < length (short_inputs shorts (wanted_for machine own taken))
-some_wanted machine shorts own taken some =
-    let one = some_short shorts (unresolved own) some in
-    short_some shorts (wanted_for machine own taken) one.0 one.1
-    (any_too (unresolved own) (wanted_for machine own taken) (in_flavor Msvc one.0) (λ name held. among_front name (unresolved own) (left_in machine (weak_in machine taken)) held) one.2)
-
-pub both_given_closes : (machine : MachineType) (libraries : List FlavorLibrary) (own : List Object) (taken : List MemberView) (arranged : List FlavorLibrary) (objects : List Object)
-    (before behind : List MemberView) → IsFlavorArchive machine libraries → AreGivenForBoth machine libraries own → TakesIntoFor machine (archive_of_both libraries) own taken →
-    0 < length (short_inputs (msvc_among libraries) (unresolved own)) → IsPermutation libraries arranged →
-    HaveSame (filter (λ o. not (has_tables o)) objects) (own ++ objects_taken machine (weak_in machine taken)) → before ++ behind ≡ all_members machine (inputs_of_both machine arranged own taken) →
-    filter has_tables objects ≡ objects_taken machine (before ++ (first_null machine (msvc_among libraries) ++ behind)) →
-    AreClosedForBoth machine libraries own taken arranged objects
-both_given_closes machine libraries own taken arranged objects before behind archive given takes some order others members tables =
+pub both_given_closes : (machine : MachineType) (ending : Ending) (libraries : List FlavorLibrary) (own : List Object) (taken : List MemberView) (arranged : List FlavorLibrary) (objects : List Object) →
+    IsFlavorArchive machine libraries → AreGiven machine libraries own → TakesIntoFor machine (archive_of_both libraries) own taken → IsPermutation libraries arranged →
+    HaveSame (filter (λ o. not (has_tables o)) objects) (own ++ objects_taken machine (weak_in machine taken)) → AreEnded ending machine (inputs_in machine arranged own taken) objects →
+    AreClosed machine ending libraries own taken arranged objects
+both_given_closes machine ending libraries own taken arranged objects archive given takes order others ended =
     let turn = in_turn_for (expanded_in machine) (archive_of_both libraries) own taken takes.in_turn in
     record {
       takes = takes;
-      some = some_wanted machine (msvc_among libraries) own taken some;
       order = order;
       others = others;
-      before = before;
-      behind = behind;
-      members = members;
-      tables = tables;
+      ended = ended;
       claims = claims_none machine libraries archive own given (expanded_in machine) (is_weak_in machine) (expands machine libraries archive) taken turn;
       names = names_none machine libraries archive own given (expanded_in machine) (is_weak_in machine) (expands machine libraries archive) taken turn;
     }

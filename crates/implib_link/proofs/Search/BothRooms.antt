@@ -15,7 +15,7 @@ use Rattle.implib_link.specs.Flavors.Program.{AreEnded, Ending, FlavorInput, IsM
 use Rattle.implib_link.specs.Gnu.Packed.{packed_end}
 use Rattle.implib_link.specs.Gnu.Program.{has_tables}
 use Rattle.implib_link.specs.Search.Archives.{Library, input_if_any}
-use Rattle.implib_link.specs.Search.BothExists.{room_in, room_of, tables_end_of_both, msvc_library_room, short_room}
+use Rattle.implib_link.specs.Search.BothExists.{room_in, room_of, tables_end_by, msvc_library_room, short_room}
 use Rattle.implib_link.specs.Search.BothFlavors.{FlavorLibrary, flavor_input, flavor_inputs}
 use Rattle.implib_link.specs.Search.Search.{exports_wanted}
 use Rattle.implib_link.specs.Search.MsvcArchives.{imports_wanted, short_input_if_any}
@@ -78,9 +78,9 @@ kept_near machine OfMember inputs objects room made ended rooms =
 -- packed, they end as far as their room reaches
 pub tables_near : (machine : MachineType) (ending : Ending) (first : ℕ) (libraries arranged : List FlavorLibrary) (names : List (List ℕ)) (objects : List Object) →
     AllByRecursion (IsMadeFor machine) (flavor_inputs arranged names) → AreEnded ending machine (flavor_inputs arranged names) objects → IsPermutation libraries arranged →
-    packed_end first objects ≤ tables_end_of_both first libraries
+    packed_end first objects ≤ tables_end_by first libraries
 tables_near machine ending first libraries arranged names objects made ended order =
     let near = packed_near first (filter has_tables objects) in
     let rooms = kept_near machine ending (flavor_inputs arranged names) objects (sum_by room_of arranged) made ended (libraries_near machine arranged names (rest_of ending)) in
     let moved : sum_by room_of arranged ≡ sum_by room_of libraries = sum_by-IsPermutation room_of libraries arranged order in
-    subst (λ n. n ≤ tables_end_of_both first libraries) (sym (packed_end_kept first objects)) (omega arith)
+    subst (λ n. n ≤ tables_end_by first libraries) (sym (packed_end_kept first objects)) (omega arith)

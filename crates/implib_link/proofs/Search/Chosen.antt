@@ -60,9 +60,6 @@ pub record AnyOf (names : List (List ℕ)) (l : FlavorLibrary) : Type 0 where
   pub is : slice_get (exports_of l.library) number ≡ Some export
   pub want : is_chosen l.flavor names export ≡ true
 
-pub any_too : (names more : List (List ℕ)) (l : FlavorLibrary) → ((name : List ℕ) → Among name names → Among name more) → AnyOf names l → AnyOf more l
-any_too names more l within any = record { number = any.number; export = any.export; is = any.is; want = chosen_too l.flavor names more any.export within any.want }
-
 -- The input of a library.
 
 abbrev pub numbers_in : Flavor → List (List ℕ) → Library → List ℕ

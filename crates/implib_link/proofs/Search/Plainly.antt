@@ -1,9 +1,8 @@
 -- GNU `ld`'s search, which resolves nothing by weak externals, and one that does.
 use Rattle.std.proofs.Common.{◌≡◌, ℕ, ◌⊎◌, true, false, List, [], ◌∷◌, ◌++◌, Option, Some, None, map, refl, ap, sym, ◌∙◌, subst, inl, inr, arith}
-use Rattle.std.specs.Prelude.{bytes_eq, not, ◌==◌}
+use Rattle.std.specs.Prelude.{bytes_eq, not, ◌==◌, if◌then◌else◌}
 use Rattle.std.specs.List.{Contains, cons_option, filter, flat_map, list_any}
 use Rattle.std.specs.Option.{option_map}
-use Rattle.std.specs.Prelude.{if◌then◌else◌}
 use Rattle.std.proofs.lemmas.Bool.{and_parts, cases_Bool, not_from_false, true≢false}
 use Rattle.implib.specs.Formats.Constants.{class_external, class_weak_external, section_undefined}
 use Rattle.implib.specs.Link.Resolution.{is_undefined_external}

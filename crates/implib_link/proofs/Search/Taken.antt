@@ -18,7 +18,7 @@ use Rattle.implib.proofs.Link.Ranges.{Among, all_among, among_back, among_first,
 use Rattle.implib_link.specs.Flavors.Program.{all_members}
 use Rattle.implib_link.specs.Gnu.Program.{HaveSame}
 use Rattle.implib_link.specs.Search.Archives.{Library, exports_of, inputs_wanted}
-use Rattle.implib_link.specs.Search.BothFlavors.{FlavorLibrary, IsFlavorArchive, IsWeakOfBoth, NamesNoMembers, TakesOfBoth, archive_of_both, gnu_among, msvc_among}
+use Rattle.implib_link.specs.Search.BothFlavors.{FlavorLibrary, IsFlavorArchive, IsWeakOfLibraries, NamesNoMembers, TakesOfLibraries, archive_of_both, gnu_among, msvc_among}
 use Rattle.implib_link.specs.Flavors.Expansion.{expanded_in}
 use Rattle.implib_link.specs.Search.Msvc.{NamesNoHeader, TakesFor}
 use Rattle.implib_link.specs.Search.MsvcArchives.{first_null, is_weak_in, short_inputs, shorts_linked, wanted_with_weak}
@@ -293,7 +293,7 @@ module _ (machine : MachineType) (libraries : List FlavorLibrary) (archive : IsF
         )
 
         weak_in_role : (m : MemberView) (flavor : Flavor) (l : Library) (r : Role) → Among (in_flavor flavor l) libraries → IsRole libraries (in_flavor flavor l) r → Why all_wanted (in_flavor flavor l) r →
-            m ≡ member machine flavor l r → is_weak_role r ≡ true → IsWeakOfBoth libraries all_wanted m
+            m ≡ member machine flavor l r → is_weak_role r ≡ true → IsWeakOfLibraries libraries all_wanted m
         weak_in_role m Gnu l (Weak n e true) held is why same one = absurd is.1
         weak_in_role m Gnu l (Weak n e false) held is why same one = inr (record {
           library = l;
@@ -324,15 +324,15 @@ module _ (machine : MachineType) (libraries : List FlavorLibrary) (archive : IsF
         weak_in_role m flavor l Null held is why same one = absurd (true≢false (sym one))
         weak_in_role m flavor l (Own n e) held is why same one = absurd (true≢false (sym one))
 
-        pub weak_are : AllByRecursion (IsWeakOfBoth libraries all_wanted) (filter weak taken)
-        weak_are = all_each (IsWeakOfBoth libraries all_wanted) (filter weak taken) (λ m held.
+        pub weak_are : AllByRecursion (IsWeakOfLibraries libraries all_wanted) (filter weak taken)
+        weak_are = all_each (IsWeakOfLibraries libraries all_wanted) (filter weak taken) (λ m held.
             let kept = passing weak m taken held in
             let x = needed_all m kept.0 in
             weak_in_role m x.has.library.flavor x.has.library.library x.has.role x.has.held x.has.is x.why x.has.same (sym (weak_by_role machine libraries archive reads weak reader m x.has) ∙ kept.1))
 
 -- of an archive of both flavours
 pub both_taken : (machine : MachineType) (libraries : List FlavorLibrary) → IsFlavorArchive machine libraries → (wanted : List (List ℕ)) (taken : List MemberView) →
-    NamesNoMembers machine libraries (wanted_with_weak machine wanted taken) → TakesFor machine (archive_of_both libraries) wanted taken → TakesOfBoth machine libraries wanted taken
+    NamesNoMembers machine libraries (wanted_with_weak machine wanted taken) → TakesFor machine (archive_of_both libraries) wanted taken → TakesOfLibraries machine libraries wanted taken
 both_taken machine libraries archive wanted taken plain takes = record {
   inputs = others_are machine libraries archive (expanded_in machine) (is_weak_in machine) (expands machine libraries archive) wanted taken takes plain;
   weak = weak_are machine libraries archive (expanded_in machine) (is_weak_in machine) (expands machine libraries archive) wanted taken takes plain;

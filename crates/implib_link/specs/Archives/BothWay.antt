@@ -11,56 +11,51 @@ use Rattle.implib.specs.Link.Image.{IsAdmissible, Range, image_of}
 use Rattle.implib.specs.Link.Placement.{Bases, Descriptors, placed_from}
 use Rattle.implib.specs.Members.ImportTables.{thunk_width}
 use Rattle.implib.specs.Members.MemberSpec.{MemberView}
-use Rattle.implib_link.specs.Flavors.Program.{FlavorInput, all_members, ask_in, dll_of}
-use Rattle.implib_link.specs.Flavors.Program.{exports_chosen, objects_taken, symbol_in}
+use Rattle.implib_link.specs.Flavors.Program.{AreEnded, Ending, FlavorInput, WhereMember, ask_in}
+use Rattle.implib_link.specs.Flavors.Program.{dll_of, exports_chosen, objects_taken, symbol_in}
 use Rattle.implib_link.specs.Gnu.Calls.{CallArrives, HasCall}
 use Rattle.implib_link.specs.Gnu.Fields.{AreBeside, LinkedCode, placed_code, ranges_of_codes}
 use Rattle.implib_link.specs.Gnu.Packed.{group_end}
 use Rattle.implib_link.specs.Gnu.Program.{has_tables, HaveSame}
 use Rattle.implib_link.specs.Gnu.Reading.{ReadsAndWrites}
-use Rattle.implib_link.specs.Search.BothFlavors.{FlavorLibrary, LinksClosedForBoth, inputs_of_both}
-use Rattle.implib_link.specs.Search.BothFlavors.{msvc_among}
-use Rattle.implib_link.specs.Search.MsvcArchives.{first_null, weak_in}
+use Rattle.implib_link.specs.Search.BothFlavors.{FlavorLibrary, LinksClosed, inputs_in}
+use Rattle.implib_link.specs.Search.MsvcArchives.{weak_in}
 use Rattle.implib_link.specs.Stub.{CanJump}
 
 -- What is taken of such libraries is linked with the given objects:
 -- `order`: the libraries are linked in this order, which may be another than that of the archive;
 -- `others`: the objects without import tables are those that are given and the weak externals that
 -- are taken;
--- `members`, `tables`: those with import tables are what the other members are taken for, with the
--- null descriptor of the first library for Microsoft's linker anywhere among them;
--- `admissible`, `lookups`, `addresses`, `follows`: the bases are those of a program of both
--- flavours.
-pub record AreLinkedForBoth (machine : MachineType) (libraries : List FlavorLibrary)
-    (own : List Object) (taken : List MemberView) (arranged : List FlavorLibrary) (bases : Bases)
-    (objects : List Object) : Type 0 where
+-- `ended`: those with import tables are what the other members are taken for, and what ends the
+-- directory;
+-- `admissible`, `lookups`, `addresses`, `follows`: the bases are those of a program.
+pub record AreLinkedFor (machine : MachineType) (ending : Ending)
+    (libraries : List FlavorLibrary) (own : List Object) (taken : List MemberView)
+    (arranged : List FlavorLibrary) (bases : Bases) (objects : List Object) : Type 0 where
   pub order : IsPermutation libraries arranged
   pub others : HaveSame (filter (λ o. not (has_tables o)) objects)
       (own ++ objects_taken machine (weak_in machine taken))
-  pub before : List MemberView
-  pub behind : List MemberView
-  pub members : before ++ behind ≡ all_members machine (inputs_of_both machine arranged own taken)
-  pub tables : filter has_tables objects
-      ≡ objects_taken machine (before ++ (first_null machine (msvc_among libraries) ++ behind))
+  pub ended : AreEnded ending machine (inputs_in machine arranged own taken) objects
   pub admissible : IsAdmissible machine bases objects
-  pub lookups : bases.lookups % thunk_width machine ≡ 0
-  pub addresses : bases.addresses % thunk_width machine ≡ 0
-  pub follows : bases.directory_ends ≡ group_end Descriptors bases.descriptors objects
+  pub lookups : WhereMember ending (bases.lookups % thunk_width machine ≡ 0)
+  pub addresses : WhereMember ending (bases.addresses % thunk_width machine ≡ 0)
+  pub follows : WhereMember ending
+      (bases.directory_ends ≡ group_end Descriptors bases.descriptors objects)
 
 -- What is taken for the objects of a program closes it (`links`). A loader that reads the image
 -- stops after as many descriptors as there are DLLs (`ends`). In the memory that it leaves, a call
 -- through `__imp_T` of an import of either flavour, in any object's linked code, goes to what its
 -- DLL gives for what the import asks for (`calls`).
-pub record BothArrive (machine : MachineType) (libraries : List FlavorLibrary) (own : List Object)
-    (taken : List MemberView) (arranged : List FlavorLibrary) (bases : Bases)
+pub record CallsArrive (machine : MachineType) (ending : Ending) (libraries : List FlavorLibrary)
+    (own : List Object) (taken : List MemberView) (arranged : List FlavorLibrary) (bases : Bases)
     (objects : List Object) : Type 0 where
-  pub links : LinksClosedForBoth machine libraries own taken arranged bases objects
+  pub links : LinksClosed machine ending libraries own taken arranged bases objects
   pub ends : (gives : List ℕ → Ask → List ℕ) (n : ℕ) (written : List Range) →
       ((dll : List ℕ) (ask : Ask) → length (gives dll ask) ≡ thunk_width machine) →
       ReadsAndWrites (image_of machine bases (placed_from bases objects)) (thunk_width machine)
       gives n
       bases.descriptors written →
-      n ≡ length (inputs_of_both machine arranged own taken)
+      n ≡ length (inputs_in machine arranged own taken)
   pub calls : (image_base : ℕ) (codes : List LinkedCode) (targets : LinkedCode → ℕ → ℕ)
       (gives : List ℕ → Ask → List ℕ) (n : ℕ) (written : List Range) (i j : ℕ) (p : FlavorInput)
       (e : ExportView)
@@ -71,7 +66,7 @@ pub record BothArrive (machine : MachineType) (libraries : List FlavorLibrary) (
       ReadsAndWrites (image_of machine bases (placed_from bases objects)) (thunk_width machine)
       gives n
       bases.descriptors written →
-      slice_get (inputs_of_both machine arranged own taken) i ≡ Some p →
+      slice_get (inputs_in machine arranged own taken) i ≡ Some p →
       slice_get (exports_chosen p) j ≡ Some e →
       Contains codes c →
       HasCall machine (placed_code c) offset (imp_symbol (symbol_in p.flavor e)) →

@@ -86,10 +86,6 @@ asks_on machine = asks_as (expanded_in machine)
 abbrev pub asks_with_as : (List ℕ → Option Object) → List Object → Asks
 asks_with_as reads own contents name = Contains (unresolved (own ++ filter_map reads contents)) name
 
--- of members that are read as objects
-abbrev pub asks_with : List Object → Asks
-asks_with = asks_with_as object_in
-
 -- of members as a linker for a machine takes them
 abbrev pub asks_with_on : MachineType → List Object → Asks
 asks_with_on machine = asks_with_as (expanded_in machine)

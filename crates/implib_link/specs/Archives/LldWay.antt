@@ -1,7 +1,7 @@
 -- The way for lld: what it takes in the bytes of an archive, and what its program does with it. lld
 -- does not expand a short import: this defines its symbols, and leaves nothing to others.
-use Rattle.std.specs.Prelude.{◌≡◌, ℕ, ◌+◌, ◌<◌, ◌^◌, Bool, false, true, List, [], ◌∷◌, ◌++◌}
-use Rattle.std.specs.Prelude.{Option, bytes_eq, if◌then◌else◌, is_some, length, map}
+use Rattle.std.specs.Prelude.{◌≡◌, ℕ, ◌+◌, ◌<◌, ◌^◌, Bool, false, true, List, [], ◌∷◌, ◌++◌, Option}
+use Rattle.std.specs.Prelude.{bytes_eq, if◌then◌else◌, is_some, length, map}
 use Rattle.std.specs.List.{AllByRecursion, Contains, filter, filter_map, list_any}
 use Rattle.implib.specs.declared.machine.MachineType.{MachineType}
 use Rattle.implib.specs.Definition.{ExportView}

@@ -76,8 +76,3 @@ pub record IsSearchOf (kind : Kind) (linker : LinkerMember) (members : List Memb
   pub taken : List ℕ
   pub at : AreHeadersOf headers members taken found
   pub takes : TakesAt kind linker (archive_of kind members) asks taken
-
--- a search in the bytes comes to an end
-abbrev pub IsEnding : Kind → LinkerMember → List MemberView → Asks → Type 0
-IsEnding kind linker members asks =
-    (taken : List ℕ) × TakesAt kind linker (archive_of kind members) asks taken

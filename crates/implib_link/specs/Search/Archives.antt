@@ -11,13 +11,12 @@ use Rattle.implib.specs.Formats.Constants.{class_weak_external}
 use Rattle.implib.specs.Definition.{DefinitionView, ExportView}
 use Rattle.implib.specs.Members.Gnu.{head_symbol, iname_symbol}
 use Rattle.implib.specs.Import.{imp_symbol, is_alias, public_exports}
-use Rattle.implib.specs.Link.LinkedMembers.{LinkInput, all_linked}
+use Rattle.implib.specs.Link.LinkedMembers.{LinkInput}
 use Rattle.implib.specs.Members.Members.{AreMembersOf}
 use Rattle.implib.specs.Members.MemberSpec.{MemberView}
 use Rattle.implib.specs.Formats.Object.{ASymbol, Auxiliary, Entry, Object, object_in}
 use Rattle.implib.specs.Renaming.{renamed}
 use Rattle.implib_link.specs.Search.Search.{NamesNoHeadOrTail, exports_wanted, names_undefined}
-use Rattle.implib_link.specs.Gnu.Program.{HaveSame}
 use Rattle.implib.specs.LibraryName.{linked_name}
 
 -- a definition and its members
@@ -69,9 +68,6 @@ is_weak m = has_weak (object_in m.bytes)
 abbrev pub weak_among : List MemberView → List MemberView
 weak_among members = filter is_weak members
 
-abbrev pub others_among : List MemberView → List MemberView
-others_among members = filter (λ m. not (is_weak m)) members
-
 -- what is wanted with the targets of the weak externals that are taken
 abbrev pub wanted_with : List (List ℕ) → List MemberView → List (List ℕ)
 wanted_with wanted taken = wanted ++ names_undefined (weak_among taken)
@@ -109,12 +105,3 @@ pub record IsWeakData (libraries : List Library) (names : List (List ℕ))
   pub data_alone : export.is_data ≡ true
   pub named : Contains names export.name
   pub listed : m.symbols ≡ export.name ∷ []
-
--- What a linker takes of such an archive: apart from weak externals, exactly what is linked of the
--- libraries, of each the exports that are wanted, by the program or by a weak external that is
--- taken; and weak externals of data alone.
-pub record TakesOfLibraries (machine : MachineType) (libraries : List Library)
-    (wanted : List (List ℕ)) (taken : List MemberView) : Type 0 where
-  pub inputs : HaveSame (others_among taken)
-      (all_linked machine (inputs_wanted libraries (wanted_with wanted taken)))
-  pub weak : AllByRecursion (IsWeakData libraries (wanted_with wanted taken)) (weak_among taken)

@@ -1,17 +1,18 @@
 -- That there is a closed program of an archive of both flavours: how much room import tables need,
 -- by the definitions alone, and what is linked for given objects, packed.
-use Rattle.std.specs.Prelude.{ℕ, ◌+◌, List, ◌++◌, length}
+use Rattle.std.specs.Prelude.{ℕ, ◌+◌, List, [], ◌∷◌, ◌++◌, length}
 use Rattle.std.specs.List.{sum_by}
 use Rattle.implib.specs.declared.flavor.Flavor.{Flavor}
 use Rattle.implib.specs.declared.flavor.Flavor.TheVariants.{Gnu, Msvc}
 use Rattle.implib.specs.declared.machine.MachineType.{MachineType}
 use Rattle.implib.specs.Formats.Object.{Object}
 use Rattle.implib.specs.Members.MemberSpec.{MemberView}
-use Rattle.implib_link.specs.Flavors.Program.{all_members, objects_taken}
+use Rattle.implib_link.specs.Flavors.Program.{Ending, OfLinker, OfMember, all_members}
+use Rattle.implib_link.specs.Flavors.Program.{objects_taken}
 use Rattle.implib_link.specs.Gnu.Packed.{packed}
+use Rattle.implib_link.specs.Gnu.Program.{null_descriptor}
 use Rattle.implib_link.specs.Search.Archives.{Library, exports_of}
-use Rattle.implib_link.specs.Search.BothFlavors.{FlavorLibrary, IsClosedForBoth}
-use Rattle.implib_link.specs.Search.BothFlavors.{inputs_of_both, msvc_among}
+use Rattle.implib_link.specs.Search.BothFlavors.{FlavorLibrary, IsClosed, inputs_in, msvc_among}
 use Rattle.implib_link.specs.Search.Exists.{library_room}
 use Rattle.implib_link.specs.Search.MsvcArchives.{first_null, weak_in}
 use Rattle.implib.specs.Definition.{ExportView}
@@ -37,25 +38,30 @@ room_of l = room_in l.flavor l.library
 
 -- The import tables of libraries that begin at an address, of all exports or of some, end by this
 -- one: the null descriptor, and the bytes between one group and the next, are 72 at most.
-abbrev pub tables_end_of_both : ℕ → List FlavorLibrary → ℕ
-tables_end_of_both first libraries = first + 72 + sum_by room_of libraries
+abbrev pub tables_end_by : ℕ → List FlavorLibrary → ℕ
+tables_end_by first libraries = first + 72 + sum_by room_of libraries
 
--- what is linked, in one order: the given objects, the weak externals that are taken, the null
--- descriptor of the first library for Microsoft's linker, and the other members, library by library
-abbrev pub objects_closed_of_both : MachineType → List FlavorLibrary → List Object →
+-- the objects with import tables, in one order: those of members, library by library, and what ends
+-- the directory
+abbrev pub tables_closed : Ending → MachineType → List FlavorLibrary → List MemberView → List Object
+tables_closed OfLinker machine libraries members =
+    objects_taken machine members ++ null_descriptor ∷ []
+tables_closed OfMember machine libraries members =
+    objects_taken machine (first_null machine (msvc_among libraries) ++ members)
+
+-- what is linked, in one order: the given objects, the weak externals that are taken, and these
+abbrev pub objects_closed : Ending → MachineType → List FlavorLibrary → List Object →
     List MemberView → List Object
-objects_closed_of_both machine libraries own taken =
+objects_closed ending machine libraries own taken =
     own ++ (objects_taken machine (weak_in machine taken)
-    ++ objects_taken machine
-    (first_null machine (msvc_among libraries)
-    ++ all_members machine (inputs_of_both machine libraries own taken)))
+    ++ tables_closed ending machine libraries
+    (all_members machine (inputs_in machine libraries own taken)))
 
--- There is a closed program of given objects and an archive of both flavours, with its import
--- tables packed from an address on: a linker takes some members for the given objects, and they
--- close the program.
-abbrev pub HasClosedForBoth : MachineType → List FlavorLibrary → List Object → ℕ → Type 0
-HasClosedForBoth machine libraries own first =
-    (taken : List MemberView)
-    × IsClosedForBoth machine libraries own taken libraries
-    (packed first (objects_closed_of_both machine libraries own taken))
-    (objects_closed_of_both machine libraries own taken)
+-- There is a closed program of given objects and libraries, with its import tables packed from an
+-- address on: a linker takes some members for the given objects, and they close the program.
+abbrev pub HasClosed : MachineType → List FlavorLibrary → List Object → ℕ → Type 0
+HasClosed machine libraries own first =
+    (ending : Ending) × (taken : List MemberView)
+    × IsClosed machine ending libraries own taken libraries
+    (packed first (objects_closed ending machine libraries own taken))
+    (objects_closed ending machine libraries own taken)

@@ -21,7 +21,7 @@ use Rattle.implib_link.specs.Search.Msvc.{NamesNoHeader, is_short_wanted, left_i
 use Rattle.implib_link.specs.Search.Search.{numbers_passing}
 use Rattle.implib.specs.LibraryName.{linked_dll}
 use Rattle.implib.specs.Formats.Object.{Object}
-use Rattle.implib_link.specs.Search.Closed.{AreTakenIntoAs, PullsIntoAs, TakesIntoAs, unresolved}
+use Rattle.implib_link.specs.Search.Closed.{PullsIntoAs, TakesIntoAs, unresolved}
 
 -- a library's members are its members for Microsoft's linker
 abbrev pub IsMsvcLibrary : MachineType → Library → Type 0
@@ -168,10 +168,6 @@ import_symbols_wanted libraries names =
 abbrev pub PullsIntoFor : MachineType → List MemberView → List Object → List MemberView → List ℕ →
     MemberView → Type 0
 PullsIntoFor machine = PullsIntoAs (expanded_in machine)
-
--- members are taken one after another
-abbrev pub AreTakenIntoFor : MachineType → List MemberView → List Object → List MemberView → Type 0
-AreTakenIntoFor machine = AreTakenIntoAs (expanded_in machine)
 
 -- what the linker takes
 abbrev pub TakesIntoFor : MachineType → List MemberView → List Object → List MemberView → Type 0

@@ -1,5 +1,5 @@
 -- The archives that were read by hand, by computing.
-use Rattle.std.proofs.Common.{List, [], ap, codes, inl, inr, refl, subst, sym, ◌++◌, ◌∙◌, ◌∷◌, ◌≡◌}
+use Rattle.std.proofs.Common.{List, [], ap, codes, inl, inr, refl, subst, sym, ◌++◌, ◌∙◌, ◌∷◌, ◌≡◌, ℕ}
 use Rattle.implib_archive.specs.Leads.{headers_among, headers_in, with_header}
 use Rattle.implib_archive.specs.Reader.{data_at, first_in, linker_data, linker_in, long_name, long_name_at, long_names_in, long_names_or, member_at, name_in, number_in, numbers_in, paired, read_as, stored_at, stored_from, stored_in, texts_in, trimmed}
 use Rattle.implib_link.specs.Archives.Files.{ArchiveFile, HasMembersAs, entries_by, entries_in, member_after, members_in_files, members_read, members_read_as, symbols_at}
@@ -8,7 +8,6 @@ use Rattle.implib_archive.specs.declared.kind.Kind.TheVariants.{Coff}
 use Rattle.implib_link.specs.Search.BothFlavors.{FlavorLibrary, archive_of_both, msvc_among}
 use Rattle.implib_link_instances.specs.Archives.Files.{WorkedFileLine, WorkedFileLines, WorkedFiles, amd64_files, i386_files, i386_kernel_lib, i386_libquit, kernel_lib, libquit, lld_taken}
 use Rattle.implib_link_instances.specs.Worked.FlavorLines.{amd64_kernels, i386_kernels, shorts_taken}
-use Rattle.std.proofs.Common.{ℕ}
 use Rattle.implib_link_instances.proofs.Worked.Opened.{searched, archived}
 use Rattle.std.specs.Prelude.{bytes_eq, drop, if◌then◌else◌, slice_get}
 use Rattle.std.specs.List.{IsDistinct, flat_map}

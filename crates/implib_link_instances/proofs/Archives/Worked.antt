@@ -32,7 +32,6 @@ use Rattle.implib_link.specs.Flavors.Expansion.{expanded_in}
 use Rattle.implib_link.specs.Flavors.SectionSymbols.{with_section_symbols}
 use Rattle.implib_link.specs.Search.Archives.{archive_of as members_of_libraries}
 use Rattle.implib_link_instances.specs.Worked.Closed.{choosing, closed_taken}
-use Rattle.implib_link_instances.proofs.Worked.Closed.{worked_closed}
 use Rattle.implib_link_instances.proofs.Worked.MsvcSearch.{worked_msvc_searches}
 use Rattle.implib_link_instances.proofs.Worked.Opened.{archived}
 
@@ -187,7 +186,6 @@ worked_libraries = record {
   libraries = libraries;
   taken = worked_archives.taken;
   in_libraries = found_wanted object_in Gnu First (members_of_libraries two_libraries) both_wanted worked_archives.taken libraries worked_archives.takes;
-  closed = found_given object_in Gnu First (members_of_libraries two_libraries) (choosing ∷ []) closed_taken libraries worked_closed.takes;
   short = short;
   in_short = found_wanted (expanded_in AMD64) Coff Second (short_members AMD64) (one_wanted AMD64) (four_taken AMD64) short worked_msvc_searches.amd64.takes;
 }

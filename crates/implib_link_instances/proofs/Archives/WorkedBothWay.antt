@@ -9,19 +9,19 @@ use Rattle.implib.specs.Worked.Statements.{plain_export}
 use Rattle.implib.proofs.Link.LinkedMembers.{among_contains}
 use Rattle.implib.proofs.Link.Ranges.{among_back, apart_as_they_rise}
 use Rattle.implib_archive.specs.declared.kind.Kind.TheVariants.{Coff}
-use Rattle.implib_link.specs.Archives.BothWay.{AreLinkedForBoth, BothArrive}
+use Rattle.implib_link.specs.Archives.BothWay.{AreLinkedFor, CallsArrive}
 use Rattle.implib_link.specs.Archives.InBytes.{Second}
 use Rattle.implib_link.specs.Archives.Results.{HaveArchive}
 use Rattle.implib_link_instances.specs.Archives.WorkedBothWay.{WorkedBothWay, bar_for_gnu, bases, before_null, both, calls_bar, calls_queue, code, code_at, linked, objects, own, placed, queue_for_msvc, taken}
 use Rattle.implib_link.proofs.Archives.BothWay.{both_arrive}
 use Rattle.implib_link.proofs.Archives.Corollaries.{found_given}
-use Rattle.implib_link.specs.Flavors.Program.{FlavorInput}
+use Rattle.implib_link.specs.Flavors.Program.{AreEnded, FlavorInput, OfMember}
 use Rattle.implib_link.specs.Gnu.Calls.{CallArrives, HasCall, PlacedCode}
 use Rattle.implib_link.specs.Gnu.Choices.{AreSections, DefineOnce, plain_range}
 use Rattle.implib_link.specs.Gnu.Fields.{AreBeside, LinkedCode, placed_code, ranges_of_codes}
 use Rattle.implib_link.specs.Gnu.Packed.{group_end, packed_end, sections_end}
 use Rattle.implib_link.specs.Gnu.Program.{ClaimsNone}
-use Rattle.implib_link.specs.Search.BothFlavors.{AreGivenForBoth, IsClosedForBoth, IsFlavorArchive, archive_of_both, kept_of_both}
+use Rattle.implib_link.specs.Search.BothFlavors.{AreGiven, IsClosed, IsFlavorArchive, archive_of_both, inputs_in, symbols_kept}
 use Rattle.implib_link.specs.Search.Closed.{listed_in, unresolved}
 use Rattle.implib_link.specs.Search.Msvc.{TakesFor, left_in}
 use Rattle.implib_link.specs.Search.MsvcArchives.{TakesIntoFor}
@@ -50,10 +50,10 @@ ready : HaveArchive Coff Second (archive_of_both both)
 unfolding searched archived
 ready = record { accepted = refl; has = tt }
 
-given : AreGivenForBoth AMD64 both own
+given : AreGiven AMD64 both own
 unfolding searched
 given = record {
-  claims = (claims_none_by (kept_of_both AMD64 both own) calls_bar refl, (claims_none_by (kept_of_both AMD64 both own) calls_queue refl, tt));
+  claims = (claims_none_by (symbols_kept AMD64 both own) calls_bar refl, (claims_none_by (symbols_kept AMD64 both own) calls_queue refl, tt));
   names = record { gnu = (record { head = refl; name = refl }, tt); msvc = (record { descriptor = refl; null_descriptor = refl; null_thunk = refl }, tt) };
 }
 
@@ -70,22 +70,29 @@ unfolding left_as
 takes =
     takes_into (expanded_in AMD64) (archive_of_both both) own taken (λ name left. claims_apart (listed_in taken ++ left_in AMD64 taken) own claims name (among_back name (listed_in taken) (left_in AMD64 taken) left)) wanted_takes
 
-closed : IsClosedForBoth AMD64 both own taken both bases objects
+abbrev bar_input : FlavorInput
+bar_input = record { flavor = Gnu; input = record { definition = bar_for_gnu.library.definition; members = bar_for_gnu.library.members; chosen = 0 ∷ [] } }
+
+abbrev queue_input : FlavorInput
+queue_input = record { flavor = Msvc; input = record { definition = queue_for_msvc.library.definition; members = queue_for_msvc.library.members; chosen = 0 ∷ [] } }
+
+ended : AreEnded OfMember AMD64 (inputs_in AMD64 both own taken) objects
+unfolding searched
+ended = record { null_from = queue_input; null_held = (1, omega arith, refl); null_flavor = refl; before = before_null; behind = thunk_named (codes "zed.dll") ∷ []; members = refl; tables = refl }
+
+closed : IsClosed AMD64 OfMember both own taken both bases objects
 unfolding searched group_end sections_end
 closed =
-    packed_both AMD64 both own taken both 0x2000 objects archive
-    (both_given_closes AMD64 both own taken both objects before_null (thunk_named (codes "zed.dll") ∷ []) archive given takes (omega arith) (record { moves = []; below = tt; is = refl }) (λ o. (λ held. held, λ held. held)) refl refl)
+    packed_both AMD64 OfMember both own taken both 0x2000 objects archive
+    (both_given_closes AMD64 OfMember both own taken both objects archive given takes (record { moves = []; below = tt; is = refl }) (λ o. (λ held. held, λ held. held)) ended)
     (omega arith) (below_limit (packed_end 0x2000 objects) refl)
 
-linked_for : AreLinkedForBoth AMD64 both own taken both bases objects
+linked_for : AreLinkedFor AMD64 OfMember both own taken both bases objects
 unfolding searched
 linked_for = record {
   order = record { moves = []; below = tt; is = refl };
   others = λ o. (λ held. held, λ held. held);
-  before = before_null;
-  behind = thunk_named (codes "zed.dll") ∷ [];
-  members = refl;
-  tables = refl;
+  ended = ended;
   admissible = closed.admissible;
   lookups = closed.lookups;
   addresses = closed.addresses;
@@ -128,15 +135,9 @@ linked_code codes i c same at =
     let found = mapped_at placed_code codes i c (ap (λ xs. slice_get xs i) same ∙ at) in
     record { own = found.0; held = among_contains found.0 codes (among_at found.0 codes i found.1.0); is = found.1.1 }
 
-arrive : BothArrive AMD64 both own taken both bases objects
+arrive : CallsArrive AMD64 OfMember both own taken both bases objects
 unfolding searched
-arrive = both_arrive AMD64 both own taken both bases objects archive given (omega arith) takes linked_for
-
-abbrev bar_input : FlavorInput
-bar_input = record { flavor = Gnu; input = record { definition = bar_for_gnu.library.definition; members = bar_for_gnu.library.members; chosen = 0 ∷ [] } }
-
-abbrev queue_input : FlavorInput
-queue_input = record { flavor = Msvc; input = record { definition = queue_for_msvc.library.definition; members = queue_for_msvc.library.members; chosen = 0 ∷ [] } }
+arrive = both_arrive AMD64 OfMember both own taken both bases objects archive given takes linked_for
 
 pub worked_both_way : WorkedBothWay
 unfolding searched group_end sections_end
@@ -150,7 +151,6 @@ worked_both_way =
       ready = ready;
       given = given;
       leaves = refl;
-      wants = omega arith;
       takes = found_given (expanded_in AMD64) Coff Second (archive_of_both both) own taken ready takes;
       linked_for = linked_for;
       sections = sections;

@@ -32,12 +32,12 @@ use Rattle.implib_link.proofs.Search.Lists.{among_any, any_among, contains_among
 use Rattle.implib_link_instances.proofs.Archives.Files.{opened_files}
 use Rattle.implib_link_instances.proofs.Archives.Worked.{opened_bytes, worked_searches}
 use Rattle.implib_link_instances.proofs.Archives.WorkedLldWay.{worked_lld_way}
-use Rattle.implib_link_instances.proofs.Refused.Links.{first_letter, refused_links_closed, refused_links_closed_for_both}
+use Rattle.implib_link_instances.proofs.Refused.Links.{first_letter, refused_links_closed}
 use Rattle.implib_link_instances.proofs.Worked.Calls.{one_of, wide, worked_reading}
 use Rattle.implib_link_instances.proofs.Worked.Lemmas.{differ, none_at, none_in}
 use Rattle.implib_link_instances.proofs.Worked.LldPrograms.{lld_opened}
 use Rattle.implib_link_instances.proofs.Worked.Opened.{searched}
-use Rattle.implib_link_instances.specs.Refused.Archives.{RefusedAreMembersAt, RefusedBothArrive, RefusedCallsArrive, RefusedHasMembersAs, RefusedInBytes, RefusedIsHeaderOf, RefusedIsInDirectory, RefusedIsSearchOf, RefusedIsWantedBy, RefusedLeadsToFirst, RefusedLldArrives, ways_taken, with_header_in}
+use Rattle.implib_link_instances.specs.Refused.Archives.{RefusedAreMembersAt, RefusedCallsArrive, RefusedHasMembersAs, RefusedInBytes, RefusedIsHeaderOf, RefusedIsInDirectory, RefusedIsSearchOf, RefusedIsWantedBy, RefusedLeadsToFirst, RefusedLldArrives, ways_taken, with_header_in}
 use Rattle.implib_link_instances.specs.Archives.WorkedLldWay.{bar_short, lld_taken}
 use Rattle.implib_link_instances.specs.Refused.Links.{f_library, listing, own}
 use Rattle.implib_link_instances.specs.Refused.Searches.{f_export}
@@ -122,12 +122,6 @@ refused_leads_to_first = record {
 pub refused_calls_arrive : RefusedCallsArrive
 refused_calls_arrive = record {
   links = λ x. refused_links_closed.closed x.links;
-  ends = λ x. let read = worked_reading.amd64_ends in differ 0 2 (sym (x.ends (given_on AMD64) 2 read.0 (wide AMD64) read.1)) (omega arith);
-}
-
-pub refused_both_arrive : RefusedBothArrive
-refused_both_arrive = record {
-  links = λ x. refused_links_closed_for_both.closed x.links;
   ends = λ x. let read = worked_reading.amd64_ends in differ 0 2 (sym (x.ends (given_on AMD64) 2 read.0 (wide AMD64) read.1)) (omega arith);
 }
 

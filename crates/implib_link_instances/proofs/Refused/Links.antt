@@ -21,8 +21,8 @@ use Rattle.implib_link.specs.Flavors.Expansion.{expanded_in}
 use Rattle.implib_link.specs.Flavors.LldImports.{grouped}
 use Rattle.implib_link.specs.Flavors.Program.{FlavorInput, OfMember, SymbolsAt, SymbolsGet, exports_chosen, gnu_input, members_linked, objects_taken, own_names}
 use Rattle.implib_link.specs.Search.Archives.{archive_of}
-use Rattle.implib_link.specs.Search.BothFlavors.{IsImportedOfBoth, archive_of_both}
-use Rattle.implib_link.specs.Search.Closed.{IsAliasTaken, IsImported, listed_in}
+use Rattle.implib_link.specs.Search.BothFlavors.{IsImported, archive_of_both}
+use Rattle.implib_link.specs.Search.Closed.{IsAliasTaken, listed_in}
 use Rattle.implib_link.specs.Search.MsvcArchives.{IsWeakTaken}
 use Rattle.implib_link.specs.Stub.{code_relocated, jump_reads}
 use Rattle.implib_link.proofs.Search.Lists.{any_among, contains_among}
@@ -31,7 +31,7 @@ use Rattle.implib_link_instances.proofs.Worked.Calls.{one_of}
 use Rattle.implib_link_instances.proofs.Worked.Lemmas.{differ, no_definition, none_at, none_in, none_passes, number, value}
 use Rattle.implib_link_instances.proofs.Worked.LldPrograms.{lld_opened}
 use Rattle.implib_link_instances.proofs.Worked.Opened.{searched}
-use Rattle.implib_link_instances.specs.Refused.Links.{RefusedFlavorTextLinks, RefusedFlavorTextsLink, RefusedInputImports, RefusedIsImported, RefusedIsImportedBy, RefusedIsImportedOfBoth, RefusedIsTaken, RefusedJumpsThrough, RefusedLinksClosed, RefusedLinksClosedForBoth, RefusedLldLinks, RefusedProgramLinks, asking_entry, f_in, f_input, f_library, f_short, for_gnu, jump, later_short, listing, nul_within, unchosen, with_symbol}
+use Rattle.implib_link_instances.specs.Refused.Links.{RefusedFlavorTextLinks, RefusedFlavorTextsLink, RefusedInputImports, RefusedIsImportedBy, RefusedIsImported, RefusedIsTaken, RefusedJumpsThrough, RefusedLinksClosed, RefusedLldLinks, RefusedProgramLinks, asking_entry, f_in, f_input, f_library, f_short, for_gnu, jump, later_short, listing, nul_within, unchosen, with_symbol}
 use Rattle.implib_link_instances.specs.Refused.Tables.{zero_image}
 use Rattle.implib_link_instances.specs.Worked.Programs.{code_object, symbol_of_class, touching_8}
 use Rattle.implib_link_instances.specs.Worked.Sources.{source_in, zed_meant, zed_text}
@@ -116,37 +116,18 @@ refused_program_links = record {
   claimed = λ x. none_passes (bytes_eq (codes "more")) (codes "more") (own_names OfMember AMD64 []) refl ((x.claimed (codes "more")).0 (0, omega arith, refl)) refl;
 }
 
-f_listed : Contains (listed_in (archive_of (f_library ∷ []))) (codes "f")
-unfolding searched
-f_listed = among_contains (codes "f") (listed_in (archive_of (f_library ∷ []))) (any_among (codes "f") (listed_in (archive_of (f_library ∷ []))) refl)
-
-not_resolved : IsImported AMD64 [] touching_8 [] (codes "f") ⊎ IsAliasTaken [] (codes "f") → ⊥
-unfolding searched
-not_resolved (inl x) = none_at x.number x.input x.input_is
-not_resolved (inr x) = none_in x.0 x.1
-
-pub refused_links_closed : RefusedLinksClosed
-unfolding searched
-refused_links_closed = record {
-  taken_is = λ x. none_in listing ((x.taken_is.inputs listing).0 (0, omega arith, refl));
-  program = λ x. differ 0 1 (ap length x.program.held.ended.tables) (omega arith);
-  links = λ x. none_in _ x.links.linked.0.from_members.0;
-  resolved = λ x. not_resolved (x.resolved (codes "f") (0, omega arith, refl) f_listed);
-  closed = λ x. x.closed (codes "f") (0, omega arith, refl) f_listed;
-}
-
 f_listed_for_both : Contains (listed_in (archive_of_both (for_gnu f_library))) (codes "f")
 unfolding searched
 f_listed_for_both = among_contains (codes "f") (listed_in (archive_of_both (for_gnu f_library))) (any_among (codes "f") (listed_in (archive_of_both (for_gnu f_library))) refl)
 
-not_resolved_for_both : IsImportedOfBoth AMD64 [] touching_8 [] (codes "f") ⊎ IsWeakTaken AMD64 [] (codes "f") → ⊥
+not_resolved_for_both : IsImported AMD64 [] touching_8 [] (codes "f") ⊎ IsWeakTaken AMD64 [] (codes "f") → ⊥
 unfolding searched
 not_resolved_for_both (inl x) = none_at x.number x.input x.input_is
 not_resolved_for_both (inr x) = none_in x.0 x.1
 
-pub refused_links_closed_for_both : RefusedLinksClosedForBoth
+pub refused_links_closed : RefusedLinksClosed
 unfolding searched
-refused_links_closed_for_both = record {
+refused_links_closed = record {
   taken_is = λ x. none_in listing ((x.taken_is.inputs listing).0 (0, omega arith, refl));
   program = λ x. none_in x.program.held.ended.null_from x.program.held.ended.null_held;
   links = λ x. none_in _ x.links.linked.0.from_members.0;
@@ -165,13 +146,6 @@ undefined name address (inr x) = no_definition _ x.2.1
 
 pub refused_is_imported : RefusedIsImported
 refused_is_imported = record {
-  input_is = λ x. none_at x.number x.input x.input_is;
-  export_is = λ x. none_at x.index x.export (subst (λ (p : LinkInput). slice_get (chosen_exports p.definition p.chosen) x.index ≡ Some x.export) (sym (only_one unchosen x.input x.number x.input_is)) x.export_is);
-  by = λ x. undefined (codes "f") _ x.by;
-}
-
-pub refused_is_imported_of_both : RefusedIsImportedOfBoth
-refused_is_imported_of_both = record {
   input_is = λ x. none_at x.number x.input x.input_is;
   export_is = λ x. none_at x.index x.export (subst (λ (p : FlavorInput). slice_get (exports_chosen p) x.index ≡ Some x.export) (sym (only_one (gnu_input unchosen) x.input x.number x.input_is)) x.export_is);
   by = λ x. undefined (codes "f") _ x.by;

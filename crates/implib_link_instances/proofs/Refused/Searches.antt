@@ -9,7 +9,7 @@ use Rattle.implib.specs.Members.MemberSpec.{MemberView}
 use Rattle.implib.specs.Members.Msvc.{short_import_symbol}
 use Rattle.implib_link.specs.Search.MsvcArchives.{is_short_alias}
 use Rattle.implib_link.specs.Search.Archives.{Library, exports_of}
-use Rattle.implib_link.specs.Search.BothFlavors.{IsWeakOfBoth}
+use Rattle.implib_link.specs.Search.BothFlavors.{IsWeakOfLibraries}
 use Rattle.implib_link.specs.Search.Closed.{AreTakenIntoAs}
 use Rattle.implib_link.specs.Search.Search.{AreTakenInTurnAs}
 use Rattle.implib_link.proofs.Search.Lists.{contains_among}
@@ -17,7 +17,7 @@ use Rattle.implib_link_instances.proofs.Worked.Calls.{one_of}
 use Rattle.implib_link_instances.proofs.Worked.Lemmas.{differ, none_in}
 use Rattle.implib_link_instances.proofs.Worked.Opened.{searched}
 use Rattle.implib_link_instances.specs.Refused.Links.{f_library, listing}
-use Rattle.implib_link_instances.specs.Refused.Searches.{RefusedIsWeakData, RefusedIsWeakShort, RefusedPullsIntoAs, RefusedSearches, RefusedTakesAs, RefusedTakesIntoAs, RefusedTakesOfBoth, RefusedTakesOfLibraries, exportless, f_export}
+use Rattle.implib_link_instances.specs.Refused.Searches.{RefusedIsWeakData, RefusedIsWeakShort, RefusedPullsIntoAs, RefusedSearches, RefusedTakesAs, RefusedTakesIntoAs, RefusedTakesOfLibraries, exportless, f_export}
 
 pub refused_pulls_into : RefusedPullsIntoAs
 unfolding searched
@@ -41,20 +41,13 @@ refused_takes_into = record {
   ended = λ x. x.ended (codes "f") listing (record { named = (0, omega arith, refl); listed = refl; new = λ held. none_in listing held });
 }
 
-pub refused_takes_of_libraries : RefusedTakesOfLibraries
-unfolding searched
-refused_takes_of_libraries = record {
-  inputs = λ x. none_in listing ((x.inputs listing).0 (0, omega arith, refl));
-  weak = λ x. none_in _ x.weak.0.held;
-}
-
-not_weak : (names : List (List ℕ)) (m : MemberView) → IsWeakOfBoth [] names m → ⊥
+not_weak : (names : List (List ℕ)) (m : MemberView) → IsWeakOfLibraries [] names m → ⊥
 not_weak names m (inl x) = none_in x.library x.held
 not_weak names m (inr x) = none_in x.library x.held
 
-pub refused_takes_of_both : RefusedTakesOfBoth
+pub refused_takes_of_libraries : RefusedTakesOfLibraries
 unfolding searched
-refused_takes_of_both = record {
+refused_takes_of_libraries = record {
   inputs = λ x. none_in listing ((x.inputs listing).0 (0, omega arith, refl));
   weak = λ x. not_weak _ _ x.weak.0;
 }

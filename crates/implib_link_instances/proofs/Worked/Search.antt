@@ -30,8 +30,6 @@ use Rattle.implib_link.specs.Gnu.Program.{HaveSame, has_tables, linked_symbols}
 use Rattle.implib_link.specs.Flavors.Program.{IsProgram}
 use Rattle.implib_link_instances.specs.Worked.Programs.{chosen_input, code_object, symbol_of_class}
 use Rattle.implib_link_instances.proofs.Worked.GnuPacked.{packed_is_admissible, packed_is_program}
-use Rattle.implib_link.proofs.Search.Archives.{libraries_taken}
-use Rattle.implib_link.proofs.Search.Arranged.{inputs_made}
 use Rattle.implib_link.proofs.Search.Ends.{search_bounded, search_ends}
 use Rattle.implib_link_instances.proofs.Worked.Programs.{claims_none_by, distinct_by, opened as opened_of_programs}
 use Rattle.implib_link.specs.Search.Closed.{AreTakenIntoAs, claims_of, references_of}

@@ -7,8 +7,8 @@ use Rattle.implib_link.specs.Archives.Files.{ArchiveFile, HasMembers, HasMembers
 use Rattle.implib_link.specs.Archives.Files.{members_in_files}
 use Rattle.implib_link.specs.Search.BothFlavors.{FlavorLibrary, archive_of_both, msvc_among}
 use Rattle.implib_link_instances.specs.Worked.CommandLines.{i386_quit_bytes, i386_wants_bytes}
-use Rattle.implib_link_instances.specs.Worked.CommandLines.{is_quit, quit_bytes}
-use Rattle.implib_link_instances.specs.Worked.CommandLines.{quit_member, read_or_none, wants_bytes}
+use Rattle.implib_link_instances.specs.Worked.CommandLines.{is_quit, quit_bytes, quit_member}
+use Rattle.implib_link_instances.specs.Worked.CommandLines.{read_or_none, wants_bytes}
 use Rattle.implib_link_instances.specs.Worked.FlavorLines.{amd64_kernels, amd64_shorts}
 use Rattle.implib_link_instances.specs.Worked.FlavorLines.{i386_kernels, i386_shorts}
 use Rattle.implib_link_instances.specs.Worked.FlavorLines.{shorts_grouped, shorts_last}
@@ -19,8 +19,7 @@ use Rattle.implib.specs.Formats.Object.{Object}
 use Rattle.implib.specs.Members.MemberSpec.{MemberView}
 use Rattle.implib_link.specs.Archives.LldFiles.{SearchesByLld}
 use Rattle.implib_link.specs.Archives.LldWay.{AreCalledAlike, LldArrives, read_by_lld}
-use Rattle.implib_link.specs.Search.CommandLines.{Input, SearchesFlavors, given_with}
-use Rattle.implib_link.specs.Search.CommandLines.{others_of}
+use Rattle.implib_link.specs.Search.CommandLines.{Input, SearchesFlavors, given_with, others_of}
 use Rattle.implib_link.specs.Search.MsvcArchives.{IsMsvcArchive}
 use Rattle.implib_link.specs.Search.Sweeps.{members_at}
 use Rattle.implib_link.specs.Archives.Results.{HaveArchive}

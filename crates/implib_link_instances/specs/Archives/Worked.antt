@@ -5,7 +5,6 @@ use Rattle.implib_archive.specs.Worked.{worked_coff, worked_gnu}
 use Rattle.implib_archive.specs.declared.kind.Kind.TheVariants.{Coff, Gnu}
 use Rattle.implib.specs.declared.machine.MachineType.TheVariants.{AMD64}
 use Rattle.implib_link.specs.Archives.InBytes.{First, Has, Second, TakesAt, asks_for, asks_on}
-use Rattle.implib_link.specs.Archives.InBytes.{asks_with}
 use Rattle.implib_link.specs.Search.Archives.{archive_of as members_of_libraries}
 use Rattle.implib_link_instances.specs.Worked.Search.{both_wanted, members_of, three, two_libraries}
 use Rattle.implib_link_instances.specs.Worked.Search.{wanted}
@@ -41,16 +40,12 @@ pub record WorkedSearches : Type 0 where
   pub in_coff : IsSearchOf Coff Second (members_of three) (asks_for wanted) found
 
 -- Two libraries, and the members of three exports for Microsoft's linker, have archives, too. In
--- their bytes a linker takes what it takes of the list: for wanted names, for a given object, and
--- of short imports.
+-- their bytes a linker takes what it takes of the list: for wanted names, and of short imports.
 pub record WorkedLibraries : Type 0 where
   pub libraries : HaveArchive Gnu First (members_of_libraries two_libraries)
   pub taken : List MemberView
   pub in_libraries : IsSearchOf Gnu First (members_of_libraries two_libraries)
       (asks_for both_wanted) taken
-  pub closed :
-      IsSearchOf Gnu First (members_of_libraries two_libraries) (asks_with (choosing ∷ []))
-      closed_taken
   pub short : HaveArchive Coff Second (short_members AMD64)
   pub in_short :
       IsSearchOf Coff Second (short_members AMD64) (asks_on AMD64 (one_wanted AMD64))

@@ -24,18 +24,17 @@ use Rattle.implib.specs.LibraryName.{own_names}
 use Rattle.implib.specs.Members.GnuMembers.{export_spec, head_spec, tail_spec}
 use Rattle.implib.specs.Members.MemberSpec.{MemberView, member_of}
 use Rattle.implib_archive.specs.declared.kind.Kind.TheVariants.{Coff}
-use Rattle.implib_link.specs.Archives.BothWay.{AreLinkedForBoth}
+use Rattle.implib_link.specs.Archives.BothWay.{AreLinkedFor}
 use Rattle.implib_link.specs.Archives.InBytes.{Second, asks_with_on}
 use Rattle.implib_link.specs.Archives.Results.{HaveArchive, IsSearchOf}
-use Rattle.implib_link.specs.Flavors.Program.{objects_taken}
+use Rattle.implib_link.specs.Flavors.Program.{OfMember, objects_taken}
 use Rattle.implib_link.specs.Gnu.Choices.{AreSections}
 use Rattle.implib_link.specs.Gnu.Fields.{AreBeside, LinkedCode, placed_code, ranges_of_codes}
 use Rattle.implib_link.specs.Gnu.Packed.{packed}
 use Rattle.implib_link.specs.Gnu.Reading.{ReadsAndWrites}
-use Rattle.implib_link.specs.Search.BothFlavors.{AreGivenForBoth, FlavorLibrary, IsFlavorArchive}
-use Rattle.implib_link.specs.Search.BothFlavors.{archive_of_both, msvc_among}
+use Rattle.implib_link.specs.Search.BothFlavors.{AreGiven, FlavorLibrary, IsFlavorArchive}
+use Rattle.implib_link.specs.Search.BothFlavors.{archive_of_both}
 use Rattle.implib_link.specs.Search.Closed.{unresolved}
-use Rattle.implib_link.specs.Search.MsvcArchives.{short_inputs}
 use Rattle.implib_link_instances.specs.Worked.MsvcSearch.{descriptor_named, msvc_library}
 use Rattle.implib_link_instances.specs.Worked.MsvcSearch.{null_named, short_named, thunk_named}
 use Rattle.implib_link_instances.specs.Worked.Programs.{object_with, symbol_of_class}
@@ -144,11 +143,10 @@ placed = code_at calls_bar 0x3000 ∷ code_at calls_queue 0x3020 ∷ []
 pub record WorkedBothWay : Type 0 where
   pub archive : IsFlavorArchive AMD64 both
   pub ready : HaveArchive Coff Second (archive_of_both both)
-  pub given : AreGivenForBoth AMD64 both own
+  pub given : AreGiven AMD64 both own
   pub leaves : unresolved own ≡ codes "__imp_bar" ∷ codes "__imp_queue" ∷ []
-  pub wants : 0 < length (short_inputs (msvc_among both) (unresolved own))
   pub takes : IsSearchOf Coff Second (archive_of_both both) (asks_with_on AMD64 own) taken
-  pub linked_for : AreLinkedForBoth AMD64 both own taken both bases objects
+  pub linked_for : AreLinkedFor AMD64 OfMember both own taken both bases objects
   pub sections : AreSections AMD64 bases objects placed
   pub bar_called : HasCall AMD64 (code_at calls_bar 0x3000) 4 (codes "__imp_bar")
   pub queue_called : HasCall AMD64 (code_at calls_queue 0x3020) 4 (codes "__imp_queue")

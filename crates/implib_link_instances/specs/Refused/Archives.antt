@@ -7,13 +7,13 @@ use Rattle.implib.specs.Members.MemberSpec.{MemberView}
 use Rattle.implib.specs.Members.Msvc.{short_import_symbols}
 use Rattle.implib_archive.specs.Worked.{worked_members}
 use Rattle.implib_archive.specs.declared.kind.Kind.TheVariants.{Coff, Gnu}
-use Rattle.implib_link.specs.Archives.BothWay.{BothArrive}
+use Rattle.implib_link.specs.Flavors.Program.{OfMember}
+use Rattle.implib_link.specs.Archives.BothWay.{CallsArrive}
 use Rattle.implib_link.specs.Archives.Files.{HasMembersAs}
 use Rattle.implib_link.specs.Archives.InBytes.{First, Second, asks_for}
 use Rattle.implib_link.specs.Archives.LldWay.{IsWantedBy, LldArrives, defining}
 use Rattle.implib_link.specs.Archives.Results.{AreHeadersOf, AreMembersAt, IsHeaderOf, IsSearchOf}
 use Rattle.implib_link.specs.Archives.Results.{LeadsToFirst, TakesJust}
-use Rattle.implib_link.specs.Archives.Way.{CallsArrive}
 use Rattle.implib_link.specs.Image.Files.{DataDirectory}
 use Rattle.implib_link.specs.Image.Laws.{IsInDirectory}
 use Rattle.implib_link.specs.Search.Wanting.{wanting}
@@ -61,12 +61,8 @@ pub record RefusedLeadsToFirst : Type 0 where
 
 -- a library's name that is left, and more DLLs in the image than are imported
 pub record RefusedCallsArrive : Type 0 where
-  pub links : CallsArrive AMD64 (f_library ∷ []) [] [] [] touching_8 own → ⊥
-  pub ends : CallsArrive AMD64 [] [] [] [] touching_8 (program_objects AMD64) → ⊥
-
-pub record RefusedBothArrive : Type 0 where
-  pub links : BothArrive AMD64 (for_gnu f_library) [] [] [] touching_8 own → ⊥
-  pub ends : BothArrive AMD64 [] [] [] [] touching_8 (program_objects AMD64) → ⊥
+  pub links : CallsArrive AMD64 OfMember (for_gnu f_library) [] [] [] touching_8 own → ⊥
+  pub ends : CallsArrive AMD64 OfMember [] [] [] [] touching_8 (program_objects AMD64) → ⊥
 
 -- an object that defines what the export's short import does
 abbrev pub defining_f : List Object

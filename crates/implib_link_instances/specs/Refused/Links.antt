@@ -14,13 +14,11 @@ use Rattle.implib.specs.Members.MemberSpec.{MemberView}
 use Rattle.implib.specs.Worked.Members.{of_dll}
 use Rattle.implib.specs.Worked.Statements.{plain_export}
 use Rattle.implib_link.specs.Flavors.LldImports.{IsImportedBy, LldLinks}
-use Rattle.implib_link.specs.Flavors.Program.{FlavorInput, InputImports, IsTaken, OfLinker, OfMember}
-use Rattle.implib_link.specs.Flavors.Program.{ProgramLinks, gnu_input}
+use Rattle.implib_link.specs.Flavors.Program.{FlavorInput, InputImports, IsTaken, OfLinker}
+use Rattle.implib_link.specs.Flavors.Program.{OfMember, ProgramLinks, gnu_input}
 use Rattle.implib_link.specs.Flavors.Texts.{FlavorTextLinks, FlavorTextsLink}
 use Rattle.implib_link.specs.Search.Archives.{Library}
-use Rattle.implib_link.specs.Search.BothFlavors.{FlavorLibrary, IsImportedOfBoth}
-use Rattle.implib_link.specs.Search.BothFlavors.{LinksClosedForBoth}
-use Rattle.implib_link.specs.Search.Closed.{IsImported, LinksClosed}
+use Rattle.implib_link.specs.Search.BothFlavors.{FlavorLibrary, IsImported, LinksClosed}
 use Rattle.implib_link.specs.Stub.{JumpsThrough}
 use Rattle.implib_link_instances.specs.Refused.Tables.{asking, zero_image}
 use Rattle.implib_link_instances.specs.Worked.Search.{library_of}
@@ -150,18 +148,11 @@ abbrev pub own : List Object
 own = asking.object ∷ []
 
 pub record RefusedLinksClosed : Type 0 where
-  pub taken_is : LinksClosed AMD64 [] [] (listing ∷ []) [] touching_8 [] → ⊥
-  pub program : LinksClosed AMD64 [] [] [] [] touching_8 [] → ⊥
-  pub links : LinksClosed AMD64 [] own [] (memberless ∷ []) touching_8 [] → ⊥
-  pub resolved : LinksClosed AMD64 (f_library ∷ []) own [] [] touching_8 [] → ⊥
-  pub closed : LinksClosed AMD64 (f_library ∷ []) [] [] [] touching_8 own → ⊥
-
-pub record RefusedLinksClosedForBoth : Type 0 where
-  pub taken_is : LinksClosedForBoth AMD64 [] [] (listing ∷ []) [] touching_8 [] → ⊥
-  pub program : LinksClosedForBoth AMD64 [] [] [] [] touching_8 [] → ⊥
-  pub links : LinksClosedForBoth AMD64 [] own [] (for_gnu memberless) touching_8 [] → ⊥
-  pub resolved : LinksClosedForBoth AMD64 (for_gnu f_library) own [] [] touching_8 [] → ⊥
-  pub closed : LinksClosedForBoth AMD64 (for_gnu f_library) [] [] [] touching_8 own → ⊥
+  pub taken_is : LinksClosed AMD64 OfMember [] [] (listing ∷ []) [] touching_8 [] → ⊥
+  pub program : LinksClosed AMD64 OfMember [] [] [] [] touching_8 [] → ⊥
+  pub links : LinksClosed AMD64 OfMember [] own [] (for_gnu memberless) touching_8 [] → ⊥
+  pub resolved : LinksClosed AMD64 OfMember (for_gnu f_library) own [] [] touching_8 [] → ⊥
+  pub closed : LinksClosed AMD64 OfMember (for_gnu f_library) [] [] [] touching_8 own → ⊥
 
 -- nothing is chosen of f.dll
 abbrev pub unchosen : LinkInput
@@ -169,13 +160,8 @@ unchosen = record f_input { chosen = [] }
 
 pub record RefusedIsImported : Type 0 where
   pub input_is : IsImported AMD64 [] touching_8 [] (codes "f") → ⊥
-  pub export_is : IsImported AMD64 [] touching_8 (unchosen ∷ []) (codes "f") → ⊥
-  pub by : IsImported AMD64 [] touching_8 (f_input ∷ []) (codes "f") → ⊥
-
-pub record RefusedIsImportedOfBoth : Type 0 where
-  pub input_is : IsImportedOfBoth AMD64 [] touching_8 [] (codes "f") → ⊥
-  pub export_is : IsImportedOfBoth AMD64 [] touching_8 (gnu_input unchosen ∷ []) (codes "f") → ⊥
-  pub by : IsImportedOfBoth AMD64 [] touching_8 f_inputs (codes "f") → ⊥
+  pub export_is : IsImported AMD64 [] touching_8 (gnu_input unchosen ∷ []) (codes "f") → ⊥
+  pub by : IsImported AMD64 [] touching_8 f_inputs (codes "f") → ⊥
 
 -- the text of zed.dll, of which nothing is linked
 pub record RefusedFlavorTextLinks : Type 0 where

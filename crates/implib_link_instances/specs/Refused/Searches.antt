@@ -8,8 +8,8 @@ use Rattle.implib.specs.Formats.Object.{object_in}
 use Rattle.implib.specs.Worked.Members.{of_dll}
 use Rattle.implib.specs.Worked.Statements.{plain_export}
 use Rattle.implib_link.specs.Gnu.Program.{HaveSame}
-use Rattle.implib_link.specs.Search.Archives.{IsWeakData, Library, TakesOfLibraries}
-use Rattle.implib_link.specs.Search.BothFlavors.{IsUsedIn, IsWeakOfBoth, TakesOfBoth}
+use Rattle.implib_link.specs.Search.Archives.{IsWeakData, Library}
+use Rattle.implib_link.specs.Search.BothFlavors.{IsUsedIn, IsWeakOfLibraries, TakesOfLibraries}
 use Rattle.implib_link.specs.Search.Closed.{AreTakenIntoAs, IsAliasTaken, IsUsed, PullsIntoAs}
 use Rattle.implib_link.specs.Search.Closed.{TakesIntoAs}
 use Rattle.implib_link.specs.Search.MsvcArchives.{IsWeakShort, IsWeakTaken}
@@ -36,10 +36,6 @@ pub record RefusedTakesIntoAs : Type 0 where
 pub record RefusedTakesOfLibraries : Type 0 where
   pub inputs : TakesOfLibraries AMD64 [] [] (listing ∷ []) → ⊥
   pub weak : TakesOfLibraries AMD64 [] [] (foo_alias ∷ []) → ⊥
-
-pub record RefusedTakesOfBoth : Type 0 where
-  pub inputs : TakesOfBoth AMD64 [] [] (listing ∷ []) → ⊥
-  pub weak : TakesOfBoth AMD64 [] [] (foo_alias ∷ []) → ⊥
 
 -- a library without exports
 abbrev pub exportless : Library
@@ -70,5 +66,5 @@ pub record RefusedSearches : Type 0 where
   pub is_used : IsUsed [] f_export → ⊥
   pub is_used_in : IsUsedIn Gnu [] f_export → ⊥
   pub is_weak_among : IsWeakAmong object_in [] (codes "f") → ⊥
-  pub is_weak_of_both : IsWeakOfBoth [] [] listing → ⊥
+  pub is_weak_of_both : IsWeakOfLibraries [] [] listing → ⊥
   pub is_weak_taken : IsWeakTaken AMD64 [] (codes "f") → ⊥

@@ -9,9 +9,8 @@ use Rattle.implib.specs.declared.machine.MachineType.TheVariants.{AMD64, ARM64, 
 use Rattle.implib.specs.Formats.Object.{ASymbol, Object, ObjectSection}
 use Rattle.implib.specs.Link.Image.{Range}
 use Rattle.implib.specs.Link.Placement.{Bases, Placed, Unplaced, placed_from}
-use Rattle.implib_link.specs.Gnu.Calls.{PlacedCode, arm64_branch26, call_bytes}
-use Rattle.implib_link.specs.Gnu.Calls.{call_relocations, direct_bytes, direct_relocations}
-use Rattle.implib_link.specs.Gnu.Calls.{i386_rel32, moved_by}
+use Rattle.implib_link.specs.Gnu.Calls.{PlacedCode, arm64_branch26, call_bytes, call_relocations}
+use Rattle.implib_link.specs.Gnu.Calls.{direct_bytes, direct_relocations, i386_rel32, moved_by}
 use Rattle.implib_link.specs.Gnu.Fields.{AreBeside, IsRelocated, LinkedCode, placed_code}
 use Rattle.implib_link.specs.Stub.{bits_of, code_word, with_bits, with_word, word_at}
 use Rattle.std.specs.List.{AllByRecursion}
@@ -25,11 +24,9 @@ use Rattle.implib.specs.Members.Gnu.{section, stub_bytes, stub_relocations, text
 use Rattle.implib.specs.Members.ImportTables.{zeros}
 use Rattle.implib_link.specs.Gnu.Program.{null_descriptor}
 use Rattle.implib_link.specs.Gnu.Reading.{ReadsAndWrites}
-use Rattle.implib_link_instances.specs.Worked.Programs.{foo_input}
-use Rattle.implib_link_instances.specs.Worked.Programs.{input_objects, program_image}
-use Rattle.implib_link_instances.specs.Worked.Programs.{object_with}
-use Rattle.implib_link_instances.specs.Worked.Programs.{symbol_of_class, symbol_on, touching_4}
-use Rattle.implib_link_instances.specs.Worked.Programs.{touching_8, zed_input}
+use Rattle.implib_link_instances.specs.Worked.Programs.{foo_input, input_objects, program_image}
+use Rattle.implib_link_instances.specs.Worked.Programs.{object_with, symbol_of_class, symbol_on}
+use Rattle.implib_link_instances.specs.Worked.Programs.{touching_4, touching_8, zed_input}
 use Rattle.implib_link.specs.Gnu.Pointers.{HasLoad, load_bytes, load_reads, load_relocations}
 use Rattle.implib_link.specs.Gnu.Choices.{AreSections, DefineOnce}
 

@@ -1,4 +1,4 @@
--- A closed program by hand, of an object and two libraries, one of which has an alias.
+-- The objects of a closed program by hand, of two libraries, one of which has an alias.
 use Rattle.std.specs.Prelude.{◌≡◌, List, [], ◌∷◌, ◌++◌, codes, map, Some}
 use Rattle.implib.specs.declared.machine.MachineType.TheVariants.{AMD64}
 use Rattle.implib.specs.Formats.Constants.{class_external}
@@ -15,9 +15,7 @@ use Rattle.implib.specs.Worked.Statements.{plain_export}
 use Rattle.implib_link.specs.Gnu.Packed.{packed}
 use Rattle.implib_link.specs.Gnu.Program.{null_descriptor}
 use Rattle.implib_link.specs.Search.Archives.{IsArchive, Library, archive_of}
-use Rattle.implib_link.specs.Search.Closed.{IsClosed, LinksClosed, TakesInto, inputs_in, unresolved}
-use Rattle.implib_link.specs.Search.Closed.{wanted_in}
-use Rattle.implib_link.specs.Search.Given.{AreGiven, symbols_kept}
+use Rattle.implib_link.specs.Search.Closed.{unresolved}
 use Rattle.implib_link_instances.specs.Worked.Search.{library_of, two_libraries, aliased}
 use Rattle.implib_link_instances.specs.Worked.Programs.{code_object, symbol_of_class}
 use Rattle.implib.specs.LibraryName.{own_names}
@@ -74,14 +72,6 @@ closed_taken =
     ∷ foo_alias
     ∷ []
 
--- the libraries as they are linked, zed.dll first
-abbrev pub zed_first : List Library
-zed_first =
-    library_of (of_dll (codes "zed.dll")
-    (plain_export (codes "queue") ∷ plain_export (codes "stack") ∷ []))
-    ∷ library_of aliased
-    ∷ []
-
 -- what is linked: the alias, zed.dll's members, the object, foo.dll's members, the null descriptor
 abbrev pub closed_objects : List Object
 closed_objects =
@@ -90,37 +80,3 @@ closed_objects =
 
 abbrev pub closed_bases : Bases
 closed_bases = packed 0x2000 closed_objects
-
--- The object leaves three names unresolved, for which a linker takes seven members; with them it is
--- a closed program, in which `printf` alone is left. The pointer to `queue` is zed.dll's first
--- entry, and that to `baz` foo.dll's.
-pub record WorkedClosed : Type 0 where
-  pub archive : IsArchive AMD64 two_libraries
-  pub leaves : unresolved (choosing ∷ []) ≡ codes "bar" ∷ codes "__imp_queue" ∷ codes "printf" ∷ []
-  pub takes : TakesInto (archive_of two_libraries) (choosing ∷ []) closed_taken
-  pub wanted : wanted_in (choosing ∷ []) closed_taken
-      ≡ codes "bar" ∷ codes "__imp_queue" ∷ codes "printf" ∷ codes "baz" ∷ []
-  pub chosen : map (λ p. p.chosen) (inputs_in zed_first (choosing ∷ []) closed_taken)
-      ≡ (0 ∷ []) ∷ (1 ∷ []) ∷ []
-  pub closed : IsClosed AMD64 two_libraries (choosing ∷ []) closed_taken zed_first closed_bases
-      closed_objects
-  pub links : LinksClosed AMD64 two_libraries (choosing ∷ []) closed_taken zed_first closed_bases
-      closed_objects
-  pub left : unresolved closed_objects ≡ codes "printf" ∷ []
-  pub queue : definitions_of (codes "__imp_queue") (placed_from closed_bases closed_objects)
-      ≡ record { name = codes "__imp_queue"; address = Some 0x2060 } ∷ []
-  pub baz : definitions_of (codes "__imp_baz") (placed_from closed_bases closed_objects)
-      ≡ record { name = codes "__imp_baz"; address = Some 0x2070 } ∷ []
-
--- The first object may be given: so the search for it ends, and what was taken closes the program.
--- What members alone may claim are these names, `queue` among them: so the object that has one of
--- its own may not.
-pub record WorkedGiven : Type 0 where
-  pub given : AreGiven AMD64 two_libraries (choosing ∷ [])
-  pub kept : symbols_kept AMD64 two_libraries (choosing ∷ [])
-      ≡ codes "_head_foo_dll" ∷ codes "_head_zed_dll" ∷ codes "foo_dll_iname"
-      ∷ codes "zed_dll_iname"
-      ∷ codes "baz" ∷ codes "baz" ∷ codes "__imp_baz" ∷ codes "queue" ∷ codes "__imp_queue" ∷ []
-  pub ends : (taken : List MemberView) × TakesInto (archive_of two_libraries) (choosing ∷ []) taken
-  pub closed : IsClosed AMD64 two_libraries (choosing ∷ []) closed_taken zed_first closed_bases
-      closed_objects

@@ -16,18 +16,21 @@ use Rattle.implib.specs.Renaming.{renamed}
 use Rattle.implib.specs.Worked.Members.{of_dll}
 use Rattle.implib.specs.Worked.Statements.{plain_export}
 use Rattle.implib_link.specs.Gnu.Program.{HaveSame}
-use Rattle.implib_link.specs.Search.Archives.{IsArchive, Library, archive_of}
-use Rattle.implib_link.specs.Search.Closed.{TakesIntoAs, listed_in}
+use Rattle.implib_link.specs.Flavors.Expansion.{expanded_in}
+use Rattle.implib_link.specs.Search.Archives.{Library}
+use Rattle.implib_link.specs.Search.BothExists.{HasClosed}
+use Rattle.implib_link.specs.Search.BothFlavors.{AreGiven, FlavorLibrary, IsFlavorArchive}
+use Rattle.implib_link.specs.Search.BothFlavors.{archive_of_both}
+use Rattle.implib_link.specs.Search.Closed.{listed_in}
 use Rattle.implib_link.specs.Search.CommandLines.{AnObject, Archives, AreListedWhole, Input}
-use Rattle.implib_link.specs.Search.CommandLines.{IsOrdered, SearchesCommandLine}
-use Rattle.implib_link.specs.Search.CommandLines.{SearchesLibraries, given_with}
-use Rattle.implib_link.specs.Search.Given.{AreGiven}
+use Rattle.implib_link.specs.Search.CommandLines.{IsOrdered, SearchesCommandLine, SearchesFlavors}
+use Rattle.implib_link.specs.Search.CommandLines.{given_with}
+use Rattle.implib_link.specs.Search.MsvcArchives.{TakesIntoFor}
 use Rattle.implib_link.specs.Search.Search.{objects_as}
 use Rattle.implib_link.specs.Search.Sweeps.{members_at}
 use Rattle.implib_link.specs.Archives.Results.{HaveArchive}
 use Rattle.implib_link.specs.Archives.InBytes.{Second}
 use Rattle.implib_archive.specs.declared.kind.Kind.TheVariants.{Coff}
-use Rattle.implib_link.specs.Search.Exists.{HasClosed}
 
 abbrev pub wants_bytes : List ℕ
 wants_bytes =
@@ -155,36 +158,41 @@ in_group own = inputs_of own ++ Archives (of_kernel ∷ of_quit ∷ []) ∷ []
 abbrev pub all_taken : List ℕ
 all_taken = 0 ∷ 1 ∷ 2 ∷ 3 ∷ []
 
+-- the library, as one for GNU's linker
+abbrev pub gnu_kernel : MachineType → List ℕ → FlavorLibrary
+gnu_kernel machine symbol = record { flavor = Gnu; library = kernel_on machine symbol }
+
 -- On one machine, where `own` is the object:
 -- `first`, `ordered`, `takes`: with the library last GNU ld takes all, and by the law as one search
--- of all does, as lld's is;
+-- of all does;
 -- `group`: so it does in a group;
--- `alike`: by the law lld takes the same as GNU ld of the group.
-pub record WorkedCommandLine (members : List MemberView) (own : List Object) : Type 0 where
+-- `alike`: by the law another search takes the same as GNU ld of the group.
+pub record WorkedCommandLine (machine : MachineType) (members : List MemberView)
+    (own : List Object) : Type 0 where
   pub distinct : IsDistinct bytes_eq (listed_in members)
-  pub whole : AreListedWhole object_in members
-  pub first : SearchesCommandLine object_in members (library_last own) all_taken
-  pub ordered : IsOrdered object_in members (library_last own)
-  pub takes : TakesIntoAs object_in members own (members_at members all_taken)
-  pub group : SearchesCommandLine object_in members (in_group own) all_taken
-  pub alike : (other : List MemberView) → TakesIntoAs object_in members own other →
+  pub whole : AreListedWhole (expanded_in machine) members
+  pub first : SearchesCommandLine (expanded_in machine) members (library_last own) all_taken
+  pub ordered : IsOrdered (expanded_in machine) members (library_last own)
+  pub takes : TakesIntoFor machine members own (members_at members all_taken)
+  pub group : SearchesCommandLine (expanded_in machine) members (in_group own) all_taken
+  pub alike : (other : List MemberView) → TakesIntoFor machine members own other →
       HaveSame (members_at members all_taken) other
 
 -- as a search of libraries: the archive's member is as given; and there is a closed program
-pub record WorkedLibraries (machine : MachineType) (l : Library) (members : List MemberView)
+pub record WorkedLibraries (machine : MachineType) (l : FlavorLibrary) (members : List MemberView)
     (own : List Object) : Type 0 where
-  pub archive : IsArchive machine (l ∷ [])
-  pub ready : HaveArchive Coff Second (archive_of (l ∷ []))
-  pub searches : SearchesLibraries machine (l ∷ []) members (library_last own) is_quit all_taken
+  pub archive : IsFlavorArchive machine (l ∷ [])
+  pub ready : HaveArchive Coff Second (archive_of_both (l ∷ []))
+  pub searches : SearchesFlavors machine (l ∷ []) members (library_last own) is_quit all_taken
   pub given : AreGiven machine (l ∷ [])
-      (given_with object_in is_quit own (members_at members all_taken))
+      (given_with (expanded_in machine) is_quit own (members_at members all_taken))
   pub exists : HasClosed machine (l ∷ [])
-      (given_with object_in is_quit own (members_at members all_taken)) 0x2000
+      (given_with (expanded_in machine) is_quit own (members_at members all_taken)) 0x2000
 
 pub record WorkedCommandLines : Type 0 where
-  pub amd64 : WorkedCommandLine amd64_members (read_or_none wants_bytes)
-  pub i386 : WorkedCommandLine i386_members (read_or_none i386_wants_bytes)
-  pub libraries : WorkedLibraries AMD64 (kernel_on AMD64 (codes "ExitProcess")) amd64_members
+  pub amd64 : WorkedCommandLine AMD64 amd64_members (read_or_none wants_bytes)
+  pub i386 : WorkedCommandLine I386 i386_members (read_or_none i386_wants_bytes)
+  pub libraries : WorkedLibraries AMD64 (gnu_kernel AMD64 (codes "ExitProcess")) amd64_members
       (read_or_none wants_bytes)
-  pub i386_libraries : WorkedLibraries I386 (kernel_on I386 (codes "_ExitProcess@4")) i386_members
+  pub i386_libraries : WorkedLibraries I386 (gnu_kernel I386 (codes "_ExitProcess@4")) i386_members
       (read_or_none i386_wants_bytes)

@@ -12,7 +12,7 @@ use Rattle.implib.specs.Renaming.{renamed}
 use Rattle.implib.specs.Worked.Members.{of_dll}
 use Rattle.implib.specs.Worked.Statements.{plain_export}
 use Rattle.implib_link.specs.Flavors.Expansion.{expanded_in}
-use Rattle.implib_link.specs.Search.BothFlavors.{AreGivenForBoth, FlavorLibrary, IsFlavorArchive}
+use Rattle.implib_link.specs.Search.BothFlavors.{AreGiven, FlavorLibrary, IsFlavorArchive}
 use Rattle.implib_link.specs.Search.BothFlavors.{archive_of_both, msvc_among}
 use Rattle.implib_link.specs.Search.Closed.{TakesIntoAs, unresolved}
 use Rattle.implib_link.specs.Search.CommandLines.{Archives, Input, SearchesFlavors, given_with}
@@ -78,7 +78,7 @@ pub record WorkedFlavorLine (machine : MachineType) (libraries : List FlavorLibr
   pub archive : IsFlavorArchive machine libraries
   pub ready : HaveArchive Coff Second (archive_of_both libraries)
   pub searches : SearchesFlavors machine libraries members inputs is_quit shorts_taken
-  pub given : AreGivenForBoth machine libraries (with_quit machine members own)
+  pub given : AreGiven machine libraries (with_quit machine members own)
   pub some : 0
       < length (short_inputs (msvc_among libraries) (unresolved (with_quit machine members own)))
   pub takes : TakesIntoAs (expanded_in machine) (archive_of_both libraries)

@@ -26,9 +26,9 @@ use Rattle.implib_link.specs.Gnu.Pages.{HasPage, HasPageOffset}
 use Rattle.implib_link.specs.Gnu.Program.{null_descriptor}
 use Rattle.implib_link.specs.Gnu.Rebased.{Place}
 use Rattle.implib_link_instances.specs.Worked.Programs.{another, both_inputs, foo_input}
-use Rattle.implib_link_instances.specs.Worked.Programs.{object_with}
-use Rattle.implib_link_instances.specs.Worked.Programs.{input_objects, symbol_of_class, symbol_on}
-use Rattle.implib_link_instances.specs.Worked.Programs.{touching_4, touching_8, zed_input}
+use Rattle.implib_link_instances.specs.Worked.Programs.{object_with, input_objects, symbol_of_class}
+use Rattle.implib_link_instances.specs.Worked.Programs.{symbol_on, touching_4, touching_8}
+use Rattle.implib_link_instances.specs.Worked.Programs.{zed_input}
 
 -- The relocations relative to a section ("Type Indicators": SECREL), of which no law says what
 -- their fields hold, and ARM64's by an offset in a page in an `add`.

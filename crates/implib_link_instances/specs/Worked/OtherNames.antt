@@ -29,9 +29,10 @@ use Rattle.implib_link_instances.specs.Worked.LldPrograms.{addresses_on, calling
 use Rattle.implib_link_instances.specs.Worked.LldPrograms.{code_of_object, code_of_thunk}
 use Rattle.implib_link_instances.specs.Worked.LldPrograms.{lld_image_on, mid_on, shorts_on}
 use Rattle.implib_link_instances.specs.Worked.LldPrograms.{taken_address}
-use Rattle.implib_link_instances.specs.Worked.Parts.{named_start, first_section, gnu_bases, objects_of}
-use Rattle.implib_link_instances.specs.Worked.Parts.{gnu_image, kernel, placed_or_null, start_code}
-use Rattle.implib_link_instances.specs.Worked.Parts.{stub_code, zoo, zoo_parts, zoo_tables}
+use Rattle.implib_link_instances.specs.Worked.Parts.{named_start, first_section, gnu_bases}
+use Rattle.implib_link_instances.specs.Worked.Parts.{objects_of, gnu_image, kernel, placed_or_null}
+use Rattle.implib_link_instances.specs.Worked.Parts.{start_code, stub_code, zoo, zoo_parts}
+use Rattle.implib_link_instances.specs.Worked.Parts.{zoo_tables}
 use Rattle.implib_link_instances.specs.Worked.Programs.{input_objects, symbol_of_class}
 
 -- GNU ld's program: what is linked, and the code of the object and the stub, with the addresses of

@@ -23,9 +23,8 @@ use Rattle.implib_link.specs.Gnu.Stored.{i386_dir32nb}
 use Rattle.implib_link_instances.specs.Worked.Operands.{field, named_or, open_on, placed_or_passing}
 use Rattle.implib_link_instances.specs.Worked.Operands.{stub_linked, stub_section}
 use Rattle.implib_link_instances.specs.Worked.Programs.{another, both_inputs, foo_input}
-use Rattle.implib_link_instances.specs.Worked.Programs.{object_with}
-use Rattle.implib_link_instances.specs.Worked.Programs.{input_objects, symbol_of_class, touching_8}
-use Rattle.implib_link_instances.specs.Worked.Programs.{zed_input}
+use Rattle.implib_link_instances.specs.Worked.Programs.{object_with, input_objects, symbol_of_class}
+use Rattle.implib_link_instances.specs.Worked.Programs.{touching_8, zed_input}
 
 -- The section. I386: a pointer; `push offset _open`; three `nop`; an address from the image's base.
 -- AMD64: a pointer, as `.rdata$.refptr.open` has it, with eight bytes behind; an address from the

@@ -12,11 +12,9 @@ use Rattle.implib.specs.Members.MemberSpec.{MemberView, member_of}
 use Rattle.implib.specs.Renaming.{renamed}
 use Rattle.implib.specs.Worked.Members.{of_dll}
 use Rattle.implib.specs.Worked.Statements.{plain_export}
-use Rattle.implib_link.specs.Search.Search.{NamesNoHeadOrTail, Takes}
-use Rattle.implib_link.specs.Search.Search.{exports_wanted, first_listed}
-use Rattle.implib_link.specs.Search.Archives.{IsArchive, Library, NamesNoHeadOrTailOf}
-use Rattle.implib_link.specs.Search.Archives.{TakesOfLibraries, archive_of, inputs_wanted}
-use Rattle.implib_link.specs.Search.Archives.{wanted_with, weak_among}
+use Rattle.implib_link.specs.Search.Search.{NamesNoHeadOrTail, Takes, exports_wanted, first_listed}
+use Rattle.implib_link.specs.Search.Archives.{IsArchive, Library, NamesNoHeadOrTailOf, archive_of}
+use Rattle.implib_link.specs.Search.Archives.{inputs_wanted, wanted_with, weak_among}
 use Rattle.implib.specs.Formats.Constants.{class_external}
 use Rattle.implib.specs.Formats.Object.{Object}
 use Rattle.implib.specs.Link.LinkedMembers.{IsAscending, all_linked, objects_in}

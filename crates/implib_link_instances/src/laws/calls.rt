@@ -1,7 +1,6 @@
 //! Calls and stubs in linked programs, and the instructions of compilers.
 
-ghost use Rattle.implib_link_instances.specs.Worked.Calls.{WorkedReading};
-ghost use Rattle.implib_link_instances.specs.Worked.Calls.{WorkedChoices};
+ghost use Rattle.implib_link_instances.specs.Worked.Calls.{WorkedReading, WorkedChoices};
 ghost use Rattle.implib_link_instances.specs.Worked.Calls.{WorkedPointers};
 
 /// Loads of pointers that were relocated by hand read their entries, on AMD64 and I386; a

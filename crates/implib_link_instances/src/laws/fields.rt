@@ -1,8 +1,7 @@
 //! Fields of code against imports, stored addresses, and the bounds of tables.
 
 ghost use Rattle.implib_link_instances.specs.Worked.Operands.{AdjacentCalls, MovableCode};
-ghost use Rattle.implib_link_instances.specs.Worked.Operands.{PassingFields};
-ghost use Rattle.implib_link_instances.specs.Worked.Operands.{WorkedOperands};
+ghost use Rattle.implib_link_instances.specs.Worked.Operands.{PassingFields, WorkedOperands};
 ghost use Rattle.implib_link_instances.specs.Worked.Registered.{WorkedRegistering};
 ghost use Rattle.implib_link_instances.specs.Worked.Stored.{WorkedHoldings};
 

@@ -1,7 +1,6 @@
 //! Searches in the bytes of archives, and the whole way from them to a call.
 
-ghost use Rattle.implib_link_instances.specs.Archives.Files.{WorkedFileLines};
-ghost use Rattle.implib_link_instances.specs.Archives.Files.{WorkedFiles};
+ghost use Rattle.implib_link_instances.specs.Archives.Files.{WorkedFileLines, WorkedFiles};
 ghost use Rattle.implib_link_instances.specs.Archives.Worked.{WorkedLibraries, WorkedSearches};
 ghost use Rattle.implib_link_instances.specs.Archives.WorkedBothWay.{WorkedBothWay};
 ghost use Rattle.implib_link_instances.specs.Archives.WorkedLldWay.{WorkedLldWay};

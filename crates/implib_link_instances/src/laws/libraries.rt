@@ -1,7 +1,6 @@
 //! Links beside the libraries of other makers.
 
-ghost use Rattle.implib_link_instances.specs.Worked.Parts.{WorkedOlder};
-ghost use Rattle.implib_link_instances.specs.Worked.Parts.{WorkedParts, WorkedReach};
+ghost use Rattle.implib_link_instances.specs.Worked.Parts.{WorkedOlder, WorkedParts, WorkedReach};
 
 /// Programs of libraries of GNU dlltool have import tables: one on AMD64, and one on I386; and of each one
 /// whose members have older symbols of addresses.

@@ -1,8 +1,7 @@
 //! What the conclusions of the laws refuse: a record `RefusedX` has for each field of `X` something
 //! that this field refuses.
 
-ghost use Rattle.implib_link_instances.specs.Refused.Code.{RefusedAllLeadTo};
-ghost use Rattle.implib_link_instances.specs.Refused.Code.{RefusedBranchArrives};
+ghost use Rattle.implib_link_instances.specs.Refused.Code.{RefusedAllLeadTo, RefusedBranchArrives};
 ghost use Rattle.implib_link_instances.specs.Refused.Code.{RefusedBranchArrivesByThunk};
 ghost use Rattle.implib_link_instances.specs.Refused.Code.{RefusedBranchStays, RefusedCallArrives};
 ghost use Rattle.implib_link_instances.specs.Refused.Code.{RefusedDirectCallArrives, RefusedFields};
@@ -17,27 +16,22 @@ ghost use Rattle.implib_link_instances.specs.Refused.Code.{RefusedStubAt, Refuse
 ghost use Rattle.implib_link_instances.specs.Refused.Code.{RefusedThunkArrives};
 ghost use Rattle.implib_link_instances.specs.Refused.Tables.{RefusedAreTables};
 ghost use Rattle.implib_link_instances.specs.Refused.Tables.{RefusedAreTablesLoaded};
-ghost use Rattle.implib_link_instances.specs.Refused.Tables.{RefusedFillsBy};
-ghost use Rattle.implib_link_instances.specs.Refused.Tables.{RefusedFindsBy, RefusedHoldsAt};
-ghost use Rattle.implib_link_instances.specs.Refused.Tables.{RefusedIsInTable};
+ghost use Rattle.implib_link_instances.specs.Refused.Tables.{RefusedFillsBy, RefusedFindsBy};
+ghost use Rattle.implib_link_instances.specs.Refused.Tables.{RefusedHoldsAt, RefusedIsInTable};
 ghost use Rattle.implib_link_instances.specs.Refused.Tables.{RefusedLoaders};
 ghost use Rattle.implib_link_instances.specs.Refused.Links.{RefusedFlavorTextLinks};
 ghost use Rattle.implib_link_instances.specs.Refused.Links.{RefusedFlavorTextsLink};
-ghost use Rattle.implib_link_instances.specs.Refused.Links.{RefusedInputImports, RefusedIsImported};
-ghost use Rattle.implib_link_instances.specs.Refused.Links.{RefusedIsImportedBy};
-ghost use Rattle.implib_link_instances.specs.Refused.Links.{RefusedIsImportedOfBoth};
+ghost use Rattle.implib_link_instances.specs.Refused.Links.{RefusedInputImports};
+ghost use Rattle.implib_link_instances.specs.Refused.Links.{RefusedIsImportedBy, RefusedIsImported};
 ghost use Rattle.implib_link_instances.specs.Refused.Links.{RefusedIsTaken, RefusedJumpsThrough};
-ghost use Rattle.implib_link_instances.specs.Refused.Links.{RefusedLinksClosed};
-ghost use Rattle.implib_link_instances.specs.Refused.Links.{RefusedLinksClosedForBoth};
-ghost use Rattle.implib_link_instances.specs.Refused.Links.{RefusedLldLinks, RefusedProgramLinks};
+ghost use Rattle.implib_link_instances.specs.Refused.Links.{RefusedLinksClosed, RefusedLldLinks};
+ghost use Rattle.implib_link_instances.specs.Refused.Links.{RefusedProgramLinks};
 ghost use Rattle.implib_link_instances.specs.Refused.Searches.{RefusedIsWeakData};
 ghost use Rattle.implib_link_instances.specs.Refused.Searches.{RefusedIsWeakShort};
 ghost use Rattle.implib_link_instances.specs.Refused.Searches.{RefusedPullsIntoAs, RefusedSearches};
 ghost use Rattle.implib_link_instances.specs.Refused.Searches.{RefusedTakesAs, RefusedTakesIntoAs};
-ghost use Rattle.implib_link_instances.specs.Refused.Searches.{RefusedTakesOfBoth};
 ghost use Rattle.implib_link_instances.specs.Refused.Searches.{RefusedTakesOfLibraries};
 ghost use Rattle.implib_link_instances.specs.Refused.Archives.{RefusedAreMembersAt};
-ghost use Rattle.implib_link_instances.specs.Refused.Archives.{RefusedBothArrive};
 ghost use Rattle.implib_link_instances.specs.Refused.Archives.{RefusedCallsArrive};
 ghost use Rattle.implib_link_instances.specs.Refused.Archives.{RefusedHasMembersAs, RefusedInBytes};
 ghost use Rattle.implib_link_instances.specs.Refused.Archives.{RefusedIsHeaderOf};
@@ -91,9 +85,7 @@ pub fn refused_links()
     ensures refused_is_taken { RefusedIsTaken }
     ensures refused_program_links { RefusedProgramLinks }
     ensures refused_links_closed { RefusedLinksClosed }
-    ensures refused_links_closed_for_both { RefusedLinksClosedForBoth }
     ensures refused_is_imported { RefusedIsImported }
-    ensures refused_is_imported_of_both { RefusedIsImportedOfBoth }
     ensures refused_flavor_text_links { RefusedFlavorTextLinks }
     ensures refused_flavor_texts_link { RefusedFlavorTextsLink }
     ensures refused_jumps_through { RefusedJumpsThrough }
@@ -105,7 +97,6 @@ pub fn refused_searches()
     ensures refused_takes { RefusedTakesAs }
     ensures refused_takes_into { RefusedTakesIntoAs }
     ensures refused_takes_of_libraries { RefusedTakesOfLibraries }
-    ensures refused_takes_of_both { RefusedTakesOfBoth }
     ensures refused_is_weak_data { RefusedIsWeakData }
     ensures refused_is_weak_short { RefusedIsWeakShort }
     ensures refused_searches { RefusedSearches }
@@ -118,7 +109,6 @@ pub fn refused_archives()
     ensures refused_is_search_of { RefusedIsSearchOf }
     ensures refused_leads_to_first { RefusedLeadsToFirst }
     ensures refused_calls_arrive { RefusedCallsArrive }
-    ensures refused_both_arrive { RefusedBothArrive }
     ensures refused_is_wanted_by { RefusedIsWantedBy }
     ensures refused_lld_arrives { RefusedLldArrives }
     ensures refused_is_in_directory { RefusedIsInDirectory }

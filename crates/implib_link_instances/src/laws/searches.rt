@@ -1,13 +1,11 @@
 //! Archive searches.
 
-ghost use Rattle.implib_link_instances.specs.Worked.Search.{WorkedArchives};
-ghost use Rattle.implib_link_instances.specs.Worked.Search.{WorkedFound};
+ghost use Rattle.implib_link_instances.specs.Worked.Search.{WorkedArchives, WorkedFound};
+ghost use Rattle.implib_link_instances.specs.Worked.Search.{WorkedNamedApart, WorkedSearch};
+ghost use Rattle.implib_link_instances.specs.Worked.Search.{WorkedSweeps};
 ghost use Rattle.implib_link_instances.specs.Worked.MsvcSearch.{WorkedMsvcArchives};
 ghost use Rattle.implib_link_instances.specs.Worked.MsvcSearch.{WorkedMsvcSearches};
-ghost use Rattle.implib_link_instances.specs.Worked.Search.{WorkedNamedApart};
 ghost use Rattle.implib_link_instances.specs.Worked.Plainly.{WorkedPlainly};
-ghost use Rattle.implib_link_instances.specs.Worked.Search.{WorkedSearch};
-ghost use Rattle.implib_link_instances.specs.Worked.Search.{WorkedSweeps};
 
 /// Searches by hand: of the members of three exports, and of two libraries with an alias.
 ///
