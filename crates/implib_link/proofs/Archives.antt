@@ -1,5 +1,4 @@
 -- The same, proved.
-pub mod Corollaries
 pub mod InBytes
 pub mod LldWay
 pub mod BothWay

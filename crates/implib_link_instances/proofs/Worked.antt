@@ -13,7 +13,6 @@ pub mod Lemmas
 pub mod LinkedCode
 pub mod LldPrograms
 pub mod Loads
-pub mod MsvcSearch
 pub mod Opened
 pub mod Operands
 pub mod OtherNames

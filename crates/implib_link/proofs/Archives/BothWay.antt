@@ -11,9 +11,8 @@ use Rattle.implib_link.specs.Archives.BothWay.{AreLinkedFor, CallsArrive}
 use Rattle.implib_link.specs.Search.CommandLines.{Input, SearchesFlavors, given_with, objects_given, others_of}
 use Rattle.implib_link.specs.Search.Sweeps.{members_at}
 use Rattle.implib_link.proofs.Search.CommandLines.{takes_of_libraries}
-use Rattle.implib_link.specs.Archives.InBytes.{LinkerMember, asks_with_on}
+use Rattle.implib_link.specs.Archives.InBytes.{LinkerMember}
 use Rattle.implib_link.specs.Archives.Results.{HaveArchive, TakesJust}
-use Rattle.implib_link.proofs.Archives.Corollaries.{given_taken}
 use Rattle.implib_link.proofs.Archives.InBytes.{takes_just}
 use Rattle.implib_link.specs.Flavors.Program.{Ending, FlavorInput, IsMadeFor, ask_in, dll_of, symbol_in, thunks_of}
 use Rattle.implib_link.specs.Search.BothFlavors.{AreGiven, FlavorLibrary, IsFlavorArchive, LinksClosed, archive_of_both, inputs_in}
@@ -52,13 +51,13 @@ both_arrive machine ending libraries own taken arranged bases objects archive gi
 
 pub bytes_lead_to_both : (kind : Kind) (linker : LinkerMember) (machine : MachineType) (libraries : List FlavorLibrary) (own : List Object) → HaveArchive kind linker (archive_of_both libraries) →
     IsFlavorArchive machine libraries → AreGiven machine libraries own →
-    TakesJust kind linker (archive_of_both libraries) (asks_with_on machine own) (λ taken. (ending : Ending) (arranged : List FlavorLibrary) (bases : Bases) (objects : List Object) →
+    TakesJust kind linker (archive_of_both libraries) (expanded_in machine) own (λ taken. (ending : Ending) (arranged : List FlavorLibrary) (bases : Bases) (objects : List Object) →
     AreLinkedFor machine ending libraries own taken arranged bases objects → CallsArrive machine ending libraries own taken arranged bases objects)
 bytes_lead_to_both kind linker machine libraries own ready archive given =
-    takes_just kind linker (archive_of_both libraries) (asks_with_on machine own)
+    takes_just kind linker (archive_of_both libraries) (expanded_in machine) own
     (λ taken. (ending : Ending) (arranged : List FlavorLibrary) (bases : Bases) (objects : List Object) → AreLinkedFor machine ending libraries own taken arranged bases objects →
     CallsArrive machine ending libraries own taken arranged bases objects) ready
-    (λ taken takes ending arranged bases objects linked. both_arrive machine ending libraries own taken arranged bases objects archive given (given_taken (expanded_in machine) (archive_of_both libraries) own taken takes) linked)
+    (λ taken takes ending arranged bases objects linked. both_arrive machine ending libraries own taken arranged bases objects archive given takes linked)
 
 -- The archives of a command line.
 pub lines_lead_to_both : (machine : MachineType) (ending : Ending) (libraries : List FlavorLibrary) (members : List MemberView) (inputs : List Input) (is_given : MemberView → Bool) (taken : List ℕ) (arranged : List FlavorLibrary)

@@ -1,5 +1,5 @@
 -- A search in the bytes of an archive is a search of its members.
-use Rattle.std.proofs.Common.{◌≡◌, ℕ, suc, ◌+◌, ◌%◌, ◌≤◌, Bool, true, false, inl, inr, List, [], ◌∷◌, Option, Some, None, if◌then◌else◌, is_some, length, map, option_and_then, refl, sym, ap, subst, ◌∙◌, arith}
+use Rattle.std.proofs.Common.{◌≡◌, ℕ, suc, ◌+◌, ◌%◌, ◌≤◌, Bool, true, false, inl, inr, List, [], ◌∷◌, ◌++◌, Option, Some, None, if◌then◌else◌, is_some, length, map, option_and_then, refl, sym, ap, subst, ◌∙◌, arith}
 use Rattle.std.specs.Prelude.{slice_get}
 use Rattle.std.specs.List.{Contains, cons_option, filter_map}
 use Rattle.std.specs.Option.{option_map}
@@ -15,9 +15,11 @@ use Rattle.implib_archive.specs.Reader.{Linker, LongAt, LongNames, Name, Short, 
 use Rattle.implib_archive.specs.declared.kind.Kind.{Kind}
 use Rattle.implib_archive.specs.declared.kind.Kind.TheVariants.{Coff, Gnu}
 use Rattle.implib_archive.proofs.Leading.{each_index_leads, each_second_leads}
-use Rattle.implib_link.specs.Archives.InBytes.{AreTakenAt, Asks, First, LinkerMember, PullsInAt, Second, TakesAt, contents_at, header_by}
+use Rattle.implib_link.specs.Archives.InBytes.{AreTakenAt, First, LinkerMember, PullsInAt, Second, TakesAt, contents_at, header_by}
 use Rattle.implib_link.specs.Archives.Results.{AreHeadersOf, HaveArchive, IsHeaderOf, IsSearchOf, LeadsToFirst, TakesJust}
-use Rattle.implib_link.specs.Search.Search.{first_listed}
+use Rattle.implib.specs.Formats.Object.{Object}
+use Rattle.implib_link.specs.Search.Closed.{AreTakenIntoAs, PullsIntoAs, TakesIntoAs, unresolved}
+use Rattle.implib_link.specs.Search.Search.{first_listed, objects_as}
 use Rattle.implib_link.proofs.Search.Lists.{contains_among}
 use Rattle.std.proofs.lemmas.List.{length-map}
 
@@ -146,21 +148,6 @@ pub kept_of_map : {X Y Z : Type 0} (f : Y → Option Z) (g : X → Y) (xs : List
 kept_of_map f g [] = refl
 kept_of_map f g (x ∷ xs) = ap (cons_option (f (g x))) (kept_of_map f g xs)
 
--- Searches of members that look at their bytes alone.
-
-pub record PullsBy (archive : List MemberView) (asks : Asks) (taken : List MemberView) (name : List ℕ) (m : MemberView) : Type 0 where
-  pub asked : asks (map (λ m. m.bytes) taken) name
-  pub listed : first_listed archive name ≡ Some m
-  pub new : Contains taken m → ⊥
-
-unfoldable pub AreTakenBy : List MemberView → Asks → List MemberView → Type 0
-AreTakenBy archive asks [] = Unit {0}
-AreTakenBy archive asks (m ∷ earlier) = ((name : List ℕ) × PullsBy archive asks earlier name m) × AreTakenBy archive asks earlier
-
-pub record TakesBy (archive : List MemberView) (asks : Asks) (taken : List MemberView) : Type 0 where
-  pub in_turn : AreTakenBy archive asks taken
-  pub ended : (name : List ℕ) (m : MemberView) → PullsBy archive asks taken name m → ⊥
-
 -- headers and members that names lead to, one by one
 unfoldable pub ArePaired : List ℕ → List MemberView → List ℕ → List MemberView → Type 0
 ArePaired headers members [] [] = Unit {0}
@@ -225,14 +212,18 @@ module _ (kind : Kind) (linker : LinkerMember) (bytes headers : List ℕ) (membe
   contents_read [] (m ∷ found) paired = absurd paired
   contents_read (h ∷ taken) [] paired = absurd paired
 
-  module _ (asks : Asks) where
+  module _ (own : List Object) (by : List ℕ → Option Object) where
+    -- the objects of members in the bytes
+    objects_are : (taken : List ℕ) (found : List MemberView) → ArePaired headers members taken found → filter_map by (contents_at kind bytes taken) ≡ objects_as by found
+    objects_are taken found paired = ap (filter_map by) (contents_read taken found paired) ∙ kept_of_map by (λ m. m.bytes) found
+
     record IsPulledBack (found : List MemberView) (name : List ℕ) (h : ℕ) : Type 0 where
       member : MemberView
       led : first_lister headers members name ≡ Some (h, member)
-      pulls : PullsBy members asks found name member
+      pulls : PullsIntoAs by members own found name member
 
     -- a header that a name leads to is that of a member
-    pulled_back : (taken : List ℕ) (found : List MemberView) (name : List ℕ) (h : ℕ) → ArePaired headers members taken found → PullsInAt kind linker bytes asks taken name h → IsPulledBack found name h
+    pulled_back : (taken : List ℕ) (found : List MemberView) (name : List ℕ) (h : ℕ) → ArePaired headers members taken found → PullsInAt kind linker bytes by own taken name h → IsPulledBack found name h
     pulled_back taken found name h paired pulls = by_first (first_lister headers members name) refl
       where
         by_first : (r : Option (ℕ × MemberView)) → first_lister headers members name ≡ r → IsPulledBack found name h
@@ -247,7 +238,7 @@ module _ (kind : Kind) (linker : LinkerMember) (bytes headers : List ℕ) (membe
               member = f.1;
               led = led;
               pulls = record {
-                asked = subst (λ c. asks c name) (contents_read taken found paired) pulls.asked;
+                named = subst (λ objects. Contains (unresolved (own ++ objects)) name) (objects_are taken found paired) pulls.left;
                 listed = sym (first_member headers members name many) ∙ ap (option_map (λ f. f.1)) led;
                 new = λ has. pulls.new (among_contains h taken (header_among headers members taken found name h f.1 paired led (contains_among f.1 found has)));
               };
@@ -256,10 +247,10 @@ module _ (kind : Kind) (linker : LinkerMember) (bytes headers : List ℕ) (membe
     record IsPulledForth (taken : List ℕ) (name : List ℕ) (m : MemberView) : Type 0 where
       header : ℕ
       led : first_lister headers members name ≡ Some (header, m)
-      pulls : PullsInAt kind linker bytes asks taken name header
+      pulls : PullsInAt kind linker bytes by own taken name header
 
     -- a member that a name pulls in has a header that it leads to
-    pulled_forth : (taken : List ℕ) (found : List MemberView) (name : List ℕ) (m : MemberView) → ArePaired headers members taken found → PullsBy members asks found name m → IsPulledForth taken name m
+    pulled_forth : (taken : List ℕ) (found : List MemberView) (name : List ℕ) (m : MemberView) → ArePaired headers members taken found → PullsIntoAs by members own found name m → IsPulledForth taken name m
     pulled_forth taken found name m paired pulls = by_first (first_lister headers members name) refl
       where
         by_first : (r : Option (ℕ × MemberView)) → first_lister headers members name ≡ r → IsPulledForth taken name m
@@ -274,7 +265,7 @@ module _ (kind : Kind) (linker : LinkerMember) (bytes headers : List ℕ) (membe
               header = f.0;
               led = led;
               pulls = record {
-                asked = subst (λ c. asks c name) (sym (contents_read taken found paired)) pulls.asked;
+                left = subst (λ objects. Contains (unresolved (own ++ objects)) name) (sym (objects_are taken found paired)) pulls.named;
                 found = find name ∙ ap (option_map (λ f. f.0)) led;
                 new = λ has. pulls.new (among_contains m found (member_among headers members rising taken found name f.0 m paired led (contains_among f.0 taken has)));
               };
@@ -283,10 +274,10 @@ module _ (kind : Kind) (linker : LinkerMember) (bytes headers : List ℕ) (membe
     record AreFound (taken : List ℕ) : Type 0 where
       found : List MemberView
       paired : ArePaired headers members taken found
-      in_turn : AreTakenBy members asks found
+      in_turn : AreTakenIntoAs by members own found
 
-    found_back : (taken : List ℕ) → AreTakenAt kind linker bytes asks taken → AreFound taken
-    unfolding AreTakenAt AreTakenBy ArePaired
+    found_back : (taken : List ℕ) → AreTakenAt kind linker bytes by own taken → AreFound taken
+    unfolding AreTakenAt AreTakenIntoAs ArePaired
     found_back [] turn = record { found = []; paired = tt; in_turn = tt }
     found_back (h ∷ taken) turn =
         let earlier = found_back taken turn.1 in
@@ -300,10 +291,10 @@ module _ (kind : Kind) (linker : LinkerMember) (bytes headers : List ℕ) (membe
     record AreAt (found : List MemberView) : Type 0 where
       taken : List ℕ
       paired : ArePaired headers members taken found
-      in_turn : AreTakenAt kind linker bytes asks taken
+      in_turn : AreTakenAt kind linker bytes by own taken
 
-    found_forth : (found : List MemberView) → AreTakenBy members asks found → AreAt found
-    unfolding AreTakenAt AreTakenBy ArePaired
+    found_forth : (found : List MemberView) → AreTakenIntoAs by members own found → AreAt found
+    unfolding AreTakenAt AreTakenIntoAs ArePaired
     found_forth [] turn = record { taken = []; paired = tt; in_turn = tt }
     found_forth (m ∷ found) turn =
         let earlier = found_forth found turn.1 in
@@ -318,10 +309,10 @@ module _ (kind : Kind) (linker : LinkerMember) (bytes headers : List ℕ) (membe
       pub found : List MemberView
       pub paired : AreHeadersOf headers members taken found
       pub read : map (member_at kind bytes) taken ≡ map (λ m. Some (read_view m)) found
-      pub takes : TakesBy members asks found
+      pub takes : TakesIntoAs by members own found
 
     -- a search in the bytes is one of the members
-    pub search_back : (taken : List ℕ) → TakesAt kind linker bytes asks taken → IsSearchBack taken
+    pub search_back : (taken : List ℕ) → TakesAt kind linker bytes by own taken → IsSearchBack taken
     search_back taken takes =
         let back = found_back taken takes.in_turn in
         record {
@@ -337,10 +328,10 @@ module _ (kind : Kind) (linker : LinkerMember) (bytes headers : List ℕ) (membe
     pub record IsSearchForth (found : List MemberView) : Type 0 where
       pub taken : List ℕ
       pub paired : AreHeadersOf headers members taken found
-      pub takes : TakesAt kind linker bytes asks taken
+      pub takes : TakesAt kind linker bytes by own taken
 
     -- a search of the members is one in the bytes
-    pub search_forth : (found : List MemberView) → TakesBy members asks found → IsSearchForth found
+    pub search_forth : (found : List MemberView) → TakesIntoAs by members own found → IsSearchForth found
     search_forth found takes =
         let forth = found_forth found takes.in_turn in
         record {
@@ -383,11 +374,11 @@ is_ready kind linker members ready =
     }
 
 -- a search in the bytes takes members of which what a search of the members says holds
-pub takes_just : (kind : Kind) (linker : LinkerMember) (members : List MemberView) (asks : Asks) (P : List MemberView → Type 0) → HaveArchive kind linker members
-    → ((found : List MemberView) → TakesBy members asks found → P found) → TakesJust kind linker members asks P
-takes_just kind linker members asks P ready says taken takes =
+pub takes_just : (kind : Kind) (linker : LinkerMember) (members : List MemberView) (reads : List ℕ → Option Object) (own : List Object) (P : List MemberView → Type 0) → HaveArchive kind linker members
+    → ((found : List MemberView) → TakesIntoAs reads members own found → P found) → TakesJust kind linker members reads own P
+takes_just kind linker members reads own P ready says taken takes =
     let r = is_ready kind linker members ready in
-    let back = search_back kind linker (archive_of kind members) r.headers members r.rising r.find r.many r.read asks taken takes in
+    let back = search_back kind linker (archive_of kind members) r.headers members r.rising r.find r.many r.read own reads taken takes in
     record { headers = r.headers; located = r.located; found = back.found; at = back.paired; read = back.read; holds = says back.found back.takes }
 
 pub leads_to_first : (kind : Kind) (linker : LinkerMember) (members : List MemberView) → HaveArchive kind linker members → (name : List ℕ) → LeadsToFirst kind linker members name
@@ -413,8 +404,9 @@ leads_to_first kind linker members ready name =
         }
 
 -- a search of the members is one in the bytes
-pub search_of : (kind : Kind) (linker : LinkerMember) (members : List MemberView) (asks : Asks) (found : List MemberView) → HaveArchive kind linker members → TakesBy members asks found → IsSearchOf kind linker members asks found
-search_of kind linker members asks found ready takes =
+pub search_of : (kind : Kind) (linker : LinkerMember) (members : List MemberView) (reads : List ℕ → Option Object) (own : List Object) (found : List MemberView) → HaveArchive kind linker members → TakesIntoAs reads members own found →
+    IsSearchOf kind linker members reads own found
+search_of kind linker members reads own found ready takes =
     let r = is_ready kind linker members ready in
-    let forth = search_forth kind linker (archive_of kind members) r.headers members r.rising r.find r.many r.read asks found takes in
+    let forth = search_forth kind linker (archive_of kind members) r.headers members r.rising r.find r.many r.read own reads found takes in
     record { headers = r.headers; located = r.located; taken = forth.taken; at = forth.paired; takes = forth.takes }

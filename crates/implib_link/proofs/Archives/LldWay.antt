@@ -28,10 +28,9 @@ use Rattle.implib.proofs.Members.Import.{name_type_is_ordinal, name_type_of_fits
 use Rattle.implib.proofs.Link.LinkedMembers.{among_contains, among_map}
 use Rattle.implib.proofs.Link.Ranges.{Among, all_among, among_back, among_first, among_flat, among_front, among_later}
 use Rattle.implib_archive.specs.declared.kind.Kind.{Kind}
-use Rattle.implib_link.specs.Archives.InBytes.{LinkerMember, asks_with_as}
+use Rattle.implib_link.specs.Archives.InBytes.{LinkerMember}
 use Rattle.implib_link.specs.Archives.LldWay.{AreCalledAlike, IsBuiltByLld, IsWantedBy, LldArrives, defining, defining_alone, is_short, read_by_lld, short_of_export, shorts_in}
 use Rattle.implib_link.specs.Archives.Results.{HaveArchive, TakesJust}
-use Rattle.implib_link.proofs.Archives.Corollaries.{given_taken}
 use Rattle.implib_link.proofs.Archives.InBytes.{takes_just}
 use Rattle.implib_link.specs.Flavors.Expansion.{expanded_in, is_import_for}
 use Rattle.implib_link.specs.Flavors.LldImports.{IsLldProgram, if_for, imp_symbols_of, in_small, short_for}
@@ -419,7 +418,7 @@ module _ (machine : MachineType) (libraries : List Library) (archive : IsMsvcArc
           (passes is_live (short_of_export machine l e) (shorts_in machine taken) (contains_among (short_of_export machine l e) (shorts_in machine taken) (short_taken l e wanted)) live)
 
 pub bytes_lead_to_lld_calls : (kind : Kind) (linker : LinkerMember) (machine : MachineType) (libraries : List Library) (own : List Object) → HaveArchive kind linker (archive_of libraries) → IsMsvcArchive machine libraries → AreCalledAlike libraries →
-    TakesJust kind linker (archive_of libraries) (asks_with_as (read_by_lld machine) own) (LldArrives machine libraries own)
+    TakesJust kind linker (archive_of libraries) (read_by_lld machine) own (LldArrives machine libraries own)
 bytes_lead_to_lld_calls kind linker machine libraries own ready archive alike =
-    takes_just kind linker (archive_of libraries) (asks_with_as (read_by_lld machine) own) (LldArrives machine libraries own) ready
-    (λ taken takes. lld_arrives machine libraries archive alike own taken (given_taken (read_by_lld machine) (archive_of libraries) own taken takes))
+    takes_just kind linker (archive_of libraries) (read_by_lld machine) own (LldArrives machine libraries own) ready
+    (lld_arrives machine libraries archive alike own)

@@ -28,14 +28,14 @@ use Rattle.implib_link.specs.Search.Archives.{Library, exports_of}
 use Rattle.implib_link.specs.Search.BothFlavors.{AreClosed, FlavorLibrary, IsClosed, IsFlavorArchive, IsImported, IsUsedIn, LinksClosed, NamesNoMembers, archive_of_both, flavor_inputs, inputs_in, msvc_among, symbols_in}
 use Rattle.implib_link.specs.Search.Closed.{TakesIntoAs, listed_in, unresolved}
 use Rattle.implib_link.specs.Search.MsvcArchives.{first_null, is_weak_in, wanted_for}
-use Rattle.implib_link.specs.Search.Search.{TakesAs, first_listed, left_as, objects_as}
+use Rattle.implib_link.specs.Search.Search.{first_listed, left_as, objects_as}
 use Rattle.implib_link.proofs.Flavors.Loaded.{entry_of}
 use Rattle.implib_link.proofs.Flavors.Packed.{packed_objects}
 use Rattle.implib_link.proofs.Flavors.Program.{program_links}
 use Rattle.implib_link.proofs.Search.Arranged.{among_moved}
 use Rattle.implib_link.proofs.Search.BothArranged.{both_distinct, both_found, both_made, members_distinct}
 use Rattle.implib_link.proofs.Search.Chosen.{AnOwn, AnyOf, IsLinked, TheLast, TheTop, chosen_are, chosen_by, chosen_name, export_chosen, input_held, input_in, input_is, is_chosen, linked_from, linked_into, own_chosen}
-use Rattle.implib_link.proofs.Search.Closing.{IsFirstAs, IsListed, first_of, listed_other, none_left, others_claim_none, reached, still_named, takes_apart}
+use Rattle.implib_link.proofs.Search.Closing.{IsFirstAs, IsListed, TakesAs, first_of, listed_other, none_left, others_claim_none, reached, still_named, takes_apart}
 use Rattle.implib_link.proofs.Search.FlavorGroups.{first_held, made_of, msvc_there, there_msvc}
 use Rattle.implib_link.proofs.Search.Found.{IsReader, expands, found, weak_by_role}
 use Rattle.implib_link.proofs.Search.Lists.{among_at, among_either, among_flat_map, contains_among, from_not, passes, passing, at_index}

@@ -25,9 +25,9 @@ use Rattle.implib_link.specs.Search.Closed.{listed_in, unresolved}
 use Rattle.implib_link.specs.Search.Given.{alias_targets, heads_of, is_data_alias, symbols_wanted, tails_of}
 use Rattle.implib_link.specs.Search.Msvc.{NamesNoHeader, left_in}
 use Rattle.implib_link.specs.Search.MsvcArchives.{first_null, is_import_wanted, is_short_alias, is_weak_in, short_inputs, weak_in, TakesIntoFor, wanted_for, headers_of, import_symbols_wanted, short_targets}
-use Rattle.implib_link.specs.Search.Search.{AreTakenInTurnAs, NamesNoHeadOrTail, is_wanted, left_as, objects_as, undefined_in}
+use Rattle.implib_link.specs.Search.Search.{NamesNoHeadOrTail, is_wanted, left_as, objects_as, undefined_in}
 use Rattle.implib_link.proofs.Search.Chosen.{chosen_too, is_chosen, short_some, some_short}
-use Rattle.implib_link.proofs.Search.Closing.{in_turn_for, none_claimed, not_there, pulled, there_not}
+use Rattle.implib_link.proofs.Search.Closing.{AreTakenInTurnAs, in_turn_for, none_claimed, not_there, pulled, there_not}
 use Rattle.implib_link.proofs.Search.FlavorGroups.{gnu_there, msvc_there}
 use Rattle.implib_link.proofs.Search.Found.{IsReader, expands, found, left_by_role, weak_by_role}
 use Rattle.implib_link.proofs.Search.Lists.{all_from as all_each, among_at, among_either, name_as, passes, passing}

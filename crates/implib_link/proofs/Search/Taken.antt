@@ -20,11 +20,11 @@ use Rattle.implib_link.specs.Gnu.Program.{HaveSame}
 use Rattle.implib_link.specs.Search.Archives.{Library, exports_of, inputs_wanted}
 use Rattle.implib_link.specs.Search.BothFlavors.{FlavorLibrary, IsFlavorArchive, IsWeakOfLibraries, NamesNoMembers, TakesOfLibraries, archive_of_both, gnu_among, msvc_among}
 use Rattle.implib_link.specs.Flavors.Expansion.{expanded_in}
-use Rattle.implib_link.specs.Search.Msvc.{NamesNoHeader, TakesFor}
+use Rattle.implib_link.specs.Search.Msvc.{NamesNoHeader}
 use Rattle.implib_link.specs.Search.MsvcArchives.{first_null, is_weak_in, short_inputs, shorts_linked, wanted_with_weak}
-use Rattle.implib_link.specs.Search.Search.{AreTakenInTurnAs, NamesNoHeadOrTail, TakesAs, first_listed, left_as, objects_as, undefined_in}
+use Rattle.implib_link.specs.Search.Search.{NamesNoHeadOrTail, first_listed, left_as, objects_as, undefined_in}
 use Rattle.implib_link.proofs.Search.Chosen.{AnOwn, AnyOf, IsLinked, TheLast, TheTop, chosen_by, chosen_name, is_chosen, linked_are, linked_from, linked_into, own_chosen, shorts_are}
-use Rattle.implib_link.proofs.Search.Closing.{IsFirstAs, left_by as left_as_by, pulled, reached as reached_as, still_named as still_as, there_not}
+use Rattle.implib_link.proofs.Search.Closing.{AreTakenInTurnAs, IsFirstAs, TakesAs, left_by as left_as_by, pulled, reached as reached_as, still_named as still_as, there_not}
 use Rattle.implib_link.proofs.Search.FlavorGroups.{first_held, gnu_there, msvc_there, there_gnu, there_msvc}
 use Rattle.implib_link.proofs.Search.Found.{Found, HasRole, IsReader, by_name, expands, finds, first_by_role, found, left_by_role, weak_by_role}
 use Rattle.implib_link.proofs.Search.Lists.{all_from as all_each, among_at, among_either, among_mapped, as_name, contains_among, from_not, name_as, passes, passing}
@@ -332,7 +332,7 @@ module _ (machine : MachineType) (libraries : List FlavorLibrary) (archive : IsF
 
 -- of an archive of both flavours
 pub both_taken : (machine : MachineType) (libraries : List FlavorLibrary) → IsFlavorArchive machine libraries → (wanted : List (List ℕ)) (taken : List MemberView) →
-    NamesNoMembers machine libraries (wanted_with_weak machine wanted taken) → TakesFor machine (archive_of_both libraries) wanted taken → TakesOfLibraries machine libraries wanted taken
+    NamesNoMembers machine libraries (wanted_with_weak machine wanted taken) → TakesAs (expanded_in machine) (archive_of_both libraries) wanted taken → TakesOfLibraries machine libraries wanted taken
 both_taken machine libraries archive wanted taken plain takes = record {
   inputs = others_are machine libraries archive (expanded_in machine) (is_weak_in machine) (expands machine libraries archive) wanted taken takes plain;
   weak = weak_are machine libraries archive (expanded_in machine) (is_weak_in machine) (expands machine libraries archive) wanted taken takes plain;

@@ -1,7 +1,8 @@
 -- What searches in the bytes of archives find, against searches of the members.
-use Rattle.std.specs.Prelude.{◌≡◌, ℕ, List, [], ◌∷◌, None, Some, is_some, map, option_and_then}
-use Rattle.std.specs.Prelude.{slice_get}
+use Rattle.std.specs.Prelude.{◌≡◌, ℕ, List, [], ◌∷◌, None, Option, Some, is_some, map}
+use Rattle.std.specs.Prelude.{option_and_then, slice_get}
 use Rattle.std.specs.Option.{option_map}
+use Rattle.implib.specs.Formats.Object.{Object}
 use Rattle.implib.specs.Members.MemberSpec.{MemberView}
 use Rattle.implib_archive.specs.Archive.{archive_of}
 use Rattle.implib_archive.specs.Leads.{headers_in}
@@ -9,7 +10,7 @@ use Rattle.implib_archive.specs.ReadBack.{read_view}
 use Rattle.implib_archive.specs.Reader.{member_at}
 use Rattle.implib_archive.specs.Refusal.{refusal_of}
 use Rattle.implib_archive.specs.declared.kind.Kind.{Kind}
-use Rattle.implib_link.specs.Archives.InBytes.{Asks, Has, LinkerMember, TakesAt, header_by}
+use Rattle.implib_link.specs.Archives.InBytes.{Has, LinkerMember, TakesAt, header_by}
 use Rattle.implib_link.specs.Search.Search.{first_listed}
 
 -- Members of a list, by the headers that a linker takes.
@@ -52,10 +53,11 @@ pub record HaveArchive (kind : Kind) (linker : LinkerMember)
   pub has : Has kind linker
 
 -- a search in the bytes of the archive of members takes members of which something holds
-abbrev pub TakesJust : Kind → LinkerMember → List MemberView → Asks → (List MemberView → Type 0) →
-    Type 0
-TakesJust kind linker members asks P = (taken : List ℕ) →
-    TakesAt kind linker (archive_of kind members) asks taken → AreMembersAt kind members taken P
+abbrev pub TakesJust : Kind → LinkerMember → List MemberView → (List ℕ → Option Object) →
+    List Object → (List MemberView → Type 0) → Type 0
+TakesJust kind linker members reads own P = (taken : List ℕ) →
+    TakesAt kind linker (archive_of kind members) reads own taken →
+    AreMembersAt kind members taken P
 
 -- A name leads to the header of the first member that it is listed for, after which a reader finds
 -- this member's name and bytes; and nowhere, where it is listed for none.
@@ -70,9 +72,9 @@ pub record LeadsToFirst (kind : Kind) (linker : LinkerMember) (members : List Me
 -- A search of members is one in the bytes of their archive: the headers of the members that are
 -- found are taken.
 pub record IsSearchOf (kind : Kind) (linker : LinkerMember) (members : List MemberView)
-    (asks : Asks) (found : List MemberView) : Type 0 where
+    (reads : List ℕ → Option Object) (own : List Object) (found : List MemberView) : Type 0 where
   pub headers : List ℕ
   pub located : headers_in (archive_of kind members) ≡ Some headers
   pub taken : List ℕ
   pub at : AreHeadersOf headers members taken found
-  pub takes : TakesAt kind linker (archive_of kind members) asks taken
+  pub takes : TakesAt kind linker (archive_of kind members) reads own taken

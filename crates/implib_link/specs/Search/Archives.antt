@@ -1,9 +1,9 @@
 -- Archive search where exports have aliases, in an archive of the members of several libraries. An
 -- alias is a weak external: a member that a linker takes for the weak name, and that leaves the
 -- alias's target to others.
-use Rattle.std.specs.Prelude.{◌≡◌, ℕ, Bool, false, ◌&&◌, ◌==◌, List, [], ◌∷◌, ◌++◌, bytes_eq, not}
+use Rattle.std.specs.Prelude.{◌≡◌, ℕ, Bool, false, ◌&&◌, ◌==◌, List, [], ◌∷◌, bytes_eq, not}
 use Rattle.std.specs.Prelude.{reverse, true, Option, Some, None, if◌then◌else◌}
-use Rattle.std.specs.List.{AllByRecursion, Contains, IsDistinct, filter, filter_map, flat_map}
+use Rattle.std.specs.List.{AllByRecursion, Contains, IsDistinct, filter_map, flat_map}
 use Rattle.std.specs.List.{list_any}
 use Rattle.implib.specs.declared.flavor.Flavor.TheVariants.{Gnu}
 use Rattle.implib.specs.declared.machine.MachineType.{MachineType}
@@ -16,7 +16,7 @@ use Rattle.implib.specs.Members.Members.{AreMembersOf}
 use Rattle.implib.specs.Members.MemberSpec.{MemberView}
 use Rattle.implib.specs.Formats.Object.{ASymbol, Auxiliary, Entry, Object, object_in}
 use Rattle.implib.specs.Renaming.{renamed}
-use Rattle.implib_link.specs.Search.Search.{NamesNoHeadOrTail, exports_wanted, names_undefined}
+use Rattle.implib_link.specs.Search.Search.{NamesNoHeadOrTail, exports_wanted}
 use Rattle.implib.specs.LibraryName.{linked_name}
 
 -- a definition and its members
@@ -63,14 +63,6 @@ has_weak (Some o) = list_any is_weak_entry o.entries
 -- whether a member does, read in its bytes
 unfoldable pub is_weak : MemberView → Bool
 is_weak m = has_weak (object_in m.bytes)
-
--- the weak externals among members, and the others
-abbrev pub weak_among : List MemberView → List MemberView
-weak_among members = filter is_weak members
-
--- what is wanted with the targets of the weak externals that are taken
-abbrev pub wanted_with : List (List ℕ) → List MemberView → List (List ℕ)
-wanted_with wanted taken = wanted ++ names_undefined (weak_among taken)
 
 -- what is linked of a library: nothing, where no export is wanted
 abbrev pub input_if_any : Library → List ℕ → Option LinkInput

@@ -7,7 +7,6 @@ use Rattle.implib.specs.Formats.Object.{Object}
 use Rattle.implib.specs.Members.Gnu.{archive_symbols}
 use Rattle.implib.specs.Members.MemberSpec.{MemberView}
 use Rattle.implib_link.specs.Gnu.Program.{claimed_names}
-use Rattle.implib_link.specs.Search.Archives.{weak_among}
 use Rattle.implib_link.specs.Search.Search.{first_listed, objects_as, undefined_in}
 
 -- the names that objects leave to others, and those that they claim
@@ -49,11 +48,3 @@ pub record TakesIntoAs (reads : List ℕ → Option Object) (archive : List Memb
 -- the symbols that an archive lists
 abbrev pub listed_in : List MemberView → List (List ℕ)
 listed_in archive = flat_map (λ m. m.symbols) archive
-
--- a name is the alias that a weak external makes which is taken
-abbrev pub IsAliasTaken : List MemberView → List ℕ → Type 0
-IsAliasTaken taken name = (m : MemberView) × Contains (weak_among taken) m × (m.symbols ≡ name ∷ [])
-
--- one of an export's symbols is wanted
-abbrev pub IsUsed : List (List ℕ) → ExportView → Type 0
-IsUsed wanted e = (name : List ℕ) × Contains (archive_symbols e) name × Contains wanted name

@@ -9,16 +9,12 @@ use Rattle.implib.specs.Members.MemberSpec.{MemberView}
 use Rattle.implib.specs.Members.Msvc.{short_import_symbols}
 use Rattle.implib.specs.Members.MsvcObjects.{descriptor_symbol, null_descriptor_symbol}
 use Rattle.implib.specs.Members.MsvcObjects.{null_thunk_symbol}
-use Rattle.implib_link.specs.Search.Search.{TakesAs, left_as}
+use Rattle.implib_link.specs.Search.Search.{left_as}
 
 -- The same for a linker for a machine, which reads short imports, too, as what it takes them for:
 -- the names that members leave to others.
 abbrev pub left_in : MachineType → List MemberView → List (List ℕ)
 left_in machine = left_as (expanded_in machine)
-
--- what the linker takes
-abbrev pub TakesFor : MachineType → List MemberView → List (List ℕ) → List MemberView → Type 0
-TakesFor machine = TakesAs (expanded_in machine)
 
 -- whether an export is wanted: one of the symbols that its short import is listed for is
 abbrev pub is_short_wanted : List (List ℕ) → ExportView → Bool

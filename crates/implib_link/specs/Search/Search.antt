@@ -39,42 +39,6 @@ left_as reads members = flat_map undefined_in (objects_as reads members)
 unfoldable pub claimed_as : (List ℕ → Option Object) → List MemberView → List (List ℕ)
 claimed_as reads members = flat_map claimed_names (objects_as reads members)
 
--- An undefined name pulls in a member: the name is wanted or left by a member that is taken, no
--- member that is taken defines it, and the first member that it is listed for is this one, which is
--- not taken.
-pub record PullsInAs (reads : List ℕ → Option Object) (archive : List MemberView)
-    (wanted : List (List ℕ))
-    (taken : List MemberView) (name : List ℕ) (m : MemberView) : Type 0 where
-  pub named : Contains (wanted ++ left_as reads taken) name
-  pub undefined : list_any (bytes_eq name) (claimed_as reads taken) ≡ false
-  pub listed : first_listed archive name ≡ Some m
-  pub new : Contains taken m → ⊥
-
--- Members are taken one after another, the last one first: each is pulled in by some name that is
--- undefined after those before it. The linker may take up the undefined names in any order.
-unfoldable pub AreTakenInTurnAs : (List ℕ → Option Object) → List MemberView → List (List ℕ) →
-    List MemberView → Type 0
-AreTakenInTurnAs reads archive wanted [] = Unit {0}
-AreTakenInTurnAs reads archive wanted (m ∷ earlier) =
-    ((name : List ℕ) × PullsInAs reads archive wanted earlier name m)
-    × AreTakenInTurnAs reads archive wanted earlier
-
--- What a linker takes of an archive for wanted names: it takes members in turn until no undefined
--- name pulls in another.
-pub record TakesAs (reads : List ℕ → Option Object) (archive : List MemberView)
-    (wanted : List (List ℕ)) (taken : List MemberView) : Type 0 where
-  pub in_turn : AreTakenInTurnAs reads archive wanted taken
-  pub ended : (name : List ℕ) (m : MemberView) → PullsInAs reads archive wanted taken name m → ⊥
-
--- The same for a linker that reads members as the objects that their bytes are: the names that
--- members leave to others.
-abbrev pub names_undefined : List MemberView → List (List ℕ)
-names_undefined = left_as object_in
-
--- what the linker takes
-abbrev pub Takes : List MemberView → List (List ℕ) → List MemberView → Type 0
-Takes = TakesAs object_in
-
 -- whether an export is wanted: one of its symbols is, its name, where it is no data, or `__imp_`
 -- and its name
 abbrev pub is_wanted : List (List ℕ) → ExportView → Bool

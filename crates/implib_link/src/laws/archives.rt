@@ -11,8 +11,7 @@ ghost use Rattle.implib_archive.specs.declared.kind.Kind.{Kind};
 ghost use Rattle.implib_link.specs.Archives.BothWay.{AreLinkedFor, CallsArrive};
 ghost use Rattle.implib_link.specs.Archives.Files.{ArchiveFile, HasMembers, HasMembersAs};
 ghost use Rattle.implib_link.specs.Archives.Files.{members_in_files};
-ghost use Rattle.implib_link.specs.Archives.InBytes.{LinkerMember, asks_as, asks_with_as};
-ghost use Rattle.implib_link.specs.Archives.InBytes.{asks_with_on};
+ghost use Rattle.implib_link.specs.Archives.InBytes.{LinkerMember};
 ghost use Rattle.implib_link.specs.Archives.LldFiles.{SearchesByLld};
 ghost use Rattle.implib_link.specs.Archives.LldWay.{AreCalledAlike, LldArrives, read_by_lld};
 ghost use Rattle.implib_link.specs.Archives.Results.{HaveArchive, IsSearchOf, LeadsToFirst};
@@ -27,38 +26,26 @@ ghost use Rattle.implib_link.specs.Search.CommandLines.{Input, SearchesFlavors, 
 ghost use Rattle.implib_link.specs.Search.CommandLines.{objects_given, others_of};
 ghost use Rattle.implib_link.specs.Search.Sweeps.{members_at};
 ghost use Rattle.implib_link.specs.Search.MsvcArchives.{IsMsvcArchive};
-ghost use Rattle.implib_link.specs.Search.Search.{TakesAs};
 ghost use Rattle.std.specs.List.{IsDistinct, flat_map};
 ghost use Rattle.std.specs.Prelude.{◌≡◌, ◌<◌, ℕ, Bool, List, Option, None, bytes_eq, length};
 
 /// The bytes of the archive of members are an archive in the sense of searches: a name leads to the
-/// first member that it is listed for, by either linker member; what a linker takes in the bytes,
-/// for wanted names or for given objects, however it reads members, are members that it takes of
-/// the list; and each search of the list is one in the bytes.
+/// first member that it is listed for, by either linker member; what a linker takes in the bytes for
+/// given objects, however it reads members, are members that it takes of the list; and each search of
+/// the list is one in the bytes.
 pub fn archives_are_searched()
     ensures leads { (kind : Kind) (linker : LinkerMember) (members : List MemberView)
         (name : List ℕ) →
         HaveArchive kind linker members → LeadsToFirst kind linker members name }
-    ensures wanted { (reads : List ℕ → Option Object) (kind : Kind) (linker : LinkerMember)
-        (members : List MemberView) (wanted : List (List ℕ)) →
-        HaveArchive kind linker members →
-        TakesJust kind linker members (asks_as reads wanted) (TakesAs reads members wanted) }
-    ensures given { (reads : List ℕ → Option Object) (kind : Kind) (linker : LinkerMember)
+    ensures takes { (reads : List ℕ → Option Object) (kind : Kind) (linker : LinkerMember)
         (members : List MemberView) (own : List Object) →
         HaveArchive kind linker members →
-        TakesJust kind linker members (asks_with_as reads own) (TakesIntoAs reads members own) }
-    ensures found_for_names { (reads : List ℕ → Option Object) (kind : Kind)
-        (linker : LinkerMember) (members : List MemberView) (wanted : List (List ℕ))
-        (found : List MemberView) →
-        HaveArchive kind linker members →
-        TakesAs reads members wanted found →
-        IsSearchOf kind linker members (asks_as reads wanted) found }
-    ensures found_for_objects { (reads : List ℕ → Option Object) (kind : Kind)
-        (linker : LinkerMember) (members : List MemberView) (own : List Object)
-        (found : List MemberView) →
+        TakesJust kind linker members reads own (TakesIntoAs reads members own) }
+    ensures found { (reads : List ℕ → Option Object) (kind : Kind) (linker : LinkerMember)
+        (members : List MemberView) (own : List Object) (found : List MemberView) →
         HaveArchive kind linker members →
         TakesIntoAs reads members own found →
-        IsSearchOf kind linker members (asks_with_as reads own) found }
+        IsSearchOf kind linker members reads own found }
 {}
 
 /// The bytes of an archive of either kind have its members, with the symbols of each in the order
@@ -90,7 +77,7 @@ pub fn bytes_lead_to_lld_calls()
         HaveArchive kind linker (archive_of libraries) →
         IsMsvcArchive machine libraries →
         AreCalledAlike libraries →
-        TakesJust kind linker (archive_of libraries) (asks_with_as (read_by_lld machine) own)
+        TakesJust kind linker (archive_of libraries) (read_by_lld machine) own
         (LldArrives machine libraries own) }
 {}
 
@@ -105,7 +92,7 @@ pub fn bytes_lead_to_calls()
         HaveArchive kind linker (archive_of_both libraries) →
         IsFlavorArchive machine libraries →
         AreGiven machine libraries own →
-        TakesJust kind linker (archive_of_both libraries) (asks_with_on machine own)
+        TakesJust kind linker (archive_of_both libraries) (expanded_in machine) own
         (λ taken. (ending : Ending) (arranged : List FlavorLibrary) (bases : Bases)
         (objects : List Object) →
         AreLinkedFor machine ending libraries own taken arranged bases objects →

@@ -12,30 +12,33 @@ ghost use Rattle.implib.specs.declared.machine.MachineType.{MachineType};
 ghost use Rattle.implib_link.specs.Flavors.Expansion.{before_last_stop};
 ghost use Rattle.implib_link.specs.Flavors.Program.{AreEnded, Ending, IsFoundByName, objects_taken};
 ghost use Rattle.implib_link.specs.Gnu.Packed.{packed, packed_end};
-ghost use Rattle.implib_link.specs.Gnu.Program.{has_tables, HaveSame};
+ghost use Rattle.implib_link.specs.Gnu.Program.{ClaimsNone, HaveSame, has_tables};
 ghost use Rattle.implib_link.specs.Search.BothExists.{HasClosed, tables_end_by};
 ghost use Rattle.implib_link.specs.Search.BothFlavors.{AreClosed, AreGiven, FlavorLibrary};
 ghost use Rattle.implib_link.specs.Search.BothFlavors.{IsFlavorArchive, IsClosed, LinksClosed};
 ghost use Rattle.implib_link.specs.Search.BothFlavors.{NamesNoMembers, TakesOfLibraries};
 ghost use Rattle.implib_link.specs.Search.BothFlavors.{archive_of_both, inputs_in};
-ghost use Rattle.implib_link.specs.Search.Closed.{TakesIntoAs};
+ghost use Rattle.implib_link.specs.Search.Closed.{listed_in, unresolved};
+ghost use Rattle.implib_link.specs.Search.Msvc.{left_in};
+ghost use Rattle.implib_link.specs.Search.MsvcArchives.{wanted_for};
 ghost use Rattle.implib_link.specs.Search.Exists.{LieWithin};
-ghost use Rattle.implib_link.specs.Search.Msvc.{TakesFor};
-ghost use Rattle.implib_link.specs.Search.MsvcArchives.{wanted_with_weak, weak_in, TakesIntoFor};
+ghost use Rattle.implib_link.specs.Search.MsvcArchives.{weak_in, TakesIntoFor};
 ghost use Rattle.std.specs.List.{AllByRecursion, filter};
-ghost use Rattle.std.specs.Prelude.{◌≡◌, ◌<◌, ◌^◌, ◌++◌, ℕ, IsPermutation, List, Option, Some};
+ghost use Rattle.std.specs.Prelude.{◌≡◌, ◌<◌, ◌^◌, ◌++◌, ℕ, IsPermutation, List, Some};
 ghost use Rattle.std.specs.Prelude.{false, not};
 
-/// From such an archive a linker takes exactly the members of the exports that are wanted, by the
-/// program or by an alias that is taken, with what their libraries have besides, and weak externals
-/// of aliases.
+/// From such an archive a linker takes for given objects, which claim nothing of what is taken,
+/// exactly the members of the exports that are wanted, by the objects or by an alias that is taken,
+/// with what their libraries have besides, and weak externals of aliases. A list of wanted names is
+/// such an object (`laws::wanting`).
 pub fn libraries_are_searched()
-    ensures takes { (machine : MachineType) (libraries : List FlavorLibrary)
-        (taken : List MemberView) (wanted : List (List ℕ)) →
+    ensures { (machine : MachineType) (libraries : List FlavorLibrary) (own : List Object)
+        (taken : List MemberView) →
         IsFlavorArchive machine libraries →
-        NamesNoMembers machine libraries (wanted_with_weak machine wanted taken) →
-        TakesFor machine (archive_of_both libraries) wanted taken →
-        TakesOfLibraries machine libraries wanted taken }
+        AllByRecursion (ClaimsNone (listed_in taken ++ left_in machine taken)) own →
+        NamesNoMembers machine libraries (wanted_for machine own taken) →
+        TakesIntoFor machine (archive_of_both libraries) own taken →
+        TakesOfLibraries machine libraries (unresolved own) taken }
 {}
 
 /// Given objects and what a linker takes for them of such an archive are a program of these DLLs,
@@ -65,17 +68,14 @@ pub fn closed_program_links()
         objects }
 {}
 
-/// A search for any objects ends; and whatever a linker takes of libraries of either flavour for
-/// objects that may be given closes the program, as what is linked. Nothing is asked of the search.
+/// Whatever a linker takes of libraries of either flavour for objects that may be given closes the
+/// program, as what is linked. Nothing is asked of the search.
 ///
 /// If none of these objects holds a part of the import tables, there is such a program (`exists`).
 /// Objects that close a program do so in their packed placement from an address on (`packed`), of
 /// which nothing is asked but room: that the address is above 0, and that the tables of the
 /// libraries, whose sizes the definitions alone bound, end below 2^31; there they lie (`within`).
 pub fn given_objects_are_closed()
-    ensures ends { (reads : List ℕ → Option Object) (archive : List MemberView)
-        (own : List Object) →
-        (taken : List MemberView) × TakesIntoAs reads archive own taken }
     ensures closes { (machine : MachineType) (ending : Ending) (libraries : List FlavorLibrary)
         (own : List Object) (taken : List MemberView) (arranged : List FlavorLibrary)
         (objects : List Object) →

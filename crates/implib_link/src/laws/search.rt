@@ -4,9 +4,8 @@ ghost use Rattle.implib.specs.Formats.Object.{Object};
 ghost use Rattle.implib.specs.Members.MemberSpec.{MemberView};
 ghost use Rattle.implib.specs.declared.machine.MachineType.{MachineType};
 ghost use Rattle.implib_link.specs.Search.Archives.{IsArchive, IsLibrary, Library};
-ghost use Rattle.implib_link.specs.Search.Closed.{TakesIntoAs};
+ghost use Rattle.implib_link.specs.Search.Closed.{AreTakenIntoAs, TakesIntoAs};
 ghost use Rattle.implib_link.specs.Search.NamedApart.{AreNamedApart};
-ghost use Rattle.implib_link.specs.Search.Search.{AreTakenInTurnAs, TakesAs};
 ghost use Rattle.implib_link.specs.Search.Sweeps.{SweepsTake, members_at};
 ghost use Rattle.std.specs.List.{AllByRecursion, IsDistinct, flat_map};
 ghost use Rattle.std.specs.Prelude.{◌≤◌, ℕ, List, Option, bytes_eq, length};
@@ -21,16 +20,16 @@ pub fn libraries_named_apart_are_archive()
         IsArchive machine libraries }
 {}
 
-/// A search of any archive for any names ends, however a linker reads members, and whichever
-/// undefined name it takes up first: it can go on until no undefined name pulls in a member, and
-/// never takes more members than the archive has.
+/// A search of any archive for any objects ends, however a linker reads members, and whichever
+/// unresolved name it takes up first: it can go on until no such name pulls in a member, and never
+/// takes more members than the archive has.
 pub fn search_ends()
     ensures found { (reads : List ℕ → Option Object) (archive : List MemberView)
-        (wanted : List (List ℕ)) →
-        (taken : List MemberView) × TakesAs reads archive wanted taken }
-    ensures bounded { (reads : List ℕ → Option Object) (archive taken : List MemberView)
-        (wanted : List (List ℕ)) →
-        AreTakenInTurnAs reads archive wanted taken → length taken ≤ length archive }
+        (own : List Object) →
+        (taken : List MemberView) × TakesIntoAs reads archive own taken }
+    ensures bounded { (reads : List ℕ → Option Object) (archive : List MemberView)
+        (own : List Object) (taken : List MemberView) →
+        AreTakenIntoAs reads archive own taken → length taken ≤ length archive }
 {}
 
 /// GNU `ld` sweeps an archive's index and takes the member of an entry whose name is unresolved

@@ -14,7 +14,7 @@ use Rattle.implib_link.specs.Archives.InBytes.{Second}
 use Rattle.implib_link.specs.Archives.Results.{HaveArchive}
 use Rattle.implib_link_instances.specs.Archives.WorkedBothWay.{WorkedBothWay, bar_for_gnu, bases, before_null, both, calls_bar, calls_queue, code, code_at, linked, objects, own, placed, queue_for_msvc, taken}
 use Rattle.implib_link.proofs.Archives.BothWay.{both_arrive}
-use Rattle.implib_link.proofs.Archives.Corollaries.{found_given}
+use Rattle.implib_link.proofs.Archives.InBytes.{search_of}
 use Rattle.implib_link.specs.Flavors.Program.{AreEnded, FlavorInput, OfMember}
 use Rattle.implib_link.specs.Gnu.Calls.{CallArrives, HasCall, PlacedCode}
 use Rattle.implib_link.specs.Gnu.Choices.{AreSections, DefineOnce, plain_range}
@@ -23,7 +23,7 @@ use Rattle.implib_link.specs.Gnu.Packed.{group_end, packed_end, sections_end}
 use Rattle.implib_link.specs.Gnu.Program.{ClaimsNone}
 use Rattle.implib_link.specs.Search.BothFlavors.{AreGiven, IsClosed, IsFlavorArchive, archive_of_both, inputs_in, symbols_kept}
 use Rattle.implib_link.specs.Search.Closed.{listed_in, unresolved}
-use Rattle.implib_link.specs.Search.Msvc.{TakesFor, left_in}
+use Rattle.implib_link.specs.Search.Msvc.{left_in}
 use Rattle.implib_link.specs.Search.MsvcArchives.{TakesIntoFor}
 use Rattle.implib_link_instances.specs.Worked.Calls.{first_bytes, given_on, last_bytes}
 use Rattle.implib_link_instances.specs.Worked.MsvcSearch.{thunk_named}
@@ -38,9 +38,9 @@ use Rattle.implib_link_instances.proofs.Worked.BothFlavors.{archive_by}
 use Rattle.implib_link_instances.proofs.Worked.Calls.{once_by, wide}
 use Rattle.implib_link_instances.proofs.Worked.Opened.{searched, archived}
 use Rattle.implib_link_instances.proofs.Worked.Programs.{claims_none_by, instructions_at}
-use Rattle.implib_link.specs.Search.Search.{AreTakenInTurnAs, left_as}
+use Rattle.implib_link.specs.Search.Search.{left_as}
 use Rattle.implib_link.specs.Flavors.Expansion.{expanded_in}
-use Rattle.implib_link_instances.proofs.Worked.Search.{below_limit, takes_by}
+use Rattle.implib_link_instances.proofs.Worked.Search.{below_limit, into_by}
 
 archive : IsFlavorArchive AMD64 both
 unfolding searched
@@ -57,18 +57,13 @@ given = record {
   names = record { gnu = (record { head = refl; name = refl }, tt); msvc = (record { descriptor = refl; null_descriptor = refl; null_thunk = refl }, tt) };
 }
 
-wanted_takes : TakesFor AMD64 (archive_of_both both) (unresolved own) taken
-unfolding searched AreTakenInTurnAs
-wanted_takes = takes_by ((0x7F ∷ codes "zed_NULL_THUNK_DATA") ∷ codes "__NULL_IMPORT_DESCRIPTOR" ∷ codes "__IMPORT_DESCRIPTOR_zed" ∷ codes "__imp_queue" ∷ codes "foo_dll_iname" ∷ codes "_head_foo_dll" ∷ codes "__imp_bar" ∷ []) refl refl refl
-
 claims : AllByRecursion (ClaimsNone (listed_in taken ++ left_in AMD64 taken)) own
 unfolding searched
 claims = (claims_none_by (listed_in taken ++ left_in AMD64 taken) calls_bar refl, (claims_none_by (listed_in taken ++ left_in AMD64 taken) calls_queue refl, tt))
 
 takes : TakesIntoFor AMD64 (archive_of_both both) own taken
-unfolding left_as
-takes =
-    takes_into (expanded_in AMD64) (archive_of_both both) own taken (λ name left. claims_apart (listed_in taken ++ left_in AMD64 taken) own claims name (among_back name (listed_in taken) (left_in AMD64 taken) left)) wanted_takes
+unfolding searched
+takes = into_by ((0x7F ∷ codes "zed_NULL_THUNK_DATA") ∷ codes "__NULL_IMPORT_DESCRIPTOR" ∷ codes "__IMPORT_DESCRIPTOR_zed" ∷ codes "__imp_queue" ∷ codes "foo_dll_iname" ∷ codes "_head_foo_dll" ∷ codes "__imp_bar" ∷ []) refl refl refl claims
 
 abbrev bar_input : FlavorInput
 bar_input = record { flavor = Gnu; input = record { definition = bar_for_gnu.library.definition; members = bar_for_gnu.library.members; chosen = 0 ∷ [] } }
@@ -151,7 +146,7 @@ worked_both_way =
       ready = ready;
       given = given;
       leaves = refl;
-      takes = found_given (expanded_in AMD64) Coff Second (archive_of_both both) own taken ready takes;
+      takes = search_of Coff Second (archive_of_both both) (expanded_in AMD64) own taken ready takes;
       linked_for = linked_for;
       sections = sections;
       bar_called = bar_called;

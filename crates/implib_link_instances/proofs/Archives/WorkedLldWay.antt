@@ -10,11 +10,10 @@ use Rattle.implib.specs.Worked.Statements.{plain_export}
 use Rattle.implib.proofs.Link.LinkedMembers.{among_contains}
 use Rattle.implib.proofs.Link.Ranges.{Among}
 use Rattle.implib_archive.specs.declared.kind.Kind.TheVariants.{Coff}
-use Rattle.implib_link.specs.Archives.InBytes.{Second, asks_with_as}
+use Rattle.implib_link.specs.Archives.InBytes.{Second}
 use Rattle.implib_link.specs.Archives.LldWay.{AreCalledAlike, IsBuiltByLld, IsWantedBy, LldArrives, read_by_lld, shorts_in}
 use Rattle.implib_link.specs.Archives.Results.{HaveArchive}
 use Rattle.implib_link_instances.specs.Archives.WorkedLldWay.{WorkedLldWay, bar_short, calls_linked, is_live, live_shorts, lld_codes, lld_image, lld_libraries, lld_library, lld_linked, lld_memory, lld_own, lld_tables, lld_taken, lld_targets, placed_calls, thunk_linked, two_calls}
-use Rattle.implib_link.proofs.Archives.Corollaries.{taken_given}
 use Rattle.implib_link.proofs.Archives.InBytes.{search_of}
 use Rattle.implib_link.proofs.Archives.LldWay.{lld_arrives}
 use Rattle.implib_link.specs.Flavors.Expansion.{descriptor_symbol_by_name, expanded_in, import_object}
@@ -172,7 +171,7 @@ worked_lld_way = record {
   archive = archive;
   alike = alike;
   ready = ready;
-  takes = search_of Coff Second (archive_of lld_libraries) (asks_with_as (read_by_lld AMD64) lld_own) lld_taken ready (taken_given (read_by_lld AMD64) (archive_of lld_libraries) lld_own lld_taken takes);
+  takes = search_of Coff Second (archive_of lld_libraries) (read_by_lld AMD64) lld_own lld_taken ready takes;
   wanted = wanted;
   read = read;
   built = built_by_lld;

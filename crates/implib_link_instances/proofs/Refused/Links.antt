@@ -22,7 +22,7 @@ use Rattle.implib_link.specs.Flavors.LldImports.{grouped}
 use Rattle.implib_link.specs.Flavors.Program.{FlavorInput, OfMember, SymbolsAt, SymbolsGet, exports_chosen, gnu_input, members_linked, objects_taken, own_names}
 use Rattle.implib_link.specs.Search.Archives.{archive_of}
 use Rattle.implib_link.specs.Search.BothFlavors.{IsImported, archive_of_both}
-use Rattle.implib_link.specs.Search.Closed.{IsAliasTaken, listed_in}
+use Rattle.implib_link.specs.Search.Closed.{listed_in}
 use Rattle.implib_link.specs.Search.MsvcArchives.{IsWeakTaken}
 use Rattle.implib_link.specs.Stub.{code_relocated, jump_reads}
 use Rattle.implib_link.proofs.Search.Lists.{any_among, contains_among}

@@ -11,13 +11,12 @@ use Rattle.implib_link.specs.Search.MsvcArchives.{is_short_alias}
 use Rattle.implib_link.specs.Search.Archives.{Library, exports_of}
 use Rattle.implib_link.specs.Search.BothFlavors.{IsWeakOfLibraries}
 use Rattle.implib_link.specs.Search.Closed.{AreTakenIntoAs}
-use Rattle.implib_link.specs.Search.Search.{AreTakenInTurnAs}
 use Rattle.implib_link.proofs.Search.Lists.{contains_among}
 use Rattle.implib_link_instances.proofs.Worked.Calls.{one_of}
 use Rattle.implib_link_instances.proofs.Worked.Lemmas.{differ, none_in}
 use Rattle.implib_link_instances.proofs.Worked.Opened.{searched}
 use Rattle.implib_link_instances.specs.Refused.Links.{f_library, listing}
-use Rattle.implib_link_instances.specs.Refused.Searches.{RefusedIsWeakData, RefusedIsWeakShort, RefusedPullsIntoAs, RefusedSearches, RefusedTakesAs, RefusedTakesIntoAs, RefusedTakesOfLibraries, exportless, f_export}
+use Rattle.implib_link_instances.specs.Refused.Searches.{RefusedIsWeakData, RefusedIsWeakShort, RefusedPullsIntoAs, RefusedSearches, RefusedTakesIntoAs, RefusedTakesOfLibraries, exportless, f_export}
 
 pub refused_pulls_into : RefusedPullsIntoAs
 unfolding searched
@@ -25,13 +24,6 @@ refused_pulls_into = record {
   named = λ x. none_in (codes "f") x.named;
   listed = λ x. let none : None ≡ Some listing = x.listed in cc;
   new = λ x. x.new (0, omega arith, refl);
-}
-
-pub refused_takes : RefusedTakesAs
-unfolding searched AreTakenInTurnAs
-refused_takes = record {
-  in_turn = λ x. none_in x.in_turn.0.0 x.in_turn.0.1.named;
-  ended = λ x. x.ended (codes "f") listing (record { named = (0, omega arith, refl); undefined = refl; listed = refl; new = λ held. none_in listing held });
 }
 
 pub refused_takes_into : RefusedTakesIntoAs
@@ -93,8 +85,6 @@ unfolding searched AreTakenIntoAs
 refused_searches = record {
   have_same = λ x. none_in (codes "f") ((x (codes "f")).0 (0, omega arith, refl));
   are_taken_into_as = λ x. none_in x.0.0 x.0.1.named;
-  is_alias_taken = λ x. none_in x.0 x.1;
-  is_used = λ x. none_in x.0 x.2;
   is_used_in = λ x. none_in x.0 x.2;
   is_weak_among = λ x. none_in x.0 x.2;
   is_weak_of_both = λ x. not_weak [] listing x;

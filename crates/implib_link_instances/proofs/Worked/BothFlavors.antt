@@ -15,17 +15,17 @@ use Rattle.implib_link.specs.Flavors.Program.{AreEnded, Ending, FlavorInput, OfM
 use Rattle.implib_link.specs.Gnu.Packed.{group_end, packed, packed_end, sections_end}
 use Rattle.implib_link.specs.Gnu.Program.{ClaimsNone, HaveSame, claimed_names, has_tables}
 use Rattle.implib_link.specs.Search.Archives.{IsArchive, IsLibrary, symbols_of_library}
-use Rattle.implib_link.specs.Search.BothFlavors.{AreClosed, AreGiven, FlavorLibrary, IsClosed, IsFlavorArchive, NamesNoMembers, archive_of_both, gnu_among, inputs_in, symbols_kept, msvc_among}
+use Rattle.implib_link.specs.Search.BothFlavors.{AreClosed, AreGiven, FlavorLibrary, IsClosed, IsFlavorArchive, NamesNoMembers, archive_of_both, gnu_among, inputs_in, symbols_kept, msvc_among, LinksClosed}
 use Rattle.implib_link.specs.Search.Closed.{listed_in, unresolved}
-use Rattle.implib_link.specs.Search.Msvc.{TakesFor, left_in}
+use Rattle.implib_link.specs.Search.Msvc.{left_in}
 use Rattle.implib_link.specs.Search.MsvcArchives.{IsMsvcArchive, IsMsvcLibrary, PullsIntoFor, TakesIntoFor, first_null, short_inputs, symbols_of_all_shorts, symbols_of_shorts, wanted_for, weak_in}
-use Rattle.implib_link.specs.Search.Search.{AreTakenInTurnAs, left_as, undefined_in}
+use Rattle.implib_link.specs.Search.Search.{left_as, undefined_in}
 use Rattle.implib_link_instances.specs.Worked.BothFlavors.{WorkedBoth, WorkedBothExists, WorkedGiven, foo_and_zed, mixed_bases, mixed_objects, mixed_taken, mixed_without_last, zed_and_foo}
 use Rattle.implib_link_instances.specs.Worked.Closed.{choosing, clashing, foo_linked}
 use Rattle.implib_link_instances.specs.Worked.MsvcSearch.{msvc_zed, thunk_named, zed_members}
 use Rattle.implib_link.proofs.Search.Taken.{both_taken}
 use Rattle.implib_link.proofs.Search.BothClosed.{closed_links_of_both, packed_both}
-use Rattle.implib_link.proofs.Search.Ends.{into_ends}
+use Rattle.implib_link.proofs.Search.Ends.{into_ends, search_bounded}
 use Rattle.implib_link.proofs.Search.Closing.{claims_apart, takes_into, unresolved_parts}
 use Rattle.implib_link.proofs.Search.Lists.{among_any, any_among, contains_among}
 use Rattle.implib_link_instances.proofs.Worked.Opened.{searched}
@@ -33,7 +33,7 @@ use Rattle.implib_link_instances.proofs.Worked.Programs.{all_differ, claims_none
 use Rattle.implib_link.specs.Flavors.Expansion.{descriptor_symbol_by_name, expanded_in}
 use Rattle.implib.specs.LibraryName.{linked_dll}
 use Rattle.implib.specs.declared.machine.MachineType.{MachineType}
-use Rattle.implib_link_instances.proofs.Worked.Search.{below_limit, takes_by}
+use Rattle.implib_link_instances.proofs.Worked.Search.{below_limit, into_by}
 use Rattle.implib.specs.Link.Placement.{next_multiple}
 use Rattle.implib_link.specs.Search.BothExists.{HasClosed, objects_closed, tables_end_by}
 use Rattle.implib_link.proofs.Search.BothExists.{both_exists, placed_closed, placed_within}
@@ -100,27 +100,13 @@ archive = record {
   apart = apart_by (null_descriptor_symbol ∷ flat_map symbols_of_shorts (msvc_among foo_and_zed)) (flat_map (symbols_of_library AMD64) (gnu_among foo_and_zed)) refl;
 }
 
-abbrev members : List MemberView
-members = archive_of_both foo_and_zed
-
-abbrev wants : List (List ℕ)
-wants = unresolved (choosing ∷ [])
-
-takes_wanted : TakesFor AMD64 (archive_of_both foo_and_zed) (unresolved (choosing ∷ [])) mixed_taken
-unfolding searched AreTakenInTurnAs
-takes_wanted = takes_by ((0x7F ∷ codes "zed_NULL_THUNK_DATA") ∷ codes "__NULL_IMPORT_DESCRIPTOR" ∷ codes "__IMPORT_DESCRIPTOR_zed" ∷ codes "__imp_queue" ∷ codes "foo_dll_iname" ∷ codes "_head_foo_dll" ∷ codes "baz" ∷ codes "bar" ∷ []) refl refl refl
-
 pub claims : AllByRecursion (ClaimsNone (listed_in mixed_taken ++ left_in AMD64 mixed_taken)) (choosing ∷ [])
 unfolding searched
 claims = (claims_none_by (listed_in mixed_taken ++ left_in AMD64 mixed_taken) choosing refl, tt)
 
--- what the members that are taken leave, the object does not claim
-pub left_apart : (name : List ℕ) → Among name (flat_map undefined_in (objects_taken AMD64 mixed_taken)) → Among name (flat_map claimed_names own) → ⊥
-unfolding left_as
-left_apart name left = claims_apart (listed_in mixed_taken ++ left_in AMD64 mixed_taken) own claims name (among_back name (listed_in mixed_taken) (left_in AMD64 mixed_taken) left)
-
 takes : TakesIntoFor AMD64 (archive_of_both foo_and_zed) (choosing ∷ []) mixed_taken
-takes = takes_into (expanded_in AMD64) members own mixed_taken left_apart takes_wanted
+unfolding searched
+takes = into_by ((0x7F ∷ codes "zed_NULL_THUNK_DATA") ∷ codes "__NULL_IMPORT_DESCRIPTOR" ∷ codes "__IMPORT_DESCRIPTOR_zed" ∷ codes "__imp_queue" ∷ codes "foo_dll_iname" ∷ codes "_head_foo_dll" ∷ codes "baz" ∷ codes "bar" ∷ []) refl refl refl claims
 
 names : NamesNoMembers AMD64 foo_and_zed (wanted_for AMD64 (choosing ∷ []) mixed_taken)
 unfolding searched
@@ -178,16 +164,19 @@ clashes arranged objects is =
     (any_among (codes "queue") (listed_in mixed_taken ++ left_in AMD64 mixed_taken) refl) is.claims.0 in
     true≢false none
 
+worked_links : LinksClosed AMD64 OfMember foo_and_zed (choosing ∷ []) mixed_taken zed_and_foo mixed_bases mixed_objects
+worked_links = closed_links_of_both AMD64 OfMember foo_and_zed own mixed_taken zed_and_foo mixed_bases mixed_objects archive closed
+
 pub worked_both : WorkedBoth
 unfolding searched group_end sections_end
 worked_both = record {
   archive = archive;
   takes = takes;
   wanted = refl;
-  just = both_taken AMD64 foo_and_zed archive wants mixed_taken names takes_wanted;
+  just = worked_links.taken_is;
   chosen = refl;
   closed = closed;
-  links = closed_links_of_both AMD64 OfMember foo_and_zed own mixed_taken zed_and_foo mixed_bases mixed_objects archive closed;
+  links = worked_links;
   left = refl;
   queue = refl;
   baz = refl;
@@ -205,7 +194,7 @@ given = record {
 
 pub worked_given : WorkedGiven
 unfolding searched
-worked_given = record { given = given; kept = refl; ends = into_ends (expanded_in AMD64) (archive_of_both foo_and_zed) own }
+worked_given = record { given = given; kept = refl; ends = into_ends (expanded_in AMD64) (archive_of_both foo_and_zed) own; bounded = search_bounded (expanded_in AMD64) (archive_of_both foo_and_zed) own mixed_taken takes.in_turn }
 
 above_zero : 0 < 0x2000
 above_zero = omega arith

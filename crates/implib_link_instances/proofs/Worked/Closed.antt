@@ -13,9 +13,9 @@ use Rattle.implib_link.specs.Gnu.Program.{ClaimsNone, HaveSame, claimed_names, h
 use Rattle.implib_link.specs.Search.BothExists.{tables_end_by}
 use Rattle.implib_link.specs.Search.BothFlavors.{AreClosed, AreGiven, IsClosed, IsFlavorArchive, NamesNoMembers, archive_of_both, inputs_in, symbols_kept}
 use Rattle.implib_link.specs.Search.Closed.{claims_of, listed_in, references_of, unresolved}
-use Rattle.implib_link.specs.Search.Msvc.{TakesFor, left_in}
+use Rattle.implib_link.specs.Search.Msvc.{left_in}
 use Rattle.implib_link.specs.Search.MsvcArchives.{TakesIntoFor, wanted_for}
-use Rattle.implib_link.specs.Search.Search.{AreTakenInTurnAs, left_as, undefined_in}
+use Rattle.implib_link.specs.Search.Search.{left_as, undefined_in}
 use Rattle.implib_link.specs.Search.Wanting.{wanting}
 use Rattle.implib_link_instances.specs.Worked.ByLinker.{WorkedByLinker, with_far, zed_first}
 use Rattle.implib_link_instances.specs.Worked.Closed.{choosing, closed_bases, closed_objects, closed_taken}
@@ -29,7 +29,7 @@ use Rattle.implib_link.proofs.Search.Wanting.{program_with}
 use Rattle.implib_link_instances.proofs.Worked.BothFlavors.{archive_by}
 use Rattle.implib_link_instances.proofs.Worked.Opened.{searched}
 use Rattle.implib_link_instances.proofs.Worked.Programs.{claims_none_by, opened, worked_programs}
-use Rattle.implib_link_instances.proofs.Worked.Search.{below_limit, takes_by}
+use Rattle.implib_link_instances.proofs.Worked.Search.{below_limit, into_by}
 
 abbrev own : List Object
 own = choosing ∷ []
@@ -54,17 +54,9 @@ claims : AllByRecursion (ClaimsNone (listed_in closed_taken ++ left_in AMD64 clo
 unfolding searched
 claims = (claims_none_by (listed_in closed_taken ++ left_in AMD64 closed_taken) choosing refl, tt)
 
--- what the members that are taken leave, the object does not claim
-left_apart : (name : List ℕ) → Among name (flat_map undefined_in (objects_taken AMD64 closed_taken)) → Among name (flat_map claimed_names own) → ⊥
-unfolding left_as
-left_apart name left = claims_apart (listed_in closed_taken ++ left_in AMD64 closed_taken) own claims name (among_back name (listed_in closed_taken) (left_in AMD64 closed_taken) left)
-
-wanted_takes : TakesFor AMD64 (archive_of_both with_far) (unresolved own) closed_taken
-unfolding searched AreTakenInTurnAs
-wanted_takes = takes_by (codes "zed_dll_iname" ∷ codes "_head_zed_dll" ∷ codes "__imp_queue" ∷ codes "foo_dll_iname" ∷ codes "_head_foo_dll" ∷ codes "baz" ∷ codes "bar" ∷ []) refl refl refl
-
 takes : TakesIntoFor AMD64 (archive_of_both with_far) own closed_taken
-takes = takes_into (expanded_in AMD64) (archive_of_both with_far) own closed_taken left_apart wanted_takes
+unfolding searched
+takes = into_by (codes "zed_dll_iname" ∷ codes "_head_zed_dll" ∷ codes "__imp_queue" ∷ codes "foo_dll_iname" ∷ codes "_head_foo_dll" ∷ codes "baz" ∷ codes "bar" ∷ []) refl refl refl claims
 
 names : NamesNoMembers AMD64 with_far (wanted_for AMD64 own closed_taken)
 unfolding searched
@@ -111,14 +103,9 @@ wanting_claims : AllByRecursion (ClaimsNone (listed_in closed_taken ++ left_in A
 unfolding searched
 wanting_claims = (claims_none_by (listed_in closed_taken ++ left_in AMD64 closed_taken) (wanting listed_names) refl, (claims_none_by (listed_in closed_taken ++ left_in AMD64 closed_taken) quiet refl, tt))
 
--- what the members that are taken leave, neither claims
-wanting_left_apart : (name : List ℕ) → Among name (flat_map undefined_in (objects_taken AMD64 closed_taken)) → Among name (flat_map claimed_names with_names) → ⊥
-unfolding left_as
-wanting_left_apart name left = claims_apart (listed_in closed_taken ++ left_in AMD64 closed_taken) with_names wanting_claims name (among_back name (listed_in closed_taken) (left_in AMD64 closed_taken) left)
-
 wanting_takes : TakesIntoFor AMD64 (archive_of_both with_far) with_names closed_taken
-unfolding references_of claims_of undefined_in
-wanting_takes = takes_into (expanded_in AMD64) (archive_of_both with_far) with_names closed_taken wanting_left_apart wanted_takes
+unfolding searched
+wanting_takes = into_by (codes "zed_dll_iname" ∷ codes "_head_zed_dll" ∷ codes "__imp_queue" ∷ codes "foo_dll_iname" ∷ codes "_head_foo_dll" ∷ codes "baz" ∷ codes "bar" ∷ []) refl refl refl wanting_claims
 
 pub worked_wanting : WorkedWanting
 unfolding references_of claims_of undefined_in

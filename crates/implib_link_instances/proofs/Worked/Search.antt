@@ -1,44 +1,30 @@
 -- The search that was done by hand, by computing.
 use Rattle.std.proofs.Common.{Bool, List, Option, Some, [], ap, arith, codes, false, inl, inr, map, refl, subst, sym, true, ℕ, ◌++◌, ◌<◌, ◌^◌, ◌∙◌, ◌∷◌, ◌≡◌}
 use Rattle.std.specs.Prelude.{bytes_eq, is_none, length, nat_lt, not, ◌&&◌, ◌||◌}
-use Rattle.std.specs.Fmt.{digits}
-use Rattle.std.specs.List.{IsDistinct, flat_map, list_all, list_any}
+use Rattle.std.specs.List.{IsDistinct, list_all, list_any, AllByRecursion}
 use Rattle.std.proofs.lemmas.Bool.{and_parts, ltb-true, not-true, true≢false}
 use Rattle.implib.specs.declared.machine.MachineType.TheVariants.{AMD64}
-use Rattle.implib.specs.Definition.{empty_export}
-use Rattle.implib.specs.Worked.Statements.{plain_export}
-use Rattle.implib.specs.Formats.Bytes.{u16_bytes, u32_bytes}
-use Rattle.implib.specs.Members.Gnu.{export_object, five_digits, head_name, head_object, head_symbol, hint_name, iname_symbol, mangled_name, numbered_name, relocations_of_stub, relocations_of_thunk, stub, tail_name, tail_object, thunk, weak_name}
-use Rattle.implib.specs.Members.MemberSpec.{MemberView, member_of}
-use Rattle.implib.specs.Members.GnuMembers.{alias_specs, export_spec, head_spec, tail_spec}
+use Rattle.implib.specs.Members.MemberSpec.{MemberView}
+use Rattle.implib.specs.Members.GnuMembers.{alias_specs}
 use Rattle.implib.specs.Members.Members.{refusal, renamed_refusal}
-use Rattle.implib.specs.Formats.Object.{Object, before_nul, bytes_at, data_at, each_at, entries_at, name_of, object_in, object_of_header, relocation_at, relocation_of, section_at, section_of, strings_at, symbol_of, u16_at, u32_at, up_to_nul}
-use Rattle.implib.specs.Formats.Layout.{auxiliary_bytes, auxiliary_count, contents, contents_offset, contents_size, encoded, encoded_size, header_bytes, name_field, offsets_from, pointer_or_zero, record_count, records, relocation_bytes, section_header, section_headers, string_bytes_of, string_offsets, string_size, string_table, strings_size, symbol_bytes, symbol_table_offset}
-use Rattle.implib.specs.Formats.Writer.{layout_of, long_names, name_location, symbol_written, with_long_name, with_name}
+use Rattle.implib.specs.Formats.Object.{Object}
+use Rattle.implib.specs.Formats.Layout.{encoded_size}
 use Rattle.implib.proofs.Link.LinkedMembers.{among_contains, among_map}
-use Rattle.implib.proofs.Link.Ranges.{Among}
-use Rattle.implib_link.specs.Search.Search.{AreTakenInTurnAs, PullsInAs, Takes, TakesAs, claimed_as, first_listed, left_as, undefined_in}
-use Rattle.implib_link_instances.specs.Worked.Search.{MayTake, WorkedArchives, WorkedFound, WorkedNamedApart, WorkedSearch, WorkedSweeps, both_wanted, first_x, given_f, members_of, reads_by_hand, second_x, three, two_libraries, wanted, wants_x}
+use Rattle.implib.proofs.Link.Ranges.{Among, among_back}
+use Rattle.implib_link.specs.Search.Search.{claimed_as, first_listed, left_as, undefined_in}
+use Rattle.implib_link_instances.specs.Worked.Search.{WorkedFound, WorkedNamedApart, WorkedSweeps, first_x, given_f, reads_by_hand, second_x, two_libraries, wants_x}
 use Rattle.implib_link.proofs.Search.Lists.{among_any, any_among, contains_among}
-use Rattle.implib.specs.LibraryName.{own_names}
-use Rattle.implib.specs.Members.WeakExternal.{weak_object, weak_spec}
-use Rattle.implib_link.specs.Search.Archives.{NamesNoHeadOrTailOf, archive_of, inputs_wanted, is_weak, symbols_of_library, wanted_with}
-use Rattle.implib.specs.Formats.Constants.{class_external}
-use Rattle.implib.specs.Link.LinkedMembers.{IsAscending, LinkInput}
-use Rattle.implib_link.specs.Gnu.Packed.{group_end, packed, packed_end, sections_end}
-use Rattle.implib_link.specs.Gnu.Program.{HaveSame, has_tables, linked_symbols}
-use Rattle.implib_link.specs.Flavors.Program.{IsProgram}
-use Rattle.implib_link_instances.specs.Worked.Programs.{chosen_input, code_object, symbol_of_class}
-use Rattle.implib_link_instances.proofs.Worked.GnuPacked.{packed_is_admissible, packed_is_program}
-use Rattle.implib_link.proofs.Search.Ends.{search_bounded, search_ends}
-use Rattle.implib_link_instances.proofs.Worked.Programs.{claims_none_by, distinct_by, opened as opened_of_programs}
-use Rattle.implib_link.specs.Search.Closed.{AreTakenIntoAs, claims_of, references_of}
+use Rattle.implib.specs.Members.WeakExternal.{weak_object}
+use Rattle.implib_link_instances.proofs.Worked.Programs.{distinct_by, opened as opened_of_programs}
+use Rattle.implib_link.specs.Search.Closed.{AreTakenIntoAs, claims_of, references_of, unresolved, listed_in, TakesIntoAs}
 use Rattle.implib_link.specs.Search.Sweeps.{SweepsTake, sweeps, swept}
 use Rattle.implib_link.proofs.Search.Sweeps.{sweeps_take}
 use Rattle.implib.specs.Members.MsvcObjects.{base_name, descriptor_symbol}
 use Rattle.implib_link.specs.Flavors.Expansion.{descriptor_symbol_by_name}
 use Rattle.implib_link.specs.Search.NamedApart.{AreNamedApart, names_in, stem}
 use Rattle.implib_link.proofs.Search.NamedApart.{named_apart}
+use Rattle.implib_link.proofs.Search.Closing.{AreTakenInTurnAs, PullsInAs, TakesAs, claims_apart, takes_into}
+use Rattle.implib_link.specs.Gnu.Program.{ClaimsNone}
 
 -- whether a name pulls in no member any more
 abbrev is_settled : (List ℕ → Option Object) → List MemberView → List MemberView → List ℕ → Bool
@@ -114,98 +100,13 @@ pub takes_by : {reads : List ℕ → Option Object} {archive : List MemberView} 
     are_in_turn reads wanted names taken ≡ true → list_all (is_settled reads archive taken) (wanted ++ left_as reads taken) ≡ true → TakesAs reads archive wanted taken
 takes_by {reads} {archive} {wanted} {taken} names listed turns settled = record { in_turn = turns_by reads archive wanted names taken listed turns; ended = settled_ends reads archive wanted taken settled }
 
--- what the computing has to open
-unfoldable pub opened : Unit {0}
-unfolding digits u16_bytes u32_bytes export_object five_digits head_name head_object head_symbol hint_name iname_symbol numbered_name relocations_of_stub relocations_of_thunk mangled_name stub tail_name tail_object thunk export_spec head_spec tail_spec before_nul bytes_at data_at each_at entries_at name_of object_in object_of_header relocation_at relocation_of section_at section_of strings_at symbol_of u16_at u32_at up_to_nul auxiliary_bytes auxiliary_count contents contents_offset contents_size header_bytes encoded name_field offsets_from pointer_or_zero record_count records relocation_bytes section_header section_headers string_bytes_of string_offsets string_size string_table strings_size symbol_bytes symbol_table_offset long_names name_location layout_of symbol_written with_long_name with_name
-opened = tt
-
-abbrev pub the_head : MemberView
-the_head = member_of (head_spec AMD64 (codes "foo.dll"))
-
-abbrev pub the_tail : MemberView
-the_tail = member_of (tail_spec AMD64 (own_names (codes "foo.dll")))
-
-abbrev pub bar : MemberView
-bar = member_of (export_spec AMD64 (codes "foo.dll") 0 (plain_export (codes "bar")))
-
-abbrev pub qux : MemberView
-qux = member_of (export_spec AMD64 (codes "foo.dll") 2 (record empty_export { name = codes "qux"; is_data = true }))
-
-pub three_takes : Takes (members_of three) wanted (qux ∷ the_tail ∷ the_head ∷ bar ∷ [])
-unfolding opened alias_specs encoded_size left_as claimed_as undefined_in AreTakenInTurnAs
-three_takes = takes_by (codes "__imp_qux" ∷ codes "foo_dll_iname" ∷ codes "_head_foo_dll" ∷ codes "bar" ∷ []) refl refl refl
-
-takes_three : MayTake three wanted (codes "foo_dll_a_s00002.o" ∷ codes "foo_dll_a_t.o" ∷ codes "foo_dll_a_h.o" ∷ codes "foo_dll_a_s00000.o" ∷ [])
-unfolding opened
-takes_three = (qux ∷ the_tail ∷ the_head ∷ bar ∷ [], three_takes, refl)
-
-takes_nothing : MayTake three (codes "printf" ∷ []) []
-unfolding opened alias_specs encoded_size left_as claimed_as undefined_in AreTakenInTurnAs
-takes_nothing = ([], record { in_turn = tt; ended = settled_ends object_in (members_of three) (codes "printf" ∷ []) [] refl }, refl)
-
-takes_head_and_tail : MayTake three (codes "_head_foo_dll" ∷ []) (codes "foo_dll_a_t.o" ∷ codes "foo_dll_a_h.o" ∷ [])
-unfolding opened alias_specs encoded_size left_as claimed_as undefined_in AreTakenInTurnAs
-takes_head_and_tail = (
-  the_tail ∷ the_head ∷ [],
-  takes_by (codes "foo_dll_iname" ∷ codes "_head_foo_dll" ∷ []) refl refl refl,
-  refl,
-)
-
-pub worked_search : WorkedSearch
-unfolding opened refusal renamed_refusal alias_specs encoded_size IsDistinct
-worked_search = record {
-  firsts = refl;
-  takes = takes_three;
-  nothing = takes_nothing;
-  head_and_tail = takes_head_and_tail;
-  alias_first = refl;
-  ends = search_ends object_in (members_of three) wanted;
-  bounded = λ taken takes. search_bounded object_in (members_of three) taken wanted takes.in_turn;
-}
-
-abbrev pub foo_weak : MemberView
-foo_weak = member_of (weak_spec AMD64 (weak_name (codes "foo.dll") 0) (codes "bar") (codes "baz"))
-
-abbrev pub foo_baz : MemberView
-foo_baz = member_of (export_spec AMD64 (codes "foo.dll") 1 (plain_export (codes "baz")))
-
-abbrev pub head_named : List ℕ → MemberView
-head_named dll = member_of (head_spec AMD64 dll)
-
-abbrev pub tail_named : List ℕ → MemberView
-tail_named dll = member_of (tail_spec AMD64 (own_names dll))
-
-abbrev pub zed_queue : MemberView
-zed_queue = member_of (export_spec AMD64 (codes "zed.dll") 0 (plain_export (codes "queue")))
-
-abbrev pub foo_taken : List MemberView
-foo_taken = tail_named (codes "foo.dll") ∷ head_named (codes "foo.dll") ∷ foo_baz ∷ foo_weak ∷ []
-
-abbrev pub both_taken : List MemberView
-both_taken = tail_named (codes "zed.dll") ∷ head_named (codes "zed.dll") ∷ zed_queue ∷ foo_taken
-
-abbrev archive : List MemberView
-archive = archive_of two_libraries
-
-pub both_takes : Takes (archive_of two_libraries) both_wanted both_taken
-unfolding opened alias_specs encoded_size left_as claimed_as undefined_in AreTakenInTurnAs weak_object archive_of
-both_takes = takes_by (codes "zed_dll_iname" ∷ codes "_head_zed_dll" ∷ codes "__imp_queue" ∷ codes "foo_dll_iname" ∷ codes "_head_foo_dll" ∷ codes "baz" ∷ codes "bar" ∷ []) refl refl refl
-
-pub worked_archives : WorkedArchives
-unfolding opened refusal renamed_refusal alias_specs encoded_size IsDistinct weak_object symbols_of_library is_weak left_as undefined_in
-worked_archives = record {
-  archive = record {
-    made = (record { accepted = refl; made = refl; ordinals = refl }, (record { accepted = refl; made = refl; ordinals = refl }, tt));
-    distinct = ((refl, (refl, (refl, (refl, (refl, (refl, (refl, (refl, (refl, (refl, (refl, tt))))))))))), ((refl, (refl, (refl, (refl, (refl, (refl, (refl, (refl, (refl, (refl, tt)))))))))), ((refl, (refl, (refl, (refl, (refl, (refl, (refl, (refl, (refl, tt))))))))), ((refl, (refl, (refl, (refl, (refl, (refl, (refl, (refl, tt)))))))), ((refl, (refl, (refl, (refl, (refl, (refl, (refl, tt))))))), ((refl, (refl, (refl, (refl, (refl, (refl, tt)))))), ((refl, (refl, (refl, (refl, (refl, tt))))), ((refl, (refl, (refl, (refl, tt)))), ((refl, (refl, (refl, tt))), ((refl, (refl, tt)), ((refl, tt), (tt, tt))))))))))));
-  };
-  taken = both_taken;
-  takes = both_takes;
-  names = refl;
-  weak = refl;
-  wanted = refl;
-  plain = (record { head = refl; name = refl }, (record { head = refl; name = refl }, tt));
-  chosen = refl;
-}
+-- What a linker takes for given objects that claim nothing of it, by computing.
+pub into_by : {reads : List ℕ → Option Object} {archive : List MemberView} {own : List Object} {taken : List MemberView} (names : List (List ℕ)) → map (first_listed archive) names ≡ map Some taken →
+    are_in_turn reads (unresolved own) names taken ≡ true → list_all (is_settled reads archive taken) (unresolved own ++ left_as reads taken) ≡ true → AllByRecursion (ClaimsNone (listed_in taken ++ left_as reads taken)) own →
+    TakesIntoAs reads archive own taken
+unfolding left_as
+into_by {reads} {archive} {own} {taken} names listed turns settled claims =
+    takes_into reads archive own taken (λ name left. claims_apart (listed_in taken ++ left_as reads taken) own claims name (among_back name (listed_in taken) (left_as reads taken) left)) (takes_by names listed turns settled)
 
 -- a number below 2^31, by computing
 pub below_limit : (n : ℕ) → nat_lt n (2 ^ 31) ≡ true → n < 2 ^ 31
@@ -249,10 +150,10 @@ apart = record {
 }
 
 pub worked_named_apart : WorkedNamedApart
-unfolding opened_of_programs
+unfolding opened_of_programs refusal renamed_refusal alias_specs encoded_size weak_object
 worked_named_apart = record {
   stems = refl;
   names = refl;
   apart = apart;
-  archive = named_apart AMD64 two_libraries worked_archives.archive.made apart;
+  archive = named_apart AMD64 two_libraries (record { accepted = refl; made = refl; ordinals = refl }, (record { accepted = refl; made = refl; ordinals = refl }, tt)) apart;
 }

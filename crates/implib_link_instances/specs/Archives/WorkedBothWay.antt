@@ -25,7 +25,7 @@ use Rattle.implib.specs.Members.GnuMembers.{export_spec, head_spec, tail_spec}
 use Rattle.implib.specs.Members.MemberSpec.{MemberView, member_of}
 use Rattle.implib_archive.specs.declared.kind.Kind.TheVariants.{Coff}
 use Rattle.implib_link.specs.Archives.BothWay.{AreLinkedFor}
-use Rattle.implib_link.specs.Archives.InBytes.{Second, asks_with_on}
+use Rattle.implib_link.specs.Archives.InBytes.{Second}
 use Rattle.implib_link.specs.Archives.Results.{HaveArchive, IsSearchOf}
 use Rattle.implib_link.specs.Flavors.Program.{OfMember, objects_taken}
 use Rattle.implib_link.specs.Gnu.Choices.{AreSections}
@@ -38,6 +38,7 @@ use Rattle.implib_link.specs.Search.Closed.{unresolved}
 use Rattle.implib_link_instances.specs.Worked.MsvcSearch.{descriptor_named, msvc_library}
 use Rattle.implib_link_instances.specs.Worked.MsvcSearch.{null_named, short_named, thunk_named}
 use Rattle.implib_link_instances.specs.Worked.Programs.{object_with, symbol_of_class}
+use Rattle.implib_link.specs.Flavors.Expansion.{expanded_in}
 
 -- what it means
 abbrev pub bar_definition : DefinitionView
@@ -145,7 +146,7 @@ pub record WorkedBothWay : Type 0 where
   pub ready : HaveArchive Coff Second (archive_of_both both)
   pub given : AreGiven AMD64 both own
   pub leaves : unresolved own ≡ codes "__imp_bar" ∷ codes "__imp_queue" ∷ []
-  pub takes : IsSearchOf Coff Second (archive_of_both both) (asks_with_on AMD64 own) taken
+  pub takes : IsSearchOf Coff Second (archive_of_both both) (expanded_in AMD64) own taken
   pub linked_for : AreLinkedFor AMD64 OfMember both own taken both bases objects
   pub sections : AreSections AMD64 bases objects placed
   pub bar_called : HasCall AMD64 (code_at calls_bar 0x3000) 4 (codes "__imp_bar")

@@ -15,7 +15,7 @@ use Rattle.implib.specs.Members.MemberSpec.{MemberView}
 use Rattle.implib.specs.Worked.Members.{of_dll}
 use Rattle.implib.specs.Worked.Statements.{plain_export}
 use Rattle.implib_archive.specs.declared.kind.Kind.TheVariants.{Coff}
-use Rattle.implib_link.specs.Archives.InBytes.{Second, asks_with_as}
+use Rattle.implib_link.specs.Archives.InBytes.{Second}
 use Rattle.implib_link.specs.Archives.LldWay.{AreCalledAlike, IsBuiltByLld, IsWantedBy, read_by_lld}
 use Rattle.implib_link.specs.Archives.LldWay.{short_of_export, shorts_in}
 use Rattle.implib_link.specs.Archives.Results.{HaveArchive, IsSearchOf}
@@ -134,7 +134,7 @@ pub record WorkedLldWay : Type 0 where
   pub alike : AreCalledAlike lld_libraries
   pub ready : HaveArchive Coff Second (archive_of lld_libraries)
   pub takes : IsSearchOf Coff Second (archive_of lld_libraries)
-      (asks_with_as (read_by_lld AMD64) lld_own) lld_taken
+      (read_by_lld AMD64) lld_own lld_taken
   pub wanted : IsWantedBy AMD64 lld_libraries lld_own lld_taken lld_library
       (plain_export (codes "bar"))
   pub read : shorts_in AMD64 lld_taken ≡ bar_short ∷ []

@@ -10,11 +10,10 @@ use Rattle.implib.specs.Worked.Statements.{plain_export}
 use Rattle.implib_link.specs.Gnu.Program.{HaveSame}
 use Rattle.implib_link.specs.Search.Archives.{IsWeakData, Library}
 use Rattle.implib_link.specs.Search.BothFlavors.{IsUsedIn, IsWeakOfLibraries, TakesOfLibraries}
-use Rattle.implib_link.specs.Search.Closed.{AreTakenIntoAs, IsAliasTaken, IsUsed, PullsIntoAs}
+use Rattle.implib_link.specs.Search.Closed.{AreTakenIntoAs, PullsIntoAs}
 use Rattle.implib_link.specs.Search.Closed.{TakesIntoAs}
 use Rattle.implib_link.specs.Search.MsvcArchives.{IsWeakShort, IsWeakTaken}
 use Rattle.implib_link.specs.Search.Plainly.{IsWeakAmong}
-use Rattle.implib_link.specs.Search.Search.{TakesAs}
 use Rattle.implib_link_instances.specs.Refused.Links.{f_library, listing, own}
 use Rattle.implib_link_instances.specs.Worked.Search.{library_of}
 use Rattle.implib_link_instances.specs.Worked.Closed.{foo_alias}
@@ -23,10 +22,6 @@ pub record RefusedPullsIntoAs : Type 0 where
   pub named : PullsIntoAs object_in (listing ∷ []) [] [] (codes "f") listing → ⊥
   pub listed : PullsIntoAs object_in [] own [] (codes "f") listing → ⊥
   pub new : PullsIntoAs object_in (listing ∷ []) own (listing ∷ []) (codes "f") listing → ⊥
-
-pub record RefusedTakesAs : Type 0 where
-  pub in_turn : TakesAs object_in (listing ∷ []) [] (listing ∷ []) → ⊥
-  pub ended : TakesAs object_in (listing ∷ []) (codes "f" ∷ []) [] → ⊥
 
 pub record RefusedTakesIntoAs : Type 0 where
   pub in_turn : TakesIntoAs object_in (listing ∷ []) [] (listing ∷ []) → ⊥
@@ -62,8 +57,6 @@ pub record RefusedIsWeakShort : Type 0 where
 pub record RefusedSearches : Type 0 where
   pub have_same : HaveSame (codes "f" ∷ []) [] → ⊥
   pub are_taken_into_as : AreTakenIntoAs object_in (listing ∷ []) [] (listing ∷ []) → ⊥
-  pub is_alias_taken : IsAliasTaken [] (codes "f") → ⊥
-  pub is_used : IsUsed [] f_export → ⊥
   pub is_used_in : IsUsedIn Gnu [] f_export → ⊥
   pub is_weak_among : IsWeakAmong object_in [] (codes "f") → ⊥
   pub is_weak_of_both : IsWeakOfLibraries [] [] listing → ⊥

@@ -1,6 +1,6 @@
 -- A closed program by hand of an archive of both flavours: of foo.dll's members for GNU's linker,
 -- some of them of an alias, and of zed.dll's for Microsoft's.
-use Rattle.std.specs.Prelude.{List, Some, [], codes, length, map, ◌++◌, ◌<◌, ◌∷◌, ◌≡◌}
+use Rattle.std.specs.Prelude.{List, Some, [], codes, length, map, ◌++◌, ◌<◌, ◌∷◌, ◌≡◌, ◌≤◌}
 use Rattle.implib.specs.declared.flavor.Flavor.TheVariants.{Gnu, Msvc}
 use Rattle.implib.specs.declared.machine.MachineType.TheVariants.{AMD64}
 use Rattle.implib.specs.Formats.Object.{Object}
@@ -101,7 +101,8 @@ pub record WorkedBoth : Type 0 where
   pub clashes : (arranged : List FlavorLibrary) (objects : List Object) →
       AreClosed AMD64 OfMember foo_and_zed (clashing ∷ []) mixed_taken arranged objects → ⊥
 
--- The object may be given. What members alone may claim are these names.
+-- The object may be given. What members alone may claim are these names. A search for it ends, and
+-- takes no more members than there are.
 pub record WorkedGiven : Type 0 where
   pub given : AreGiven AMD64 foo_and_zed (choosing ∷ [])
   pub kept : symbols_kept AMD64 foo_and_zed (choosing ∷ [])
@@ -111,6 +112,7 @@ pub record WorkedGiven : Type 0 where
       ∷ codes "baz" ∷ codes "baz" ∷ codes "__imp_baz" ∷ codes "__imp_queue" ∷ codes "queue" ∷ []
   pub ends : (taken : List MemberView)
       × TakesIntoFor AMD64 (archive_of_both foo_and_zed) (choosing ∷ []) taken
+  pub bounded : length mixed_taken ≤ length (archive_of_both foo_and_zed)
 
 -- The tables of the two libraries that begin at 0x2000 end by 0x218E: of foo.dll, for GNU's linker,
 -- there are at most 64 bytes, 7 for its name, and 43 for each of `bar` and `baz`; of zed.dll, for

@@ -12,9 +12,9 @@ use Rattle.implib.specs.Members.MemberSpec.{MemberView, member_of}
 use Rattle.implib.specs.Renaming.{renamed}
 use Rattle.implib.specs.Worked.Members.{of_dll}
 use Rattle.implib.specs.Worked.Statements.{plain_export}
-use Rattle.implib_link.specs.Search.Search.{NamesNoHeadOrTail, Takes, exports_wanted, first_listed}
+use Rattle.implib_link.specs.Search.Search.{NamesNoHeadOrTail, exports_wanted, first_listed}
 use Rattle.implib_link.specs.Search.Archives.{IsArchive, Library, NamesNoHeadOrTailOf, archive_of}
-use Rattle.implib_link.specs.Search.Archives.{inputs_wanted, wanted_with, weak_among}
+use Rattle.implib_link.specs.Search.Archives.{inputs_wanted}
 use Rattle.implib.specs.Formats.Constants.{class_external}
 use Rattle.implib.specs.Formats.Object.{Object}
 use Rattle.implib.specs.Link.LinkedMembers.{IsAscending, all_linked, objects_in}
@@ -33,57 +33,12 @@ use Rattle.implib_link.specs.Search.NamedApart.{AreNamedApart, names_in, stem}
 abbrev pub members_of : DefinitionView → List MemberView
 members_of d = map member_of (member_specs (renamed d) AMD64 Gnu)
 
--- foo.dll with two functions and a variable
-abbrev pub three : DefinitionView
-three = of_dll (codes "foo.dll")
-    (plain_export (codes "bar")
-    ∷ plain_export (codes "baz")
-    ∷ record empty_export { name = codes "qux"; is_data = true }
-    ∷ [])
-
 -- foo.dll with a variable that has a function for its alias
 abbrev pub aliased : DefinitionView
 aliased = of_dll (codes "foo.dll")
     (record empty_export { name = codes "bar"; alias_target = codes "baz"; is_data = true }
     ∷ plain_export (codes "baz")
     ∷ [])
-
--- what a program wants: a function by both of its symbols, the variable, and a function of another
--- library
-abbrev pub wanted : List (List ℕ)
-wanted = codes "bar" ∷ codes "__imp_bar" ∷ codes "printf" ∷ codes "__imp_qux" ∷ []
-
--- the name of the first member that a name is listed for
-abbrev pub found : DefinitionView → List ℕ → Option (List ℕ)
-found d name = option_map (λ m. m.name) (first_listed (members_of d) name)
-
--- a linker may take the members of these names, the last one first
-abbrev pub MayTake : DefinitionView → List (List ℕ) → List (List ℕ) → Type 0
-MayTake d names taken_names =
-    (taken : List MemberView) × Takes (members_of d) names taken
-    × (map (λ m. m.name) taken ≡ taken_names)
-
--- For these names a linker may take of the members of three exports the first function's member,
--- then the head, for it the tail, and at last the variable's; not the other function's. A name of
--- another library takes nothing. The descriptor's symbol takes the head and the tail and no export,
--- which the laws leave out; a variable's bare name finds its alias, where it has one. A search ends,
--- and takes no more members than there are.
-pub record WorkedSearch : Type 0 where
-  pub firsts :
-      map (found three)
-      (codes "bar" ∷ codes "__imp_bar" ∷ codes "printf" ∷ codes "__imp_qux" ∷ codes "qux" ∷ [])
-      ≡ Some (codes "foo_dll_a_s00000.o") ∷ Some (codes "foo_dll_a_s00000.o") ∷ None
-      ∷ Some (codes "foo_dll_a_s00002.o") ∷ None ∷ []
-  pub takes : MayTake three wanted
-      (codes "foo_dll_a_s00002.o" ∷ codes "foo_dll_a_t.o" ∷ codes "foo_dll_a_h.o"
-      ∷ codes "foo_dll_a_s00000.o" ∷ [])
-  pub nothing : MayTake three (codes "printf" ∷ []) []
-  pub head_and_tail : MayTake three (codes "_head_foo_dll" ∷ [])
-      (codes "foo_dll_a_t.o" ∷ codes "foo_dll_a_h.o" ∷ [])
-  pub alias_first : found aliased (codes "bar") ≡ Some (codes "foo_dll_a_w00000.o")
-  pub ends : (taken : List MemberView) × Takes (members_of three) wanted taken
-  pub bounded : (taken : List MemberView) → Takes (members_of three) wanted taken →
-      length taken ≤ length (members_of three)
 
 abbrev pub library_of : DefinitionView → Library
 library_of d = record { definition = d; members = members_of d }
@@ -95,29 +50,6 @@ two_libraries =
     ∷ library_of
     (of_dll (codes "zed.dll") (plain_export (codes "queue") ∷ plain_export (codes "stack") ∷ []))
     ∷ []
-
--- what a program wants: the data by its bare name, a function of zed.dll, and a name of another
--- library
-abbrev pub both_wanted : List (List ℕ)
-both_wanted = codes "bar" ∷ codes "__imp_queue" ∷ codes "printf" ∷ []
-
--- The two are an archive that the law speaks of. For `bar` a linker takes its weak external, for
--- which `baz` is wanted, and `baz` brings the head and the tail of foo.dll; for `__imp_queue` it
--- takes the members of zed.dll that belong to it.
-pub record WorkedArchives : Type 0 where
-  pub archive : IsArchive AMD64 two_libraries
-  pub taken : List MemberView
-  pub takes : Takes (archive_of two_libraries) both_wanted taken
-  pub names : map (λ m. m.name) taken
-      ≡ codes "zed_dll_a_t.o" ∷ codes "zed_dll_a_h.o" ∷ codes "zed_dll_a_s00000.o"
-      ∷ codes "foo_dll_a_t.o" ∷ codes "foo_dll_a_h.o" ∷ codes "foo_dll_a_s00001.o"
-      ∷ codes "foo_dll_a_w00000.o" ∷ []
-  pub weak : map (λ m. m.name) (weak_among taken) ≡ codes "foo_dll_a_w00000.o" ∷ []
-  pub wanted : wanted_with both_wanted taken
-      ≡ codes "bar" ∷ codes "__imp_queue" ∷ codes "printf" ∷ codes "baz" ∷ []
-  pub plain : NamesNoHeadOrTailOf AMD64 two_libraries (wanted_with both_wanted taken)
-  pub chosen : map (λ p. p.chosen) (inputs_wanted two_libraries (wanted_with both_wanted taken))
-      ≡ (1 ∷ []) ∷ (0 ∷ []) ∷ []
 
 -- an object that defines `x`, and one that defines `f` and leaves `x` to others
 abbrev pub of_x : Object

@@ -29,7 +29,7 @@ ghost use Rattle.implib_link_instances.specs.Refused.Links.{RefusedProgramLinks}
 ghost use Rattle.implib_link_instances.specs.Refused.Searches.{RefusedIsWeakData};
 ghost use Rattle.implib_link_instances.specs.Refused.Searches.{RefusedIsWeakShort};
 ghost use Rattle.implib_link_instances.specs.Refused.Searches.{RefusedPullsIntoAs, RefusedSearches};
-ghost use Rattle.implib_link_instances.specs.Refused.Searches.{RefusedTakesAs, RefusedTakesIntoAs};
+ghost use Rattle.implib_link_instances.specs.Refused.Searches.{RefusedTakesIntoAs};
 ghost use Rattle.implib_link_instances.specs.Refused.Searches.{RefusedTakesOfLibraries};
 ghost use Rattle.implib_link_instances.specs.Refused.Archives.{RefusedAreMembersAt};
 ghost use Rattle.implib_link_instances.specs.Refused.Archives.{RefusedCallsArrive};
@@ -94,7 +94,6 @@ pub fn refused_links()
 /// No members are what a search finds.
 pub fn refused_searches()
     ensures refused_pulls_into { RefusedPullsIntoAs }
-    ensures refused_takes { RefusedTakesAs }
     ensures refused_takes_into { RefusedTakesIntoAs }
     ensures refused_takes_of_libraries { RefusedTakesOfLibraries }
     ensures refused_is_weak_data { RefusedIsWeakData }

@@ -1,7 +1,6 @@
 use Rattle.implib_link.proofs.Search.BothExists.{both_exists, placed_closed, placed_within}
-use Rattle.implib_link.proofs.Search.Ends.{into_ends}
 use Rattle.implib_link.proofs.Search.BothGiven.{both_given_closes}
 use Rattle.implib_link.proofs.laws.both_flavors.given_objects_are_closed.Goals as goal
 
 pub returns : goal.returns
-returns c = record { ends = into_ends; closes = both_given_closes; packed = placed_closed; within = placed_within; exists = both_exists }
+returns c = record { closes = both_given_closes; packed = placed_closed; within = placed_within; exists = both_exists }
