@@ -27,7 +27,7 @@ use Rattle.implib.proofs.Link.Ranges.{Among, all_among, among_first, among_front
 use Rattle.implib_link.specs.Flavors.Expansion.{Code, Constant, Data, Use, import_object}
 use Rattle.implib_link.specs.Flavors.Program.{Ending, FlavorInput, IsCode, IsMadeFor, all_members, ask_in, exports_chosen, symbol_in, symbols_listed, thunks_of, IsProgramOf, dll_names_in}
 use Rattle.implib_link.specs.Gnu.Program.{has_tables}
-use Rattle.implib_link.specs.Stub.{CanJump, JumpsThrough}
+use Rattle.implib_link.specs.Stub.{CanJump}
 use Rattle.implib_link.proofs.Gnu.Blocks.{table_sum}
 use Rattle.implib_link.proofs.Flavors.Block.{AreEven, Suits, behind_descriptor, ends_in, ends_of_askings, even_aligned, even_in, even_wide, objects_of, symbols_of, use_for}
 use Rattle.implib_link.proofs.Flavors.Blocks.{AllSuit, FlavorBlock, addresses_one, all_objects, ends_one, rest_of, thunks_in}
@@ -35,7 +35,7 @@ use Rattle.implib_link.proofs.Flavors.Inputs.{block_in, inputs_symbols}
 use Rattle.implib_link.proofs.Flavors.Program.{even, placed_among, program_links, suit, thunks_are}
 use Rattle.implib_link.proofs.Gnu.Loaded.{times_next, times_none}
 use Rattle.implib_link.proofs.Search.Lists.{among_at, among_filter}
-use Rattle.implib_link.proofs.Gnu.Stubs.{behind_exports, code_bytes, code_defined, code_here, code_relocations, export_placed, first_sum, jump_by, later_sum, target_is, thunk_below, wide_thunk}
+use Rattle.implib_link.proofs.Gnu.Stubs.{behind_exports, code_bytes, code_defined, code_here, code_relocations, export_placed, first_sum, later_sum, target_is, wide_thunk}
 use Rattle.implib_link.proofs.Flavors.Expanded.{AreWide, ends_of_asking, ends_of_descriptor, placed-asking, placed-descriptor, placed-null_thunk, placed_asking, wide_asking, wide_descriptor}
 use Rattle.implib.specs.LibraryName.{NamesOfDll}
 
@@ -220,39 +220,3 @@ pub name_once : (machine : MachineType) (ending : Ending) (bases : Bases) (input
 name_once machine ending bases inputs objects i j p e made program input chosen is =
     all_among (IsDefinedOnce (placed_from bases objects)) (symbol_in p.flavor e) (symbols_listed (all_members machine inputs)) (name_listed machine inputs i j p e made input chosen is)
     (program_links machine ending bases inputs objects made program).listed
-
-pub stubs_jump : (machine : MachineType) (ending : Ending) (image_base : ℕ) (bases : Bases) (inputs : List FlavorInput) (objects : List Object) (i j : ℕ) (p : FlavorInput) (e : ExportView) →
-    AllByRecursion (IsMadeFor machine) inputs → IsProgramOf machine ending bases inputs objects → CanJump machine image_base bases → slice_get inputs i ≡ Some p →
-    slice_get (exports_chosen p) j ≡ Some e → IsCode p.flavor e →
-    JumpsThrough machine image_base (placed_from bases objects) (symbol_in p.flavor e) (bases.addresses + thunk_width machine * thunks_of i inputs + thunk_width machine * j)
-stubs_jump machine ending image_base bases inputs objects i j p e made program can input chosen is =
-    let linked : List Placed = placed_from bases objects in
-    let image : List Range = image_of machine bases linked in
-    let all = program_links machine ending bases inputs objects made program in
-    let one = all.imports i p input in
-    let table : ℕ = bases.addresses + thunk_width machine * thunks_of i inputs in
-    let found = all_placed machine ending (rest_of ending) (map block_in inputs) bases (suit machine ending bases inputs objects made program) (even machine ending bases inputs objects made program) i j (block_in p) e (slice_get-map block_in inputs i ∙ ap (option_map block_in) input) chosen in
-    let own : Placed = placed_in machine p.flavor (dll_names_in p) found.0 e in
-    let kept = placed_among machine ending bases inputs objects made program own found.1.0 in
-    let entry_is : found.0.addresses ≡ table + thunk_width machine * j =
-    found.1.1 ∙ ap (λ n. bases.addresses + thunk_width machine * n + thunk_width machine * j) (thunks_are i inputs) in
-    let code = code_in machine p.flavor (dll_names_in p) linked found.0 e (table + thunk_width machine * j) is entry_is in
-    let small : table + thunk_width machine * j < 2 ^ 31 =
-    thunk_below image (starts machine bases objects program.admissible) (ends machine bases objects program.admissible) (thunk_width machine) (wide_thunk machine)
-    (map (ask_in p.flavor machine) (exports_chosen p)) table j (ask_in p.flavor machine e)
-    (subst (λ n. TableAt image (thunk_width machine) n (map (ask_in p.flavor machine) (exports_chosen p))) one.table_located one.loads.plain.address_table)
-    (slice_get-map (ask_in p.flavor machine) (exports_chosen p) j ∙ ap (option_map (ask_in p.flavor machine)) chosen) in
-    record {
-      once = name_once machine ending bases inputs objects i j p e made program input chosen is;
-      from = own;
-      held = among_contains own linked (among_filter (λ (q : Placed). has_tables q.object) own linked kept);
-      symbol = record { name = symbol_in p.flavor e; value = 0; section = 1; kind = 0; class = class_external };
-      defined = among_contains _ _ code.defined;
-      named = refl;
-      shared = refl;
-      first = refl;
-      begins = refl;
-      code = section text_name (cnt_code + align_4bytes + mem_execute_read) (stub_bytes machine) (stub_relocations machine 2);
-      here = code.here;
-      jumps = λ place near. jump_by machine image_base bases (thunks_of i inputs) j place linked own can near small code.target;
-    }

@@ -135,5 +135,3 @@ module _ (machine : MachineType) (linked : List Placed) (image : List Range) (b 
     hint_names = (parts HintNames located.hint_names).1;
     dll_names = (parts DllNames located.dll_names).1;
   }
-
--- The ends after members.

@@ -20,14 +20,10 @@ use Rattle.implib_link.proofs.Search.Search.{passing_chosen}
 use Rattle.implib.specs.LibraryName.{NamesOfDll, names_for}
 use Rattle.implib.specs.declared.flavor.Flavor.TheVariants.{Gnu}
 
--- What is linked of libraries.
-
 -- Elements of lists in another order.
 
 pub among_moved : {X : Type 0} (x : X) (xs ys : List X) → IsPermutation xs ys → Among x xs → Among x ys
 among_moved x xs ys moved held = contains_among x ys (Contains-permutation xs ys x moved (among_contains x xs held))
-
--- Libraries in another order are an archive, and the same members are linked of them.
 
 -- The exports that are chosen are those that are wanted, in their order.
 

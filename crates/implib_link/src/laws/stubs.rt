@@ -16,26 +16,14 @@ ghost use Rattle.implib_link.specs.Gnu.Moves.{AreInMemory};
 ghost use Rattle.implib_link.specs.Gnu.Operands.{HasBranch};
 ghost use Rattle.implib_link.specs.Gnu.Rebased.{StubArrives};
 ghost use Rattle.implib_link.specs.InMemory.{OfStubs, OfThunks, WhereLoaded};
-ghost use Rattle.implib_link.specs.Stub.{CanJump, JumpsThrough};
 ghost use Rattle.std.specs.List.{AllByRecursion, Contains};
 ghost use Rattle.std.specs.Prelude.{◌≡◌, ◌+◌, ◌*◌, ◌++◌, ℕ, List, Some, slice_get};
 
-/// The stub of each chosen export of code jumps through the export's own entry, wherever its code
-/// is placed; for Microsoft's linker it is that of the short import's expansion. Whatever placed
-/// code defines the export's name in a program is that stub (`names`).
-pub fn stubs_jump()
-    ensures jumps { (machine : MachineType) (ending : Ending) (image_base : ℕ) (bases : Bases)
-        (inputs : List FlavorInput) (objects : List Object)
-        (i j : ℕ) (p : FlavorInput) (e : ExportView) →
-        AllByRecursion (IsMadeFor machine) inputs →
-        IsProgramOf machine ending bases inputs objects →
-        CanJump machine image_base bases →
-        slice_get inputs i ≡ Some p →
-        slice_get (exports_chosen p) j ≡ Some e →
-        IsCode p.flavor e →
-        JumpsThrough machine image_base (placed_from bases objects) (symbol_in p.flavor e)
-        (bases.addresses + thunk_width machine * thunks_of i inputs + thunk_width machine * j) }
-    ensures names { (machine : MachineType) (ending : Ending) (bases : Bases)
+/// Whatever placed code defines the name of a chosen export of code in a program is the stub of the
+/// export's own entry; for Microsoft's linker it is that of the short import's expansion. So by
+/// `stubs_of_any_tables_jump` it jumps through that entry, wherever it is placed.
+pub fn names_are_stubs()
+    ensures { (machine : MachineType) (ending : Ending) (bases : Bases)
         (inputs : List FlavorInput) (objects : List Object) (i j : ℕ) (p : FlavorInput)
         (e : ExportView) (d : PlacedCode)
         (t : ObjectSymbol) →

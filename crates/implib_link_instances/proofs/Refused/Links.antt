@@ -3,16 +3,12 @@ use Rattle.std.proofs.Common.{List, None, Some, [], ap, arith, codes, inl, inr, 
 use Rattle.std.specs.Prelude.{bytes_eq, slice_get, slice_index}
 use Rattle.std.specs.List.{Contains}
 use Rattle.implib.specs.declared.flavor.Flavor.TheVariants.{Gnu}
-use Rattle.implib.specs.declared.machine.MachineType.TheVariants.{AMD64, I386}
-use Rattle.implib.specs.Formats.Constants.{class_external, class_static}
-use Rattle.implib.specs.Formats.Object.{ASymbol, ObjectSection, ObjectSymbol}
+use Rattle.implib.specs.declared.machine.MachineType.TheVariants.{AMD64}
+use Rattle.implib.specs.Formats.Constants.{class_external}
 use Rattle.implib.specs.Formats.ShortImport.{ShortImport}
-use Rattle.implib.specs.Link.LinkedMembers.{LinkInput, chosen_exports}
 use Rattle.implib.specs.Link.Load.{NumberAt}
-use Rattle.implib.specs.Link.Placement.{Placed}
 use Rattle.implib.specs.Link.Resolution.{SymbolDefinition}
-use Rattle.implib.specs.Members.Gnu.{section}
-use Rattle.implib.specs.Members.ImportTables.{table_flags, zeros}
+use Rattle.implib.specs.Members.ImportTables.{zeros}
 use Rattle.implib.specs.Members.MemberSpec.{MemberView}
 use Rattle.implib.proofs.Link.LinkedMembers.{among_contains}
 use Rattle.implib.proofs.Link.Loading.{number_once}
@@ -20,20 +16,17 @@ use Rattle.implib_link.specs.Directory.{DirectoryAt}
 use Rattle.implib_link.specs.Flavors.Expansion.{expanded_in}
 use Rattle.implib_link.specs.Flavors.LldImports.{grouped}
 use Rattle.implib_link.specs.Flavors.Program.{FlavorInput, OfMember, SymbolsAt, SymbolsGet, exports_chosen, gnu_input, members_linked, objects_taken, own_names}
-use Rattle.implib_link.specs.Search.Archives.{archive_of}
 use Rattle.implib_link.specs.Search.BothFlavors.{IsImported, archive_of_both}
 use Rattle.implib_link.specs.Search.Closed.{listed_in}
 use Rattle.implib_link.specs.Search.MsvcArchives.{IsWeakTaken}
-use Rattle.implib_link.specs.Stub.{code_relocated, jump_reads}
-use Rattle.implib_link.proofs.Search.Lists.{any_among, contains_among}
+use Rattle.implib_link.proofs.Search.Lists.{any_among}
 use Rattle.implib_link_instances.proofs.Refused.Code.{absent, nothing_there}
-use Rattle.implib_link_instances.proofs.Worked.Calls.{one_of}
-use Rattle.implib_link_instances.proofs.Worked.Lemmas.{differ, no_definition, none_at, none_in, none_passes, number, value}
+use Rattle.implib_link_instances.proofs.Worked.Lemmas.{differ, no_definition, none_at, none_in, none_passes, number}
 use Rattle.implib_link_instances.proofs.Worked.LldPrograms.{lld_opened}
 use Rattle.implib_link_instances.proofs.Worked.Opened.{searched}
-use Rattle.implib_link_instances.specs.Refused.Links.{RefusedFlavorTextLinks, RefusedFlavorTextsLink, RefusedInputImports, RefusedIsImportedBy, RefusedIsImported, RefusedIsTaken, RefusedJumpsThrough, RefusedLinksClosed, RefusedLldLinks, RefusedProgramLinks, asking_entry, f_in, f_input, f_library, f_short, for_gnu, jump, later_short, listing, nul_within, unchosen, with_symbol}
+use Rattle.implib_link_instances.specs.Refused.Links.{RefusedFlavorTextLinks, RefusedFlavorTextsLink, RefusedInputImports, RefusedIsImportedBy, RefusedIsImported, RefusedIsTaken, RefusedLinksClosed, RefusedLldLinks, RefusedProgramLinks, asking_entry, f_input, f_library, f_short, for_gnu, later_short, listing, nul_within, unchosen}
 use Rattle.implib_link_instances.specs.Refused.Tables.{zero_image}
-use Rattle.implib_link_instances.specs.Worked.Programs.{code_object, symbol_of_class, touching_8}
+use Rattle.implib_link_instances.specs.Worked.Programs.{symbol_of_class, touching_8}
 use Rattle.implib_link_instances.specs.Worked.Sources.{source_in, zed_meant, zed_text}
 
 nowhere : (address : ℕ) → None ≡ Some address → ⊥
@@ -161,37 +154,4 @@ unfolding DirectoryAt
 refused_flavor_texts_link = record {
   among = λ x. nothing_there (zeros 20) 4 (omega arith) x.among.directory;
   imports = λ x. no_definition _ (x.imports 0 (source_in Gnu AMD64 zed_text (zed_meant AMD64) (0 ∷ [])) refl).imports.top;
-}
-
--- the one object and its one symbol
-abbrev first_of : List Placed → Placed
-first_of [] = record { object = code_object []; section_addresses = [] }
-first_of (p ∷ linked) = p
-
-only_from : (s : ObjectSymbol) (sections : List ObjectSection) (from : Placed) → Contains (with_symbol s sections) from → from ≡ first_of (with_symbol s sections)
-only_from s sections from held = one_of from (first_of (with_symbol s sections)) (contains_among from (with_symbol s sections) held)
-
-only_symbol : (s : ObjectSymbol) (sections : List ObjectSection) (from : Placed) (symbol : ObjectSymbol) → Contains (with_symbol s sections) from → Contains from.object.entries (ASymbol symbol) → symbol ≡ s
-only_symbol s sections from symbol held defined =
-    let entry : ASymbol symbol ≡ ASymbol s =
-    one_of (ASymbol symbol) (ASymbol s) (contains_among (ASymbol symbol) (ASymbol s ∷ []) (subst (λ (p : Placed). Contains p.object.entries (ASymbol symbol)) (only_from s sections from held) defined)) in
-    cc
-
-pub refused_jumps_through : RefusedJumpsThrough
-refused_jumps_through = record {
-  once = λ x. no_definition _ x.once.1;
-  held = λ x. none_in x.from x.held;
-  defined = λ x.
-      let empty : Placed = record { object = code_object []; section_addresses = [] } in
-      none_in (ASymbol x.symbol) (subst (λ (p : Placed). Contains p.object.entries (ASymbol x.symbol)) (one_of x.from empty (contains_among x.from (empty ∷ []) x.held)) x.defined);
-  named = λ x. differ 102 103 (ap first_letter (sym (ap (λ (s : ObjectSymbol). s.name) (only_symbol (f_in 1) jump x.from x.symbol x.held x.defined)) ∙ x.named)) (omega arith);
-  shared = λ x. differ 2 3 (sym (sym (ap (λ (s : ObjectSymbol). s.class) (only_symbol (symbol_of_class (codes "f") 1 class_static) jump x.from x.symbol x.held x.defined)) ∙ x.shared)) (omega arith);
-  first = λ x. differ 1 2 (sym (sym (ap (λ (s : ObjectSymbol). s.section) (only_symbol (f_in 2) jump x.from x.symbol x.held x.defined)) ∙ x.first)) (omega arith);
-  begins = λ x. differ 0 8 (sym (sym (ap (λ (s : ObjectSymbol). s.value) (only_symbol (record (f_in 1) { value = 8 }) jump x.from x.symbol x.held x.defined)) ∙ x.begins)) (omega arith);
-  here = λ x. let none : None ≡ Some x.code = subst (λ (p : Placed). slice_get p.object.sections 0 ≡ Some x.code) (only_from (f_in 1) [] x.from x.held) x.here in cc;
-  jumps = λ x.
-      let is : slice_get jump 0 ≡ Some x.code = subst (λ (p : Placed). slice_get p.object.sections 0 ≡ Some x.code) (only_from (f_in 1) jump x.from x.held) x.here in
-      let code : section (codes ".text") table_flags (0xFF ∷ 0x25 ∷ 0 ∷ 0 ∷ 0 ∷ 0 ∷ []) [] ≡ x.code = cc in
-      let reads : Some 0 ≡ Some 0x60 = subst (λ (c : ObjectSection). jump_reads I386 0x1000 (code_relocated I386 0 (with_symbol (f_in 1) jump) x.from 0x1000 c.relocations c.bytes) ≡ Some 0x60) (sym code) (x.jumps 0x1000 (omega arith)) in
-      differ 0 0x60 (value 0 0x60 reads) (omega arith);
 }

@@ -79,8 +79,6 @@ none_at i x is = cc
 pub no_definition : (d : SymbolDefinition) → [] ≡ d ∷ [] → ⊥
 no_definition d is = cc
 
--- Code.
-
 -- Machines. A lemma whose last clause is of `machine` computes at each machine that is left.
 
 abbrev pub IsWide : MachineType → Type 0

@@ -2,9 +2,9 @@
 -- links of nothing.
 use Rattle.std.specs.Prelude.{List, [], codes, ℕ, ◌++◌, ◌∷◌}
 use Rattle.implib.specs.declared.flavor.Flavor.TheVariants.{Gnu, Msvc}
-use Rattle.implib.specs.declared.machine.MachineType.TheVariants.{AMD64, I386}
-use Rattle.implib.specs.Formats.Constants.{amd64_rel32, class_external, class_static}
-use Rattle.implib.specs.Formats.Object.{ASymbol, Object, ObjectSection, ObjectSymbol}
+use Rattle.implib.specs.declared.machine.MachineType.TheVariants.{AMD64}
+use Rattle.implib.specs.Formats.Constants.{amd64_rel32, class_external}
+use Rattle.implib.specs.Formats.Object.{ASymbol, Object}
 use Rattle.implib.specs.Formats.ShortImport.{ShortImport}
 use Rattle.implib.specs.Link.LinkedMembers.{LinkInput}
 use Rattle.implib.specs.Link.Placement.{Placed, Unplaced}
@@ -19,7 +19,6 @@ use Rattle.implib_link.specs.Flavors.Program.{OfMember, ProgramLinks, gnu_input}
 use Rattle.implib_link.specs.Flavors.Texts.{FlavorTextLinks, FlavorTextsLink}
 use Rattle.implib_link.specs.Search.Archives.{Library}
 use Rattle.implib_link.specs.Search.BothFlavors.{FlavorLibrary, IsImported, LinksClosed}
-use Rattle.implib_link.specs.Stub.{JumpsThrough}
 use Rattle.implib_link_instances.specs.Refused.Tables.{asking, zero_image}
 use Rattle.implib_link_instances.specs.Worked.Search.{library_of}
 use Rattle.implib_link_instances.specs.Worked.Programs.{code_object, symbol_of_class, touching_8}
@@ -172,30 +171,3 @@ pub record RefusedFlavorTextsLink : Type 0 where
   pub among : FlavorTextsLink AMD64 OfLinker touching_8 [] [] → ⊥
   pub imports : FlavorTextsLink AMD64 OfLinker touching_8
       (source_in Gnu AMD64 zed_text (zed_meant AMD64) (0 ∷ []) ∷ []) [] → ⊥
-
--- an object with one symbol and these sections; I386's `jmp [0]`; and `f`
-abbrev pub with_symbol : ObjectSymbol → List ObjectSection → List Placed
-with_symbol s sections = record {
-  object = record (code_object (s ∷ [])) { sections = sections };
-  section_addresses = Unplaced ∷ [];
-} ∷ []
-
-abbrev pub jump : List ObjectSection
-jump = section (codes ".text") table_flags (0xFF ∷ 0x25 ∷ 0 ∷ 0 ∷ 0 ∷ 0 ∷ []) [] ∷ []
-
-abbrev pub f_in : ℕ → ObjectSymbol
-f_in number = symbol_of_class (codes "f") number class_external
-
-pub record RefusedJumpsThrough : Type 0 where
-  pub once : JumpsThrough I386 0 [] (codes "f") 0x60 → ⊥
-  pub held : JumpsThrough I386 0 [] (codes "f") 0x60 → ⊥
-  pub defined : JumpsThrough I386 0
-      (record { object = code_object []; section_addresses = [] } ∷ []) (codes "f") 0x60 → ⊥
-  pub named : JumpsThrough I386 0 (with_symbol (f_in 1) jump) (codes "g") 0x60 → ⊥
-  pub shared : JumpsThrough I386 0
-      (with_symbol (symbol_of_class (codes "f") 1 class_static) jump) (codes "f") 0x60 → ⊥
-  pub first : JumpsThrough I386 0 (with_symbol (f_in 2) jump) (codes "f") 0x60 → ⊥
-  pub begins : JumpsThrough I386 0 (with_symbol (record (f_in 1) { value = 8 }) jump) (codes "f")
-      0x60 → ⊥
-  pub here : JumpsThrough I386 0 (with_symbol (f_in 1) []) (codes "f") 0x60 → ⊥
-  pub jumps : JumpsThrough I386 0 (with_symbol (f_in 1) jump) (codes "f") 0x60 → ⊥

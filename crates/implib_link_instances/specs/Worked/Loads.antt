@@ -11,7 +11,7 @@ use Rattle.implib.specs.Members.ImportTables.{thunk_width, zeros}
 use Rattle.implib_link.specs.Directory.{WalkFinds, imported}
 use Rattle.implib_link.specs.Gnu.Loaded.{Writes}
 use Rattle.implib_link.specs.Flavors.Program.{IsProgram, LinksAmong, gnu_input}
-use Rattle.implib_link.specs.Stub.{CanJump, JumpsThrough}
+use Rattle.implib_link.specs.Stub.{CanJump}
 use Rattle.implib_link_instances.specs.Worked.Programs.{both_inputs, program_image, program_objects}
 use Rattle.implib_link_instances.specs.Worked.Programs.{program_placed, symbol_on, touching_4}
 use Rattle.implib_link_instances.specs.Worked.Programs.{touching_8}
@@ -67,25 +67,10 @@ pub record WorkedLoad (machine : MachineType) (bases : Bases) (written : List Ra
       (map (block_of_flavor machine) (map gnu_input (both_inputs machine))))
       (gives_by_hand machine) written
 
--- The stubs of `open` and of `queue` jump through their entries.
-pub record WorkedCall (machine : MachineType) (image_base : ℕ) (bases : Bases)
-    (open_entry queue_entry : ℕ) : Type 0 where
-  pub can : CanJump machine image_base bases
-  pub open_jumps : JumpsThrough machine image_base (program_placed machine bases)
-      (symbol_on machine (codes "open"))
-      open_entry
-  pub queue_jumps : JumpsThrough machine image_base (program_placed machine bases)
-      (symbol_on machine (codes "queue"))
-      queue_entry
-
 -- on two machines
 pub record WorkedLoads : Type 0 where
   pub amd64 : WorkedLoad AMD64 touching_8 (written_8 AMD64)
   pub i386 : WorkedLoad I386 touching_4 (written_4 I386)
-
-pub record WorkedCalls : Type 0 where
-  pub amd64 : WorkedCall AMD64 0x1_4000_0000 touching_8 128 160
-  pub i386 : WorkedCall I386 0x40_0000 touching_4 96 112
 
 -- the bases of the programs packed from 0x1001 on, for thunks of 8 and of 4 bytes: the descriptors
 -- from the first multiple of 8 on, the others after one another

@@ -2,7 +2,7 @@
 
 ghost use Rattle.implib_link_instances.specs.Worked.Expansion.{WorkedExpansion};
 ghost use Rattle.implib_link_instances.specs.Worked.Flavors.{WorkedFlavors};
-ghost use Rattle.implib_link_instances.specs.Worked.Loads.{WorkedCalls, WorkedLoads};
+ghost use Rattle.implib_link_instances.specs.Worked.Loads.{WorkedLoads};
 ghost use Rattle.implib_link_instances.specs.Worked.Loads.{WorkedPackings};
 ghost use Rattle.implib_link_instances.specs.Worked.Programs.{WorkedPrograms};
 ghost use Rattle.implib_link_instances.specs.Worked.Sources.{WorkedSources};
@@ -26,7 +26,6 @@ pub fn worked_programs()
     ensures worked_expansion { WorkedExpansion }
     ensures worked_flavors { WorkedFlavors }
     ensures worked_loads { WorkedLoads }
-    ensures worked_calls { WorkedCalls }
     ensures worked_packings { WorkedPackings }
     ensures worked_sources { WorkedSources }
 {}

@@ -23,7 +23,7 @@ ghost use Rattle.implib_link_instances.specs.Refused.Links.{RefusedFlavorTextLin
 ghost use Rattle.implib_link_instances.specs.Refused.Links.{RefusedFlavorTextsLink};
 ghost use Rattle.implib_link_instances.specs.Refused.Links.{RefusedInputImports};
 ghost use Rattle.implib_link_instances.specs.Refused.Links.{RefusedIsImportedBy, RefusedIsImported};
-ghost use Rattle.implib_link_instances.specs.Refused.Links.{RefusedIsTaken, RefusedJumpsThrough};
+ghost use Rattle.implib_link_instances.specs.Refused.Links.{RefusedIsTaken};
 ghost use Rattle.implib_link_instances.specs.Refused.Links.{RefusedLinksClosed, RefusedLldLinks};
 ghost use Rattle.implib_link_instances.specs.Refused.Links.{RefusedProgramLinks};
 ghost use Rattle.implib_link_instances.specs.Refused.Searches.{RefusedIsWeakData};
@@ -88,7 +88,6 @@ pub fn refused_links()
     ensures refused_is_imported { RefusedIsImported }
     ensures refused_flavor_text_links { RefusedFlavorTextLinks }
     ensures refused_flavor_texts_link { RefusedFlavorTextsLink }
-    ensures refused_jumps_through { RefusedJumpsThrough }
 {}
 
 /// No members are what a search finds.

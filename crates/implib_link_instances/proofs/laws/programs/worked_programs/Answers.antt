@@ -1,6 +1,6 @@
 use Rattle.implib_link_instances.proofs.Worked.Expansion.{worked_expansion}
 use Rattle.implib_link_instances.proofs.Worked.Flavors.{worked_flavors}
-use Rattle.implib_link_instances.proofs.Worked.Loads.{worked_calls, worked_loads}
+use Rattle.implib_link_instances.proofs.Worked.Loads.{worked_loads}
 use Rattle.implib_link_instances.proofs.Worked.Packed.{worked_packings}
 use Rattle.implib_link_instances.proofs.Worked.Programs.{worked_programs}
 use Rattle.implib_link_instances.proofs.Worked.Sources.{worked_sources}
@@ -12,7 +12,6 @@ returns c = record {
   worked_expansion = worked_expansion;
   worked_flavors = worked_flavors;
   worked_loads = worked_loads;
-  worked_calls = worked_calls;
   worked_packings = worked_packings;
   worked_sources = worked_sources;
 }
