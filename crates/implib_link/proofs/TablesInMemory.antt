@@ -25,7 +25,6 @@ use Rattle.implib_link.proofs.Flavors.LldThunks.{bare_symbol, thunk_arrives, thu
 use Rattle.implib_link.proofs.Gnu.CallReads.{CanReach}
 use Rattle.implib_link.proofs.Gnu.FieldsInMemory.{Rests, linked_rests, part_there, rests, settled_linked}
 use Rattle.implib_link.proofs.Gnu.CallsByName.{direct_arrives}
-use Rattle.implib_link.proofs.Gnu.UsualCode.{AreReached, usual_reached}
 use Rattle.implib_link.proofs.Gnu.Keeps.{bytes_kept, keeps_written, memory_can_be_read, memory_read, memory_reads}
 use Rattle.implib_link.proofs.Gnu.Memory.{Covers, byte_first, loaded_below, written_covers}
 use Rattle.implib_link.proofs.Gnu.Operands.{all_lead, all_lead_to, branch_reaches, branch_stays, where_defined}
@@ -44,12 +43,6 @@ entry_reached I386 image_base address j can = can
 entry_reached ARMNT image_base address j can = can
 entry_reached AMD64 image_base address j can = can
 entry_reached ARM64 image_base address j can = (can.0, eights address j can.1)
-
-pub not_armnt : (machine : MachineType) (image_base address : ℕ) → CanReadFrom machine image_base address → machine ≡ ARMNT → ⊥
-not_armnt I386 image_base address can is = cc
-not_armnt ARMNT image_base address can is = absurd can
-not_armnt AMD64 image_base address can is = cc
-not_armnt ARM64 image_base address can is = cc
 
 -- What is known of one entry of loaded tables.
 pub record EntryIn (machine : MachineType) (t : Tables) (written memory : List Range) (name given : List ℕ) (entry : ℕ) : Type 0 where
@@ -147,12 +140,6 @@ module _ (machine : MachineType) (image_base : ℕ) (t : Tables) (codes : List L
     pub tables_keep_in_memory : AreKept machine codes (written ++ memory)
     tables_keep_in_memory c offset count held none =
         part_there machine image_base t.image t.linked codes targets memory resting written covering c (contains_among c codes held) offset count none
-
-    -- what the usual instructions against an entry's symbol do
-    pub entry_reached_by : (name dll : List ℕ) (ask : Ask) (address j : ℕ) → HasEntry t name dll ask address j → CanReadFrom machine image_base address →
-        AreReached machine image_base codes (written ++ memory) name (gives dll ask)
-    entry_reached_by name dll ask address j own can =
-        usual_reached machine image_base t.linked codes (written ++ memory) name name (gives dll ask) (not_armnt machine image_base address can) (entry_leads name dll ask address j own can) tables_keep_in_memory
 
     -- a stub of the entry
     pub stub_in_memory : (i j : ℕ) (x : Table) (e : TableEntry) (name : List ℕ) → slice_get t.tables i ≡ Some x → slice_get x.entries j ≡ Some e → e.symbol ≡ Some name → CanReadFrom machine image_base x.address →
@@ -273,12 +260,12 @@ module _ (machine : MachineType) (image_base : ℕ) (t : Tables) (codes : List L
       AllLeadTo machine image_base t.linked codes (written ++ (t.image ++ ranges_of_codes codes)) alias name (gives x.dll e.ask)
   other_leads n written wide reads i j x e name alias is asked symbol can stands = called_leads n written wide reads i j x e name alias is asked symbol can stands.tables
 
-  -- a loader that reads the image alone, and knows nothing of code, leaves calls that arrive
-  pub calls_beside : (n : ℕ) (written : List Range) → ((dll : List ℕ) (ask : Ask) → length (gives dll ask) ≡ thunk_width machine) → ReadsAndWrites t.image (thunk_width machine) gives n t.directory written →
+  -- a loader that reads the image alone, and knows nothing of code, leaves fields that lead
+  pub leads_beside : (n : ℕ) (written : List Range) → ((dll : List ℕ) (ask : Ask) → length (gives dll ask) ≡ thunk_width machine) → ReadsAndWrites t.image (thunk_width machine) gives n t.directory written →
       (name dll : List ℕ) (ask : Ask) (address j : ℕ) → HasEntry t name dll ask address j → CanReadFrom machine image_base address →
-      AreReached machine image_base codes (written ++ (t.image ++ ranges_of_codes codes)) name (gives dll ask)
-  calls_beside n written wide reads name dll ask address j own can =
+      AllLead machine image_base t.linked codes (written ++ (t.image ++ ranges_of_codes codes)) name (gives dll ask)
+  leads_beside n written wide reads name dll ask address j own can =
       let memory : List Range = t.image ++ ranges_of_codes codes in
-      entry_reached_by machine image_base t codes targets memory gives tables steady (inl (beside, refl)) (length t.tables) written wide
+      entry_leads machine image_base t codes targets memory gives tables steady (inl (beside, refl)) (length t.tables) written wide
       (written_read machine image_base t codes targets memory gives tables steady (inl (beside, refl)) written
       (directory_read t.image (thunk_width machine) gives n t.directory (map imported_by_table t.tables) written tables.directory reads).1) name dll ask address j own can

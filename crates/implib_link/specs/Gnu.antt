@@ -11,7 +11,6 @@ pub mod Rebased
 pub mod Moves
 pub mod Stored
 pub mod Pointers
-pub mod Pages
 pub mod Writing
 pub mod Choices
 pub mod Aliases

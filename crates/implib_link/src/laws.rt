@@ -7,7 +7,6 @@ pub mod choices;
 pub mod command_lines;
 pub mod image;
 pub mod lld;
-pub mod operands;
 pub mod other_names;
 pub mod packed;
 pub mod parts;

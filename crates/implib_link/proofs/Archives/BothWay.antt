@@ -1,5 +1,5 @@
 -- The whole way for libraries of both flavours, by the laws on it.
-use Rattle.std.proofs.Common.{◌+◌, ◌*◌, Bool, List, ℕ, length, map, ◌∙◌}
+use Rattle.std.proofs.Common.{◌+◌, ◌*◌, Bool, List, ℕ, map, ◌∙◌}
 use Rattle.std.specs.List.{AllByRecursion}
 use Rattle.implib.specs.declared.machine.MachineType.{MachineType}
 use Rattle.implib.specs.Formats.Object.{Object}
@@ -22,7 +22,7 @@ use Rattle.implib_link.proofs.Search.BothArranged.{both_made}
 use Rattle.implib_link.proofs.Search.BothClosed.{closed_links_of_both}
 use Rattle.implib_link.proofs.Search.BothGiven.{both_given_closes}
 use Rattle.implib_link.proofs.Tables.{tables_read}
-use Rattle.implib_link.proofs.TablesInMemory.{calls_beside}
+use Rattle.implib_link.proofs.TablesInMemory.{leads_beside}
 use Rattle.implib_link.proofs.TablesOfPrograms.{can_read, program_count, program_entry, program_tables}
 use Rattle.implib_link.specs.Tables.{AreTables, Tables, block_of_flavor, tables_at}
 use Rattle.implib_link.specs.Flavors.Expansion.{expanded_in}
@@ -43,10 +43,9 @@ both_arrive machine ending libraries own taken arranged bases objects archive gi
     record {
       links = links;
       ends = λ gives n written wide reads. (tables_read machine own_tables gives n written tables wide reads).0 ∙ program_count machine bases inputs objects;
-      calls = λ image_base codes targets gives n written i j p e c offset can beside wide reads input chosen held has.
-          (calls_beside machine image_base own_tables codes targets gives tables (program_tables_none machine ending bases inputs objects made links.program.held.ended) beside n written wide reads (imp_symbol (symbol_in p.flavor e)) (dll_of p)
-          (ask_in p.flavor machine e) (bases.addresses + thunk_width machine * thunks_of i inputs) j (program_entry machine bases inputs objects i j p e input chosen) (can_read machine image_base bases (thunks_of i inputs) can)).calls
-          c offset held has;
+      leads = λ image_base codes targets gives n written i j p e can beside wide reads input chosen.
+          leads_beside machine image_base own_tables codes targets gives tables (program_tables_none machine ending bases inputs objects made links.program.held.ended) beside n written wide reads (imp_symbol (symbol_in p.flavor e)) (dll_of p)
+          (ask_in p.flavor machine e) (bases.addresses + thunk_width machine * thunks_of i inputs) j (program_entry machine bases inputs objects i j p e input chosen) (can_read machine image_base bases (thunks_of i inputs) can);
     }
 
 pub bytes_lead_to_both : (kind : Kind) (linker : LinkerMember) (machine : MachineType) (libraries : List FlavorLibrary) (own : List Object) → HaveArchive kind linker (archive_of_both libraries) →

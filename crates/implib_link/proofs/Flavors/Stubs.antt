@@ -1,41 +1,35 @@
 -- Stubs of both flavours jump through their own entries.
-use Rattle.std.proofs.Common.{◌≡◌, ℕ, zero, suc, ◌+◌, ◌*◌, ◌^◌, ◌<◌, Bool, true, false, List, [], ◌∷◌, length, map, Some, refl, ap, sym, ◌∙◌, subst, inl, inr, if◌then◌else◌, arith}
-use Rattle.std.specs.Prelude.{option_map, slice_get}
+use Rattle.std.proofs.Common.{◌≡◌, ℕ, zero, suc, ◌+◌, ◌*◌, Bool, true, false, List, [], ◌∷◌, length, map, Some, refl, ap, sym, ◌∙◌, subst, inl, inr, if◌then◌else◌, arith}
+use Rattle.std.specs.Prelude.{slice_get}
 use Rattle.std.specs.List.{AllByRecursion, flat_map}
 use Rattle.std.specs.Option.{option_and_then}
-use Rattle.std.proofs.lemmas.Option.{slice_get-map}
 use Rattle.implib.specs.declared.machine.MachineType.{MachineType}
 use Rattle.implib.specs.declared.flavor.Flavor.{Flavor}
 use Rattle.implib.specs.declared.flavor.Flavor.TheVariants.{Gnu, Msvc}
 use Rattle.implib.specs.Formats.Constants.{align_4bytes, class_external, cnt_code, mem_execute_read}
 use Rattle.implib.specs.Definition.{ExportView}
 use Rattle.implib.specs.Members.Gnu.{archive_symbols, relocations_of_stub, section, stub_bytes, stub_relocations, text_name}
-use Rattle.implib.specs.Link.Image.{Range, image_of}
 use Rattle.implib.specs.Import.{Ask, Name, Ordinal}
 use Rattle.implib.specs.Members.ImportTables.{thunk_width}
 use Rattle.implib.specs.Link.Linked.{IsDefinedOnce}
-use Rattle.implib.specs.Link.Load.{TableAt}
 use Rattle.implib.specs.Members.Msvc.{short_import_symbols, short_import_symbol}
 use Rattle.implib.specs.Formats.Object.{ASymbol, Object}
 use Rattle.implib.specs.Link.Placement.{Bases, Placed, placed_from}
 use Rattle.implib.specs.Link.Resolution.{symbol_address, target_address}
 use Rattle.implib.proofs.Link.Linked.{address_found}
-use Rattle.implib.proofs.Link.LinkedBlocks.{ends, starts}
-use Rattle.implib.proofs.Link.LinkedMembers.{among_contains, among_map}
+use Rattle.implib.proofs.Link.LinkedMembers.{among_map}
 use Rattle.implib.proofs.Link.Placement.{AreAligned, after_head, aligned_head, ends_of_head, placed-head, placed_export}
 use Rattle.implib.proofs.Link.Ranges.{Among, all_among, among_first, among_front, among_later, among_flat}
 use Rattle.implib_link.specs.Flavors.Expansion.{Code, Constant, Data, Use, import_object}
-use Rattle.implib_link.specs.Flavors.Program.{Ending, FlavorInput, IsCode, IsMadeFor, all_members, ask_in, exports_chosen, symbol_in, symbols_listed, thunks_of, IsProgramOf, dll_names_in}
-use Rattle.implib_link.specs.Gnu.Program.{has_tables}
-use Rattle.implib_link.specs.Stub.{CanJump}
+use Rattle.implib_link.specs.Flavors.Program.{Ending, FlavorInput, IsCode, IsMadeFor, all_members, ask_in, exports_chosen, symbol_in, symbols_listed, IsProgramOf, dll_names_in}
 use Rattle.implib_link.proofs.Gnu.Blocks.{table_sum}
 use Rattle.implib_link.proofs.Flavors.Block.{AreEven, Suits, behind_descriptor, ends_in, ends_of_askings, even_aligned, even_in, even_wide, objects_of, symbols_of, use_for}
-use Rattle.implib_link.proofs.Flavors.Blocks.{AllSuit, FlavorBlock, addresses_one, all_objects, ends_one, rest_of, thunks_in}
+use Rattle.implib_link.proofs.Flavors.Blocks.{AllSuit, FlavorBlock, addresses_one, all_objects, ends_one, thunks_in}
 use Rattle.implib_link.proofs.Flavors.Inputs.{block_in, inputs_symbols}
-use Rattle.implib_link.proofs.Flavors.Program.{even, placed_among, program_links, suit, thunks_are}
+use Rattle.implib_link.proofs.Flavors.Program.{even, program_links, suit}
 use Rattle.implib_link.proofs.Gnu.Loaded.{times_next, times_none}
-use Rattle.implib_link.proofs.Search.Lists.{among_at, among_filter}
-use Rattle.implib_link.proofs.Gnu.Stubs.{behind_exports, code_bytes, code_defined, code_here, code_relocations, export_placed, first_sum, later_sum, target_is, wide_thunk}
+use Rattle.implib_link.proofs.Search.Lists.{among_at}
+use Rattle.implib_link.proofs.Gnu.Stubs.{behind_exports, code_bytes, code_defined, code_here, code_relocations, export_placed, first_sum, later_sum, target_is}
 use Rattle.implib_link.proofs.Flavors.Expanded.{AreWide, ends_of_asking, ends_of_descriptor, placed-asking, placed-descriptor, placed-null_thunk, placed_asking, wide_asking, wide_descriptor}
 use Rattle.implib.specs.LibraryName.{NamesOfDll}
 

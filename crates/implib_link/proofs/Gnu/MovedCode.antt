@@ -3,8 +3,6 @@ use Rattle.std.proofs.Common.{◌≡◌, ℕ, suc, ◌+◌, ◌-◌, ◌/◌, �
 use Rattle.implib.specs.declared.machine.MachineType.TheVariants.{I386}
 use Rattle.implib.specs.Link.Image.{Range}
 use Rattle.implib.specs.Link.Load.{BytesAt, number_in}
-use Rattle.implib_link.specs.Gnu.Pointers.{load_reads}
-use Rattle.implib_link.specs.Gnu.Calls.{call_reads}
 use Rattle.implib_link.specs.Stub.{jump_reads, page}
 
 pub joined : (memory : List Range) (xs ys : List ℕ) (a : ℕ) → BytesAt memory a xs → BytesAt memory (a + length xs) ys → BytesAt memory a (xs ++ ys)
@@ -30,14 +28,8 @@ four_of (a ∷ b ∷ c ∷ []) four = absurd (omega arith)
 four_of (a ∷ b ∷ c ∷ d ∷ []) four = record { a = a; b = b; c = c; d = d; is = refl }
 four_of (a ∷ b ∷ c ∷ d ∷ e ∷ rest) four = absurd (omega arith)
 
-pub call_field : (address : ℕ) (field : List ℕ) → length field ≡ 4 → call_reads I386 address (0xFF ∷ 0x15 ∷ (field ++ [])) ≡ Some (number_in field)
-call_field address field four = let f = four_of field four in subst (λ xs. call_reads I386 address (0xFF ∷ 0x15 ∷ (xs ++ [])) ≡ Some (number_in xs)) (sym f.is) refl
-
 pub jump_field : (address : ℕ) (field : List ℕ) → length field ≡ 4 → jump_reads I386 address (0xFF ∷ 0x25 ∷ (field ++ 0x90 ∷ 0x90 ∷ [])) ≡ Some (number_in field)
 jump_field address field four = let f = four_of field four in subst (λ xs. jump_reads I386 address (0xFF ∷ 0x25 ∷ (xs ++ 0x90 ∷ 0x90 ∷ [])) ≡ Some (number_in xs)) (sym f.is) refl
-
-pub mov_field : (address : ℕ) (field : List ℕ) → length field ≡ 4 → load_reads I386 address (0xA1 ∷ (field ++ [])) ≡ Some (number_in field)
-mov_field address field four = let f = four_of field four in subst (λ xs. load_reads I386 address (0xA1 ∷ (xs ++ [])) ≡ Some (number_in xs)) (sym f.is) refl
 
 pages_move : (a b u v : ℕ) → (a + u + (2 ^ 21 - (a + v) % 2 ^ 21)) % 2 ^ 21 ≡ (b + u + (2 ^ 21 - (b + v) % 2 ^ 21)) % 2 ^ 21
 pages_move a b u v = omega arith

@@ -1,7 +1,7 @@
 -- Objects without import tables change nothing of those that have them.
 use Rattle.std.proofs.Common.{◌≡◌, ℕ, ◌≤◌, arith, true, false, List, [], ◌∷◌, ◌++◌, None, refl, ap, sym, ◌∙◌, subst, inl, inr, codes, bytes_eq}
 use Rattle.std.specs.Prelude.{◌==◌, ◌&&◌, nat_le, not, take}
-use Rattle.std.specs.List.{AllByRecursion, filter, filter_map, flat_map, list_any}
+use Rattle.std.specs.List.{AllByRecursion, filter, filter_map, list_any}
 use Rattle.std.proofs.lemmas.Grind.{flat_map-append}
 use Rattle.std.proofs.lemmas.Bool.{and_parts, cases_Bool, false_from_ne_true, leb-true, ne_eqb, or_parts, true≢false}
 use Rattle.std.proofs.lemmas.List.Elements.{filter-append}

@@ -1,5 +1,5 @@
 -- What a linker takes of an archive of both flavours for objects that may be given closes a program, however it reads members.
-use Rattle.std.proofs.Common.{◌≡◌, ℕ, ◌<◌, ◌⊎◌, Bool, true, false, List, [], ◌∷◌, ◌++◌, length, Option, Some, refl, sym, ◌∙◌, subst, inl, inr}
+use Rattle.std.proofs.Common.{◌≡◌, ℕ, ◌⊎◌, Bool, true, false, List, [], ◌∷◌, ◌++◌, Option, Some, refl, sym, ◌∙◌, subst, inl, inr}
 use Rattle.std.specs.Prelude.{IsPermutation, bytes_eq, map, not, slice_get}
 use Rattle.std.specs.List.{AllByRecursion, filter, flat_map, list_any}
 use Rattle.std.proofs.lemmas.Bool.{true≢false}
@@ -23,10 +23,10 @@ use Rattle.implib_link.specs.Search.Archives.{Library, exports_of}
 use Rattle.implib_link.specs.Search.BothFlavors.{AreClosed, AreGiven, FlavorLibrary, IsFlavorArchive, NamesNoMembers, archive_of_both, gnu_among, headers_of_both, inputs_in, symbols_kept, msvc_among, symbols_in, targets_of_both, wanted_at_most}
 use Rattle.implib_link.specs.Search.Closed.{listed_in, unresolved}
 use Rattle.implib_link.specs.Search.Given.{alias_targets, heads_of, is_data_alias, symbols_wanted, tails_of}
-use Rattle.implib_link.specs.Search.Msvc.{NamesNoHeader, left_in}
-use Rattle.implib_link.specs.Search.MsvcArchives.{first_null, is_import_wanted, is_short_alias, is_weak_in, short_inputs, weak_in, TakesIntoFor, wanted_for, headers_of, import_symbols_wanted, short_targets}
+use Rattle.implib_link.specs.Search.Msvc.{NamesNoHeader}
+use Rattle.implib_link.specs.Search.MsvcArchives.{is_import_wanted, is_short_alias, is_weak_in, weak_in, TakesIntoFor, headers_of, import_symbols_wanted, short_targets}
 use Rattle.implib_link.specs.Search.Search.{NamesNoHeadOrTail, is_wanted, left_as, objects_as, undefined_in}
-use Rattle.implib_link.proofs.Search.Chosen.{chosen_too, is_chosen, short_some, some_short}
+use Rattle.implib_link.proofs.Search.Chosen.{chosen_too, is_chosen}
 use Rattle.implib_link.proofs.Search.Closing.{AreTakenInTurnAs, in_turn_for, none_claimed, not_there, pulled, there_not}
 use Rattle.implib_link.proofs.Search.FlavorGroups.{gnu_there, msvc_there}
 use Rattle.implib_link.proofs.Search.Found.{IsReader, expands, found, left_by_role, weak_by_role}

@@ -1,8 +1,8 @@
 -- The whole way for libraries of which some are for GNU's linker and others for Microsoft's: from
 -- the bytes of their archive and the objects of a program to what a DLL gives.
-use Rattle.std.specs.Prelude.{◌≡◌, ℕ, ◌+◌, ◌%◌, List, ◌++◌, IsPermutation, Some, length, not}
+use Rattle.std.specs.Prelude.{◌≡◌, ℕ, ◌%◌, List, ◌++◌, IsPermutation, Some, length, not}
 use Rattle.std.specs.Prelude.{slice_get}
-use Rattle.std.specs.List.{Contains, filter}
+use Rattle.std.specs.List.{filter}
 use Rattle.implib.specs.declared.machine.MachineType.{MachineType}
 use Rattle.implib.specs.Definition.{ExportView}
 use Rattle.implib.specs.Formats.Object.{Object}
@@ -13,14 +13,15 @@ use Rattle.implib.specs.Members.ImportTables.{thunk_width}
 use Rattle.implib.specs.Members.MemberSpec.{MemberView}
 use Rattle.implib_link.specs.Flavors.Program.{AreEnded, Ending, FlavorInput, WhereMember, ask_in}
 use Rattle.implib_link.specs.Flavors.Program.{dll_of, exports_chosen, objects_taken, symbol_in}
-use Rattle.implib_link.specs.Gnu.Calls.{CallArrives, HasCall}
-use Rattle.implib_link.specs.Gnu.Fields.{AreBeside, LinkedCode, placed_code, ranges_of_codes}
+use Rattle.implib_link.specs.Gnu.Fields.{AreBeside, LinkedCode, ranges_of_codes}
 use Rattle.implib_link.specs.Gnu.Packed.{group_end}
 use Rattle.implib_link.specs.Gnu.Program.{has_tables, HaveSame}
 use Rattle.implib_link.specs.Gnu.Reading.{ReadsAndWrites}
 use Rattle.implib_link.specs.Search.BothFlavors.{FlavorLibrary, LinksClosed, inputs_in}
 use Rattle.implib_link.specs.Search.MsvcArchives.{weak_in}
 use Rattle.implib_link.specs.Stub.{CanJump}
+use Rattle.implib_link.specs.Gnu.Operands.{AllLead}
+use Rattle.implib_link.specs.InMemory.{AreAsWide}
 
 -- What is taken of such libraries is linked with the given objects:
 -- `order`: the libraries are linked in this order, which may be another than that of the archive;
@@ -43,34 +44,28 @@ pub record AreLinkedFor (machine : MachineType) (ending : Ending)
       (bases.directory_ends ≡ group_end Descriptors bases.descriptors objects)
 
 -- What is taken for the objects of a program closes it (`links`). A loader that reads the image
--- stops after as many descriptors as there are DLLs (`ends`). In the memory that it leaves, a call
--- through `__imp_T` of an import of either flavour, in any object's linked code, goes to what its
--- DLL gives for what the import asks for (`calls`).
+-- stops after as many descriptors as there are DLLs (`ends`). In the memory that it leaves, each
+-- field of linked code against `__imp_T` of an import of either flavour, whatever instruction holds
+-- it, leads to what its DLL gives for what the import asks for (`leads`).
 pub record CallsArrive (machine : MachineType) (ending : Ending) (libraries : List FlavorLibrary)
     (own : List Object) (taken : List MemberView) (arranged : List FlavorLibrary) (bases : Bases)
     (objects : List Object) : Type 0 where
   pub links : LinksClosed machine ending libraries own taken arranged bases objects
   pub ends : (gives : List ℕ → Ask → List ℕ) (n : ℕ) (written : List Range) →
-      ((dll : List ℕ) (ask : Ask) → length (gives dll ask) ≡ thunk_width machine) →
+      AreAsWide machine gives →
       ReadsAndWrites (image_of machine bases (placed_from bases objects)) (thunk_width machine)
-      gives n
-      bases.descriptors written →
+      gives n bases.descriptors written →
       n ≡ length (inputs_in machine arranged own taken)
-  pub calls : (image_base : ℕ) (codes : List LinkedCode) (targets : LinkedCode → ℕ → ℕ)
+  pub leads : (image_base : ℕ) (codes : List LinkedCode) (targets : LinkedCode → ℕ → ℕ)
       (gives : List ℕ → Ask → List ℕ) (n : ℕ) (written : List Range) (i j : ℕ) (p : FlavorInput)
-      (e : ExportView)
-      (c : LinkedCode) (offset : ℕ) →
+      (e : ExportView) →
       CanJump machine image_base bases →
       AreBeside machine image_base bases objects codes targets →
-      ((dll : List ℕ) (ask : Ask) → length (gives dll ask) ≡ thunk_width machine) →
+      AreAsWide machine gives →
       ReadsAndWrites (image_of machine bases (placed_from bases objects)) (thunk_width machine)
-      gives n
-      bases.descriptors written →
+      gives n bases.descriptors written →
       slice_get (inputs_in machine arranged own taken) i ≡ Some p →
       slice_get (exports_chosen p) j ≡ Some e →
-      Contains codes c →
-      HasCall machine (placed_code c) offset (imp_symbol (symbol_in p.flavor e)) →
-      CallArrives machine image_base
-      (written ++ (image_of machine bases (placed_from bases objects)
-      ++ ranges_of_codes codes))
-      (c.position + offset) (gives (dll_of p) (ask_in p.flavor machine e))
+      AllLead machine image_base (placed_from bases objects) codes
+      (written ++ (image_of machine bases (placed_from bases objects) ++ ranges_of_codes codes))
+      (imp_symbol (symbol_in p.flavor e)) (gives (dll_of p) (ask_in p.flavor machine e))

@@ -1,6 +1,6 @@
 -- Calls of imports in the code of any object that is linked: by the import's entry of the address
 -- table, or by its stub. Addresses of code count from the image's base.
-use Rattle.std.specs.Prelude.{◌≡◌, ℕ, ◌+◌, ◌*◌, ◌%◌, ◌^◌, ◌<◌, ◌≤◌, ◌⊎◌, ◌&&◌, ◌==◌, true, List, []}
+use Rattle.std.specs.Prelude.{◌≡◌, ℕ, ◌+◌, ◌%◌, ◌^◌, ◌<◌, ◌≤◌, ◌⊎◌, ◌==◌, true, List, []}
 use Rattle.std.specs.Prelude.{◌∷◌, ◌++◌, bytes_eq, length, map, slice_get, take, Option, Some, None}
 use Rattle.std.specs.Prelude.{if◌then◌else◌}
 use Rattle.std.specs.List.{AllByRecursion, Contains}
@@ -16,8 +16,8 @@ use Rattle.implib.specs.Link.Image.{Range}
 use Rattle.implib.specs.Link.Load.{BytesAt}
 use Rattle.implib.specs.Link.Placement.{Placed}
 use Rattle.implib.specs.Link.Resolution.{is_undefined_external, symbol_address}
-use Rattle.implib_link.specs.Stub.{adrp_immediate, bits_of, jump_reads, ldr_immediate, page}
-use Rattle.implib_link.specs.Stub.{plus_signed, with_adrp, with_bits, word_at}
+use Rattle.implib_link.specs.Stub.{bits_of, jump_reads}
+use Rattle.implib_link.specs.Stub.{plus_signed, word_at}
 
 -- a section of a placed object, by its number, which counts from 1, with the address of its code
 pub record PlacedCode : Type 0 where
@@ -120,40 +120,6 @@ call_relocations ARM64 index =
     record { offset = 0; symbol = index; kind = arm64_pagebase_rel21 }
     ∷ record { offset = 4; symbol = index; kind = arm64_pageoffset_12l }
     ∷ []
-
--- code has such a call of a name at an offset
-abbrev pub HasCall : MachineType → PlacedCode → ℕ → List ℕ → Type 0
-HasCall machine c offset name =
-    HasInstructions machine c offset name (call_bytes machine) (call_relocations machine)
-
--- Where a call through a pointer at an address reads its target, by the rule of its instructions:
--- I386 at the displacement; AMD64 that far after the call; ARM64 at the offset in the page.
-abbrev pub call_reads : MachineType → ℕ → List ℕ → Option ℕ
-call_reads I386 address bytes =
-    if bytes_eq (take 2 bytes) (0xFF ∷ 0x15 ∷ []) then Some (word_at bytes 2) else None
-call_reads ARMNT address bytes = None
-call_reads AMD64 address bytes =
-    if bytes_eq (take 2 bytes) (0xFF ∷ 0x15 ∷ [])
-    then Some (plus_signed 32 1 (word_at bytes 2) (address + 6))
-    else None
-call_reads ARM64 address bytes =
-    if (with_adrp 0 (word_at bytes 0) == 0x9000_0010)
-    && (with_bits 10 12 0 (word_at bytes 4) == 0xF940_0210)
-    && (word_at bytes 8 == 0xD63F_0200) then
-    Some (plus_signed 21 4096 (adrp_immediate (word_at bytes 0)) (page address * 4096)
-    + ldr_immediate (word_at bytes 4))
-    else None
-
--- At an address of memory is a call, by the bytes that are there, whose target is read at a place
--- where these bytes are: say, the address of a DLL's function.
-pub record CallArrives (machine : MachineType) (image_base : ℕ) (memory : List Range) (address : ℕ)
-    (bytes : List ℕ) : Type 0 where
-  pub instructions : List ℕ
-  pub here : BytesAt memory address instructions
-  pub whole : length instructions ≡ length (call_bytes machine)
-  pub entry : ℕ
-  pub reads : call_reads machine (image_base + address) instructions ≡ Some (image_base + entry)
-  pub located : BytesAt memory entry bytes
 
 -- Code is the stub of the entry at an address: its bytes and relocations are a stub's, its symbol 2
 -- has the entry's address, and the name that it stands for is at its beginning.

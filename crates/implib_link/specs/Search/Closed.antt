@@ -1,10 +1,8 @@
 -- Closed programs: objects that are given, and what a linker takes for them of an archive of
 -- libraries. Nothing is wanted but what the objects leave unresolved.
-use Rattle.std.specs.Prelude.{◌≡◌, ℕ, ◌+◌, List, [], ◌∷◌, ◌++◌, bytes_eq, not, Option, Some}
+use Rattle.std.specs.Prelude.{◌≡◌, ℕ, List, [], ◌∷◌, ◌++◌, bytes_eq, not, Option, Some}
 use Rattle.std.specs.List.{Contains, filter, flat_map, list_any}
-use Rattle.implib.specs.Definition.{ExportView}
 use Rattle.implib.specs.Formats.Object.{Object}
-use Rattle.implib.specs.Members.Gnu.{archive_symbols}
 use Rattle.implib.specs.Members.MemberSpec.{MemberView}
 use Rattle.implib_link.specs.Gnu.Program.{claimed_names}
 use Rattle.implib_link.specs.Search.Search.{first_listed, objects_as, undefined_in}

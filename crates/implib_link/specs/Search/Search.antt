@@ -1,16 +1,16 @@
 -- Archive search: which members of an archive a linker takes for the names that are undefined. The
 -- archive lists symbols for each member; what a member leaves to others is read in its bytes.
 -- Nothing in the search knows who wrote the members.
-use Rattle.std.specs.Prelude.{◌≡◌, ℕ, ◌+◌, Bool, false, List, [], ◌∷◌, ◌++◌, bytes_eq, Option, Some}
+use Rattle.std.specs.Prelude.{◌≡◌, ℕ, ◌+◌, Bool, false, List, [], ◌∷◌, bytes_eq, Option, Some}
 use Rattle.std.specs.Prelude.{None, if◌then◌else◌}
-use Rattle.std.specs.List.{Contains, filter_map, flat_map, list_any}
+use Rattle.std.specs.List.{filter_map, flat_map, list_any}
 use Rattle.implib.specs.declared.machine.MachineType.{MachineType}
 use Rattle.implib.specs.Definition.{DefinitionView, ExportView}
 use Rattle.implib.specs.Members.Gnu.{archive_symbols, head_symbol, iname_symbol}
 use Rattle.implib.specs.Import.{public_exports}
 use Rattle.implib.specs.Link.Linked.{undefined_name}
 use Rattle.implib.specs.Members.MemberSpec.{MemberView}
-use Rattle.implib.specs.Formats.Object.{Object, object_in}
+use Rattle.implib.specs.Formats.Object.{Object}
 use Rattle.implib.specs.Renaming.{renamed}
 use Rattle.implib_link.specs.Gnu.Program.{claimed_names}
 

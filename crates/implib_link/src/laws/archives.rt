@@ -84,8 +84,8 @@ pub fn bytes_lead_to_lld_calls()
 /// The whole way for libraries of which some are for GNU's linker and others for Microsoft's, or all
 /// for one: what a linker takes in their archive's bytes for objects that may be given closes the
 /// program, wherever it is linked; and in the memory that a loader leaves, which reads the image and
-/// knows nothing else, each call through an import's `__imp_` symbol, of either flavour, in any
-/// object's linked code, goes to what its DLL gives.
+/// knows nothing else, each field against an import's `__imp_` symbol, of either flavour, in any
+/// object's linked code, as that of a call, leads to what its DLL gives.
 pub fn bytes_lead_to_calls()
     ensures { (kind : Kind) (linker : LinkerMember) (machine : MachineType)
         (libraries : List FlavorLibrary) (own : List Object) →
@@ -102,8 +102,8 @@ pub fn bytes_lead_to_calls()
 /// The whole way for a linker that expands short imports, as GNU `ld`, of the archives of a command
 /// line: what it takes in their order of their members, which may be those that their files have
 /// (`members_in_files`), of libraries for either linker and of anything else, for the given objects,
-/// closes the program; and in the memory that a loader leaves each call through an import's `__imp_`
-/// symbol goes to what its DLL gives.
+/// closes the program; and in the memory that a loader leaves each field against an import's `__imp_`
+/// symbol, as that of a call, leads to what its DLL gives.
 pub fn command_lines_lead_to_calls()
     ensures { (machine : MachineType) (ending : Ending) (libraries : List FlavorLibrary)
         (members : List MemberView) (inputs : List Input) (is_given : MemberView → Bool)

@@ -1,6 +1,6 @@
 -- The searches in bytes that were done by hand, by computing.
 use Rattle.std.proofs.Common.{Bool, List, None, Option, Some, [], ap, arith, bytes_eq, codes, eq-eqb, false, inl, inr, nat_eq, refl, subst, sym, true, unwrap_or, ℕ, ◌++◌, ◌||◌, ◌∙◌, ◌∷◌, ◌≡◌, ◌⊎◌}
-use Rattle.std.specs.List.{filter_map, flat_map, list_all, list_any}
+use Rattle.std.specs.List.{filter_map, list_all, list_any}
 use Rattle.std.proofs.lemmas.Bool.{and_parts, eqb-true, true≢false}
 use Rattle.implib.proofs.Link.LinkedMembers.{among_contains}
 use Rattle.implib.proofs.Link.Ranges.{Among}
@@ -12,24 +12,9 @@ use Rattle.implib_archive.specs.Worked.{worked_coff, worked_gnu}
 use Rattle.implib_archive.specs.declared.kind.Kind.{Kind}
 use Rattle.implib_archive.specs.declared.kind.Kind.TheVariants.{Coff, Gnu}
 use Rattle.implib_link.specs.Archives.InBytes.{AreTakenAt, First, LinkerMember, PullsInAt, Second, TakesAt, contents_at, header_by}
-use Rattle.implib_link.specs.Archives.Results.{HaveArchive}
 use Rattle.implib_link_instances.specs.Archives.Worked.{WorkedSearches, names_wanted, for_names}
-use Rattle.implib_link.specs.Gnu.Program.{claimed_names}
 use Rattle.implib_link.specs.Search.Search.{undefined_in}
-use Rattle.implib_link_instances.specs.Worked.Search.{members_of, two_libraries}
 use Rattle.implib_link.proofs.Search.Lists.{any_among, contains_among}
-use Rattle.implib.specs.Formats.Layout.{encoded_size}
-use Rattle.implib.specs.Members.GnuMembers.{alias_specs}
-use Rattle.implib.specs.declared.machine.MachineType.TheVariants.{AMD64}
-use Rattle.implib.specs.Members.WeakExternal.{weak_object}
-use Rattle.implib.specs.Members.MsvcMembers.{descriptor_spec, header_specs, null_descriptor_spec, null_thunk_spec, weak_specs}
-use Rattle.implib.specs.Members.MsvcObjects.{base_name, descriptor, descriptor_symbol, null_descriptor, null_descriptor_symbol, null_thunk, null_thunk_symbol}
-use Rattle.implib_link_instances.proofs.Worked.Programs.{opened}
-use Rattle.implib_link.specs.Flavors.Expansion.{expanded_in}
-use Rattle.implib_link.specs.Flavors.SectionSymbols.{with_section_symbols}
-use Rattle.implib_link.specs.Search.Archives.{archive_of as members_of_libraries}
-use Rattle.implib_link_instances.specs.Worked.Closed.{choosing, closed_taken}
-use Rattle.implib_link_instances.proofs.Worked.Opened.{archived}
 use Rattle.implib_link.specs.Search.Closed.{unresolved, claims_of, references_of}
 
 -- whether a name leads nowhere, or to a header that is taken

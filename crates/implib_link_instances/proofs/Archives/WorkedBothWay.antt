@@ -1,44 +1,37 @@
 -- The whole way for libraries of both flavours by hand, by computing and by the laws.
-use Rattle.std.proofs.Common.{List, Some, [], ap, arith, codes, map, refl, subst, sym, ℕ, ◌++◌, ◌+◌, ◌<◌, ◌^◌, ◌∙◌, ◌∷◌, ◌≡◌}
-use Rattle.std.specs.Prelude.{slice_get}
-use Rattle.std.specs.List.{AllByRecursion, Contains}
+use Rattle.std.proofs.Common.{List, [], arith, codes, map, refl, ℕ, ◌++◌, ◌<◌, ◌^◌, ◌∷◌, ◌≡◌}
+use Rattle.std.specs.List.{AllByRecursion}
 use Rattle.implib.specs.declared.flavor.Flavor.TheVariants.{Gnu, Msvc}
 use Rattle.implib.specs.declared.machine.MachineType.TheVariants.{AMD64}
 use Rattle.implib.specs.Link.Image.{image_of}
 use Rattle.implib.specs.Worked.Statements.{plain_export}
-use Rattle.implib.proofs.Link.LinkedMembers.{among_contains}
-use Rattle.implib.proofs.Link.Ranges.{among_back, apart_as_they_rise}
+use Rattle.implib.proofs.Link.Ranges.{apart_as_they_rise}
 use Rattle.implib_archive.specs.declared.kind.Kind.TheVariants.{Coff}
 use Rattle.implib_link.specs.Archives.BothWay.{AreLinkedFor, CallsArrive}
 use Rattle.implib_link.specs.Archives.InBytes.{Second}
 use Rattle.implib_link.specs.Archives.Results.{HaveArchive}
-use Rattle.implib_link_instances.specs.Archives.WorkedBothWay.{WorkedBothWay, bar_for_gnu, bases, before_null, both, calls_bar, calls_queue, code, code_at, linked, objects, own, placed, queue_for_msvc, taken}
+use Rattle.implib_link_instances.specs.Archives.WorkedBothWay.{WorkedBothWay, bar_for_gnu, bases, before_null, both, calls_bar, calls_queue, code, linked, objects, own, placed, queue_for_msvc, taken}
 use Rattle.implib_link.proofs.Archives.BothWay.{both_arrive}
 use Rattle.implib_link.proofs.Archives.InBytes.{search_of}
 use Rattle.implib_link.specs.Flavors.Program.{AreEnded, FlavorInput, OfMember}
-use Rattle.implib_link.specs.Gnu.Calls.{CallArrives, HasCall, PlacedCode}
 use Rattle.implib_link.specs.Gnu.Choices.{AreSections, DefineOnce, plain_range}
-use Rattle.implib_link.specs.Gnu.Fields.{AreBeside, LinkedCode, placed_code, ranges_of_codes}
+use Rattle.implib_link.specs.Gnu.Fields.{AreBeside, LinkedCode, placed_code}
 use Rattle.implib_link.specs.Gnu.Packed.{group_end, packed_end, sections_end}
 use Rattle.implib_link.specs.Gnu.Program.{ClaimsNone}
 use Rattle.implib_link.specs.Search.BothFlavors.{AreGiven, IsClosed, IsFlavorArchive, archive_of_both, inputs_in, symbols_kept}
-use Rattle.implib_link.specs.Search.Closed.{listed_in, unresolved}
+use Rattle.implib_link.specs.Search.Closed.{listed_in}
 use Rattle.implib_link.specs.Search.Msvc.{left_in}
 use Rattle.implib_link.specs.Search.MsvcArchives.{TakesIntoFor}
-use Rattle.implib_link_instances.specs.Worked.Calls.{first_bytes, given_on, last_bytes}
+use Rattle.implib_link_instances.specs.Worked.Calls.{given_on}
 use Rattle.implib_link_instances.specs.Worked.MsvcSearch.{thunk_named}
 use Rattle.implib_link.proofs.Gnu.Choices.{found, found_in}
 use Rattle.implib_link.proofs.Gnu.LinkedCodes.{codes_can_be_linked}
-use Rattle.implib_link.proofs.Gnu.Loaded.{mapped_at}
 use Rattle.implib_link.proofs.Search.BothClosed.{packed_both}
 use Rattle.implib_link.proofs.Search.BothGiven.{both_given_closes}
-use Rattle.implib_link.proofs.Search.Closing.{claims_apart, takes_into}
-use Rattle.implib_link.proofs.Search.Lists.{among_at}
 use Rattle.implib_link_instances.proofs.Worked.BothFlavors.{archive_by}
 use Rattle.implib_link_instances.proofs.Worked.Calls.{once_by, wide}
 use Rattle.implib_link_instances.proofs.Worked.Opened.{searched, archived}
-use Rattle.implib_link_instances.proofs.Worked.Programs.{claims_none_by, instructions_at}
-use Rattle.implib_link.specs.Search.Search.{left_as}
+use Rattle.implib_link_instances.proofs.Worked.Programs.{claims_none_by}
 use Rattle.implib_link.specs.Flavors.Expansion.{expanded_in}
 use Rattle.implib_link_instances.proofs.Worked.Search.{below_limit, into_by}
 
@@ -107,28 +100,11 @@ once : DefineOnce linked placed
 unfolding searched group_end sections_end found found_in
 once = once_by linked placed refl refl
 
-bar_called : HasCall AMD64 (code_at calls_bar 0x3000) 4 (codes "__imp_bar")
-bar_called = instructions_at (first_bytes AMD64) (last_bytes AMD64) 1 [] [] tt tt refl refl refl refl
-
-queue_called : HasCall AMD64 (code_at calls_queue 0x3020) 4 (codes "__imp_queue")
-queue_called = instructions_at (first_bytes AMD64) (last_bytes AMD64) 1 [] [] tt tt refl refl refl refl
-
 beside : (codes : List LinkedCode) × ((targets : LinkedCode → ℕ → ℕ) × ((map placed_code codes ≡ placed) × AreBeside AMD64 0x1_4000_0000 bases objects codes targets))
 unfolding searched group_end sections_end
 beside =
     let small : AllByRecursion (λ (b : ℕ). b < 256) code.bytes = (omega arith, (omega arith, (omega arith, (omega arith, (omega arith, (omega arith, (omega arith, (omega arith, (omega arith, (omega arith, (omega arith, (omega arith, (omega arith, (omega arith, (omega arith, tt))))))))))))))) in
     codes_can_be_linked AMD64 0x1_4000_0000 bases objects placed sections once (small, (small, tt))
-
--- the linked code of a placed one
-record Linked (codes : List LinkedCode) (c : PlacedCode) : Type 0 where
-  own : LinkedCode
-  held : Contains codes own
-  is : placed_code own ≡ c
-
-linked_code : (codes : List LinkedCode) (i : ℕ) (c : PlacedCode) → map placed_code codes ≡ placed → slice_get placed i ≡ Some c → Linked codes c
-linked_code codes i c same at =
-    let found = mapped_at placed_code codes i c (ap (λ xs. slice_get xs i) same ∙ at) in
-    record { own = found.0; held = among_contains found.0 codes (among_at found.0 codes i found.1.0); is = found.1.1 }
 
 arrive : CallsArrive AMD64 OfMember both own taken both bases objects
 unfolding searched
@@ -136,40 +112,31 @@ arrive = both_arrive AMD64 OfMember both own taken both bases objects archive gi
 
 pub worked_both_way : WorkedBothWay
 unfolding searched group_end sections_end
-worked_both_way =
-    let bar = linked_code beside.0 0 (code_at calls_bar 0x3000) beside.1.1.0 refl in
-    let queue = linked_code beside.0 1 (code_at calls_queue 0x3020) beside.1.1.0 refl in
-    let bar_has : HasCall AMD64 (placed_code bar.own) 4 (codes "__imp_bar") = subst (λ c. HasCall AMD64 c 4 (codes "__imp_bar")) (sym bar.is) bar_called in
-    let queue_has : HasCall AMD64 (placed_code queue.own) 4 (codes "__imp_queue") = subst (λ c. HasCall AMD64 c 4 (codes "__imp_queue")) (sym queue.is) queue_called in
-    record {
-      archive = archive;
-      ready = ready;
-      given = given;
-      leaves = refl;
-      takes = search_of Coff Second (archive_of_both both) (expanded_in AMD64) own taken ready takes;
-      linked_for = linked_for;
-      sections = sections;
-      bar_called = bar_called;
-      queue_called = queue_called;
-      bar_entry = refl;
-      queue_entry = refl;
-      arrive = (
-        beside.0,
+worked_both_way = record {
+  archive = archive;
+  ready = ready;
+  given = given;
+  leaves = refl;
+  takes = search_of Coff Second (archive_of_both both) (expanded_in AMD64) own taken ready takes;
+  linked_for = linked_for;
+  sections = sections;
+  bar_entry = refl;
+  queue_entry = refl;
+  arrive = (
+    beside.0,
+    (
+      beside.1.0,
+      (
+        beside.1.1.0,
         (
-          beside.1.0,
-          (
-            beside.1.1.0,
-            (
-              beside.1.1.1,
-              λ n written reads. (
-                arrive.ends (given_on AMD64) n written (wide AMD64) reads,
-                subst (λ a. CallArrives AMD64 0x1_4000_0000 (written ++ (image_of AMD64 bases linked ++ ranges_of_codes beside.0)) a (0x30 ∷ 0 ∷ 0 ∷ 0x10 ∷ 0 ∷ 0 ∷ 0 ∷ 0 ∷ [])) (ap (λ (c : PlacedCode). c.position + 4) bar.is)
-                    (arrive.calls 0x1_4000_0000 beside.0 beside.1.0 (given_on AMD64) n written 0 0 bar_input (plain_export (codes "bar")) bar.own 4 tt beside.1.1.1 (wide AMD64) reads refl refl bar.held bar_has),
-                subst (λ a. CallArrives AMD64 0x1_4000_0000 (written ++ (image_of AMD64 bases linked ++ ranges_of_codes beside.0)) a (0x50 ∷ 0 ∷ 0 ∷ 0x10 ∷ 0 ∷ 0 ∷ 0 ∷ 0 ∷ [])) (ap (λ (c : PlacedCode). c.position + 4) queue.is)
-                    (arrive.calls 0x1_4000_0000 beside.0 beside.1.0 (given_on AMD64) n written 1 0 queue_input (plain_export (codes "queue")) queue.own 4 tt beside.1.1.1 (wide AMD64) reads refl refl queue.held queue_has),
-              ),
-            ),
+          beside.1.1.1,
+          λ n written reads. (
+            arrive.ends (given_on AMD64) n written (wide AMD64) reads,
+            arrive.leads 0x1_4000_0000 beside.0 beside.1.0 (given_on AMD64) n written 0 0 bar_input (plain_export (codes "bar")) tt beside.1.1.1 (wide AMD64) reads refl refl,
+            arrive.leads 0x1_4000_0000 beside.0 beside.1.0 (given_on AMD64) n written 1 0 queue_input (plain_export (codes "queue")) tt beside.1.1.1 (wide AMD64) reads refl refl,
           ),
         ),
-      );
-    }
+      ),
+    ),
+  );
+}

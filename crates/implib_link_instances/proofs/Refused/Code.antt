@@ -6,15 +6,14 @@ use Rattle.implib.specs.Formats.Object.{ASymbol}
 use Rattle.implib.specs.Link.Resolution.{symbol_address}
 use Rattle.implib.specs.Link.Load.{BytesAt, NumberAt, number_in}
 use Rattle.implib.proofs.Link.Loading.{number_once}
-use Rattle.implib_link.specs.Gnu.Calls.{call_reads, direct_leads}
+use Rattle.implib_link.specs.Gnu.Calls.{direct_leads}
 use Rattle.implib_link.specs.Gnu.Operands.{branch_leads, operand_leads}
-use Rattle.implib_link.specs.Gnu.Pointers.{load_reads}
-use Rattle.implib_link.specs.Stub.{adrp_immediate, bits_of, jump_reads, ldr_immediate, page, plus_signed, with_adrp, with_bits, word_at}
+use Rattle.implib_link.specs.Stub.{adrp_immediate, bits_of, jump_reads, ldr_immediate, page, plus_signed, with_adrp, with_bits}
 use Rattle.implib_link.proofs.Gnu.Memory.{byte_first}
 use Rattle.implib_link_instances.proofs.Worked.Lemmas.{are_located, differ, entry_is, number, same_bytes, value}
 use Rattle.implib_link_instances.proofs.Worked.Operands.{passing_fields}
 use Rattle.implib_link_instances.proofs.Worked.Stored.{worked_holdings}
-use Rattle.implib_link_instances.specs.Refused.Code.{RefusedAllLeadTo, RefusedBranchArrives, RefusedBranchArrivesByThunk, RefusedBranchStays, RefusedCallArrives, RefusedDirectCallArrives, RefusedFields, RefusedHoldAddress, RefusedHoldsFurther, RefusedInstructionArrives, RefusedLoadArrives, RefusedOperandArrives, RefusedPageArrives, RefusedPairArrives, RefusedPointerArrives, RefusedPointsTo, RefusedResolves, RefusedStubArrives, RefusedStubAt, RefusedSumArrives, RefusedThunkArrives, asking_f, back, calling_nops, empty_code, nops, one, one_code, page_back, placed_f}
+use Rattle.implib_link_instances.specs.Refused.Code.{RefusedAllLeadTo, RefusedBranchArrives, RefusedBranchArrivesByThunk, RefusedBranchStays, RefusedDirectCallArrives, RefusedFields, RefusedHoldAddress, RefusedHoldsFurther, RefusedInstructionArrives, RefusedOperandArrives, RefusedPairArrives, RefusedPointerArrives, RefusedPointsTo, RefusedResolves, RefusedStubArrives, RefusedStubAt, RefusedSumArrives, RefusedThunkArrives, asking_f, back, calling_nops, empty_code, nops, one, one_code, page_back, placed_f}
 use Rattle.implib_link_instances.specs.Worked.Operands.{field, passing_at}
 use Rattle.implib_link_instances.specs.Worked.Programs.{symbol_of_class}
 use Rattle.implib_link_instances.specs.Worked.Stored.{held_at, picking_at, unwind_at}
@@ -54,22 +53,6 @@ eight = 0x90 ∷ seven
 
 nop : (n : ℕ) → NumberAt nops 4 0x1000 n → n ≡ 0x9090_9090
 nop n there = number_once nops 4 0x1000 n 0x9090_9090 there (number nops 4 0x1000 0x9090_9090 four refl refl refl)
-
-pub refused_call_arrives : RefusedCallArrives
-refused_call_arrives = record {
-  here = λ x. nothing_at x.instructions 0x1000 6 x.whole (omega arith) x.here;
-  whole = λ x. nothing_at x.instructions 0x1000 6 x.whole (omega arith) x.here;
-  reads = λ x. no_code (call_reads AMD64 0x1_4000_1000) x.instructions six (0x1_4000_0000 + x.entry) x.here (are_located nops six 0x1000 refl) x.whole refl x.reads;
-  located = λ x. nothing_there one x.entry (omega arith) x.located;
-}
-
-pub refused_load_arrives : RefusedLoadArrives
-refused_load_arrives = record {
-  here = λ x. nothing_at x.instructions 0x1000 7 x.whole (omega arith) x.here;
-  whole = λ x. nothing_at x.instructions 0x1000 7 x.whole (omega arith) x.here;
-  reads = λ x. no_code (load_reads AMD64 0x1_4000_1000) x.instructions seven (0x1_4000_0000 + x.entry) x.here (are_located nops seven 0x1000 refl) x.whole refl x.reads;
-  located = λ x. nothing_there one x.entry (omega arith) x.located;
-}
 
 pub refused_stub_arrives : RefusedStubArrives
 refused_stub_arrives = record {
@@ -117,25 +100,6 @@ in_front adrp load entry first second is =
     let led : 0x1_3FFF_F000 ≡ 0x1_4000_0000 + entry =
     sym (ap (λ n. plus_signed 21 4096 (adrp_immediate n) (page 0x1_4000_0010 * 4096) + ldr_immediate 0xF940_0108) first) ∙ (sym (ap (λ n. plus_signed 21 4096 (adrp_immediate adrp) (page 0x1_4000_0010 * 4096) + ldr_immediate n) second) ∙ is) in
     omega arith
-
-pub refused_page_arrives : RefusedPageArrives
-refused_page_arrives = record {
-  adrp_there = λ x. nothing_at x.adrp 16 4 x.adrp_whole (omega arith) x.adrp_there;
-  adrp_whole = λ x. nothing_at x.adrp 16 4 x.adrp_whole (omega arith) x.adrp_there;
-  is_adrp = λ x.
-      let same : x.adrp ≡ four = same_bytes nops x.adrp four 0x1000 x.adrp_there (are_located nops four 0x1000 refl) x.adrp_whole in
-      differ 0x9000_0008 0x9000_0010 (sym (sym (ap (λ xs. with_adrp 0 (word_at xs 0)) same) ∙ x.is_adrp)) (omega arith);
-  ldr_there = λ x. nothing_at x.ldr 20 4 x.ldr_whole (omega arith) x.ldr_there;
-  ldr_whole = λ x. nothing_at x.ldr 20 4 x.ldr_whole (omega arith) x.ldr_there;
-  is_ldr = λ x.
-      let same : x.ldr ≡ four = same_bytes nops x.ldr four 0x1000 x.ldr_there (are_located nops four 0x1000 refl) x.ldr_whole in
-      differ 0x9080_0090 0xF940_0108 (sym (ap (λ xs. with_bits 10 12 0 (word_at xs 0)) same) ∙ x.is_ldr) (omega arith);
-  leads = λ x.
-      let first : x.adrp ≡ 0xE8 ∷ 0xFF ∷ 0xFF ∷ 0xF0 ∷ [] = same_bytes page_back x.adrp (0xE8 ∷ 0xFF ∷ 0xFF ∷ 0xF0 ∷ []) 16 x.adrp_there (are_located page_back (0xE8 ∷ 0xFF ∷ 0xFF ∷ 0xF0 ∷ []) 16 refl) x.adrp_whole in
-      let second : x.ldr ≡ 8 ∷ 1 ∷ 0x40 ∷ 0xF9 ∷ [] = same_bytes page_back x.ldr (8 ∷ 1 ∷ 0x40 ∷ 0xF9 ∷ []) 20 x.ldr_there (are_located page_back (8 ∷ 1 ∷ 0x40 ∷ 0xF9 ∷ []) 20 refl) x.ldr_whole in
-      in_front (word_at x.adrp 0) (word_at x.ldr 0) x.entry (ap (λ xs. word_at xs 0) first) (ap (λ xs. word_at xs 0) second) x.leads;
-  located = λ x. nothing_there one x.entry (omega arith) x.located;
-}
 
 pub refused_pair_arrives : RefusedPairArrives
 refused_pair_arrives = record {

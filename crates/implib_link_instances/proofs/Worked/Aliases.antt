@@ -24,18 +24,17 @@ use Rattle.implib_link.specs.Flavors.Expansion.{descriptor_symbol_by_name, expan
 use Rattle.implib_link.specs.Flavors.Program.{OfMember, all_members, symbols_listed, IsProgramOf, IsProgram}
 use Rattle.implib_link.specs.Flavors.SectionSymbols.{with_section_symbols}
 use Rattle.implib_link.specs.Gnu.Aliases.{ResolvesAliases, weak_target}
-use Rattle.implib_link.specs.Gnu.Calls.{HasCall, PlacedCode, Resolves}
+use Rattle.implib_link.specs.Gnu.Calls.{PlacedCode, Resolves}
 use Rattle.implib_link.specs.Gnu.Packed.{group_end, sections_end}
-use Rattle.implib_link.specs.Gnu.Pointers.{HasLoad}
 use Rattle.implib_link.specs.Gnu.Program.{has_tables, linked_symbols}
-use Rattle.implib_link_instances.specs.Worked.Aliases.{WorkedAlias, WorkedFlavorAlias, alias_at, alias_calling, alias_codes, alias_load_at, alias_loading, alias_objects, alias_placed, all_at, opened_flavors, opened_name, opened_placed}
-use Rattle.implib_link_instances.specs.Worked.Calls.{first_bytes, last_bytes, CodesBeside, code_ranges, linked_codes, as_placed}
+use Rattle.implib_link_instances.specs.Worked.Aliases.{WorkedAlias, WorkedFlavorAlias, alias_calling, alias_codes, alias_loading, alias_objects, alias_placed, all_at, opened_flavors, opened_name, opened_placed}
+use Rattle.implib_link_instances.specs.Worked.Calls.{CodesBeside, code_ranges, linked_codes, as_placed}
 use Rattle.implib_link_instances.specs.Worked.Flavors.{both_inputs as flavor_inputs, flavor_bases_8, foo_input as msvc_input}
 use Rattle.implib_link_instances.specs.Worked.Programs.{both_inputs, touching_8}
 use Rattle.implib_link.proofs.Gnu.Aliases.{weak_is_weak}
 use Rattle.implib_link.proofs.Search.Lists.{among_at, contains_among, each_of}
 use Rattle.implib_link_instances.proofs.Worked.Calls.{is_none, all_unwanted, none_wanted, beside_by, codes_tested}
-use Rattle.implib_link_instances.proofs.Worked.Programs.{claims_none_by, distinct_by, opened, admissible_by, instructions_at}
+use Rattle.implib_link_instances.proofs.Worked.Programs.{claims_none_by, distinct_by, opened, admissible_by}
 use Rattle.implib_link_instances.proofs.Worked.Flavors.{flavor_objects_by}
 use Rattle.implib_link_instances.proofs.Worked.LinkedCode.{relocated_test}
 use Rattle.implib_link.proofs.Flavors.GnuPrograms.{gnu_objects}
@@ -117,12 +116,6 @@ resolves : ResolvesAliases alias_placed (linked_codes AMD64 0x1_4000_0000 (all_a
 unfolding opened alias_specs encoded_size weak_object has_tables object_of entries_of name_text u32_bytes u32_at
 resolves = aliases_at alias_placed (linked_codes AMD64 0x1_4000_0000 (all_at 0x80) alias_codes) 0x80 refl
 
-has : HasCall AMD64 alias_at 4 opened_name
-has = instructions_at (first_bytes AMD64) (last_bytes AMD64) 1 [] [] tt tt refl refl refl refl
-
-loads : HasLoad AMD64 alias_load_at 4 opened_name
-loads = instructions_at (first_bytes AMD64) (last_bytes AMD64) 1 [] [] tt tt refl refl refl refl
-
 undefined : definitions_of opened_name alias_placed ≡ []
 unfolding opened alias_specs encoded_size weak_object has_tables object_of entries_of name_text u32_bytes
 undefined = refl
@@ -135,8 +128,6 @@ worked_alias = record {
   resolves = resolves;
   undefined = undefined;
   weak = weak_is;
-  calls = has;
-  loads = loads;
   call_is = refl;
   load_is = refl;
   member = weak_is_weak AMD64 (codes "__imp_bar") (codes "__imp_baz") [] alias_placed;
@@ -189,8 +180,6 @@ worked_flavor_alias = record {
   resolves = flavors_resolves;
   undefined = flavors_undefined;
   weak = flavors_weak;
-  calls = has;
-  loads = loads;
   call_is = refl;
   load_is = refl;
 }

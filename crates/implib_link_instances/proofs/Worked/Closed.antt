@@ -1,21 +1,19 @@
 -- Closed programs that the linker's null descriptor ends, and a list of names in an object's place, by computing and by the laws.
-use Rattle.std.proofs.Common.{List, [], arith, codes, inl, inr, map, refl, true, ℕ, ◌++◌, ◌<◌, ◌^◌, ◌∷◌, ◌≡◌}
-use Rattle.std.specs.List.{AllByRecursion, flat_map}
+use Rattle.std.proofs.Common.{List, [], arith, codes, inl, inr, map, refl, ◌++◌, ◌<◌, ◌^◌, ◌∷◌}
+use Rattle.std.specs.List.{AllByRecursion}
 use Rattle.implib.specs.declared.machine.MachineType.TheVariants.{AMD64, I386}
 use Rattle.implib.specs.Formats.Object.{Object}
-use Rattle.implib.specs.Members.MemberSpec.{MemberView}
 use Rattle.implib.proofs.Link.LinkedMembers.{among_contains}
-use Rattle.implib.proofs.Link.Ranges.{Among, among_back}
-use Rattle.implib_link.specs.Flavors.Expansion.{expanded_in}
-use Rattle.implib_link.specs.Flavors.Program.{AreEnded, OfLinker, gnu_input, objects_taken}
-use Rattle.implib_link.specs.Gnu.Packed.{group_end, packed_end, sections_end}
-use Rattle.implib_link.specs.Gnu.Program.{ClaimsNone, HaveSame, claimed_names, has_tables}
+use Rattle.implib.proofs.Link.Ranges.{Among}
+use Rattle.implib_link.specs.Flavors.Program.{AreEnded, OfLinker, gnu_input}
+use Rattle.implib_link.specs.Gnu.Packed.{group_end, sections_end}
+use Rattle.implib_link.specs.Gnu.Program.{ClaimsNone, HaveSame}
 use Rattle.implib_link.specs.Search.BothExists.{tables_end_by}
 use Rattle.implib_link.specs.Search.BothFlavors.{AreClosed, AreGiven, IsClosed, IsFlavorArchive, NamesNoMembers, archive_of_both, inputs_in, symbols_kept}
-use Rattle.implib_link.specs.Search.Closed.{claims_of, listed_in, references_of, unresolved}
+use Rattle.implib_link.specs.Search.Closed.{claims_of, listed_in, references_of}
 use Rattle.implib_link.specs.Search.Msvc.{left_in}
 use Rattle.implib_link.specs.Search.MsvcArchives.{TakesIntoFor, wanted_for}
-use Rattle.implib_link.specs.Search.Search.{left_as, undefined_in}
+use Rattle.implib_link.specs.Search.Search.{undefined_in}
 use Rattle.implib_link.specs.Search.Wanting.{wanting}
 use Rattle.implib_link_instances.specs.Worked.ByLinker.{WorkedByLinker, with_far, zed_first}
 use Rattle.implib_link_instances.specs.Worked.Closed.{choosing, closed_bases, closed_objects, closed_taken}
@@ -23,7 +21,6 @@ use Rattle.implib_link_instances.specs.Worked.Programs.{both_inputs, program_obj
 use Rattle.implib_link_instances.specs.Worked.Wanting.{WorkedWanting, listed_names, quiet, with_names}
 use Rattle.implib_link.proofs.Search.BothClosed.{closed_links_of_both}
 use Rattle.implib_link.proofs.Search.BothExists.{both_exists, placed_closed}
-use Rattle.implib_link.proofs.Search.Closing.{claims_apart, takes_into}
 use Rattle.implib_link.proofs.Search.Lists.{contains_among}
 use Rattle.implib_link.proofs.Search.Wanting.{program_with}
 use Rattle.implib_link_instances.proofs.Worked.BothFlavors.{archive_by}

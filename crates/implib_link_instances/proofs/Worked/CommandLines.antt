@@ -1,13 +1,13 @@
 -- The command lines, by computing and by the laws.
 use Rattle.std.proofs.Common.{arith, ◌≡◌, ℕ, zero, suc, true, false, List, [], ◌∷◌, ◌++◌, map, Option, None, Some, refl, sym, ◌∙◌, subst, inl, inr, codes}
 use Rattle.std.specs.Prelude.{bytes_eq, if◌then◌else◌, is_none}
-use Rattle.std.specs.List.{AllByRecursion, Contains, IsDistinct, flat_map, list_all, list_any}
+use Rattle.std.specs.List.{AllByRecursion, Contains, IsDistinct, list_all, list_any}
 use Rattle.std.proofs.lemmas.Bool.{and_parts, true≢false}
 use Rattle.implib.specs.declared.machine.MachineType.{MachineType}
 use Rattle.implib.specs.Machine.{is_32bit}
 use Rattle.implib.specs.declared.machine.MachineType.TheVariants.{AMD64, ARM64, ARMNT, I386}
 use Rattle.implib.specs.Formats.Layout.{encoded_size}
-use Rattle.implib.specs.Formats.Object.{Object, object_in}
+use Rattle.implib.specs.Formats.Object.{Object}
 use Rattle.implib.specs.Members.GnuMembers.{alias_specs}
 use Rattle.implib.specs.Members.MemberSpec.{MemberView}
 use Rattle.implib.specs.Members.Members.{refusal, renamed_refusal}

@@ -118,11 +118,7 @@ passing_fields = record {
 pub adjacent_calls : AdjacentCalls
 unfolding u32_bytes
 adjacent_calls = record {
-  amd64_call = instructions_at (take 11 (passing_bytes AMD64)) (drop 17 (passing_bytes AMD64)) 1 (field 7 2 amd64_rel32 ∷ []) (field 19 1 amd64_rel32_1 ∷ field 26 1 amd64_rel32 ∷ field 34 1 amd64_rel32 ∷ field 39 3 amd64_rel32 ∷ field 43 2 x86_secrel ∷ field 52 1 amd64_addr64 ∷ []) (inl (omega arith), tt) (inr (omega arith), (inr (omega arith), (inr (omega arith), (inr (omega arith), (inr (omega arith), (inr (omega arith), tt)))))) refl refl refl refl;
   amd64_direct = instructions_at (take 38 (passing_bytes AMD64)) (drop 43 (passing_bytes AMD64)) 3 (field 7 2 amd64_rel32 ∷ field 13 1 amd64_rel32 ∷ field 19 1 amd64_rel32_1 ∷ field 26 1 amd64_rel32 ∷ field 34 1 amd64_rel32 ∷ []) (field 43 2 x86_secrel ∷ field 52 1 amd64_addr64 ∷ []) (inl (omega arith), (inl (omega arith), (inl (omega arith), (inl (omega arith), (inl (omega arith), tt))))) (inr (omega arith), (inr (omega arith), tt)) refl refl refl refl;
-  i386_call = instructions_at (take 9 (passing_bytes I386)) (drop 15 (passing_bytes I386)) 1 (field 5 2 i386_dir32 ∷ []) (field 17 1 i386_dir32 ∷ field 24 1 i386_dir32 ∷ field 28 1 i386_dir32 ∷ field 32 2 x86_secrel ∷ field 37 3 i386_rel32 ∷ []) (inl (omega arith), tt) (inr (omega arith), (inr (omega arith), (inr (omega arith), (inr (omega arith), (inr (omega arith), tt))))) refl refl refl refl;
-  arm64_page = instructions_at (take 12 (passing_bytes ARM64)) (drop 16 (passing_bytes ARM64)) 1 (field 4 2 arm64_pagebase_rel21 ∷ field 8 2 arm64_pageoffset_12a ∷ []) (field 16 1 arm64_pageoffset_12l ∷ field 24 2 arm64_pageoffset_12l ∷ field 28 3 arm64_branch26 ∷ field 32 1 arm64_addr64 ∷ field 40 2 arm64_secrel ∷ []) (inl (omega arith), (inl (omega arith), tt)) (inr (omega arith), (inr (omega arith), (inr (omega arith), (inr (omega arith), (inr (omega arith), tt))))) refl refl refl refl;
-  arm64_offset = instructions_at (take 16 (passing_bytes ARM64)) (drop 20 (passing_bytes ARM64)) 1 (field 4 2 arm64_pagebase_rel21 ∷ field 8 2 arm64_pageoffset_12a ∷ field 12 1 arm64_pagebase_rel21 ∷ []) (field 24 2 arm64_pageoffset_12l ∷ field 28 3 arm64_branch26 ∷ field 32 1 arm64_addr64 ∷ field 40 2 arm64_secrel ∷ []) (inl (omega arith), (inl (omega arith), (inl (omega arith), tt))) (inr (omega arith), (inr (omega arith), (inr (omega arith), (inr (omega arith), tt)))) refl refl refl refl;
   arm64_direct = instructions_at (take 28 (passing_bytes ARM64)) (drop 32 (passing_bytes ARM64)) 3 (field 4 2 arm64_pagebase_rel21 ∷ field 8 2 arm64_pageoffset_12a ∷ field 12 1 arm64_pagebase_rel21 ∷ field 16 1 arm64_pageoffset_12l ∷ field 24 2 arm64_pageoffset_12l ∷ []) (field 32 1 arm64_addr64 ∷ field 40 2 arm64_secrel ∷ []) (inl (omega arith), (inl (omega arith), (inl (omega arith), (inl (omega arith), (inl (omega arith), tt))))) (inr (omega arith), (inr (omega arith), tt)) refl refl refl refl;
 }
 

@@ -2,7 +2,7 @@
 -- GNU's linker, and zed.dll, which exports `queue`, for Microsoft's; and a program of two objects,
 -- each of which calls one of them through its entry. The archive's bytes are of the COFF kind, and
 -- a linker looks names up in the second linker member.
-use Rattle.std.specs.Prelude.{List, Some, [], codes, length, map, ℕ, ◌++◌, ◌+◌, ◌<◌, ◌∷◌, ◌≡◌}
+use Rattle.std.specs.Prelude.{List, Some, [], codes, map, ℕ, ◌++◌, ◌+◌, ◌∷◌, ◌≡◌}
 use Rattle.implib.specs.declared.machine.MachineType.TheVariants.{AMD64}
 use Rattle.implib.specs.Formats.Constants.{align_16bytes, class_external, cnt_code}
 use Rattle.implib.specs.Formats.Constants.{mem_execute_read}
@@ -11,7 +11,7 @@ use Rattle.implib.specs.Members.Gnu.{section, text_name}
 use Rattle.implib.specs.Definition.{DefinitionView}
 use Rattle.implib.specs.Worked.Members.{of_dll}
 use Rattle.implib.specs.Worked.Statements.{plain_export}
-use Rattle.implib_link.specs.Gnu.Calls.{CallArrives, HasCall, PlacedCode, call_bytes}
+use Rattle.implib_link.specs.Gnu.Calls.{PlacedCode, call_bytes}
 use Rattle.implib_link.specs.Gnu.Calls.{call_relocations, moved_by}
 use Rattle.implib_link.specs.Search.Archives.{Library}
 use Rattle.implib_link_instances.specs.Worked.Search.{library_of}
@@ -39,6 +39,7 @@ use Rattle.implib_link_instances.specs.Worked.MsvcSearch.{descriptor_named, msvc
 use Rattle.implib_link_instances.specs.Worked.MsvcSearch.{null_named, short_named, thunk_named}
 use Rattle.implib_link_instances.specs.Worked.Programs.{object_with, symbol_of_class}
 use Rattle.implib_link.specs.Flavors.Expansion.{expanded_in}
+use Rattle.implib_link.specs.Gnu.Operands.{AllLead}
 
 -- what it means
 abbrev pub bar_definition : DefinitionView
@@ -139,8 +140,8 @@ abbrev pub placed : List PlacedCode
 placed = code_at calls_bar 0x3000 ∷ code_at calls_queue 0x3020 ∷ []
 
 -- All premises are met. There are linked bytes of both codes, with which by the law a loader stops
--- after two descriptors, and the calls at 0x3004 and 0x3024 arrive at what foo.dll gives for `bar`,
--- 0x1000_0030, and zed.dll for `queue`, 0x1000_0050.
+-- after two descriptors, and fields against `__imp_bar` lead to what foo.dll gives for `bar`,
+-- 0x1000_0030, and those against `__imp_queue` to what zed.dll gives for `queue`, 0x1000_0050.
 pub record WorkedBothWay : Type 0 where
   pub archive : IsFlavorArchive AMD64 both
   pub ready : HaveArchive Coff Second (archive_of_both both)
@@ -149,8 +150,6 @@ pub record WorkedBothWay : Type 0 where
   pub takes : IsSearchOf Coff Second (archive_of_both both) (expanded_in AMD64) own taken
   pub linked_for : AreLinkedFor AMD64 OfMember both own taken both bases objects
   pub sections : AreSections AMD64 bases objects placed
-  pub bar_called : HasCall AMD64 (code_at calls_bar 0x3000) 4 (codes "__imp_bar")
-  pub queue_called : HasCall AMD64 (code_at calls_queue 0x3020) 4 (codes "__imp_queue")
   pub bar_entry : definitions_of (codes "__imp_bar") linked
       ≡ record { name = codes "__imp_bar"; address = Some 0x2060 } ∷ []
   pub queue_entry : definitions_of (codes "__imp_queue") linked
@@ -162,9 +161,9 @@ pub record WorkedBothWay : Type 0 where
       × ((n : ℕ) (written : List Range) →
       ReadsAndWrites (image_of AMD64 bases linked) 8 (given_on AMD64) n bases.descriptors written →
       (n ≡ 2)
-      × CallArrives AMD64 0x1_4000_0000
-      (written ++ (image_of AMD64 bases linked ++ ranges_of_codes linked_codes)) 0x3004
+      × AllLead AMD64 0x1_4000_0000 linked linked_codes
+      (written ++ (image_of AMD64 bases linked ++ ranges_of_codes linked_codes)) (codes "__imp_bar")
       (0x30 ∷ 0 ∷ 0 ∷ 0x10 ∷ 0 ∷ 0 ∷ 0 ∷ 0 ∷ [])
-      × CallArrives AMD64 0x1_4000_0000
-      (written ++ (image_of AMD64 bases linked ++ ranges_of_codes linked_codes)) 0x3024
-      (0x50 ∷ 0 ∷ 0 ∷ 0x10 ∷ 0 ∷ 0 ∷ 0 ∷ 0 ∷ [])))))
+      × AllLead AMD64 0x1_4000_0000 linked linked_codes
+      (written ++ (image_of AMD64 bases linked ++ ranges_of_codes linked_codes))
+      (codes "__imp_queue") (0x50 ∷ 0 ∷ 0 ∷ 0x10 ∷ 0 ∷ 0 ∷ 0 ∷ 0 ∷ [])))))

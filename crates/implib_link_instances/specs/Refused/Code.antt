@@ -8,14 +8,12 @@ use Rattle.implib.specs.Link.Placement.{Addresses, At, Placed, Unplaced}
 use Rattle.implib.specs.Members.Gnu.{section}
 use Rattle.implib.specs.Members.ImportTables.{table_flags, zeros}
 use Rattle.implib_link.specs.Flavors.LldThunks.{BranchArrivesByThunk, ThunkArrives}
-use Rattle.implib_link.specs.Gnu.Calls.{CallArrives, DirectCallArrives, PlacedCode, Resolves}
+use Rattle.implib_link.specs.Gnu.Calls.{DirectCallArrives, PlacedCode, Resolves}
 use Rattle.implib_link.specs.Gnu.Calls.{StubAt}
 use Rattle.implib_link.specs.Gnu.Fields.{LinkedCode}
 use Rattle.implib_link.specs.Gnu.Operands.{AllLeadTo, AreKept, BranchArrives, BranchStays}
 use Rattle.implib_link.specs.Gnu.Operands.{InstructionArrives, OperandArrives, PairArrives}
 use Rattle.implib_link.specs.Gnu.Operands.{PointerArrives}
-use Rattle.implib_link.specs.Gnu.Pages.{PageArrives}
-use Rattle.implib_link.specs.Gnu.Pointers.{LoadArrives}
 use Rattle.implib_link.specs.Gnu.Rebased.{StubArrives}
 use Rattle.implib_link.specs.Gnu.Stored.{HoldAddress, HoldsFurther, IsFurtherHeld, PointsTo}
 use Rattle.implib_link.specs.Gnu.Stored.{SumArrives, amd64_addr32nb, arm64_pageoffset_12a}
@@ -46,18 +44,6 @@ page_back =
 abbrev pub one : List ℕ
 one = 0 ∷ []
 
-pub record RefusedCallArrives : Type 0 where
-  pub here : CallArrives AMD64 base [] 0x1000 [] → ⊥
-  pub whole : CallArrives AMD64 base [] 0x1000 [] → ⊥
-  pub reads : CallArrives AMD64 base nops 0x1000 [] → ⊥
-  pub located : CallArrives AMD64 base [] 0x1000 one → ⊥
-
-pub record RefusedLoadArrives : Type 0 where
-  pub here : LoadArrives AMD64 base [] 0x1000 [] → ⊥
-  pub whole : LoadArrives AMD64 base [] 0x1000 [] → ⊥
-  pub reads : LoadArrives AMD64 base nops 0x1000 [] → ⊥
-  pub located : LoadArrives AMD64 base [] 0x1000 one → ⊥
-
 pub record RefusedStubArrives : Type 0 where
   pub there : StubArrives AMD64 base [] 0x1000 [] → ⊥
   pub whole : StubArrives AMD64 base [] 0x1000 [] → ⊥
@@ -78,16 +64,6 @@ pub record RefusedDirectCallArrives : Type 0 where
   pub whole_stub : DirectCallArrives AMD64 base [] 0x1000 [] → ⊥
   pub reads : DirectCallArrives AMD64 base calling_nops 0xFFB [] → ⊥
   pub located : DirectCallArrives AMD64 base [] 0x1000 one → ⊥
-
-pub record RefusedPageArrives : Type 0 where
-  pub adrp_there : PageArrives base [] 16 20 8 8 [] → ⊥
-  pub adrp_whole : PageArrives base [] 16 20 8 8 [] → ⊥
-  pub is_adrp : PageArrives base nops 0x1000 0x1000 8 8 [] → ⊥
-  pub ldr_there : PageArrives base [] 16 20 8 8 [] → ⊥
-  pub ldr_whole : PageArrives base [] 16 20 8 8 [] → ⊥
-  pub is_ldr : PageArrives base nops 0x1000 0x1000 8 8 [] → ⊥
-  pub leads : PageArrives base page_back 16 20 8 8 [] → ⊥
-  pub located : PageArrives base [] 16 20 8 8 one → ⊥
 
 pub record RefusedPairArrives : Type 0 where
   pub adrp_there : PairArrives base [] [] 16 20 0 0 (codes "f") [] → ⊥

@@ -12,8 +12,7 @@ use Rattle.implib.specs.Link.Resolution.{definitions_of}
 use Rattle.implib.specs.Members.WeakExternal.{weak_object}
 use Rattle.implib_link.specs.Flavors.Program.{OfMember, objects_taken, IsProgramOf, IsProgram}
 use Rattle.implib_link.specs.Gnu.Aliases.{ResolvesAliases, weak_target}
-use Rattle.implib_link.specs.Gnu.Calls.{HasCall, PlacedCode}
-use Rattle.implib_link.specs.Gnu.Pointers.{HasLoad}
+use Rattle.implib_link.specs.Gnu.Calls.{PlacedCode}
 use Rattle.implib_link.specs.Gnu.Program.{null_descriptor}
 use Rattle.implib_link_instances.specs.Worked.Calls.{calling, calling_code, first_bytes, last_bytes}
 use Rattle.implib_link_instances.specs.Worked.Calls.{loading, loading_code, CodesBeside, as_placed}
@@ -91,8 +90,6 @@ pub record WorkedAlias : Type 0 where
       (as_placed (all_at 0x80))
   pub undefined : definitions_of opened_name alias_placed ≡ []
   pub weak : weak_target opened_name alias_placed ≡ Some (imp_symbol (codes "open"))
-  pub calls : HasCall AMD64 alias_at 4 opened_name
-  pub loads : HasLoad AMD64 alias_load_at 4 opened_name
   -- call [rip - 0xF8A]
   pub call_is : (code_range AMD64 0x1_4000_0000 (all_at 0x80) alias_at).bytes
       ≡ first_bytes AMD64 ++ (0xFF ∷ 0x15 ∷ 0x76 ∷ 0xF0 ∷ 0xFF ∷ 0xFF ∷ last_bytes AMD64)
@@ -134,8 +131,6 @@ pub record WorkedFlavorAlias : Type 0 where
       (as_placed (all_at 0x88))
   pub undefined : definitions_of opened_name opened_placed ≡ []
   pub weak : weak_target opened_name opened_placed ≡ Some (imp_symbol (codes "open"))
-  pub calls : HasCall AMD64 alias_at 4 opened_name
-  pub loads : HasLoad AMD64 alias_load_at 4 opened_name
   -- call [rip - 0xF82]
   pub call_is : (code_range AMD64 0x1_4000_0000 (all_at 0x88) alias_at).bytes
       ≡ first_bytes AMD64 ++ (0xFF ∷ 0x15 ∷ 0x7E ∷ 0xF0 ∷ 0xFF ∷ 0xFF ∷ last_bytes AMD64)

@@ -1,6 +1,6 @@
 -- A closed program by hand of an archive of both flavours: of foo.dll's members for GNU's linker,
 -- some of them of an alias, and of zed.dll's for Microsoft's.
-use Rattle.std.specs.Prelude.{List, Some, [], codes, length, map, ◌++◌, ◌<◌, ◌∷◌, ◌≡◌, ◌≤◌}
+use Rattle.std.specs.Prelude.{List, Some, [], codes, length, map, ◌++◌, ◌∷◌, ◌≡◌, ◌≤◌}
 use Rattle.implib.specs.declared.flavor.Flavor.TheVariants.{Gnu, Msvc}
 use Rattle.implib.specs.declared.machine.MachineType.TheVariants.{AMD64}
 use Rattle.implib.specs.Formats.Object.{Object}
@@ -15,9 +15,8 @@ use Rattle.implib_link.specs.Gnu.Packed.{packed, packed_end}
 use Rattle.implib_link.specs.Search.BothFlavors.{AreClosed, AreGiven, FlavorLibrary, IsClosed}
 use Rattle.implib_link.specs.Search.BothFlavors.{IsFlavorArchive, LinksClosed, TakesOfLibraries}
 use Rattle.implib_link.specs.Search.BothFlavors.{archive_of_both, inputs_in, symbols_kept}
-use Rattle.implib_link.specs.Search.BothFlavors.{msvc_among}
 use Rattle.implib_link.specs.Search.Closed.{unresolved}
-use Rattle.implib_link.specs.Search.MsvcArchives.{PullsIntoFor, TakesIntoFor, short_inputs}
+use Rattle.implib_link.specs.Search.MsvcArchives.{PullsIntoFor, TakesIntoFor}
 use Rattle.implib_link.specs.Search.MsvcArchives.{wanted_for}
 use Rattle.implib_link_instances.specs.Worked.Search.{aliased, library_of}
 use Rattle.implib_link_instances.specs.Worked.Closed.{choosing, clashing, foo_alias, foo_linked}

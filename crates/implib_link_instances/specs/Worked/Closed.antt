@@ -1,22 +1,17 @@
 -- The objects of a closed program by hand, of two libraries, one of which has an alias.
-use Rattle.std.specs.Prelude.{◌≡◌, List, [], ◌∷◌, ◌++◌, codes, map, Some}
+use Rattle.std.specs.Prelude.{List, [], ◌∷◌, ◌++◌, codes}
 use Rattle.implib.specs.declared.machine.MachineType.TheVariants.{AMD64}
 use Rattle.implib.specs.Formats.Constants.{class_external}
 use Rattle.implib.specs.Formats.Object.{Object}
 use Rattle.implib.specs.Link.LinkedMembers.{objects_in}
-use Rattle.implib.specs.Link.Placement.{Bases, placed_from}
-use Rattle.implib.specs.Link.Resolution.{definitions_of}
+use Rattle.implib.specs.Link.Placement.{Bases}
 use Rattle.implib.specs.Members.Gnu.{weak_name}
 use Rattle.implib.specs.Members.GnuMembers.{export_spec, head_spec, tail_spec}
 use Rattle.implib.specs.Members.MemberSpec.{MemberView, member_of}
 use Rattle.implib.specs.Members.WeakExternal.{weak_spec}
-use Rattle.implib.specs.Worked.Members.{of_dll}
 use Rattle.implib.specs.Worked.Statements.{plain_export}
 use Rattle.implib_link.specs.Gnu.Packed.{packed}
 use Rattle.implib_link.specs.Gnu.Program.{null_descriptor}
-use Rattle.implib_link.specs.Search.Archives.{IsArchive, Library, archive_of}
-use Rattle.implib_link.specs.Search.Closed.{unresolved}
-use Rattle.implib_link_instances.specs.Worked.Search.{library_of, two_libraries, aliased}
 use Rattle.implib_link_instances.specs.Worked.Programs.{code_object, symbol_of_class}
 use Rattle.implib.specs.LibraryName.{own_names}
 

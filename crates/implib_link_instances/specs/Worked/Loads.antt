@@ -1,7 +1,7 @@
 -- The programs by hand, loaded by hand and called: that they meet what the laws ask for, and what
 -- the laws say of them.
 use Rattle.implib_link.specs.Tables.{AreTablesLoaded, block_of_flavor, tables_at}
-use Rattle.std.specs.Prelude.{List, [], codes, length, map, slice_index, ℕ, ◌++◌, ◌-◌, ◌∷◌, ◌≡◌}
+use Rattle.std.specs.Prelude.{List, [], length, map, slice_index, ℕ, ◌++◌, ◌-◌, ◌∷◌, ◌≡◌}
 use Rattle.implib.specs.declared.machine.MachineType.{MachineType}
 use Rattle.implib.specs.declared.machine.MachineType.TheVariants.{AMD64, I386}
 use Rattle.implib.specs.Import.{Ask, Name, Ordinal}
@@ -11,9 +11,8 @@ use Rattle.implib.specs.Members.ImportTables.{thunk_width, zeros}
 use Rattle.implib_link.specs.Directory.{WalkFinds, imported}
 use Rattle.implib_link.specs.Gnu.Loaded.{Writes}
 use Rattle.implib_link.specs.Flavors.Program.{IsProgram, LinksAmong, gnu_input}
-use Rattle.implib_link.specs.Stub.{CanJump}
 use Rattle.implib_link_instances.specs.Worked.Programs.{both_inputs, program_image, program_objects}
-use Rattle.implib_link_instances.specs.Worked.Programs.{program_placed, symbol_on, touching_4}
+use Rattle.implib_link_instances.specs.Worked.Programs.{touching_4}
 use Rattle.implib_link_instances.specs.Worked.Programs.{touching_8}
 use Rattle.implib.specs.Formats.Object.{Object}
 use Rattle.implib.specs.Link.Linked.{AllLink}

@@ -16,13 +16,12 @@ use Rattle.implib.specs.Link.Placement.{Bases, Placed, SectionAddress, Unplaced,
 use Rattle.implib.specs.Link.Resolution.{target_address}
 use Rattle.implib.specs.Members.Gnu.{section, stub_bytes, stub_relocations, text_name}
 use Rattle.implib_link.specs.Flavors.Program.{IsProgram}
-use Rattle.implib_link.specs.Gnu.Calls.{HasCall, HasDirectCall, amd64_addr64, arm64_addr64}
+use Rattle.implib_link.specs.Gnu.Calls.{HasDirectCall, amd64_addr64, arm64_addr64}
 use Rattle.implib_link.specs.Gnu.Calls.{arm64_branch26, i386_rel32, StubAt}
 use Rattle.implib_link.specs.Gnu.Fields.{LinkedCode, placed_code, ranges_of_codes}
 use Rattle.implib_link.specs.Gnu.Moves.{AreInMemory, CanBeMoved}
 use Rattle.implib_link.specs.Gnu.Operands.{HasBranch, HasInstruction, HasOffsetField, HasOperand}
 use Rattle.implib_link.specs.Gnu.Operands.{HasPageField, HasPointer, branch_leads, operand_leads}
-use Rattle.implib_link.specs.Gnu.Pages.{HasPage, HasPageOffset}
 use Rattle.implib_link.specs.Gnu.Program.{null_descriptor}
 use Rattle.implib_link.specs.Gnu.Rebased.{Place}
 use Rattle.implib_link_instances.specs.Worked.Programs.{another, both_inputs, foo_input}
@@ -268,15 +267,10 @@ pub record PassingFields : Type 0 where
   pub arm64_branch : HasBranch ARM64 (passing_at ARM64) 28 0 (open_on ARM64)
   pub arm64_pointer : HasPointer ARM64 (passing_at ARM64) 32 (imp_open ARM64)
 
--- The calls of the laws over placed code, right after a field of 4 bytes: through the pointer,
--- after `lea` or `push`; by the name, after `mov` and after an address or the field relative to a
--- section; and ARM64's page and offset after `add` and after one another.
+-- The calls of the laws over placed code by the name, right after a field of 4 bytes: after `mov`,
+-- and after an address or the field relative to a section.
 pub record AdjacentCalls : Type 0 where
-  pub amd64_call : HasCall AMD64 (placed_code (passing_at AMD64)) 11 (imp_open AMD64)
   pub amd64_direct : HasDirectCall AMD64 (placed_code (passing_at AMD64)) 38 (open_on AMD64)
-  pub i386_call : HasCall I386 (placed_code (passing_at I386)) 9 (imp_open I386)
-  pub arm64_page : HasPage (placed_code (passing_at ARM64)) 12 8 (imp_open ARM64)
-  pub arm64_offset : HasPageOffset (placed_code (passing_at ARM64)) 16 8 8 (imp_open ARM64)
   pub arm64_direct : HasDirectCall ARM64 (placed_code (passing_at ARM64)) 28 (open_on ARM64)
 
 -- The program is in memory at a base, by these numbers of relocated fields; its second code is the

