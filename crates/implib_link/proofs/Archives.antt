@@ -1,6 +1,4 @@
 -- The same, proved.
 pub mod InBytes
-pub mod LldWay
-pub mod BothWay
+pub mod Ways
 pub mod Files
-pub mod LldFiles

@@ -3,6 +3,5 @@ pub mod Texts
 pub mod Heads
 pub mod Programs
 pub mod Members
-pub mod Older
 pub mod Stubs
 pub mod OfMembers

@@ -1,41 +1,48 @@
--- Fields against the symbols of import tables lead to their entries, in memory at any base, whoever made the tables.
-use Rattle.std.proofs.Common.{◌≡◌, ℕ, ◌+◌, ◌*◌, ◌^◌, ◌<◌, ◌≤◌, List, [], ◌∷◌, ◌++◌, length, map, Some, refl, ap, sym, ◌∙◌, subst, inl, arith}
+-- The members that are weak externals are so in a link.
+use Rattle.std.proofs.Common.{◌≡◌, ℕ, List, ◌∷◌, Some, refl, ◌+◌, ◌*◌, ◌^◌, ◌<◌, ◌≤◌, [], ◌++◌, length, map, ap, sym, ◌∙◌, subst, inl, arith}
+use Rattle.implib.specs.declared.machine.MachineType.{MachineType}
+use Rattle.implib.specs.Formats.Bytes.{u32_bytes}
+use Rattle.implib.specs.Formats.Layout.{entries_of, name_text, object_of}
+use Rattle.implib.specs.Formats.Object.{u32_at, ObjectSymbol, section_numbered}
+use Rattle.implib.specs.Link.Placement.{Placed, SectionAddress}
+use Rattle.implib.specs.Members.WeakExternal.{weak_object}
+use Rattle.implib_link.specs.Gnu.Aliases.{weak_target, ResolvesAliases, StandsFor}
+use Rattle.implib.proofs.Link.Definitions.{same_text}
 use Rattle.std.specs.Prelude.{slice_get}
 use Rattle.std.specs.List.{AllByRecursion, Contains}
 use Rattle.std.proofs.lemmas.List.{length-map}
-use Rattle.implib.specs.declared.machine.MachineType.{MachineType}
 use Rattle.implib.specs.declared.machine.MachineType.TheVariants.{I386, ARMNT, AMD64, ARM64}
-use Rattle.implib.specs.Formats.Object.{ObjectSymbol, section_numbered}
 use Rattle.implib.specs.Formats.ShortImport.{ShortImport}
 use Rattle.implib.specs.Import.{Ask, imp_symbol}
 use Rattle.implib.specs.Link.Image.{Range}
 use Rattle.implib.specs.Link.Load.{BytesAt}
 use Rattle.implib.specs.Link.Resolution.{definitions_of, first_address}
 use Rattle.implib.specs.Members.ImportTables.{thunk_width}
-use Rattle.implib_link.specs.Flavors.LldThunks.{BranchArrivesByThunk, IsThunk, ThunkArrives}
-use Rattle.implib_link.specs.Gnu.Aliases.{ResolvesAliases, StandsFor, weak_target}
-use Rattle.implib_link.specs.Gnu.Calls.{CanBranch, DirectCallArrives, HasDirectCall, StubAt}
-use Rattle.implib_link.specs.Gnu.Fields.{AreLinkedBeside, DefinesIn, LinkedCode, placed_code, field_at, ranges_of_codes}
-use Rattle.implib_link.specs.Gnu.Loaded.{Writes}
+use Rattle.implib_link.specs.Flavors.LldImports.{BranchArrivesByThunk, IsThunk, ThunkArrives}
+use Rattle.implib_link.specs.Gnu.Fields.{CanBranch, DirectCallArrives, HasDirectCall, StubAt, AreLinkedBeside, DefinesIn, LinkedCode, placed_code, field_at, ranges_of_codes, AllLead, AllLeadTo, AreKept, BranchArrives, HasBranch, BranchStays, Names}
+use Rattle.implib_link.specs.Gnu.Writing.{Writes, ReadsAndWrites}
 use Rattle.implib_link.specs.Gnu.Moves.{AreInMemory}
-use Rattle.implib_link.specs.Gnu.Operands.{AllLead, AllLeadTo, AreKept, BranchArrives, HasBranch, BranchStays, Names}
-use Rattle.implib_link.specs.Gnu.Reading.{ReadsAndWrites}
 use Rattle.implib_link.specs.Tables.{AreSteady, AreTables, AreTablesLoaded, CanReadFrom, Table, TableEntry, Tables, imported_by_table}
 use Rattle.implib_link.proofs.Flavors.LldThunks.{bare_symbol, thunk_arrives, thunk_defines, thunk_is}
 use Rattle.implib_link.proofs.Gnu.CallReads.{CanReach}
 use Rattle.implib_link.proofs.Gnu.FieldsInMemory.{Rests, linked_rests, part_there, rests, settled_linked}
 use Rattle.implib_link.proofs.Gnu.CallsByName.{direct_arrives}
-use Rattle.implib_link.proofs.Gnu.Keeps.{bytes_kept, keeps_written, memory_can_be_read, memory_read, memory_reads}
+use Rattle.implib_link.proofs.Gnu.Loaded.{bytes_kept, keeps_written, memory_can_be_read, memory_read, memory_reads, directory_read}
 use Rattle.implib_link.proofs.Gnu.Memory.{Covers, byte_first, loaded_below, written_covers}
-use Rattle.implib_link.proofs.Gnu.Operands.{all_lead, all_lead_to, branch_reaches, branch_stays, where_defined}
-use Rattle.implib_link.proofs.Gnu.Reading.{directory_read}
+use Rattle.implib_link.proofs.Gnu.Operands.{all_lead, all_lead_to, branch_reaches, branch_stays, where_defined, stub_arrives}
 use Rattle.implib_link.proofs.Gnu.Stubs.{same_address, wide_thunk}
-use Rattle.implib_link.proofs.Gnu.OperandStubs.{stub_arrives}
 use Rattle.implib_link.specs.Gnu.Rebased.{StubArrives}
 use Rattle.implib.proofs.Link.Ranges.{all_among}
-use Rattle.implib_link.proofs.PackedTables.{HasEntry, eights}
+use Rattle.implib_link.proofs.Tables.{HasEntry, eights, tables_load}
 use Rattle.implib_link.proofs.Search.Lists.{contains_among}
-use Rattle.implib_link.proofs.Tables.{tables_load}
+
+-- the members that are weak externals are so
+pub weak_is_weak : (machine : MachineType) (weak target : List ℕ) (section_addresses : List SectionAddress) (linked : List Placed) →
+    weak_target weak (record { object = object_of (weak_object machine weak target); section_addresses = section_addresses } ∷ linked) ≡ Some target
+unfolding object_of weak_object entries_of name_text u32_bytes u32_at
+weak_is_weak machine weak target section_addresses linked = rw (same_text weak) refl
+
+-- Fields against the symbols of import tables lead to their entries, in memory at any base, whoever made the tables.
 
 -- a machine that can read a table from its address on can read each entry
 pub entry_reached : (machine : MachineType) (image_base address j : ℕ) → CanReadFrom machine image_base address → CanReach machine image_base (address + thunk_width machine * j)

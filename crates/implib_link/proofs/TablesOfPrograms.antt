@@ -1,36 +1,59 @@
--- Programs of members, and of lld, have import tables.
-use Rattle.std.proofs.Common.{◌≡◌, ℕ, zero, suc, ◌+◌, ◌*◌, ◌^◌, ◌<◌, List, [], ◌∷◌, ◌++◌, length, map, Some, refl, ap, sym, ◌∙◌, subst, arith}
-use Rattle.std.specs.Prelude.{slice_get}
-use Rattle.std.specs.List.{AllByRecursion, Contains}
-use Rattle.std.proofs.lemmas.List.{length-map}
+-- What a loader writes is at the entries of both flavours' address tables, and nowhere else.
+use Rattle.std.proofs.Common.{◌≡◌, ℕ, zero, suc, ◌+◌, ◌*◌, List, [], ◌∷◌, Some, ap, ◌∙◌, subst, ◌^◌, ◌<◌, ◌++◌, length, map, refl, sym, arith}
+use Rattle.std.specs.Prelude.{option_map, slice_get}
+use Rattle.std.proofs.lemmas.Option.{slice_get-map}
 use Rattle.implib.specs.declared.machine.MachineType.{MachineType}
-use Rattle.implib.specs.declared.machine.MachineType.TheVariants.{I386, ARMNT, AMD64, ARM64}
 use Rattle.implib.specs.Definition.{ExportView}
-use Rattle.implib.specs.Formats.Object.{Object}
-use Rattle.implib.specs.Formats.ShortImport.{ShortImport, ask_of_short_import}
 use Rattle.implib.specs.Import.{imp_symbol}
-use Rattle.implib.specs.Link.Image.{Range, image_of, range_end}
-use Rattle.implib.specs.Link.Load.{NumberAt}
+use Rattle.implib.specs.Members.ImportTables.{thunk_width}
+use Rattle.implib.specs.Formats.Object.{Object}
 use Rattle.implib.specs.Link.Placement.{Bases, Placed, placed_from}
 use Rattle.implib.specs.Link.Resolution.{definitions_of}
-use Rattle.implib.specs.Members.ImportTables.{thunk_width}
+use Rattle.implib_link.specs.Flavors.Program.{Ending, FlavorInput, SymbolsAt, imp_symbols, exports_chosen, symbol_in, thunks_of, ProgramLinks, IsMadeFor, ask_in, dll_of, imported_in, IsProgramOf}
+use Rattle.implib_link.proofs.Gnu.Loaded.{times_next, times_none, mapped_at}
+use Rattle.std.specs.List.{AllByRecursion, Contains}
+use Rattle.std.proofs.lemmas.List.{length-map}
+use Rattle.implib.specs.declared.machine.MachineType.TheVariants.{I386, ARMNT, AMD64, ARM64}
+use Rattle.implib.specs.Formats.ShortImport.{ShortImport, ask_of_short_import}
+use Rattle.implib.specs.Link.Image.{Range, image_of, range_end}
+use Rattle.implib.specs.Link.Load.{NumberAt}
 use Rattle.implib.proofs.Link.LinkedBlocks.{ends, starts}
 use Rattle.implib_link.specs.Directory.{DirectoryAt, Imported}
-use Rattle.implib_link.specs.Flavors.LldImports.{IsLldProgram, dll_of_group, grouped, imported_by, imports_of_lld, placed_by_lld}
-use Rattle.implib_link.specs.Flavors.LldTables.{ArePiecesAt, IsImportable, thunks_until}
-use Rattle.implib_link.specs.Flavors.Program.{Ending, FlavorInput, IsMadeFor, ask_in, dll_of, exports_chosen, imported_in, symbol_in, thunks_of, IsProgramOf}
+use Rattle.implib_link.specs.Flavors.LldImports.{IsLldProgram, dll_of_group, grouped, imported_by, imports_of_lld, placed_by_lld, ArePiecesAt, IsImportable, thunks_until}
 use Rattle.implib_link.specs.Gnu.Rebased.{table_places, table_places_in}
 use Rattle.implib_link.specs.Stub.{CanJump}
 use Rattle.implib_link.specs.Tables.{AreSteady, AreTables, Block, CanReadFrom, DefineEntries, Table, TableEntry, block_of_flavor, block_of_group, entry_of_short, imported_by_table, packed_tables, tables_at, tables_of_lld}
 use Rattle.implib_link.proofs.Flavors.LldImports.{all_define, defined_once, get_map, lld_links, nth_stands, only, stand}
 use Rattle.implib_link.proofs.Flavors.LldTables.{pieces_directory, pieces_stand}
-use Rattle.implib_link.proofs.Flavors.Loaded.{entry_of}
 use Rattle.implib_link.proofs.Flavors.Program.{program_links}
-use Rattle.implib_link.proofs.Gnu.Loaded.{mapped_at}
-use Rattle.implib_link.proofs.PackedTables.{HasEntry, are_packed, asks_again, block_entry, entries_until, imported_by_block, packed_count, packed_rise, reads_further}
+use Rattle.implib_link.proofs.Tables.{HasEntry, are_packed, asks_again, block_entry, entries_until, imported_by_block, packed_count, packed_rise, reads_further}
 use Rattle.implib_link.proofs.Search.Lists.{contains_among}
 use Rattle.implib.proofs.Link.LinkedMembers.{all_at}
 use Rattle.implib_link.proofs.Gnu.Blocks.{table_sum}
+
+-- the j-th entry is the only definition of its symbol
+pub nth_symbol : (linked : List Placed) (width a : ℕ) (names : List (List ℕ)) (j : ℕ) (name : List ℕ) → SymbolsAt linked width a names → slice_get names j ≡ Some name →
+    definitions_of name linked ≡ record { name = name; address = Some (a + width * j) } ∷ []
+unfolding SymbolsAt
+nth_symbol linked width a [] j name entries is = cc
+nth_symbol linked width a (x ∷ names) zero name entries is =
+    let same : x ≡ name = cc in
+    subst (λ (y : List ℕ). definitions_of y linked ≡ record { name = y; address = Some (a + width * 0) } ∷ []) same
+    (subst (λ n. definitions_of x linked ≡ record { name = x; address = Some n } ∷ []) (times_none a width) entries.0)
+nth_symbol linked width a (x ∷ names) (suc j) name entries is =
+    subst (λ n. definitions_of name linked ≡ record { name = name; address = Some n } ∷ []) (times_next a width j) (nth_symbol linked width (a + width) names j name entries.1 is)
+
+-- the entry of the j-th chosen export
+pub entry_of : (machine : MachineType) (ending : Ending) (bases : Bases) (inputs : List FlavorInput) (objects : List Object) (i j : ℕ) (p : FlavorInput) (e : ExportView) → ProgramLinks machine ending bases inputs objects →
+    slice_get inputs i ≡ Some p → slice_get (exports_chosen p) j ≡ Some e →
+    definitions_of (imp_symbol (symbol_in p.flavor e)) (placed_from bases objects)
+    ≡ record { name = imp_symbol (symbol_in p.flavor e); address = Some (bases.addresses + thunk_width machine * thunks_of i inputs + thunk_width machine * j) } ∷ []
+entry_of machine ending bases inputs objects i j p e links input chosen =
+    nth_symbol (placed_from bases objects) (thunk_width machine) (bases.addresses + thunk_width machine * thunks_of i inputs) (imp_symbols p) j (imp_symbol (symbol_in p.flavor e))
+    (links.imports i p input).entries
+    (slice_get-map (λ e. imp_symbol (symbol_in p.flavor e)) (exports_chosen p) j ∙ ap (option_map (λ e. imp_symbol (symbol_in p.flavor e))) chosen)
+
+-- Programs of members, and of lld, have import tables.
 
 -- The blocks of programs.
 

@@ -3,6 +3,4 @@ pub mod SectionSymbols
 pub mod Expansion
 pub mod Program
 pub mod Texts
-pub mod LldTables
 pub mod LldImports
-pub mod LldThunks

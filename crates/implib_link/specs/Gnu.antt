@@ -1,11 +1,6 @@
 -- Programs of members for GNU's linker.
-pub mod Program
 pub mod Texts
-pub mod Loaded
-pub mod Reading
-pub mod Calls
 pub mod Fields
-pub mod Operands
 pub mod Packed
 pub mod Rebased
 pub mod Moves

@@ -31,9 +31,8 @@ use Rattle.implib.specs.Members.ImportTables.{thunk_width, zeros}
 use Rattle.implib.specs.Members.MemberSpec.{MemberSpec, MemberView, member_of}
 use Rattle.implib.specs.Members.OlderSymbols.{older_spec, older_symbol}
 use Rattle.implib.specs.Renaming.{renamed}
-use Rattle.implib_link.specs.Flavors.Program.{gnu_input}
-use Rattle.implib_link.specs.Gnu.Program.{ClaimsNone, claimed_names, has_tables, is_table}
-use Rattle.implib_link.specs.Gnu.Program.{null_descriptor}
+use Rattle.implib_link.specs.Flavors.Program.{gnu_input, ClaimsNone, claimed_names, has_tables}
+use Rattle.implib_link.specs.Flavors.Program.{is_table, null_descriptor}
 use Rattle.implib_link.specs.Gnu.Rebased.{absolute_width}
 use Rattle.implib_link.specs.Tables.{Block, TableEntry, block_of_flavor}
 

@@ -10,8 +10,6 @@ pub mod FlavorLines
 pub mod Flavors
 pub mod GnuPacked
 pub mod Lemmas
-pub mod LinkedCode
-pub mod LldPrograms
 pub mod Loads
 pub mod Opened
 pub mod Operands

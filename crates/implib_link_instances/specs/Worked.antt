@@ -1,26 +1,17 @@
 -- Programs, expansions and searches worked by hand.
-pub mod Aliases
 pub mod BothFlavors
-pub mod Calls
-pub mod Closed
 pub mod CommandLines
 pub mod Expansion
 pub mod Files
-pub mod FlavorLines
 pub mod Flavors
-pub mod LldPrograms
 pub mod Loads
 pub mod MsvcSearch
-pub mod ByLinker
 pub mod Operands
 pub mod OtherNames
 pub mod Parts
 pub mod Plainly
 pub mod Programs
-pub mod Registered
 pub mod Search
-pub mod Sources
 pub mod Stored
 pub mod ThirdTexts
 pub mod Wanting
-pub mod Writing

@@ -28,8 +28,7 @@ use Rattle.implib_link.specs.Flavors.SectionSymbols.{with_section_symbols}
 use Rattle.implib_link.proofs.Gnu.Beside.{LocatedBeside, block_beside, rest_beside, descriptor_beside, table_bounds}
 use Rattle.implib_link.proofs.Gnu.Blocks.{addresses_after}
 use Rattle.implib_link.proofs.Gnu.Filling.{DescriptorBeside, DirectoryBeside}
-use Rattle.implib_link.proofs.Flavors.Block.{AreEven, FitsIn, Suits, behind_descriptor, definitions-in, definitions_in, ends_in, ends_of_askings, even_aligned, even_in, even_wide, objects_of, use_for, askings_stand}
-use Rattle.implib_link.proofs.Flavors.Blocks.{AllSuit, BlocksIn, CanLink, FlavorBlock, addresses_one, all_objects, descriptors_one, ends_all, ends_one, imported_of, rest_of, thunks_in}
+use Rattle.implib_link.proofs.Flavors.Block.{AreEven, FitsIn, Suits, behind_descriptor, definitions-in, definitions_in, ends_in, ends_of_askings, even_aligned, even_in, even_wide, objects_of, use_for, askings_stand, AllSuit, BlocksIn, CanLink, FlavorBlock, addresses_one, all_objects, descriptors_one, ends_all, ends_one, imported_of, rest_of, thunks_in}
 use Rattle.implib_link.proofs.Flavors.Expanded.{AreWide, ends_of_asking, ends_of_descriptor, ends_of_null_thunk, length-thunk_linked, placed-asking, placed-descriptor, placed-null_thunk, thunk_linked, wide_asking, wide_descriptor, descriptor_stands}
 use Rattle.implib.specs.LibraryName.{NamesOfDll}
 use Rattle.implib_link.proofs.Gnu.Loaded.{plus_none}

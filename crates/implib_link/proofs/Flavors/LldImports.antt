@@ -17,14 +17,12 @@ use Rattle.implib.proofs.Link.Descriptors.{LoadsFrom}
 use Rattle.implib.proofs.Link.LinkedMembers.{among_contains, among_map, all_at}
 use Rattle.implib.proofs.Link.Ranges.{Among, all_among, among_back, among_front}
 use Rattle.implib_link.specs.Directory.{Imported}
-use Rattle.implib_link.specs.Flavors.LldImports.{IsImportedBy, IsLldProgram, LldLinks, dll_of_group, entries_of_groups, group_entries, grouped, imp_symbols_of, imported_by, imports_of_lld, in_small, placed_by_lld}
-use Rattle.implib_link.specs.Flavors.LldTables.{IsAskable, IsImportable, thunks_until}
-use Rattle.implib_link.proofs.Flavors.LldGroups.{OneDll, grouped_all, grouped_holds, grouped_one, grouped_times, in_place}
-use Rattle.implib_link.proofs.Flavors.LldTables.{StandAt, directory_stands, pieces_stand}
+use Rattle.implib_link.specs.Flavors.LldImports.{IsImportedBy, IsLldProgram, LldLinks, dll_of_group, entries_of_groups, group_entries, grouped, imp_symbols_of, imported_by, imports_of_lld, in_small, placed_by_lld, IsAskable, IsImportable, thunks_until}
+use Rattle.implib_link.proofs.Flavors.LldTables.{OneDll, grouped_all, grouped_holds, grouped_one, grouped_times, in_place, StandAt, directory_stands, pieces_stand}
 use Rattle.implib_link.proofs.Gnu.Blocks.{table_sum, plus_sum as next_row}
 use Rattle.implib_link.proofs.Gnu.Others.{definitions_parts}
-use Rattle.implib_link.proofs.Gnu.Program.{gets_address}
-use Rattle.implib_link.proofs.Search.Counts.{distinct_from, few_from}
+use Rattle.implib_link.proofs.Gnu.Claims.{gets_address}
+use Rattle.implib_link.proofs.Search.Arranged.{distinct_from, few_from}
 use Rattle.implib_link.proofs.Search.Lists.{contains_among, all_from}
 use Rattle.implib_link.proofs.Gnu.Loaded.{times_none as nothing_before, times_next as next_entry, plus_none}
 use Rattle.std.proofs.lemmas.Option.{slice_get-map}

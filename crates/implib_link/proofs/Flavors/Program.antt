@@ -1,8 +1,8 @@
 -- A program of DLLs in both flavours links.
-use Rattle.std.proofs.Common.{◌≡◌, ℕ, ◌+◌, ◌*◌, ◌-◌, ◌%◌, zero, suc, false, List, [], ◌∷◌, ◌++◌, length, map, Some, refl, ap, sym, ◌∙◌, arith, subst, inl, inr}
+use Rattle.std.proofs.Common.{◌≡◌, ℕ, ◌+◌, ◌*◌, ◌-◌, ◌%◌, zero, suc, false, List, [], ◌∷◌, ◌++◌, length, map, Some, refl, ap, sym, ◌∙◌, arith, subst, inl, inr, ◌^◌, ◌<◌, ◌≤◌}
 use Rattle.std.specs.Prelude.{bytes_eq, not, option_map, slice_get}
 use Rattle.std.specs.List.{AllByRecursion, Contains, IsDistinct, filter, flat_map}
-use Rattle.std.proofs.lemmas.List.{append-nil, length-map}
+use Rattle.std.proofs.lemmas.List.{append-nil, length-map, length-replicate}
 use Rattle.std.proofs.lemmas.List.Elements.{filter_map-append}
 use Rattle.std.proofs.lemmas.Option.{slice_get-map}
 use Rattle.implib.specs.declared.machine.MachineType.{MachineType}
@@ -10,7 +10,7 @@ use Rattle.implib.specs.declared.flavor.Flavor.{Flavor}
 use Rattle.implib.specs.declared.flavor.Flavor.TheVariants.{Gnu, Msvc}
 use Rattle.implib.specs.Definition.{ExportView}
 use Rattle.implib.specs.Members.Gnu.{export_object, head_object, tail_object}
-use Rattle.implib.specs.Link.Image.{Range, contributions, filled, image_of}
+use Rattle.implib.specs.Link.Image.{Range, contributions, filled, image_of, IsAdmissible}
 use Rattle.implib.specs.Import.{Ask, Name, Ordinal, imp_symbol}
 use Rattle.implib.specs.Members.ImportTables.{thunk_width, zeros}
 use Rattle.implib.specs.Formats.Layout.{entries_of, name_text, object_of}
@@ -28,25 +28,23 @@ use Rattle.implib.proofs.Link.LinkedMembers.{among_map}
 use Rattle.implib.proofs.Link.Placement.{AreAligned, aligned, export, tail}
 use Rattle.implib.proofs.Link.Ranges.{Among, all_among, among_first, among_later}
 use Rattle.implib_link.specs.Directory.{DirectoryAt}
-use Rattle.implib_link.specs.Flavors.Expansion.{import_object, expanded_in}
-use Rattle.implib_link.specs.Flavors.Program.{AreClaimed, AreEnded, AreEndedByLinker, AreEndedByMember, Ending, FlavorInput, InputImports, IsMadeFor, OfLinker, OfMember, WhereMember, own_names, SymbolsAt, SymbolsGet, imp_symbols, all_members, ask_in, exports_chosen, imported_in, null_member, objects_taken, symbol_in, symbols_listed, thunks_of, ProgramLinks, IsProgramOf, dll_names_in}
-use Rattle.implib_link.specs.Gnu.Packed.{group_end, sections_end}
-use Rattle.implib_link.specs.Gnu.Program.{claimed_names, has_tables, names_claimed_in, null_descriptor, with_tables, HaveSame}
+use Rattle.implib_link.specs.Flavors.Expansion.{import_object, expanded_in, Code, Constant, Data, Use, stub_for, stub_relocations_for}
+use Rattle.implib_link.specs.Flavors.Program.{AreClaimed, AreEnded, AreEndedByLinker, AreEndedByMember, Ending, FlavorInput, InputImports, IsMadeFor, OfLinker, OfMember, WhereMember, own_names, SymbolsAt, SymbolsGet, imp_symbols, all_members, ask_in, exports_chosen, imported_in, null_member, objects_taken, symbol_in, symbols_listed, thunks_of, ProgramLinks, IsProgramOf, dll_names_in, claimed_names, has_tables, names_claimed_in, null_descriptor, with_tables, HaveSame, AreProgramObjects}
+use Rattle.implib_link.specs.Gnu.Packed.{group_end, sections_end, packed, packed_descriptors, packed_end}
 use Rattle.implib_link.specs.Flavors.SectionSymbols.{with_section_symbols}
-use Rattle.implib_link.proofs.Flavors.Block.{AreEven, NullDefined, OneLinks, behind_descriptor, objects_of, use_for}
-use Rattle.implib_link.proofs.Flavors.Blocks.{AllSuit, EachIn, even_all, rest_of, FlavorBlock, all_objects, definitions-all, definitions_all, descriptors_all, directory_in, each_in, ends_all, imported_of, names-all, nth_in, thunks_in}
-use Rattle.implib_link.proofs.Gnu.Claims.{claimed_placed}
-use Rattle.implib_link.proofs.Flavors.Claims.{all_claim_listed, claimed_with_null}
-use Rattle.implib_link.proofs.Flavors.Inputs.{block_in, inputs_link, inputs_objects, inputs_plainly, inputs_symbols, inputs_taken, null_object, objects_with_null}
+use Rattle.implib_link.proofs.Flavors.Block.{AreEven, NullDefined, OneLinks, behind_descriptor, objects_of, use_for, AllSuit, EachIn, even_all, rest_of, FlavorBlock, all_objects, definitions-all, definitions_all, descriptors_all, directory_in, each_in, ends_all, imported_of, names-all, nth_in, thunks_in}
+use Rattle.implib_link.proofs.Gnu.Claims.{claimed_placed, all_claim, gets_address, once_of}
+use Rattle.implib_link.proofs.Flavors.Inputs.{all_claim_listed, claimed_with_null, block_in, inputs_link, inputs_objects, inputs_plainly, inputs_symbols, inputs_taken, null_object, objects_with_null}
 use Rattle.implib_link.proofs.Flavors.NullDescriptor.{EndsNothing, all_insert, among_same, descriptors_end_same, finds_same, null_filled, null_once, others_same, undefined_same, group_same}
 use Rattle.implib_link.proofs.Gnu.Others.{contributions_kept, definitions_kept, placed_kept}
-use Rattle.implib_link.proofs.Gnu.Packed.{end_kept}
-use Rattle.implib_link.proofs.Gnu.Program.{all_claim, gets_address, once_of}
+use Rattle.implib_link.proofs.Gnu.Packed.{end_kept, admissible, packed_eights}
 use Rattle.implib_link.proofs.Search.Lists.{contains_among}
-use Rattle.implib_link.proofs.Flavors.Expanded.{taken_null}
+use Rattle.implib_link.proofs.Flavors.Expanded.{taken_null, taken_descriptor}
 use Rattle.implib.specs.LibraryName.{NamesOfDll, linked_dll}
 use Rattle.implib_link.proofs.Gnu.Blocks.{plus_sum}
-use Rattle.implib_link.proofs.Gnu.Loaded.{times_none}
+use Rattle.implib_link.proofs.Gnu.Loaded.{times_none, by_width}
+use Rattle.implib.specs.declared.machine.MachineType.TheVariants.{I386, ARMNT, AMD64, ARM64}
+use Rattle.implib_link.proofs.Gnu.Sized.{AreWithin, IsSized, exports_sized, head_sized, tail_sized, thunk_size}
 
 -- The objects of the members have no `.idata$3`.
 
@@ -465,3 +463,92 @@ module _ (machine : MachineType) (ending : Ending) (b : Bases) (inputs : List Fl
       rest_leaves : (kind : Ending) (c : Bases) → AllByRecursion (IsDefinedAt (placed_from b objects)) (undefined_names (placed_from c (rest_of kind)))
       rest_leaves OfLinker c = tt
       rest_leaves OfMember c = tt
+
+-- Packed placement of both flavours makes a program.
+
+-- Relocations are within their sections.
+
+stub_sized : (machine : MachineType) (use_kind : Use) → AreWithin (length (stub_for machine use_kind)) (stub_relocations_for machine use_kind)
+stub_sized I386 Code = (omega arith, tt)
+stub_sized ARMNT Code = (omega arith, tt)
+stub_sized AMD64 Code = (omega arith, tt)
+stub_sized ARM64 Code = (omega arith, (omega arith, tt))
+stub_sized machine Data = tt
+stub_sized machine Constant = tt
+
+field_within : (machine : MachineType) → 0 + 4 ≤ length (zeros (thunk_width machine))
+field_within machine =
+    let long : length (zeros (thunk_width machine)) ≡ thunk_width machine = length-replicate {A = ℕ} (thunk_width machine) 0 in
+    let size : 4 ≤ thunk_width machine = thunk_size machine in
+    omega arith
+
+asking_sized : (machine : MachineType) (dll : NamesOfDll) (symbol : List ℕ) (ask : Ask) (use_kind : Use) → IsSized (import_object machine dll.text symbol ask use_kind)
+unfolding import_object
+asking_sized machine dll symbol (Ordinal n) use_kind = (stub_sized machine use_kind, (tt, (tt, tt)))
+asking_sized machine dll symbol (Name text hint) use_kind = (stub_sized machine use_kind, ((field_within machine, tt), ((field_within machine, tt), (tt, tt))))
+
+askings_sized : (machine : MachineType) (dll : NamesOfDll) (es : List ExportView) (rest : List Object) → AllByRecursion IsSized rest → AllByRecursion IsSized (behind_descriptor machine dll es rest)
+unfolding with_section_symbols object_of null_thunk entries_of name_text
+askings_sized machine dll [] rest all = ((tt, (tt, tt)), all)
+askings_sized machine dll (e ∷ es) rest all = (asking_sized machine dll (short_import_symbol e) (ask_in Msvc machine e) (use_for e), askings_sized machine dll es rest all)
+
+descriptor_sized : (machine : MachineType) (dll : NamesOfDll) → IsSized (taken_descriptor machine dll)
+unfolding with_section_symbols object_of descriptor entries_of name_text
+descriptor_sized machine dll = ((omega arith, (omega arith, (omega arith, tt))), (tt, (tt, (tt, tt))))
+
+one_sized : (machine : MachineType) (flavor : Flavor) (dll : NamesOfDll) (es : List ExportView) (rest : List Object) → AllByRecursion IsSized rest → AllByRecursion IsSized (objects_of machine flavor dll es rest)
+one_sized machine Msvc dll es rest all = (descriptor_sized machine dll, askings_sized machine dll es rest all)
+one_sized machine Gnu dll es rest all = (head_sized machine dll, exports_sized machine dll es _ (tail_sized machine dll, all))
+
+all_sized : (machine : MachineType) (ending : Ending) (blocks : List FlavorBlock) → AllByRecursion IsSized (all_objects machine blocks (rest_of ending))
+all_sized machine OfLinker [] = ((tt, tt), tt)
+all_sized machine OfMember [] = tt
+all_sized machine ending (k ∷ blocks) = one_sized machine k.flavor k.dll k.exports (all_objects machine blocks (rest_of ending)) (all_sized machine ending blocks)
+
+null_sized : (machine : MachineType) → IsSized (taken_null machine)
+unfolding with_section_symbols object_of Rattle.implib.specs.Members.MsvcObjects.null_descriptor entries_of name_text
+null_sized machine = (tt, tt)
+
+pub kept_sized : (machine : MachineType) (ending : Ending) (inputs : List FlavorInput) (objects : List Object) → AllByRecursion (IsMadeFor machine) inputs →
+    AreEnded ending machine inputs objects → AllByRecursion IsSized (filter has_tables objects)
+kept_sized machine ending inputs objects made ended = kept_all machine ending inputs objects made ended IsSized (null_sized machine) (all_sized machine ending (map block_in inputs))
+
+-- multiples of 8 are multiples of a thunk's width
+of_eight : (machine : MachineType) (n : ℕ) → n % 8 ≡ 0 → n % thunk_width machine ≡ 0
+of_eight machine n even = by_width (λ w. n % w ≡ 0) (omega arith) even machine
+
+lookups_eights : (first : ℕ) (objects : List Object) → (packed first objects).lookups % 8 ≡ 0
+unfolding next_multiple
+lookups_eights first objects = omega arith
+
+first_even : (first : ℕ) → packed_descriptors first % 4 ≡ 0
+unfolding next_multiple
+first_even first = omega arith
+
+sum_even : (n m : ℕ) → n % 4 ≡ 0 → (n + 20 * m) % 4 ≡ 0
+sum_even n m even = omega arith
+
+pub packed_objects : (machine : MachineType) (ending : Ending) (first : ℕ) (inputs : List FlavorInput) (objects : List Object) → AllByRecursion (IsMadeFor machine) inputs →
+    AreProgramObjects machine ending inputs objects → 0 < first → packed_end first objects < 2 ^ 31 → IsProgramOf machine ending (packed first objects) inputs objects
+packed_objects machine OfLinker first inputs objects made held above below = record {
+  held = held;
+  admissible = admissible machine first objects (kept_sized machine OfLinker inputs objects made held.ended) above below;
+  lookups = tt;
+  addresses = tt;
+  follows = tt;
+}
+packed_objects machine OfMember first inputs objects made held above below =
+    let base : ℕ = packed_descriptors first in
+    let ends_at : group_end Descriptors base objects ≡ base + 20 * length inputs = directory_end machine inputs objects made held.ended base (first_even first) in
+    let whole : group_end Descriptors base objects % 4 ≡ 0 = ap (λ n. n % 4) ends_at ∙ sum_even base (length inputs) (first_even first) in
+    record {
+      held = held;
+      admissible = admissible machine first objects (kept_sized machine OfMember inputs objects made held.ended) above below;
+      lookups = of_eight machine (packed first objects).lookups (lookups_eights first objects);
+      addresses = of_eight machine (packed first objects).addresses (packed_eights first objects);
+      follows = aligned (group_end Descriptors base objects) whole;
+    }
+
+pub packed_admissible : (machine : MachineType) (ending : Ending) (first : ℕ) (inputs : List FlavorInput) (objects : List Object) → AllByRecursion (IsMadeFor machine) inputs →
+    AreEnded ending machine inputs objects → 0 < first → packed_end first objects < 2 ^ 31 → IsAdmissible machine (packed first objects) objects
+packed_admissible machine ending first inputs objects made ended above below = admissible machine first objects (kept_sized machine ending inputs objects made ended) above below

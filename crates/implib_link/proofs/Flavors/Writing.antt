@@ -1,34 +1,86 @@
 -- A loader that writes as it goes loads a program, as one that reads first.
-use Rattle.std.proofs.Common.{◌≡◌, ℕ, zero, suc, ◌+◌, ◌*◌, false, List, [], ◌∷◌, ◌++◌, length, map, refl, ap, sym, ◌∙◌, subst}
-use Rattle.std.specs.List.{AllByRecursion}
-use Rattle.std.proofs.lemmas.List.{length-map}
+use Rattle.std.proofs.Common.{◌≡◌, ℕ, ◌+◌, ◌*◌, List, ◌++◌, length, sym, subst, arith, zero, suc, false, [], ◌∷◌, map, refl, ap, ◌∙◌}
 use Rattle.implib.specs.declared.machine.MachineType.{MachineType}
 use Rattle.implib.specs.Import.{Ask}
 use Rattle.implib.specs.Formats.Object.{Object}
-use Rattle.implib.specs.Link.Image.{Range, contributions, filled, image_of}
-use Rattle.implib.specs.Link.Load.{BytesAt}
-use Rattle.implib.specs.Link.Placement.{Addresses, Bases, Descriptors, DirectoryEnds, DllNames, Group, HintNames, Lookups, Placed, base_of, placed_from, same_group}
+use Rattle.implib.specs.Link.Image.{IsAdmissible, Range, contributions, filled, image_of}
+use Rattle.implib.specs.Link.Placement.{Addresses, Bases, placed_from, Descriptors, DirectoryEnds, DllNames, Group, HintNames, Lookups, Placed, base_of, same_group}
 use Rattle.implib.specs.Members.ImportTables.{thunk_width}
+use Rattle.implib_link.specs.Directory.{DirectoryAt, Imported}
+use Rattle.implib_link.specs.Gnu.Writing.{Writes, ReadsAndWrites, AreAlike, WritesAsItGoes}
+use Rattle.implib_link.proofs.Gnu.Apart.{avoids_addresses, beside_of, keeps_beside, descriptors_beside, directory_ends_beside, dll_names_beside, ends_beside, hint_names_beside, lookups_beside, starts_beside}
+use Rattle.implib_link.proofs.Gnu.Filling.{DirectoryBeside, all_filled, can_run, left_alike, runs_once}
+use Rattle.implib_link.proofs.Gnu.Loaded.{Keeps, memory_can_be_read, memory_read, thunks_asked}
+use Rattle.std.specs.List.{AllByRecursion}
+use Rattle.std.proofs.lemmas.List.{length-map}
+use Rattle.implib.specs.Link.Load.{BytesAt}
 use Rattle.implib.proofs.Link.LinkedBlocks.{ends, starts}
 use Rattle.implib.proofs.Link.Ranges.{Among}
-use Rattle.implib_link.specs.Directory.{Imported}
 use Rattle.implib_link.specs.Flavors.Program.{Ending, FlavorInput, IsMadeFor, ask_in, exports_chosen, imported_in, thunks_of, IsProgramOf}
 use Rattle.implib_link.specs.Gnu.Fields.{LinkedCode}
 use Rattle.implib_link.specs.Gnu.Moves.{AreInMemory}
-use Rattle.implib_link.specs.Gnu.Reading.{ReadsAndWrites}
-use Rattle.implib_link.specs.Gnu.Writing.{AreAlike, WritesAsItGoes}
 use Rattle.implib_link.proofs.Flavors.Beside.{all_beside, all_long}
-use Rattle.implib_link.proofs.Flavors.Blocks.{FlavorBlock, all_objects, rest_of, thunks_in}
+use Rattle.implib_link.proofs.Flavors.Block.{FlavorBlock, all_objects, rest_of, thunks_in}
 use Rattle.implib_link.proofs.Flavors.Inputs.{block_in, inputs_link}
 use Rattle.implib_link.proofs.Flavors.Program.{definitions_are, each, even, null_there, only, program_links, stand, suit, thunks_are, imported_are as imports_same}
 use Rattle.implib_link.proofs.Flavors.Steady.{program_tables_none}
-use Rattle.implib_link.proofs.Gnu.Apart.{beside_of, descriptors_beside, directory_ends_beside, dll_names_beside, ends_beside, hint_names_beside, lookups_beside, starts_beside}
 use Rattle.implib_link.proofs.Gnu.Beside.{LocatedBeside}
-use Rattle.implib_link.proofs.Gnu.Filling.{DirectoryBeside, all_filled}
 use Rattle.implib_link.proofs.Gnu.FieldsInMemory.{rests}
-use Rattle.implib_link.proofs.Gnu.Keeps.{Keeps}
-use Rattle.implib_link.proofs.Gnu.Loaded.{thunks_asked}
-use Rattle.implib_link.proofs.Gnu.Writing.{run_can, run_reads}
+
+keeps_twice : (first second third : List Range) → Keeps first second → Keeps second third → Keeps first third
+unfolding Keeps
+keeps_twice first second third one two a byte is = two a byte (one a byte is)
+
+-- Whatever the flavours: the tables that a loader reads are beside the address tables, in memory that keeps the image.
+module _ (machine : MachineType) (b : Bases) (objects : List Object) (admissible : IsAdmissible machine b objects) (imports : List Imported)
+    (long : length (filled b.addresses (contributions machine (placed_from b objects) Addresses (placed_from b objects))) ≡ thunk_width machine * thunks_asked (length imports) imports)
+    (directory : DirectoryBeside (beside_of machine b objects admissible) (thunk_width machine) b.descriptors b.addresses imports)
+    (gives : List ℕ → Ask → List ℕ) (wide : (dll : List ℕ) (ask : Ask) → length (gives dll ask) ≡ thunk_width machine)
+    (memory : List Range) (keeps : Keeps (image_of machine b (placed_from b objects)) memory) where
+  abbrev beside : List Range
+  beside = beside_of machine b objects admissible
+
+  abbrev high : ℕ
+  high = b.addresses + thunk_width machine * thunks_asked (length imports) imports
+
+  kept : Keeps beside memory
+  kept = keeps_twice beside (image_of machine b (placed_from b objects)) memory (keeps_beside machine b objects admissible) keeps
+
+  pub run_once : (found : List Imported) (after : List Range) → WritesAsItGoes (thunk_width machine) gives b.descriptors memory found after →
+      (found ≡ imports) × (after ≡ all_filled (thunk_width machine) gives b.addresses imports memory)
+  run_once found after runs =
+      runs_once beside b.addresses high (thunk_width machine) (avoids_addresses machine b objects admissible high (omega arith)) gives wide imports found b.descriptors b.addresses memory after kept
+      (omega arith) (omega arith) directory runs
+
+  pub run_can : WritesAsItGoes (thunk_width machine) gives b.descriptors memory imports (all_filled (thunk_width machine) gives b.addresses imports memory)
+  run_can =
+      can_run beside b.addresses high (thunk_width machine) (avoids_addresses machine b objects admissible high (omega arith)) gives wide imports b.descriptors b.addresses memory kept
+      (omega arith) (omega arith) directory
+
+  run_alike : (written : List Range) → Writes (image_of machine b (placed_from b objects)) (thunk_width machine) gives b.descriptors imports written →
+      AreAlike (all_filled (thunk_width machine) gives b.addresses imports memory) (written ++ memory)
+  run_alike written writes =
+      left_alike beside (image_of machine b (placed_from b objects)) (keeps_beside machine b objects admissible) (thunk_width machine) gives wide imports b.descriptors b.addresses written memory directory writes
+
+  -- and so it leaves what one does that reads first
+  pub run_reads : (n : ℕ) → length imports ≡ n → DirectoryAt (image_of machine b (placed_from b objects)) (thunk_width machine) b.descriptors imports → (found : List Imported) (after : List Range) →
+      WritesAsItGoes (thunk_width machine) gives b.descriptors memory found after →
+      (found ≡ imports) × ((written : List Range) × (ReadsAndWrites memory (thunk_width machine) gives n b.descriptors written × AreAlike after (written ++ memory)))
+  run_reads n count is_directory found after runs =
+      let once = run_once found after runs in
+      let reader = memory_can_be_read (image_of machine b (placed_from b objects)) memory keeps (thunk_width machine) gives b.descriptors imports is_directory in
+      let read = memory_read (image_of machine b (placed_from b objects)) memory keeps (thunk_width machine) gives (length imports) b.descriptors imports reader.0 is_directory reader.1 in (
+        once.0,
+        (
+          reader.0,
+          (
+            subst (λ k. ReadsAndWrites memory (thunk_width machine) gives k b.descriptors reader.0) count reader.1,
+            subst (λ m. AreAlike m (reader.0 ++ memory)) (sym once.1) (run_alike reader.0 read.1),
+          ),
+        ),
+      )
+
+-- A loader that writes as it goes loads a program, as one that reads first.
 
 thunks_same : (machine : MachineType) (i : ℕ) (inputs : List FlavorInput) → thunks_asked i (map (imported_in machine) inputs) ≡ thunks_of i inputs
 thunks_same machine zero inputs = refl

@@ -12,7 +12,7 @@ use Rattle.implib.specs.Link.Placement.{Bases, Placed, next_multiple}
 use Rattle.implib.proofs.Link.LinkedBlocks.{Block, blocks_objects}
 use Rattle.implib.proofs.Link.Linked.{LocatedFrom, ends_of_block}
 use Rattle.implib.proofs.Link.Placement.{AreAligned, aligned, descriptors_end, ends_of_all, ends_of_export, ends_of_exports, ends_of_head, export, head, tail}
-use Rattle.implib_link.specs.Gnu.Program.{null_descriptor}
+use Rattle.implib_link.specs.Flavors.Program.{null_descriptor}
 use Rattle.implib.specs.LibraryName.{NamesOfDll}
 
 -- objects after blocks

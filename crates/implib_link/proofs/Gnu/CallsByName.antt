@@ -10,14 +10,12 @@ use Rattle.implib.specs.Formats.Constants.{amd64_rel32}
 use Rattle.implib.specs.Link.Image.{Range}
 use Rattle.implib.specs.Link.Load.{BytesAt, number_in}
 use Rattle.implib.specs.Link.Placement.{Placed}
-use Rattle.implib_link.specs.Gnu.Calls.{CanBranch, DirectCallArrives, HasDirectCall, HasInstructions, arm64_branch26, direct_bytes, direct_leads, direct_relocations, field_width, i386_rel32}
-use Rattle.implib_link.specs.Gnu.Fields.{FieldHolds, LinkedCode, MeetsAlone, field_at, meets, placed_code}
-use Rattle.implib_link.specs.Gnu.Operands.{BranchArrives, HasBranch, IsBranch, Names}
+use Rattle.implib_link.specs.Gnu.Fields.{CanBranch, DirectCallArrives, HasDirectCall, HasInstructions, arm64_branch26, direct_bytes, direct_leads, direct_relocations, field_width, i386_rel32, FieldHolds, LinkedCode, MeetsAlone, field_at, meets, placed_code, BranchArrives, HasBranch, IsBranch, Names}
 use Rattle.implib_link.specs.Gnu.Rebased.{StubArrives}
 use Rattle.implib_link.specs.Stub.{bits_of, plus_signed, with_bits, word_at}
 use Rattle.implib_link.proofs.Gnu.Fields.{meets_bounds}
 use Rattle.implib_link.proofs.Gnu.FieldsInMemory.{Rests, part_there, steady_there}
-use Rattle.implib_link.proofs.Gnu.MovedCode.{four_of, joined}
+use Rattle.implib_link.proofs.Gnu.MovedPrograms.{four_of, joined}
 use Rattle.implib_link.proofs.Gnu.Memory.{Covers}
 use Rattle.implib_link.proofs.Gnu.Operands.{branch_reaches, words_lead}
 use Rattle.implib_link.proofs.Gnu.UsualCode.{one_met, own_any, own_code, own_end, own_met, own_names, read_word}

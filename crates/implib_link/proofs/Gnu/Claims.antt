@@ -1,16 +1,43 @@
--- The names that the members claim: those that they are listed for.
-use Rattle.std.proofs.Common.{◌≡◌, List, [], ◌∷◌, ◌++◌, refl, ap, sym, ◌∙◌, inl, inr}
-use Rattle.std.specs.List.{flat_map}
+-- Names that objects do not claim, and the address of a name that is defined once.
+use Rattle.std.proofs.Common.{◌≡◌, ℕ, false, List, [], ◌∷◌, map, Some, refl, sym, subst, inl, inr, ◌++◌, ap, ◌∙◌}
+use Rattle.std.specs.Prelude.{bytes_eq}
+use Rattle.std.specs.List.{AllByRecursion, list_any, flat_map}
+use Rattle.implib.specs.Link.Linked.{IsDefinedOnce}
+use Rattle.implib.specs.Formats.Object.{Object}
+use Rattle.implib.specs.Link.Placement.{Placed, Bases, ends_after, placed_from}
+use Rattle.implib.specs.Link.Resolution.{SymbolDefinition, definitions_of}
+use Rattle.implib.proofs.Link.Ranges.{Among, among_first, among_later}
+use Rattle.implib_link.specs.Flavors.Program.{ClaimsNone, GetsAddress, claimed_names, names_claimed_in}
 use Rattle.std.proofs.lemmas.Bool.{cases_Bool}
 use Rattle.std.proofs.lemmas.List.{append_assoc}
 use Rattle.implib.specs.declared.machine.MachineType.{MachineType}
 use Rattle.implib.specs.Definition.{ExportView}
 use Rattle.implib.specs.Members.Gnu.{archive_symbols, export_object, head_object, head_symbol, iname_symbol, tail_object}
-use Rattle.implib.specs.Formats.Object.{Object}
-use Rattle.implib.specs.Link.Placement.{Bases, ends_after, placed_from}
 use Rattle.implib.proofs.Link.Placement.{after_head, export, head, tail}
-use Rattle.implib_link.specs.Gnu.Program.{claimed_names, names_claimed_in}
 use Rattle.implib.specs.LibraryName.{NamesOfDll}
+
+claims_of : (name : List ℕ) (names : List (List ℕ)) → Among name names → (o : Object) → ClaimsNone names o → list_any (bytes_eq name) (claimed_names o) ≡ false
+unfolding Among
+claims_of name [] m o none = absurd m
+claims_of name (n ∷ names) (inl e) o none = subst (λ t. list_any (bytes_eq t) (claimed_names o) ≡ false) (sym e) none.0
+claims_of name (n ∷ names) (inr m) o none = claims_of name names m o none.1
+
+pub all_claim : (name : List ℕ) (names : List (List ℕ)) → Among name names → (objects : List Object) → AllByRecursion (ClaimsNone names) objects →
+    AllByRecursion (λ o. list_any (bytes_eq name) (claimed_names o) ≡ false) objects
+all_claim name names m [] none = tt
+all_claim name names m (o ∷ objects) none = (claims_of name names m o none.0, all_claim name names m objects none.1)
+
+pub once_of : (linked : List Placed) (ds : List SymbolDefinition) → ((d : SymbolDefinition) → Among d ds → definitions_of d.name linked ≡ d ∷ []) →
+    AllByRecursion (IsDefinedOnce linked) (map (λ (d : SymbolDefinition). d.name) ds)
+once_of linked [] only = tt
+once_of linked (d ∷ ds) only = ((d, only d (among_first d ds)), once_of linked ds (λ other m. only other (among_later other d ds m)))
+
+-- an undefined symbol has the address of the only definition of its name
+pub gets_address : (linked : List Placed) (name : List ℕ) (address : ℕ) →
+    definitions_of name linked ≡ record { name = name; address = Some address } ∷ [] → GetsAddress linked name address
+gets_address linked name address once p s held entry undefined named = rw (undefined, named, once) refl
+
+-- The names that the members claim: those that they are listed for.
 
 pub claimed_tail : (machine : MachineType) (dll : NamesOfDll) → claimed_names (tail machine dll) ≡ iname_symbol machine dll.linked ∷ []
 unfolding tail_object

@@ -10,13 +10,12 @@ use Rattle.implib.specs.Formats.Constants.{amd64_rel32, i386_dir32}
 use Rattle.implib.specs.Link.Image.{Range, byte_at}
 use Rattle.implib.specs.Link.Load.{BytesAt}
 use Rattle.implib.proofs.Link.Ranges.{Among}
-use Rattle.implib_link.specs.Gnu.Calls.{amd64_addr64, arm64_addr64, field_width, i386_rel32}
-use Rattle.implib_link.specs.Gnu.Fields.{FieldHolds, MeetsAlone, meets}
+use Rattle.implib_link.specs.Gnu.Fields.{amd64_addr64, arm64_addr64, field_width, i386_rel32, FieldHolds, MeetsAlone, meets}
 use Rattle.implib_link.specs.Gnu.Moves.{ArePaged}
 use Rattle.implib_link.specs.Gnu.Rebased.{Place, absolute_width, amd64_addr32, arm64_addr32, covers, moved_number, places_at}
 use Rattle.implib_link.specs.Stub.{adrp_immediate, ldr_immediate, page}
 use Rattle.implib_link.proofs.Gnu.Moved.{covered_bounds, narrow}
-use Rattle.implib_link.proofs.Gnu.MovedCode.{apart_same}
+use Rattle.implib_link.proofs.Gnu.MovedPrograms.{apart_same}
 use Rattle.implib_link.proofs.Search.Lists.{passes as among_filter, among_filter as filter_among, any_of}
 
 -- Lists by their places.

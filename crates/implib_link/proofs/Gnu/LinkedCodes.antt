@@ -7,9 +7,8 @@ use Rattle.implib.specs.Link.Image.{AllApart, Range, image_of}
 use Rattle.implib.specs.Link.Placement.{Bases, Placed, placed_from}
 use Rattle.implib.proofs.Link.LinkedMembers.{among_contains, among_map}
 use Rattle.implib.proofs.Link.Ranges.{Among}
-use Rattle.implib_link.specs.Gnu.Calls.{PlacedCode, Resolves}
+use Rattle.implib_link.specs.Gnu.Fields.{PlacedCode, Resolves, AreBeside, AreLinkedBeside, IsRelocated, LinkedCode, TakesSymbols, placed_code, range_of_code}
 use Rattle.implib_link.specs.Gnu.Choices.{AreSections, DefineOnce, plain_range}
-use Rattle.implib_link.specs.Gnu.Fields.{AreBeside, AreLinkedBeside, IsRelocated, LinkedCode, TakesSymbols, placed_code, range_of_code}
 use Rattle.implib_link.proofs.Gnu.Choices.{AlikeFor, choice, choice_resolves, is_in_same, memory_apart}
 use Rattle.implib_link.proofs.Gnu.LinkedBytes.{linked_bytes}
 use Rattle.implib_link.proofs.Search.Lists.{contains_among}

@@ -10,7 +10,7 @@ use Rattle.implib.proofs.Link.Linked.{all_append}
 use Rattle.implib.proofs.Link.Loading.{number_once}
 use Rattle.implib.proofs.Link.Ranges.{Among, address_bounds, all_among, among_back}
 use Rattle.implib_link.specs.Directory.{DirectoryAt, Imported}
-use Rattle.implib_link.specs.Gnu.Loaded.{Writes, entries_written}
+use Rattle.implib_link.specs.Gnu.Writing.{Writes, entries_written}
 
 -- a range is where an image has bytes
 abbrev pub Covers : List Range → Range → Type 0

@@ -10,8 +10,7 @@ use Rattle.implib.specs.Formats.Object.{Object, object_in}
 use Rattle.implib.specs.Link.LinkedMembers.{IsMade, LinkInput, all_linked, linked_members, objects_in}
 use Rattle.implib.specs.Link.Placement.{Bases, placed_from}
 use Rattle.implib.specs.Members.MemberSpec.{MemberView}
-use Rattle.implib_link.specs.Flavors.Program.{IsProgram, OfLinker, all_members, gnu_input, symbols_listed}
-use Rattle.implib_link.specs.Gnu.Program.{ClaimsNone, claimed_names, has_tables, names_claimed_in, null_descriptor}
+use Rattle.implib_link.specs.Flavors.Program.{IsProgram, OfLinker, all_members, gnu_input, symbols_listed, ClaimsNone, claimed_names, has_tables, names_claimed_in, null_descriptor}
 use Rattle.implib_link.specs.Parts.{IsProgramOfParts, Part, names_of_parts, objects_of_parts, part_of}
 use Rattle.implib_link.proofs.Flavors.GnuPrograms.{gnu_made, gnu_members}
 use Rattle.implib_link.proofs.Flavors.Program.{program_links}

@@ -19,16 +19,15 @@ use Rattle.implib.specs.Members.Gnu.{relocations_of_stub, section, stub, stub_by
 use Rattle.implib.specs.Members.ImportTables.{thunk_width}
 use Rattle.implib.specs.Members.OlderSymbols.{AreOlderMembersOf}
 use Rattle.implib.proofs.Link.Ranges.{Among, among_first, among_later}
-use Rattle.implib_link.specs.Gnu.Calls.{Defines, PlacedCode, StubAt}
+use Rattle.implib_link.specs.Gnu.Fields.{Defines, PlacedCode, StubAt}
 use Rattle.implib_link.specs.Parts.{IsPart, IsProgramOfParts, Part, is_in_group, leads_to, older_part_of, part_of}
 use Rattle.implib_link.specs.Tables.{Table, TableEntry, tables_at}
 use Rattle.implib_link.proofs.Flavors.LldImports.{get_map}
-use Rattle.implib_link.proofs.Gnu.Definers.{one_definer}
-use Rattle.implib_link.proofs.Gnu.PlacedStubs.{symbol_of_entry}
-use Rattle.implib_link.proofs.PackedTables.{entries_until, packed_at}
+use Rattle.implib_link.proofs.Gnu.Others.{one_definer}
+use Rattle.implib_link.proofs.Flavors.Stubs.{symbol_of_entry}
+use Rattle.implib_link.proofs.Tables.{entries_until, packed_at}
 use Rattle.implib_link.proofs.Parts.Heads.{group_address}
-use Rattle.implib_link.proofs.Parts.Members.{after_by, exported, members_objects}
-use Rattle.implib_link.proofs.Parts.Older.{further, name_by, older_objects}
+use Rattle.implib_link.proofs.Parts.Members.{after_by, exported, members_objects, further, name_by, older_objects}
 use Rattle.implib_link.proofs.Parts.Programs.{defined_once, entry_placed, kept_is_linked}
 use Rattle.implib_link.proofs.Search.Lists.{contains_among}
 use Rattle.implib_link.proofs.Gnu.Loaded.{plus_none}

@@ -8,11 +8,10 @@ use Rattle.implib.specs.Formats.Object.{Object}
 use Rattle.implib.specs.Members.MemberSpec.{MemberView}
 use Rattle.implib.proofs.Link.LinkedMembers.{among_contains}
 use Rattle.implib.proofs.Link.Ranges.{Among, all_among, among_back, among_flat, among_front, among_later}
-use Rattle.implib_link.specs.Gnu.Program.{ClaimsNone, HaveSame, claimed_names, has_tables, null_descriptor}
-use Rattle.implib_link.specs.Search.Closed.{claims_of, listed_in, references_of, unresolved, AreTakenIntoAs, PullsIntoAs, TakesIntoAs}
-use Rattle.implib_link.specs.Search.Search.{first_listed, is_listed_for, undefined_in, left_as, claimed_as, objects_as}
+use Rattle.implib_link.specs.Flavors.Program.{ClaimsNone, HaveSame, claimed_names, has_tables, null_descriptor}
+use Rattle.implib_link.specs.Search.Search.{claims_of, listed_in, references_of, unresolved, AreTakenIntoAs, PullsIntoAs, TakesIntoAs, first_listed, is_listed_for, undefined_in, left_as, claimed_as, objects_as}
 use Rattle.implib_link.proofs.Search.Lists.{all_from as all_each, among_any, among_either, among_flat_map, any_among, any_member, contains_among, listed_is, none_listed, name_as, as_name, NameAs, passing, passes, from_not, kept_from, names_more}
-use Rattle.implib_link.proofs.Search.Search.{in_nothing}
+use Rattle.implib_link.proofs.Search.ArchiveMembers.{in_nothing}
 use Rattle.std.proofs.lemmas.Option.{same_Some}
 
 -- Lists.

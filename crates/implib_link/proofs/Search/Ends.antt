@@ -7,9 +7,8 @@ use Rattle.std.proofs.lemmas.Slice.Eq.{bytes_eq-Decides}
 use Rattle.implib.specs.Members.MemberSpec.{MemberView}
 use Rattle.implib.proofs.Link.LinkedMembers.{among_contains}
 use Rattle.implib.proofs.Link.Ranges.{Among}
-use Rattle.implib_link.specs.Search.Closed.{AreTakenIntoAs, PullsIntoAs, TakesIntoAs, unresolved}
-use Rattle.implib_link.specs.Search.Search.{first_listed, objects_as}
-use Rattle.implib_link.proofs.Search.ArchiveGroups.{found_or_not}
+use Rattle.implib_link.specs.Search.Search.{AreTakenIntoAs, PullsIntoAs, TakesIntoAs, unresolved, first_listed, objects_as}
+use Rattle.implib_link.proofs.Search.ArchiveMembers.{found_or_not}
 use Rattle.implib.specs.Formats.Object.{Object}
 use Rattle.implib_link.proofs.Search.Lists.{contains_among, listed_is}
 use Rattle.implib.proofs.Link.Definitions.{same_text}

@@ -1,16 +1,19 @@
--- An archive of both flavours as groups of members: of each library the member with its descriptor, the one that ends its tables, and
--- the members of each export. The null descriptors are apart.
-use Rattle.std.proofs.Common.{◌≡◌, ℕ, ◌+◌, ◌≤◌, true, false, List, [], ◌∷◌, ◌++◌, map, Some, refl, ap, sym, ◌∙◌, subst, inl, inr, arith}
-use Rattle.std.specs.Prelude.{bytes_eq, slice_get}
-use Rattle.std.specs.List.{AllByRecursion, IsDistinct, cons_option, flat_map, list_any}
+-- An archive of libraries for one linker is one of libraries in either flavour. Of those for GNU's a linker that reads members as
+-- objects alone takes each member for what others do.
+use Rattle.std.proofs.Common.{◌≡◌, false, List, [], ◌∷◌, ◌++◌, map, refl, ap, sym, subst, ℕ, ◌+◌, ◌≤◌, true, Some, ◌∙◌, inl, inr, arith, Bool, Option}
+use Rattle.std.specs.Prelude.{bytes_eq, slice_get, not}
+use Rattle.std.specs.List.{AllByRecursion, IsDistinct, flat_map, list_any, cons_option}
+use Rattle.implib.specs.declared.flavor.Flavor.{Flavor}
+use Rattle.implib.specs.declared.flavor.Flavor.TheVariants.{Msvc, Gnu}
+use Rattle.implib.specs.declared.machine.MachineType.{MachineType}
+use Rattle.implib_link.specs.Search.Search.{symbols_of_library, IsArchive, Library, archive_of, exports_of, first_listed, is_listed_for, has_weak, undefined_in}
+use Rattle.implib_link.specs.Search.Libraries.{FlavorLibrary, IsFlavorArchive, archive_of_both, gnu_among, msvc_among, IsMsvcArchive, symbols_of_all_shorts, if_gnu, if_msvc, symbols_of_shorts, is_weak_in}
+use Rattle.implib_link.proofs.Search.Roles.{in_flavor, Last, Null, Own, Role, Top, Weak, listed_as, member, symbols, IsRole, claims_as, is_weak_role, left, left_as_role, object, pair, tables_as, taken_as, weak_as, weak_symbol, weak_target}
 use Rattle.std.proofs.lemmas.Bool.{cases_Bool, false_from_ne_true, true≢false}
 use Rattle.std.proofs.lemmas.Grind.{flat_map-append}
 use Rattle.std.proofs.lemmas.Slice.Eq.{bytes_eq-Decides}
-use Rattle.implib.specs.declared.flavor.Flavor.{Flavor}
-use Rattle.implib.specs.declared.flavor.Flavor.TheVariants.{Gnu, Msvc}
-use Rattle.implib.specs.declared.machine.MachineType.{MachineType}
 use Rattle.implib.specs.Definition.{ExportView}
-use Rattle.implib.specs.LibraryName.{linked_dll, linked_name}
+use Rattle.implib.specs.LibraryName.{linked_dll, linked_name, names_for}
 use Rattle.implib.specs.Members.Gnu.{head_symbol, iname_symbol}
 use Rattle.implib.specs.Members.Members.{AreMembersOf}
 use Rattle.implib.specs.Members.MemberSpec.{MemberView}
@@ -18,17 +21,48 @@ use Rattle.implib.specs.Members.MsvcMembers.{descriptor_spec, null_descriptor_sp
 use Rattle.implib.specs.Members.MsvcObjects.{descriptor_symbol, null_descriptor_symbol, null_thunk_symbol}
 use Rattle.implib.proofs.Link.LinkedMembers.{among_map}
 use Rattle.implib.proofs.Link.Ranges.{Among, all_among, among_first, among_flat, among_later}
-use Rattle.implib_link.specs.Search.Archives.{Library, archive_of, exports_of, symbols_of_library}
-use Rattle.implib_link.specs.Search.BothFlavors.{FlavorLibrary, IsFlavorArchive, archive_of_both, gnu_among, if_gnu, if_msvc, msvc_among}
-use Rattle.implib_link.specs.Search.MsvcArchives.{symbols_of_all_shorts, symbols_of_shorts}
-use Rattle.implib_link.specs.Search.Search.{first_listed, is_listed_for}
-use Rattle.implib_link.proofs.Search.ArchiveGroups.{Group, IsWithin, export_group, export_group_is, export_groups, first_behind, first_in_group, found_or_not, group_is_export, group_of_first, head_of, members_of_exports, members_of_groups, symbols_of_exports, symbols_of_groups, tail_of}
-use Rattle.implib_link.proofs.Search.ArchiveMembers.{within_export as within_gnu}
-use Rattle.implib_link.proofs.Search.Counts.{distinct_from, few_from, none_times, times, times_both}
+use Rattle.implib_link.proofs.Search.ArchiveMembers.{Group, IsWithin, export_group, export_group_is, export_groups, first_behind, first_in_group, found_or_not, group_is_export, group_of_first, head_of, members_of_exports, members_of_groups, symbols_of_exports, symbols_of_groups, tail_of, within_export as within_gnu, FindsOwn, FindsWeak, InExport as GnuExport, alias_symbols, in_export as in_gnu, own_first, own_symbols, weak_first, in_nothing, only_one}
+use Rattle.implib_link.proofs.Search.Arranged.{distinct_from, few_from, none_times, times, times_both}
 use Rattle.implib_link.proofs.Search.Lists.{all_from, among_at, among_flat_map, among_any, among_mapped, any_among, distinct_apart, distinct_later, listed_is, at_index, kept_from, kept_into}
-use Rattle.implib_link.proofs.Search.MsvcMembers.{descriptor_of, members_are, null_of as null_member_of, short_group, symbols_of_groups_of, thunk_of, within_export as within_short}
-use Rattle.implib_link.proofs.Search.Roles.{Last, Null, Own, Role, Top, Weak, in_flavor, listed_as, member, symbols}
-use Rattle.implib_link.proofs.Search.Search.{in_nothing, only_one}
+use Rattle.implib_link.proofs.Search.MsvcMembers.{descriptor_of, members_are, null_of as null_member_of, short_group, symbols_of_groups_of, thunk_of, within_export as within_short, FindsShort, FindsWeak as FindsShortWeak, InExport as ShortExport, in_export as in_short, pair_first, pair_symbol, short_first, short_symbol, weak_of as short_weak_of}
+use Rattle.implib.specs.Formats.Object.{Object}
+use Rattle.implib.specs.Import.{imp_symbol}
+use Rattle.implib.specs.Members.Msvc.{short_import_symbol}
+use Rattle.implib_link.specs.Flavors.Expansion.{expanded_in}
+use Rattle.implib_link.specs.Flavors.Program.{IsFoundByName, has_tables}
+use Rattle.implib_link.proofs.Search.Closing.{IsFirstAs, is_first, names_read, tables_read}
+
+members_of_flavor : (flavor : Flavor) (libraries : List Library) → archive_of_both (map (in_flavor flavor) libraries) ≡ archive_of libraries
+unfolding archive_of
+members_of_flavor flavor [] = refl
+members_of_flavor flavor (l ∷ libraries) = ap (λ ms. l.members ++ ms) (members_of_flavor flavor libraries)
+
+-- So is one of libraries for Microsoft's linker.
+
+abbrev pub short_libraries : List Library → List FlavorLibrary
+short_libraries libraries = map (in_flavor Msvc) libraries
+
+pub shorts_alone : (libraries : List Library) → msvc_among (short_libraries libraries) ≡ libraries
+shorts_alone [] = refl
+shorts_alone (l ∷ libraries) = ap (λ ls. l ∷ ls) (shorts_alone libraries)
+
+pub no_gnu : (libraries : List Library) → gnu_among (short_libraries libraries) ≡ []
+no_gnu [] = refl
+no_gnu (l ∷ libraries) = no_gnu libraries
+
+pub short_members : (libraries : List Library) → archive_of_both (short_libraries libraries) ≡ archive_of libraries
+short_members libraries = members_of_flavor Msvc libraries
+
+pub shorts_archive : (machine : MachineType) (libraries : List Library) → IsMsvcArchive machine libraries → IsFlavorArchive machine (short_libraries libraries)
+unfolding IsDistinct
+shorts_archive machine libraries archive = record {
+  gnu = subst (IsArchive machine) (sym (no_gnu libraries)) (record { made = tt; distinct = tt });
+  msvc = subst (IsMsvcArchive machine) (sym (shorts_alone libraries)) archive;
+  apart = subst (λ ls. AllByRecursion (λ name. list_any (bytes_eq name) (symbols_of_all_shorts (msvc_among (short_libraries libraries))) ≡ false) (flat_map (symbols_of_library machine) ls)) (sym (no_gnu libraries)) tt;
+}
+
+-- An archive of both flavours as groups of members: of each library the member with its descriptor, the one that ends its tables, and
+-- the members of each export. The null descriptors are apart.
 
 -- A library of a flavour is among all.
 
@@ -353,3 +387,119 @@ module _ (machine : MachineType) (libraries : List FlavorLibrary) (archive : IsF
       by : name ≡ null_descriptor_symbol → (ls : List Library) → msvc_among libraries ≡ ls → FoundIn name m
       by named [] none = in_group (λ l held is. in_nothing l (subst (Among l) none held))
       by named (x ∷ rest) first = InNull x rest first (let e : Some m ≡ Some (null_member_of machine x) = sym found ∙ null_finds name named x rest first in cc) named
+
+-- Which member of an archive of both flavours a name finds, in which role; and what is so of it, however members are read.
+
+module _ (machine : MachineType) (libraries : List FlavorLibrary) (archive : IsFlavorArchive machine libraries) where
+  pub by_name : (flavor : Flavor) (l : Library) → Among (in_flavor flavor l) libraries → IsFoundByName flavor (names_for flavor l.definition)
+  by_name Gnu l held = tt
+  by_name Msvc l held = all_among (λ (x : Library). IsFoundByName Msvc (names_for Msvc x.definition)) l (msvc_among libraries) (msvc_there libraries l held) archive.msvc.found
+
+  -- a member, in its role
+  pub record HasRole (m : MemberView) : Type 0 where
+    pub library : FlavorLibrary
+    pub held : Among library libraries
+    pub role : Role
+    pub is : IsRole libraries library role
+    pub same : m ≡ member machine library.flavor library.library role
+
+  -- A name finds a member that is listed for it.
+  pub record Found (name : List ℕ) (m : MemberView) : Type 0 where
+    pub has : HasRole m
+    pub listed : Among name (symbols machine has.library.flavor has.library.library has.role)
+
+  pub find : (name : List ℕ) (m : MemberView) (flavor : Flavor) (l : Library) (r : Role) → Among (in_flavor flavor l) libraries → IsRole libraries (in_flavor flavor l) r →
+      m ≡ member machine flavor l r → Among name (symbols machine flavor l r) → Found name m
+  find name m flavor l r held is same listed = record { has = record { library = in_flavor flavor l; held = held; role = r; is = is; same = same }; listed = listed }
+
+  one : (name own : List ℕ) → name ≡ own → Among name (own ∷ [])
+  one name own is = subst (λ n. Among n (own ∷ [])) (sym is) (among_first own [])
+
+  of_end : (flavor : Flavor) (l : Library) (r : Role) → IsEnd machine r → IsRole libraries (in_flavor flavor l) r
+  of_end flavor l Top end = tt
+  of_end flavor l Last end = tt
+  of_end flavor l Null end = absurd end
+  of_end flavor l (Own n e) end = absurd end
+  of_end flavor l (Weak n e b) end = absurd end
+
+  as_one : (name own : List ℕ) (m : MemberView) → Among name (own ∷ []) → first_listed (archive_of_both libraries) own ≡ Some m → first_listed (archive_of_both libraries) name ≡ Some m
+  as_one name own m held is = ap (first_listed (archive_of_both libraries)) (only_one name own held) ∙ is
+
+  pub found : (name : List ℕ) (m : MemberView) → first_listed (archive_of_both libraries) name ≡ Some m → Found name m
+  found name m is = by (found_in machine libraries archive name m is)
+    where
+      of_gnu : (l : Library) (n : ℕ) (e : ExportView) → Among (in_flavor Gnu l) libraries → slice_get (exports_of l) n ≡ Some e → GnuExport machine l n e name m → Found name m
+      of_gnu l n e held at (FindsOwn same listed) = find name m Gnu l (Own n e) held (at, tt) same listed
+      of_gnu l n e held at (FindsWeak alias is_data named same) = find name m Gnu l (Weak n e false) held (at, (alias, is_data)) same (one name _ named)
+
+      of_short : (l : Library) (n : ℕ) (e : ExportView) → Among (in_flavor Msvc l) libraries → slice_get (exports_of l) n ≡ Some e → ShortExport machine l e name m → Found name m
+      of_short l n e held at (FindsShort none same listed) = find name m Msvc l (Own n e) held (at, none) same listed
+      of_short l n e held at (FindsShortWeak alias weak target (inl pair) same named) =
+          find name m Msvc l (Weak n e false) held (at, alias)
+          (same ∙ ap (λ w. short_weak_of machine l w target) pair.0 ∙ ap (short_weak_of machine l (short_import_symbol e)) pair.1) (one name _ (named ∙ pair.0))
+      of_short l n e held at (FindsShortWeak alias weak target (inr pair) same named) =
+          find name m Msvc l (Weak n e true) held (at, alias)
+          (same ∙ ap (λ w. short_weak_of machine l w target) pair.0 ∙ ap (short_weak_of machine l (imp_symbol (short_import_symbol e))) pair.1) (one name _ (named ∙ pair.0))
+
+      of_group : (flavor : Flavor) (l : Library) (g : Group) → Among (in_flavor flavor l) libraries → IsGroup machine flavor l g → first_listed g.members name ≡ Some m → Found name m
+      of_group flavor l g held (OfRole r end at) first =
+          let there = listed_is (member machine flavor l r ∷ []) name m (subst (λ (y : Group). first_listed y.members name ≡ Some m) at first) in
+          let same : m ≡ member machine flavor l r = only_one m (member machine flavor l r) there.0 in
+          find name m flavor l r held (of_end flavor l r end) same (subst (Among name) (listed_as machine flavor l r) (subst (λ (y : MemberView). Among name y.symbols) same there.1))
+      of_group Gnu l g held (OfExport n e at own) first = of_gnu l n e held at (in_gnu machine l n e name m (subst (λ (y : Group). first_listed y.members name ≡ Some m) own first))
+      of_group Msvc l g held (OfExport n e at own) first = of_short l n e held at (in_short machine l e name m (subst (λ (y : Group). first_listed y.members name ≡ Some m) own first))
+
+      by : FoundIn machine libraries archive name m → Found name m
+      by (InGroup flavor l g held own first) = of_group flavor l g held own first
+      by (InNull x rest first same named) = find name m Msvc x Null (there_msvc libraries x (first_held libraries x rest first)) (rest, first) same (one name _ named)
+
+  -- And what a member is listed for finds it.
+  pub finds : (flavor : Flavor) (l : Library) (r : Role) (name : List ℕ) → Among (in_flavor flavor l) libraries → IsRole libraries (in_flavor flavor l) r →
+      Among name (symbols machine flavor l r) → first_listed (archive_of_both libraries) name ≡ Some (member machine flavor l r)
+  finds flavor l Top name held is listed = role_finds machine libraries archive flavor l Top name held tt listed
+  finds flavor l Last name held is listed = role_finds machine libraries archive flavor l Last name held tt listed
+  finds Gnu l Null name held is listed = absurd is
+  finds Msvc l Null name held is listed = null_finds machine libraries archive name (only_one name _ listed) l is.0 is.1
+  finds Gnu l (Own n e) name held is listed = export_finds machine libraries archive Gnu l n e name _ held is.0 (own_symbols e name listed) (own_first machine l n e name listed)
+  finds Msvc l (Own n e) name held is listed = export_finds machine libraries archive Msvc l n e name _ held is.0 (short_symbol e name is.1 listed) (short_first machine l e name is.1 listed)
+  finds Gnu l (Weak n e true) name held is listed = absurd is.1
+  finds Gnu l (Weak n e false) name held is listed =
+      as_one name e.name _ listed (export_finds machine libraries archive Gnu l n e e.name _ held is.0 (alias_symbols e is.1.0) (weak_first machine l n e is.1.0 is.1.1))
+  finds Msvc l (Weak n e b) name held is listed =
+      as_one name (weak_symbol Msvc e b) _ listed (export_finds machine libraries archive Msvc l n e (weak_symbol Msvc e b) _ held is.0
+      (pair_symbol e (weak_symbol Msvc e b) (weak_target e b) is.1 (pair e b)) (pair_first machine l e (weak_symbol Msvc e b) (weak_target e b) is.1 (pair e b)))
+
+  -- A way to read members that takes each of these for its object, and the members that are weak externals by it.
+  pub record IsReader (reads : List ℕ → Option Object) (weak : MemberView → Bool) : Type 0 where
+    pub taken : (flavor : Flavor) (l : Library) (r : Role) → Among (in_flavor flavor l) libraries → IsRole libraries (in_flavor flavor l) r →
+        reads (member machine flavor l r).bytes ≡ Some (object machine flavor l r)
+    pub weak_is : (m : MemberView) → weak m ≡ has_weak (reads m.bytes)
+
+  -- a linker for a machine reads them so
+  pub expands : IsReader (expanded_in machine) (is_weak_in machine)
+  unfolding is_weak_in
+  expands = record { taken = λ flavor l r held is. taken_as machine libraries flavor l r (made_of machine libraries archive flavor l held) is; weak_is = λ m. refl }
+
+  module _ (reads : List ℕ → Option Object) (weak : MemberView → Bool) (reader : IsReader reads weak) (m : MemberView) (x : HasRole m) where
+    pub weak_by_role : weak m ≡ is_weak_role x.role
+    weak_by_role =
+        reader.weak_is m
+        ∙ ap has_weak (ap (λ (y : MemberView). reads y.bytes) x.same ∙ reader.taken x.library.flavor x.library.library x.role x.held x.is)
+        ∙ weak_as machine x.library.flavor x.library.library x.role
+
+    pub left_by_role : (o : Object) (name : List ℕ) → reads m.bytes ≡ Some o → Among name (undefined_in o) → Among name (left machine x.library.flavor x.library.library x.role)
+    left_by_role o name read held =
+        names_read reads undefined_in (left machine x.library.flavor x.library.library x.role) name m _ o _ x.same (reader.taken x.library.flavor x.library.library x.role x.held x.is) read
+        (left_as_role machine x.library.flavor x.library.library x.role (by_name x.library.flavor x.library.library x.held)) held
+
+    pub tables_by_role : (o : Object) → reads m.bytes ≡ Some o → has_tables o ≡ not (is_weak_role x.role)
+    tables_by_role o read =
+        tables_read reads (not (is_weak_role x.role)) m _ o _ x.same (reader.taken x.library.flavor x.library.library x.role x.held x.is) read
+        (tables_as machine x.library.flavor x.library.library x.role)
+
+    pub first_by_role : IsFirstAs reads (archive_of_both libraries) m
+    first_by_role =
+        is_first reads (archive_of_both libraries) m _ _ (symbols machine x.library.flavor x.library.library x.role) x.same
+        (reader.taken x.library.flavor x.library.library x.role x.held x.is)
+        (claims_as machine x.library.flavor x.library.library x.role) (listed_as machine x.library.flavor x.library.library x.role)
+        (λ name listed. finds x.library.flavor x.library.library x.role name x.held x.is listed)

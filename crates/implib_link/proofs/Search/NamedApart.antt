@@ -13,11 +13,11 @@ use Rattle.implib.specs.Import.{imp_symbol, is_alias, underscore}
 use Rattle.implib.specs.Members.Gnu.{head_symbol, iname_symbol, mangled_name}
 use Rattle.implib.specs.Underscore.{leading_underscore}
 use Rattle.implib.proofs.Link.Ranges.{Among, all_among, among_back, among_front}
-use Rattle.implib_link.specs.Search.Archives.{IsArchive, IsLibrary, Library, exports_of, symbols_of_export, symbols_of_library}
-use Rattle.implib_link.specs.Search.Given.{heads_of, tails_of}
+use Rattle.implib_link.specs.Search.Search.{IsArchive, IsLibrary, Library, exports_of, symbols_of_export, symbols_of_library}
+use Rattle.implib_link.specs.Search.Libraries.{heads_of, tails_of}
 use Rattle.implib_link.specs.Search.NamedApart.{AreNamedApart, begins_plain, names_in, stem}
 use Rattle.implib_link.proofs.Search.Closing.{there_not}
-use Rattle.implib_link.proofs.Search.Counts.{distinct_from, few_from, times, times_both, times_moved}
+use Rattle.implib_link.proofs.Search.Arranged.{distinct_from, few_from, times, times_both, times_moved}
 use Rattle.implib_link.proofs.Search.Lists.{among_either, among_mapped, distinct_join}
 use Rattle.implib.specs.LibraryName.{linked_name, names_for, NamesOfDll}
 use Rattle.implib.specs.declared.flavor.Flavor.TheVariants.{Gnu}

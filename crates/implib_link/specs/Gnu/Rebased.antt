@@ -14,7 +14,7 @@ use Rattle.implib.specs.Link.Image.{Range, byte_at}
 use Rattle.implib.specs.Link.Load.{BytesAt, NumberAt}
 use Rattle.implib.specs.Link.Placement.{At, Placed, SectionAddress, Unplaced}
 use Rattle.implib.specs.Members.Gnu.{stub_bytes}
-use Rattle.implib_link.specs.Gnu.Calls.{amd64_addr64, arm64_addr64}
+use Rattle.implib_link.specs.Gnu.Fields.{amd64_addr64, arm64_addr64}
 use Rattle.implib_link.specs.Stub.{jump_reads}
 
 -- AMD64's and ARM64's relocations by 32 bits that store an address whole ("Type Indicators")

@@ -17,12 +17,11 @@ use Rattle.implib.specs.Formats.Object.{Object}
 use Rattle.implib.specs.Import.{imp_symbol}
 use Rattle.implib.specs.declared.machine.MachineType.{MachineType}
 use Rattle.implib.specs.Members.MemberSpec.{MemberView}
-use Rattle.implib_link.specs.Gnu.Program.{ClaimsNone, HaveSame, claimed_names}
+use Rattle.implib_link.specs.Flavors.Program.{ClaimsNone, HaveSame, claimed_names}
 use Rattle.implib_link.specs.Flavors.Expansion.{expanded_in}
-use Rattle.implib_link.specs.Search.BothFlavors.{FlavorLibrary, archive_of_both}
-use Rattle.implib_link.specs.Search.Closed.{listed_in, references_of, unresolved}
-use Rattle.implib_link.specs.Search.Search.{claimed_as, first_listed, is_listed_for, objects_as}
-use Rattle.implib_link.specs.Search.Search.{undefined_in}
+use Rattle.implib_link.specs.Search.Libraries.{FlavorLibrary, archive_of_both}
+use Rattle.implib_link.specs.Search.Search.{listed_in, references_of, unresolved, claimed_as}
+use Rattle.implib_link.specs.Search.Search.{first_listed, is_listed_for, objects_as, undefined_in}
 use Rattle.implib_link.specs.Search.Sweeps.{index_at, members_at, numbers_from, sweeps, swept}
 
 -- an input: an object, or archives that are searched as a group; an archive by itself is a group of

@@ -6,10 +6,9 @@ use Rattle.std.specs.List.{AllByRecursion, Contains, filter, filter_map, list_an
 use Rattle.std.specs.Option.{option_map}
 use Rattle.implib.specs.Formats.Object.{Entry, Object}
 use Rattle.implib.specs.Members.MemberSpec.{MemberView}
-use Rattle.implib_link.specs.Gnu.Program.{claimed_name}
-use Rattle.implib_link.specs.Search.Archives.{is_weak_entry}
-use Rattle.implib_link.specs.Search.Closed.{TakesIntoAs, unresolved}
-use Rattle.implib_link.specs.Search.Search.{first_listed, objects_as}
+use Rattle.implib_link.specs.Flavors.Program.{claimed_name}
+use Rattle.implib_link.specs.Search.Search.{is_weak_entry, TakesIntoAs, unresolved, first_listed}
+use Rattle.implib_link.specs.Search.Search.{objects_as}
 
 -- an object without its weak externals
 unfoldable pub without_weak : Object → Object

@@ -12,8 +12,7 @@ use Rattle.std.specs.Prelude.{length, map, not, slice_get, Option, Some, None, i
 use Rattle.std.specs.List.{filter_map, flat_map, list_any}
 use Rattle.implib.specs.Formats.Object.{Object}
 use Rattle.implib.specs.Members.MemberSpec.{MemberView}
-use Rattle.implib_link.specs.Search.Closed.{unresolved}
-use Rattle.implib_link.specs.Search.Search.{objects_as}
+use Rattle.implib_link.specs.Search.Search.{unresolved, objects_as}
 
 -- an entry of an archive's index: a symbol, and the number of the member that it is listed for
 pub record IndexEntry : Type 0 where

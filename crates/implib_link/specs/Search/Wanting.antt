@@ -12,7 +12,7 @@ use Rattle.implib.specs.Link.Image.{image_of}
 use Rattle.implib.specs.Link.Placement.{Bases, placed_from}
 use Rattle.implib.specs.Link.Resolution.{definitions_of}
 use Rattle.implib_link.specs.Flavors.Program.{Ending, FlavorInput, IsProgramOf}
-use Rattle.implib_link.specs.Search.Closed.{claims_of, unresolved}
+use Rattle.implib_link.specs.Search.Search.{claims_of, unresolved}
 
 -- an undefined external symbol of a name
 abbrev pub undefined_symbol : List ℕ → Entry

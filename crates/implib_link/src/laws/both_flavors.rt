@@ -11,21 +11,16 @@ ghost use Rattle.implib.specs.declared.flavor.Flavor.TheVariants.{Msvc};
 ghost use Rattle.implib.specs.declared.machine.MachineType.{MachineType};
 ghost use Rattle.implib_link.specs.Flavors.Expansion.{before_last_stop};
 ghost use Rattle.implib_link.specs.Flavors.Program.{AreEnded, Ending, IsFoundByName, objects_taken};
+ghost use Rattle.implib_link.specs.Flavors.Program.{ClaimsNone, HaveSame, has_tables};
 ghost use Rattle.implib_link.specs.Gnu.Packed.{packed, packed_end};
-ghost use Rattle.implib_link.specs.Gnu.Program.{ClaimsNone, HaveSame, has_tables};
-ghost use Rattle.implib_link.specs.Search.BothExists.{HasClosed, tables_end_by};
-ghost use Rattle.implib_link.specs.Search.BothFlavors.{AreClosed, AreGiven, FlavorLibrary};
-ghost use Rattle.implib_link.specs.Search.BothFlavors.{IsFlavorArchive, IsClosed, LinksClosed};
-ghost use Rattle.implib_link.specs.Search.BothFlavors.{NamesNoMembers, TakesOfLibraries};
-ghost use Rattle.implib_link.specs.Search.BothFlavors.{archive_of_both, inputs_in};
-ghost use Rattle.implib_link.specs.Search.Closed.{listed_in, unresolved};
-ghost use Rattle.implib_link.specs.Search.Msvc.{left_in};
-ghost use Rattle.implib_link.specs.Search.MsvcArchives.{wanted_for};
-ghost use Rattle.implib_link.specs.Search.Exists.{LieWithin};
-ghost use Rattle.implib_link.specs.Search.MsvcArchives.{weak_in, TakesIntoFor};
+ghost use Rattle.implib_link.specs.Search.Libraries.{HasClosed, tables_end_by, AreClosed, AreGiven};
+ghost use Rattle.implib_link.specs.Search.Libraries.{FlavorLibrary, IsFlavorArchive, IsClosed};
+ghost use Rattle.implib_link.specs.Search.Libraries.{LinksClosed, NamesNoMembers, TakesOfLibraries};
+ghost use Rattle.implib_link.specs.Search.Libraries.{archive_of_both, inputs_in, left_in};
+ghost use Rattle.implib_link.specs.Search.Libraries.{wanted_for, LieWithin, weak_in, TakesIntoFor};
+ghost use Rattle.implib_link.specs.Search.Search.{listed_in, unresolved};
 ghost use Rattle.std.specs.List.{AllByRecursion, filter};
-ghost use Rattle.std.specs.Prelude.{◌≡◌, ◌<◌, ◌^◌, ◌++◌, ℕ, IsPermutation, List, Some};
-ghost use Rattle.std.specs.Prelude.{false, not};
+ghost use Rattle.std.specs.Prelude.{◌≡◌, ◌<◌, ◌^◌, ◌++◌, ℕ, IsPermutation, List, Some, false, not};
 
 /// From such an archive a linker takes for given objects, which claim nothing of what is taken,
 /// exactly the members of the exports that are wanted, by the objects or by an alias that is taken,

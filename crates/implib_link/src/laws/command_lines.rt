@@ -2,8 +2,8 @@
 
 ghost use Rattle.implib.specs.Formats.Object.{Object};
 ghost use Rattle.implib.specs.Members.MemberSpec.{MemberView};
-ghost use Rattle.implib_link.specs.Gnu.Program.{HaveSame};
-ghost use Rattle.implib_link.specs.Search.Closed.{TakesIntoAs};
+ghost use Rattle.implib_link.specs.Flavors.Program.{HaveSame};
+ghost use Rattle.implib_link.specs.Search.Search.{TakesIntoAs};
 ghost use Rattle.implib_link.specs.Search.CommandLines.{AreFirst, AreListedWhole};
 ghost use Rattle.implib_link.specs.Search.CommandLines.{AreUnclaimedBehind, NoneIsLost, TakesFirst};
 ghost use Rattle.implib_link.specs.Search.CommandLines.{names_left, Input, IsOrdered};

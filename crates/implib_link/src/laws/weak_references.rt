@@ -4,13 +4,12 @@ ghost use Rattle.implib.specs.Formats.Object.{Object};
 ghost use Rattle.implib.specs.Members.MemberSpec.{MemberView};
 ghost use Rattle.implib.specs.declared.machine.MachineType.{MachineType};
 ghost use Rattle.implib_link.specs.Flavors.Expansion.{expanded_in};
-ghost use Rattle.implib_link.specs.Search.BothFlavors.{FlavorLibrary, IsFlavorArchive};
-ghost use Rattle.implib_link.specs.Search.BothFlavors.{archive_of_both};
-ghost use Rattle.implib_link.specs.Search.Closed.{TakesIntoAs, unresolved};
-ghost use Rattle.implib_link.specs.Search.MsvcArchives.{TakesIntoFor};
+ghost use Rattle.implib_link.specs.Search.Libraries.{FlavorLibrary, IsFlavorArchive};
+ghost use Rattle.implib_link.specs.Search.Libraries.{archive_of_both, TakesIntoFor};
+ghost use Rattle.implib_link.specs.Search.Search.{TakesIntoAs, unresolved, objects_as};
+ghost use Rattle.implib_link.specs.Search.Search.{undefined_in};
 ghost use Rattle.implib_link.specs.Search.Plainly.{AreOnlyWeak, HaveNoWeak, IsWeakAmong};
 ghost use Rattle.implib_link.specs.Search.Plainly.{TakesPlainly, WeakAreFirst, left_plainly};
-ghost use Rattle.implib_link.specs.Search.Search.{objects_as, undefined_in};
 ghost use Rattle.std.specs.List.{Contains, flat_map};
 ghost use Rattle.std.specs.Prelude.{ℕ, ◌++◌, List, Option};
 

@@ -11,8 +11,7 @@ ghost use Rattle.implib_link.specs.Directory.{Imported};
 ghost use Rattle.implib_link.specs.Flavors.Program.{Ending, FlavorInput, IsMadeFor, IsProgramOf};
 ghost use Rattle.implib_link.specs.Flavors.Program.{imported_in};
 ghost use Rattle.implib_link.specs.Gnu.Fields.{LinkedCode};
-ghost use Rattle.implib_link.specs.Gnu.Reading.{ReadsAndWrites};
-ghost use Rattle.implib_link.specs.Gnu.Writing.{AreAlike, WritesAsItGoes};
+ghost use Rattle.implib_link.specs.Gnu.Writing.{ReadsAndWrites, AreAlike, WritesAsItGoes};
 ghost use Rattle.std.specs.List.{AllByRecursion};
 ghost use Rattle.std.specs.Prelude.{◌≡◌, ◌++◌, ℕ, List, length, map};
 

@@ -13,9 +13,8 @@ use Rattle.implib_archive.specs.declared.kind.Kind.{Kind}
 use Rattle.implib_archive.specs.declared.kind.Kind.TheVariants.{Coff, Gnu}
 use Rattle.implib_link.specs.Archives.InBytes.{AreTakenAt, First, LinkerMember, PullsInAt, Second, TakesAt, contents_at, header_by}
 use Rattle.implib_link_instances.specs.Archives.Worked.{WorkedSearches, names_wanted, for_names}
-use Rattle.implib_link.specs.Search.Search.{undefined_in}
+use Rattle.implib_link.specs.Search.Search.{undefined_in, unresolved, claims_of, references_of}
 use Rattle.implib_link.proofs.Search.Lists.{any_among, contains_among}
-use Rattle.implib_link.specs.Search.Closed.{unresolved, claims_of, references_of}
 
 -- whether a name leads nowhere, or to a header that is taken
 abbrev is_settled_at : List ℕ → Option ℕ → Bool

@@ -10,36 +10,28 @@ use Rattle.implib.specs.Worked.Statements.{plain_export}
 use Rattle.implib.proofs.Link.LinkedMembers.{among_contains}
 use Rattle.implib.proofs.Link.Ranges.{Among}
 use Rattle.implib_archive.specs.declared.kind.Kind.TheVariants.{Coff}
-use Rattle.implib_link.specs.Archives.InBytes.{Second}
-use Rattle.implib_link.specs.Archives.LldWay.{AreCalledAlike, IsBuiltByLld, IsWantedBy, LldArrives, read_by_lld, shorts_in}
-use Rattle.implib_link.specs.Archives.Results.{HaveArchive}
-use Rattle.implib_link_instances.specs.Archives.WorkedLldWay.{WorkedLldWay, bar_short, calls_linked, is_live, live_shorts, lld_codes, lld_image, lld_libraries, lld_library, lld_linked, lld_memory, lld_own, lld_tables, lld_taken, lld_targets, placed_calls, thunk_linked, two_calls}
+use Rattle.implib_link.specs.Archives.InBytes.{Second, HaveArchive}
+use Rattle.implib_link.specs.Archives.Ways.{AreCalledAlike, IsBuiltByLld, IsWantedBy, LldArrives, read_by_lld, shorts_in}
+use Rattle.implib_link_instances.specs.Archives.WorkedWays.{WorkedLldWay, bar_short, calls_linked, is_live, live_shorts, lld_codes, lld_image, lld_libraries, lld_library, lld_linked, lld_memory, lld_own, lld_tables, lld_taken, lld_targets, placed_calls, thunk_linked, two_calls}
 use Rattle.implib_link.proofs.Archives.InBytes.{search_of}
-use Rattle.implib_link.proofs.Archives.LldWay.{lld_arrives}
+use Rattle.implib_link.proofs.Archives.Ways.{lld_arrives}
 use Rattle.implib_link.specs.Flavors.Expansion.{descriptor_symbol_by_name, expanded_in, import_object}
-use Rattle.implib_link.specs.Flavors.LldImports.{imports_of_lld}
-use Rattle.implib_link.specs.Flavors.LldTables.{ArePiecesAt, built, built_bytes}
-use Rattle.implib_link.specs.Flavors.LldThunks.{placed_thunk, thunk_section}
+use Rattle.implib_link.specs.Flavors.LldImports.{imports_of_lld, ArePiecesAt, built, built_bytes, placed_thunk, thunk_section}
 use Rattle.implib_link.specs.Flavors.SectionSymbols.{with_section_symbols}
-use Rattle.implib_link.specs.Gnu.Fields.{AreLinkedBeside, range_of_code}
+use Rattle.implib_link.specs.Gnu.Fields.{AreLinkedBeside, range_of_code, HasBranch, HasInstruction}
 use Rattle.implib_link.specs.Gnu.Moves.{AreInMemory, AreMoved}
-use Rattle.implib_link.specs.Gnu.Operands.{HasBranch, HasInstruction}
 use Rattle.implib_link.specs.Gnu.Rebased.{table_places}
-use Rattle.implib_link.specs.Search.Archives.{Library, archive_of}
-use Rattle.implib_link.specs.Search.Closed.{AreTakenIntoAs, TakesIntoAs, claims_of, references_of}
-use Rattle.implib_link.specs.Search.MsvcArchives.{IsMsvcArchive, symbols_of_shorts}
-use Rattle.implib_link.specs.Search.Search.{undefined_in}
+use Rattle.implib_link.specs.Search.Search.{Library, archive_of, AreTakenIntoAs, TakesIntoAs, claims_of, references_of, undefined_in}
+use Rattle.implib_link.specs.Search.Libraries.{IsMsvcArchive, symbols_of_shorts}
 use Rattle.implib_link.specs.Tables.{AreSteady}
-use Rattle.implib_link_instances.specs.Worked.Calls.{given_on}
+use Rattle.implib_link_instances.specs.Worked.Operands.{given_on}
 use Rattle.implib_link_instances.specs.Worked.MsvcSearch.{short_named}
 use Rattle.implib_link_instances.specs.Worked.Programs.{symbol_of_class}
 use Rattle.implib_link.proofs.Flavors.LldTables.{built_pieces}
 use Rattle.implib_link.proofs.Search.Lists.{contains_among}
 use Rattle.implib_link_instances.proofs.Worked.Calls.{wide}
 use Rattle.implib_link_instances.proofs.Worked.CommandLines.{ended_by, pulls_by}
-use Rattle.implib_link_instances.proofs.Worked.LinkedCode.{all_needed, only_absolute, rebased_by, relocated_by, relocated_test}
-use Rattle.implib_link_instances.proofs.Worked.LldPrograms.{lld_opened, disjoint, meet_test, takes_outside}
-use Rattle.implib_link_instances.proofs.Worked.Programs.{distinct_by, opened, instruction_by}
+use Rattle.implib_link_instances.proofs.Worked.Programs.{all_needed, only_absolute, rebased_by, relocated_by, relocated_test, lld_opened, disjoint, meet_test, takes_outside, distinct_by, opened, instruction_by}
 use Rattle.implib_link_instances.proofs.Worked.Opened.{archived}
 
 -- what the computing has to open

@@ -21,11 +21,9 @@ use Rattle.implib_archive.specs.Worked.{worked_gnu, worked_members}
 use Rattle.implib_archive.specs.declared.kind.Kind.TheVariants.{Gnu}
 use Rattle.implib_archive.proofs.WorkedBytes.{worked_archives}
 use Rattle.implib_link.specs.Archives.Files.{entries_by}
-use Rattle.implib_link.specs.Archives.InBytes.{First, TakesAt, header_by}
-use Rattle.implib_link.specs.Archives.LldWay.{IsBuiltByLld, IsWantedBy, read_by_lld, short_of_export, shorts_in}
-use Rattle.implib_link.specs.Archives.Results.{AreHeadersOf}
-use Rattle.implib_link.specs.Flavors.LldImports.{IsLldProgram, imports_of_lld, placed_by_lld}
-use Rattle.implib_link.specs.Flavors.LldTables.{addresses_at, built, hints_at, lookups_at, names_at}
+use Rattle.implib_link.specs.Archives.InBytes.{First, TakesAt, header_by, AreHeadersOf}
+use Rattle.implib_link.specs.Archives.Ways.{IsBuiltByLld, IsWantedBy, read_by_lld, short_of_export, shorts_in}
+use Rattle.implib_link.specs.Flavors.LldImports.{IsLldProgram, imports_of_lld, placed_by_lld, addresses_at, built, hints_at, lookups_at, names_at}
 use Rattle.implib_link.proofs.Flavors.LldTables.{built_pieces}
 use Rattle.implib_link.specs.Search.CommandLines.{names_left}
 use Rattle.implib_link.proofs.Search.Lists.{among_any, any_among, contains_among}
@@ -36,16 +34,15 @@ use Rattle.implib_link_instances.proofs.Archives.WorkedLldWay.{worked_lld_way}
 use Rattle.implib_link_instances.proofs.Refused.Links.{first_letter, refused_links_closed}
 use Rattle.implib_link_instances.proofs.Worked.Calls.{one_of, wide, worked_reading}
 use Rattle.implib_link_instances.proofs.Worked.Lemmas.{differ, none_at, none_in}
-use Rattle.implib_link_instances.proofs.Worked.LldPrograms.{lld_opened}
+use Rattle.implib_link_instances.proofs.Worked.Programs.{lld_opened}
 use Rattle.implib_link_instances.proofs.Worked.Opened.{searched}
 use Rattle.implib_link_instances.specs.Refused.Archives.{RefusedAreMembersAt, RefusedCallsArrive, RefusedHasMembersAs, RefusedInBytes, RefusedIsHeaderOf, RefusedIsInDirectory, RefusedIsSearchOf, RefusedIsWantedBy, RefusedLeadsToFirst, RefusedLldArrives, ways_taken, with_header_in}
-use Rattle.implib_link_instances.specs.Archives.WorkedLldWay.{bar_short, lld_taken}
+use Rattle.implib_link_instances.specs.Archives.WorkedWays.{bar_short, lld_taken}
 use Rattle.implib_link_instances.specs.Refused.Links.{f_library, listing, own}
 use Rattle.implib_link_instances.specs.Refused.Searches.{f_export}
-use Rattle.implib_link_instances.specs.Worked.Calls.{given_on}
+use Rattle.implib_link_instances.specs.Worked.Operands.{given_on}
 use Rattle.implib.specs.Formats.Object.{object_in}
-use Rattle.implib_link.specs.Search.Closed.{claims_of, references_of}
-use Rattle.implib_link.specs.Search.Search.{undefined_in}
+use Rattle.implib_link.specs.Search.Search.{claims_of, references_of, undefined_in}
 
 -- what the computing of archives has to open
 unfoldable opened_archive : Unit {0}

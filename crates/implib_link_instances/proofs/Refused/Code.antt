@@ -6,8 +6,7 @@ use Rattle.implib.specs.Formats.Object.{ASymbol}
 use Rattle.implib.specs.Link.Resolution.{symbol_address}
 use Rattle.implib.specs.Link.Load.{BytesAt, NumberAt, number_in}
 use Rattle.implib.proofs.Link.Loading.{number_once}
-use Rattle.implib_link.specs.Gnu.Calls.{direct_leads}
-use Rattle.implib_link.specs.Gnu.Operands.{branch_leads, operand_leads}
+use Rattle.implib_link.specs.Gnu.Fields.{direct_leads, branch_leads, operand_leads}
 use Rattle.implib_link.specs.Stub.{adrp_immediate, bits_of, jump_reads, ldr_immediate, page, plus_signed, with_adrp, with_bits}
 use Rattle.implib_link.proofs.Gnu.Memory.{byte_first}
 use Rattle.implib_link_instances.proofs.Worked.Lemmas.{are_located, differ, entry_is, number, same_bytes, value}

@@ -16,18 +16,17 @@ use Rattle.implib_link.specs.Directory.{DirectoryAt}
 use Rattle.implib_link.specs.Flavors.Expansion.{expanded_in}
 use Rattle.implib_link.specs.Flavors.LldImports.{grouped}
 use Rattle.implib_link.specs.Flavors.Program.{FlavorInput, OfMember, SymbolsAt, SymbolsGet, exports_chosen, gnu_input, members_linked, objects_taken, own_names}
-use Rattle.implib_link.specs.Search.BothFlavors.{IsImported, archive_of_both}
-use Rattle.implib_link.specs.Search.Closed.{listed_in}
-use Rattle.implib_link.specs.Search.MsvcArchives.{IsWeakTaken}
+use Rattle.implib_link.specs.Search.Libraries.{IsImported, archive_of_both, IsWeakTaken}
+use Rattle.implib_link.specs.Search.Search.{listed_in}
 use Rattle.implib_link.proofs.Search.Lists.{any_among}
 use Rattle.implib_link_instances.proofs.Refused.Code.{absent, nothing_there}
 use Rattle.implib_link_instances.proofs.Worked.Lemmas.{differ, no_definition, none_at, none_in, none_passes, number}
-use Rattle.implib_link_instances.proofs.Worked.LldPrograms.{lld_opened}
+use Rattle.implib_link_instances.proofs.Worked.Programs.{lld_opened}
 use Rattle.implib_link_instances.proofs.Worked.Opened.{searched}
 use Rattle.implib_link_instances.specs.Refused.Links.{RefusedFlavorTextLinks, RefusedFlavorTextsLink, RefusedInputImports, RefusedIsImportedBy, RefusedIsImported, RefusedIsTaken, RefusedLinksClosed, RefusedLldLinks, RefusedProgramLinks, asking_entry, f_input, f_library, f_short, for_gnu, later_short, listing, nul_within, unchosen}
 use Rattle.implib_link_instances.specs.Refused.Tables.{zero_image}
 use Rattle.implib_link_instances.specs.Worked.Programs.{symbol_of_class, touching_8}
-use Rattle.implib_link_instances.specs.Worked.Sources.{source_in, zed_meant, zed_text}
+use Rattle.implib_link_instances.specs.Worked.Flavors.{source_in, zed_meant, zed_text}
 
 nowhere : (address : ℕ) → None ≡ Some address → ⊥
 nowhere address is = cc

@@ -7,10 +7,8 @@ use Rattle.implib.specs.Definition.{ExportView}
 use Rattle.implib.specs.Import.{imp_symbol}
 use Rattle.implib.specs.Members.MemberSpec.{MemberView}
 use Rattle.implib.specs.Members.Msvc.{short_import_symbol}
-use Rattle.implib_link.specs.Search.MsvcArchives.{is_short_alias}
-use Rattle.implib_link.specs.Search.Archives.{Library, exports_of}
-use Rattle.implib_link.specs.Search.BothFlavors.{IsWeakOfLibraries}
-use Rattle.implib_link.specs.Search.Closed.{AreTakenIntoAs}
+use Rattle.implib_link.specs.Search.Libraries.{is_short_alias, IsWeakOfLibraries}
+use Rattle.implib_link.specs.Search.Search.{Library, exports_of, AreTakenIntoAs}
 use Rattle.implib_link.proofs.Search.Lists.{contains_among}
 use Rattle.implib_link_instances.proofs.Worked.Calls.{one_of}
 use Rattle.implib_link_instances.proofs.Worked.Lemmas.{differ, none_in}

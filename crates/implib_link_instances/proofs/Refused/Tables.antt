@@ -12,9 +12,7 @@ use Rattle.implib.specs.Members.ImportTables.{zeros}
 use Rattle.implib.proofs.Link.Loading.{number_once}
 use Rattle.implib_link.specs.Directory.{DirectoryAt, WalkFinds}
 use Rattle.implib_link.specs.Flavors.Program.{SymbolsAt, SymbolsGet}
-use Rattle.implib_link.specs.Gnu.Loaded.{Writes}
-use Rattle.implib_link.specs.Gnu.Reading.{ReadsAndWrites}
-use Rattle.implib_link.specs.Gnu.Writing.{FillsTable, WritesAsItGoes}
+use Rattle.implib_link.specs.Gnu.Writing.{Writes, ReadsAndWrites, FillsTable, WritesAsItGoes}
 use Rattle.implib_link.specs.Tables.{RiseFrom, Table}
 use Rattle.implib_link.proofs.Search.Lists.{contains_among}
 use Rattle.implib_link_instances.proofs.Refused.Code.{absent, nothing_there}

@@ -1,5 +1,5 @@
 -- The calls and the pointer by an alias by hand, by computing and by the law.
-use Rattle.implib_link.specs.Gnu.Fields.{LinkedCode}
+use Rattle.implib_link.specs.Gnu.Fields.{LinkedCode, PlacedCode, Resolves}
 use Rattle.std.proofs.Common.{◌≡◌, ℕ, ◌^◌, Bool, true, List, [], ◌∷◌, ◌++◌, codes, Option, None, Some, refl, ap, sym, ◌∙◌, subst, arith, true≢false}
 use Rattle.std.specs.Prelude.{drop, take, ◌==◌, if◌then◌else◌}
 use Rattle.std.specs.List.{list_all}
@@ -21,22 +21,19 @@ use Rattle.implib.specs.Members.MsvcObjects.{base_name, descriptor, descriptor_s
 use Rattle.implib.specs.Members.WeakExternal.{weak_object}
 use Rattle.implib.proofs.Link.Ranges.{apart_as_they_rise}
 use Rattle.implib_link.specs.Flavors.Expansion.{descriptor_symbol_by_name, expanded_in, import_object}
-use Rattle.implib_link.specs.Flavors.Program.{OfMember, all_members, symbols_listed, IsProgramOf, IsProgram}
+use Rattle.implib_link.specs.Flavors.Program.{OfMember, all_members, symbols_listed, IsProgramOf, IsProgram, has_tables, linked_symbols}
 use Rattle.implib_link.specs.Flavors.SectionSymbols.{with_section_symbols}
 use Rattle.implib_link.specs.Gnu.Aliases.{ResolvesAliases, weak_target}
-use Rattle.implib_link.specs.Gnu.Calls.{PlacedCode, Resolves}
 use Rattle.implib_link.specs.Gnu.Packed.{group_end, sections_end}
-use Rattle.implib_link.specs.Gnu.Program.{has_tables, linked_symbols}
-use Rattle.implib_link_instances.specs.Worked.Aliases.{WorkedAlias, WorkedFlavorAlias, alias_calling, alias_codes, alias_loading, alias_objects, alias_placed, all_at, opened_flavors, opened_name, opened_placed}
-use Rattle.implib_link_instances.specs.Worked.Calls.{CodesBeside, code_ranges, linked_codes, as_placed}
+use Rattle.implib_link_instances.specs.Worked.OtherNames.{WorkedAlias, WorkedFlavorAlias, alias_calling, alias_codes, alias_loading, alias_objects, alias_placed, all_at, opened_flavors, opened_name, opened_placed}
+use Rattle.implib_link_instances.specs.Worked.Operands.{CodesBeside, code_ranges, linked_codes, as_placed}
 use Rattle.implib_link_instances.specs.Worked.Flavors.{both_inputs as flavor_inputs, flavor_bases_8, foo_input as msvc_input}
 use Rattle.implib_link_instances.specs.Worked.Programs.{both_inputs, touching_8}
-use Rattle.implib_link.proofs.Gnu.Aliases.{weak_is_weak}
+use Rattle.implib_link.proofs.TablesInMemory.{weak_is_weak}
 use Rattle.implib_link.proofs.Search.Lists.{among_at, contains_among, each_of}
 use Rattle.implib_link_instances.proofs.Worked.Calls.{is_none, all_unwanted, none_wanted, beside_by, codes_tested}
-use Rattle.implib_link_instances.proofs.Worked.Programs.{claims_none_by, distinct_by, opened, admissible_by}
+use Rattle.implib_link_instances.proofs.Worked.Programs.{claims_none_by, distinct_by, opened, admissible_by, relocated_test}
 use Rattle.implib_link_instances.proofs.Worked.Flavors.{flavor_objects_by}
-use Rattle.implib_link_instances.proofs.Worked.LinkedCode.{relocated_test}
 use Rattle.implib_link.proofs.Flavors.GnuPrograms.{gnu_objects}
 
 program : IsProgram AMD64 touching_8 (both_inputs AMD64) alias_objects

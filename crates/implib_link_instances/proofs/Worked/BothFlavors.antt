@@ -11,16 +11,11 @@ use Rattle.implib.specs.Members.MemberSpec.{MemberView}
 use Rattle.implib.specs.Members.MsvcObjects.{descriptor_symbol, null_descriptor_symbol}
 use Rattle.implib.proofs.Link.LinkedMembers.{among_contains, among_map}
 use Rattle.implib.proofs.Link.Ranges.{Among, all_among, among_front}
-use Rattle.implib_link.specs.Flavors.Program.{AreEnded, Ending, FlavorInput, OfMember, objects_taken}
+use Rattle.implib_link.specs.Flavors.Program.{AreEnded, Ending, FlavorInput, OfMember, objects_taken, ClaimsNone, HaveSame, claimed_names, has_tables}
 use Rattle.implib_link.specs.Gnu.Packed.{group_end, packed, packed_end, sections_end}
-use Rattle.implib_link.specs.Gnu.Program.{ClaimsNone, HaveSame, claimed_names, has_tables}
-use Rattle.implib_link.specs.Search.Archives.{IsArchive, IsLibrary, symbols_of_library}
-use Rattle.implib_link.specs.Search.BothFlavors.{AreClosed, AreGiven, FlavorLibrary, IsClosed, IsFlavorArchive, NamesNoMembers, archive_of_both, gnu_among, inputs_in, symbols_kept, msvc_among, LinksClosed}
-use Rattle.implib_link.specs.Search.Closed.{listed_in, unresolved}
-use Rattle.implib_link.specs.Search.Msvc.{left_in}
-use Rattle.implib_link.specs.Search.MsvcArchives.{IsMsvcArchive, IsMsvcLibrary, PullsIntoFor, TakesIntoFor, symbols_of_all_shorts, symbols_of_shorts, wanted_for, weak_in}
-use Rattle.implib_link_instances.specs.Worked.BothFlavors.{WorkedBoth, WorkedBothExists, WorkedGiven, foo_and_zed, mixed_bases, mixed_objects, mixed_taken, mixed_without_last, zed_and_foo}
-use Rattle.implib_link_instances.specs.Worked.Closed.{choosing, clashing, foo_linked}
+use Rattle.implib_link.specs.Search.Search.{IsArchive, IsLibrary, symbols_of_library, listed_in, unresolved}
+use Rattle.implib_link.specs.Search.Libraries.{AreClosed, AreGiven, FlavorLibrary, IsClosed, IsFlavorArchive, NamesNoMembers, archive_of_both, gnu_among, inputs_in, symbols_kept, msvc_among, LinksClosed, left_in, IsMsvcArchive, IsMsvcLibrary, PullsIntoFor, TakesIntoFor, symbols_of_all_shorts, symbols_of_shorts, wanted_for, weak_in, HasClosed, objects_closed, tables_end_by}
+use Rattle.implib_link_instances.specs.Worked.BothFlavors.{WorkedBoth, WorkedBothExists, WorkedGiven, foo_and_zed, mixed_bases, mixed_objects, mixed_taken, mixed_without_last, zed_and_foo, choosing, clashing, foo_linked}
 use Rattle.implib_link_instances.specs.Worked.MsvcSearch.{msvc_zed, thunk_named, zed_members}
 use Rattle.implib_link.proofs.Search.BothClosed.{closed_links_of_both, packed_both}
 use Rattle.implib_link.proofs.Search.Ends.{into_ends, search_bounded}
@@ -33,8 +28,7 @@ use Rattle.implib.specs.LibraryName.{linked_dll}
 use Rattle.implib.specs.declared.machine.MachineType.{MachineType}
 use Rattle.implib_link_instances.proofs.Worked.Search.{below_limit, into_by}
 use Rattle.implib.specs.Link.Placement.{next_multiple}
-use Rattle.implib_link.specs.Search.BothExists.{HasClosed, objects_closed, tables_end_by}
-use Rattle.implib_link.proofs.Search.BothExists.{both_exists, placed_closed, placed_within}
+use Rattle.implib_link.proofs.Search.Exists.{both_exists, placed_closed, placed_within}
 
 abbrev own : List Object
 own = choosing ∷ []

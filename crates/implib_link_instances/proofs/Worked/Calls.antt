@@ -7,13 +7,12 @@ use Rattle.implib.specs.declared.machine.MachineType.{MachineType}
 use Rattle.implib.specs.Formats.Object.{ASymbol, Auxiliary, Entry, Object, ObjectSymbol, before_nul, bytes_at, data_at, each_at, entries_at, name_of, object_in, object_of_header, relocation_at, relocation_of, section_at, section_numbered, section_of, strings_at, symbol_of, u16_at, u32_at, up_to_nul}
 use Rattle.implib.specs.Link.Image.{AllApart, Range, image_of, with_address}
 use Rattle.implib.specs.Link.Placement.{Bases, Placed, next_multiple, placed_from}
-use Rattle.implib_link.specs.Gnu.Calls.{Defines, PlacedCode, Resolves}
-use Rattle.implib_link.specs.Gnu.Fields.{IsRelocated, LinkedCode, placed_code, range_of_code, ranges_of_codes}
-use Rattle.implib_link_instances.specs.Worked.Calls.{CodesBeside, WorkedChoices, WorkedReading, as_placed, branch_codes, branching_objects, branching_placed, code_ranges, code_relocated_by, given_on, linked_by, linked_codes}
+use Rattle.implib_link.specs.Gnu.Fields.{Defines, PlacedCode, Resolves, IsRelocated, LinkedCode, placed_code, range_of_code, ranges_of_codes}
+use Rattle.implib_link_instances.specs.Worked.Operands.{CodesBeside, WorkedChoices, WorkedReading, as_placed, branch_codes, branching_objects, branching_placed, code_ranges, code_relocated_by, given_on, linked_by, linked_codes}
 use Rattle.implib_link.proofs.Gnu.LinkedCodes.{linked_beside, takes_from}
-use Rattle.implib_link_instances.proofs.Worked.LinkedCode.{relocated_by, relocated_test}
+use Rattle.implib_link_instances.proofs.Worked.Programs.{relocated_by, relocated_test, opened as opened_of_programs, worked_programs}
 use Rattle.implib.proofs.Members.MemberReadings.{map_after}
-use Rattle.implib_link.specs.Gnu.Loaded.{HoldsAt}
+use Rattle.implib_link.specs.Gnu.Writing.{HoldsAt, ReadsAndWrites}
 use Rattle.implib_link.proofs.Tables.{tables_end, tables_read}
 use Rattle.implib_link.proofs.TablesOfPrograms.{program_count, program_entry, program_tables}
 use Rattle.implib_link.specs.Tables.{block_of_flavor, tables_at}
@@ -34,13 +33,10 @@ use Rattle.implib.specs.Link.Resolution.{definitions_of, is_undefined_external, 
 use Rattle.implib.specs.Formats.Writer.{layout_of, long_names, name_location, symbol_written, with_long_name, with_name}
 use Rattle.implib.proofs.Link.Ranges.{Among, apart_as_they_rise}
 use Rattle.implib.specs.Worked.Statements.{plain_export}
-use Rattle.implib_link.specs.Flavors.Program.{Ending, FlavorInput, IsMadeFor, IsProgramOf, OfLinker, ask_in, dll_of, exports_chosen, gnu_input, symbol_in}
-use Rattle.implib_link.specs.Gnu.Program.{has_tables}
-use Rattle.implib_link.specs.Gnu.Reading.{ReadsAndWrites}
+use Rattle.implib_link.specs.Flavors.Program.{Ending, FlavorInput, IsMadeFor, IsProgramOf, OfLinker, ask_in, dll_of, exports_chosen, gnu_input, symbol_in, has_tables}
 use Rattle.implib_link_instances.specs.Worked.Programs.{both_inputs, foo_input, program_image, program_objects, program_placed, symbol_on, touching_4, touching_8}
 use Rattle.implib_link.proofs.Gnu.Stubs.{same_address}
 use Rattle.implib_link.proofs.Search.Lists.{among_at, contains_among, each_of}
-use Rattle.implib_link_instances.proofs.Worked.Programs.{opened as opened_of_programs, worked_programs}
 use Rattle.implib_link_instances.proofs.Worked.Lemmas.{image_base}
 use Rattle.implib.proofs.Link.Definitions.{same_text}
 use Rattle.implib_link.specs.Gnu.Choices.{AreSections, DefineOnce, plain_range}

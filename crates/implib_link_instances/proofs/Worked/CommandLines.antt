@@ -13,26 +13,22 @@ use Rattle.implib.specs.Members.MemberSpec.{MemberView}
 use Rattle.implib.specs.Members.Members.{refusal, renamed_refusal}
 use Rattle.implib.proofs.Link.LinkedMembers.{among_contains, among_map}
 use Rattle.implib.proofs.Link.Ranges.{Among}
-use Rattle.implib_link.specs.Gnu.Program.{HaveSame}
+use Rattle.implib_link.specs.Flavors.Program.{HaveSame}
 use Rattle.implib_link.specs.Flavors.Expansion.{expanded_in}
-use Rattle.implib_link.specs.Search.Archives.{archive_of, is_weak, symbols_of_library}
-use Rattle.implib_link.specs.Search.BothExists.{HasClosed}
-use Rattle.implib_link.specs.Search.BothFlavors.{AreGiven, IsFlavorArchive, archive_of_both, symbols_kept}
-use Rattle.implib_link.specs.Search.Closed.{PullsIntoAs, claims_of, listed_in, references_of, unresolved}
+use Rattle.implib_link.specs.Search.Search.{archive_of, is_weak, symbols_of_library, PullsIntoAs, claims_of, listed_in, references_of, unresolved, claimed_as, first_listed, objects_as, undefined_in}
+use Rattle.implib_link.specs.Search.Libraries.{HasClosed, AreGiven, IsFlavorArchive, archive_of_both, symbols_kept}
 use Rattle.implib_link.specs.Search.CommandLines.{AreListedWhole, AreRounds, AreSwept, AreUnclaimedBehind, ImportsByName, IsOrdered, SearchesCommandLine, SearchesFrom, given_with, names_left}
-use Rattle.implib_link.specs.Search.Search.{claimed_as, first_listed, objects_as, undefined_in}
 use Rattle.implib_link.specs.Search.Sweeps.{members_at, sweeps, swept}
 use Rattle.implib_link.proofs.Search.CommandLines.{are_first_of_distinct, first_of_distinct, gnu_searches, taken_are, takes_alike}
 use Rattle.implib_link.proofs.Search.Lists.{among_any, any_among, contains_among}
 use Rattle.implib_link_instances.specs.Worked.CommandLines.{WorkedCommandLine, WorkedCommandLines, WorkedLibraries, all_taken, amd64_members, i386_members, i386_wants_bytes, in_group, gnu_kernel, is_quit, library_last, of_quit, read_or_none, wants_bytes}
 use Rattle.implib_link_instances.specs.Worked.Programs.{code_object}
 use Rattle.implib_link_instances.proofs.Worked.Programs.{claims_none_by, distinct_by, opened}
-use Rattle.implib_link.specs.Archives.Results.{HaveArchive}
-use Rattle.implib_link.specs.Archives.InBytes.{Second}
+use Rattle.implib_link.specs.Archives.InBytes.{HaveArchive, Second}
 use Rattle.implib_archive.specs.declared.kind.Kind.TheVariants.{Coff}
 use Rattle.implib_link_instances.proofs.Worked.Opened.{archived, searched}
 use Rattle.implib_link_instances.proofs.Worked.Lemmas.{IsX86}
-use Rattle.implib_link.proofs.Search.BothExists.{both_exists}
+use Rattle.implib_link.proofs.Search.Exists.{both_exists}
 use Rattle.implib_link_instances.proofs.Worked.BothFlavors.{archive_by}
 
 -- members that claim what they are listed for

@@ -15,7 +15,7 @@ use Rattle.implib.specs.Formats.Constants.{i386_dir32}
 use Rattle.implib.specs.Machine.{is_32bit}
 use Rattle.implib.specs.Link.Placement.{Bases}
 use Rattle.implib_link_instances.specs.Worked.Programs.{touching_4, touching_8}
-use Rattle.implib_link.specs.Gnu.Calls.{amd64_addr64, arm64_addr64}
+use Rattle.implib_link.specs.Gnu.Fields.{amd64_addr64, arm64_addr64}
 use Rattle.implib_link.specs.Gnu.Stored.{amd64_addr32nb, arm64_addr32nb, i386_dir32nb}
 
 -- numbers that are not equal

@@ -10,11 +10,9 @@ use Rattle.implib_archive.specs.Archive.{entries_from, entries_of, first_linker_
 use Rattle.implib_archive.specs.Refusal.{has_short_places, has_too_many, member_refusal, members_refusal, name_refusal, places_refusal, refusal_of, symbol_refusal, symbols_refusal}
 use Rattle.implib_link.specs.Flavors.Expansion.{descriptor_symbol_by_name, expanded_in, import_object}
 use Rattle.implib_link.specs.Flavors.SectionSymbols.{with_section_symbols}
-use Rattle.implib_link.specs.Gnu.Program.{has_tables}
-use Rattle.implib_link.specs.Search.Archives.{archive_of, is_weak, symbols_of_library}
-use Rattle.implib_link.specs.Search.Closed.{claims_of, references_of}
-use Rattle.implib_link.specs.Search.MsvcArchives.{is_weak_in, symbols_of_shorts}
-use Rattle.implib_link.specs.Search.Search.{claimed_as, left_as, undefined_in}
+use Rattle.implib_link.specs.Flavors.Program.{has_tables}
+use Rattle.implib_link.specs.Search.Search.{archive_of, is_weak, symbols_of_library, claims_of, references_of, claimed_as, left_as, undefined_in}
+use Rattle.implib_link.specs.Search.Libraries.{is_weak_in, symbols_of_shorts}
 use Rattle.implib_link_instances.proofs.Worked.Programs.{opened}
 
 -- what the computing has to open

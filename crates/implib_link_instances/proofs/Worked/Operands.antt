@@ -14,12 +14,9 @@ use Rattle.implib.specs.Members.Members.{refusal, renamed_refusal}
 use Rattle.implib.specs.Members.WeakExternal.{weak_object}
 use Rattle.implib.specs.Formats.Layout.{encoded_size}
 use Rattle.implib.proofs.Link.Ranges.{apart_as_they_rise}
-use Rattle.implib_link.specs.Gnu.Calls.{amd64_addr64, arm64_addr64, arm64_branch26, i386_rel32}
-use Rattle.implib_link.specs.Gnu.Fields.{AreLinkedBeside}
+use Rattle.implib_link.specs.Gnu.Fields.{amd64_addr64, arm64_addr64, arm64_branch26, i386_rel32, AreLinkedBeside, Names}
 use Rattle.implib_link.specs.Gnu.Moves.{AreInMemory, AreMoved, CanBeMoved, places_of_code}
-use Rattle.implib_link.specs.Gnu.Operands.{Names}
-use Rattle.implib_link.specs.Gnu.Program.{has_tables}
-use Rattle.implib_link.specs.Flavors.Program.{IsProgram, OfLinker, gnu_input}
+use Rattle.implib_link.specs.Flavors.Program.{has_tables, IsProgram, OfLinker, gnu_input}
 use Rattle.implib_link.specs.Gnu.Choices.{ArePlacesApart}
 use Rattle.implib_link.specs.Gnu.Rebased.{IsRebased, Place, covers, table_places}
 use Rattle.implib_link_instances.specs.Worked.Operands.{AdjacentCalls, MovableCode, PassingFields, WorkedFields, WorkedOperands, amd64_rel32_1, field, imp_open, arm64_pageoffset_12a, arm64_secrel, moved_memory, open_on, passing_at, passing_bytes, passing_codes, passing_image, passing_memory, passing_objects, passing_placed, passing_places, passing_targets, stub_of_open, x86_secrel}
@@ -27,8 +24,7 @@ use Rattle.implib_link_instances.specs.Worked.Programs.{both_inputs, symbol_of_c
 use Rattle.implib_link.proofs.Gnu.Moved.{covered_bounds}
 use Rattle.implib_link.proofs.Gnu.MovedPrograms.{moved_memory_exists}
 use Rattle.implib_link.proofs.Flavors.Steady.{program_tables_none}
-use Rattle.implib_link_instances.proofs.Worked.LinkedCode.{all_needed, only_absolute, rebased_by, relocated_by, relocated_test, takes_by}
-use Rattle.implib_link_instances.proofs.Worked.Programs.{opened, worked_programs, admissible_by, instructions_at, program_by, instruction_by}
+use Rattle.implib_link_instances.proofs.Worked.Programs.{all_needed, only_absolute, rebased_by, relocated_by, relocated_test, takes_by, opened, worked_programs, admissible_by, instructions_at, program_by, instruction_by}
 use Rattle.implib_link_instances.proofs.Worked.Lemmas.{NotThumb, image_base, number, touching}
 
 passing_program : (machine : MachineType) → NotThumb machine → IsProgram machine (touching machine) (both_inputs machine) (passing_objects machine)

@@ -8,24 +8,22 @@ use Rattle.implib.specs.Members.Msvc.{short_import_symbols}
 use Rattle.implib_archive.specs.Worked.{worked_members}
 use Rattle.implib_archive.specs.declared.kind.Kind.TheVariants.{Coff, Gnu}
 use Rattle.implib_link.specs.Flavors.Program.{OfMember}
-use Rattle.implib_link.specs.Archives.BothWay.{CallsArrive}
+use Rattle.implib_link.specs.Archives.Ways.{CallsArrive, IsWantedBy, LldArrives, defining}
 use Rattle.implib_link.specs.Archives.Files.{HasMembersAs}
-use Rattle.implib_link.specs.Archives.InBytes.{First, Second}
-use Rattle.implib_link.specs.Archives.LldWay.{IsWantedBy, LldArrives, defining}
-use Rattle.implib_link.specs.Archives.Results.{AreHeadersOf, AreMembersAt, IsHeaderOf, IsSearchOf}
-use Rattle.implib_link.specs.Archives.Results.{LeadsToFirst, TakesJust}
+use Rattle.implib_link.specs.Archives.InBytes.{First, Second, AreHeadersOf, AreMembersAt}
+use Rattle.implib_link.specs.Archives.InBytes.{IsHeaderOf, IsSearchOf, LeadsToFirst, TakesJust}
 use Rattle.implib_link.specs.Image.Files.{DataDirectory}
 use Rattle.implib_link.specs.Image.Laws.{IsInDirectory}
 use Rattle.implib_link.specs.Search.Wanting.{wanting}
 use Rattle.implib_link_instances.specs.Archives.Files.{libquit}
-use Rattle.implib_link_instances.specs.Archives.WorkedBothWay.{both, own as calling_both}
-use Rattle.implib_link_instances.specs.Archives.WorkedLldWay.{lld_libraries, lld_taken}
+use Rattle.implib_link_instances.specs.Archives.WorkedWays.{both, own as calling_both}
+use Rattle.implib_link_instances.specs.Archives.WorkedWays.{lld_libraries, lld_taken}
 use Rattle.implib_link_instances.specs.Refused.Links.{f_library, for_gnu, listing, own}
 use Rattle.implib_link_instances.specs.Refused.Searches.{exportless, f_export}
 use Rattle.implib_link_instances.specs.Refused.Tables.{range_at}
 use Rattle.implib_link_instances.specs.Worked.MsvcSearch.{short_named}
 use Rattle.implib_link_instances.specs.Worked.Programs.{program_objects, touching_8}
-use Rattle.implib_link.specs.Search.BothFlavors.{archive_of_both}
+use Rattle.implib_link.specs.Search.Libraries.{archive_of_both}
 use Rattle.implib_link.specs.Flavors.Expansion.{expanded_in}
 
 pub record RefusedIsHeaderOf : Type 0 where

@@ -7,13 +7,11 @@ use Rattle.implib.specs.Link.Image.{Range}
 use Rattle.implib.specs.Link.Placement.{Addresses, At, Placed, Unplaced}
 use Rattle.implib.specs.Members.Gnu.{section}
 use Rattle.implib.specs.Members.ImportTables.{table_flags, zeros}
-use Rattle.implib_link.specs.Flavors.LldThunks.{BranchArrivesByThunk, ThunkArrives}
-use Rattle.implib_link.specs.Gnu.Calls.{DirectCallArrives, PlacedCode, Resolves}
-use Rattle.implib_link.specs.Gnu.Calls.{StubAt}
-use Rattle.implib_link.specs.Gnu.Fields.{LinkedCode}
-use Rattle.implib_link.specs.Gnu.Operands.{AllLeadTo, AreKept, BranchArrives, BranchStays}
-use Rattle.implib_link.specs.Gnu.Operands.{InstructionArrives, OperandArrives, PairArrives}
-use Rattle.implib_link.specs.Gnu.Operands.{PointerArrives}
+use Rattle.implib_link.specs.Flavors.LldImports.{BranchArrivesByThunk, ThunkArrives}
+use Rattle.implib_link.specs.Gnu.Fields.{DirectCallArrives, PlacedCode, Resolves, StubAt}
+use Rattle.implib_link.specs.Gnu.Fields.{LinkedCode, AllLeadTo, AreKept, BranchArrives, BranchStays}
+use Rattle.implib_link.specs.Gnu.Fields.{InstructionArrives, OperandArrives, PairArrives}
+use Rattle.implib_link.specs.Gnu.Fields.{PointerArrives}
 use Rattle.implib_link.specs.Gnu.Rebased.{StubArrives}
 use Rattle.implib_link.specs.Gnu.Stored.{HoldAddress, HoldsFurther, IsFurtherHeld, PointsTo}
 use Rattle.implib_link.specs.Gnu.Stored.{SumArrives, amd64_addr32nb, arm64_pageoffset_12a}

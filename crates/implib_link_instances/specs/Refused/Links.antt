@@ -17,12 +17,12 @@ use Rattle.implib_link.specs.Flavors.LldImports.{IsImportedBy, LldLinks}
 use Rattle.implib_link.specs.Flavors.Program.{FlavorInput, InputImports, IsTaken, OfLinker}
 use Rattle.implib_link.specs.Flavors.Program.{OfMember, ProgramLinks, gnu_input}
 use Rattle.implib_link.specs.Flavors.Texts.{FlavorTextLinks, FlavorTextsLink}
-use Rattle.implib_link.specs.Search.Archives.{Library}
-use Rattle.implib_link.specs.Search.BothFlavors.{FlavorLibrary, IsImported, LinksClosed}
+use Rattle.implib_link.specs.Search.Search.{Library}
+use Rattle.implib_link.specs.Search.Libraries.{FlavorLibrary, IsImported, LinksClosed}
 use Rattle.implib_link_instances.specs.Refused.Tables.{asking, zero_image}
 use Rattle.implib_link_instances.specs.Worked.Search.{library_of}
 use Rattle.implib_link_instances.specs.Worked.Programs.{code_object, symbol_of_class, touching_8}
-use Rattle.implib_link_instances.specs.Worked.Sources.{source_in, zed_meant, zed_text}
+use Rattle.implib_link_instances.specs.Worked.Flavors.{source_in, zed_meant, zed_text}
 
 -- f.dll with the function `f`, without its members; and a short import of it
 abbrev pub f_input : LinkInput

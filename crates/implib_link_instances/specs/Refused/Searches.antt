@@ -7,16 +7,15 @@ use Rattle.implib.specs.Definition.{ExportView}
 use Rattle.implib.specs.Formats.Object.{object_in}
 use Rattle.implib.specs.Worked.Members.{of_dll}
 use Rattle.implib.specs.Worked.Statements.{plain_export}
-use Rattle.implib_link.specs.Gnu.Program.{HaveSame}
-use Rattle.implib_link.specs.Search.Archives.{IsWeakData, Library}
-use Rattle.implib_link.specs.Search.BothFlavors.{IsUsedIn, IsWeakOfLibraries, TakesOfLibraries}
-use Rattle.implib_link.specs.Search.Closed.{AreTakenIntoAs, PullsIntoAs}
-use Rattle.implib_link.specs.Search.Closed.{TakesIntoAs}
-use Rattle.implib_link.specs.Search.MsvcArchives.{IsWeakShort, IsWeakTaken}
+use Rattle.implib_link.specs.Flavors.Program.{HaveSame}
+use Rattle.implib_link.specs.Search.Search.{IsWeakData, Library, AreTakenIntoAs, PullsIntoAs}
+use Rattle.implib_link.specs.Search.Search.{TakesIntoAs}
+use Rattle.implib_link.specs.Search.Libraries.{IsUsedIn, IsWeakOfLibraries, TakesOfLibraries}
+use Rattle.implib_link.specs.Search.Libraries.{IsWeakShort, IsWeakTaken}
 use Rattle.implib_link.specs.Search.Plainly.{IsWeakAmong}
 use Rattle.implib_link_instances.specs.Refused.Links.{f_library, listing, own}
 use Rattle.implib_link_instances.specs.Worked.Search.{library_of}
-use Rattle.implib_link_instances.specs.Worked.Closed.{foo_alias}
+use Rattle.implib_link_instances.specs.Worked.BothFlavors.{foo_alias}
 
 pub record RefusedPullsIntoAs : Type 0 where
   pub named : PullsIntoAs object_in (listing ∷ []) [] [] (codes "f") listing → ⊥

@@ -10,13 +10,11 @@ use Rattle.implib.specs.Members.Gnu.{section}
 use Rattle.implib.specs.Members.ImportTables.{table_flags, zeros}
 use Rattle.implib_link.specs.Directory.{DirectoryAt, FindsBy, Imported, StopsAt, WalkFinds}
 use Rattle.implib_link.specs.Flavors.Program.{AreClaimed, OfLinker, OfMember, SymbolsAt, SymbolsGet}
-use Rattle.implib_link.specs.Flavors.Program.{WhereMember}
-use Rattle.implib_link.specs.Gnu.Calls.{amd64_addr64}
-use Rattle.implib_link.specs.Gnu.Loaded.{HoldsAt, Writes}
-use Rattle.implib_link.specs.Gnu.Program.{GetsAddress, null_descriptor}
-use Rattle.implib_link.specs.Gnu.Reading.{ReadsAndWrites}
-use Rattle.implib_link.specs.Gnu.Writing.{AreAlike, FillsBy, FillsTable, WritesAsItGoes}
-use Rattle.implib_link.specs.Search.Exists.{LieWithin}
+use Rattle.implib_link.specs.Flavors.Program.{WhereMember, GetsAddress, null_descriptor}
+use Rattle.implib_link.specs.Gnu.Fields.{amd64_addr64}
+use Rattle.implib_link.specs.Gnu.Writing.{HoldsAt, Writes, ReadsAndWrites, AreAlike, FillsBy}
+use Rattle.implib_link.specs.Gnu.Writing.{FillsTable, WritesAsItGoes}
+use Rattle.implib_link.specs.Search.Libraries.{LieWithin}
 use Rattle.implib_link.specs.Tables.{AreSteady, AreTables, AreTablesLoaded, IsInTable, RiseFrom}
 use Rattle.implib_link.specs.Tables.{Table, Tables}
 use Rattle.implib_link_instances.specs.Worked.Operands.{field}

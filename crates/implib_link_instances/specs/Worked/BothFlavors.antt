@@ -1,30 +1,98 @@
--- A closed program by hand of an archive of both flavours: of foo.dll's members for GNU's linker,
--- some of them of an alias, and of zed.dll's for Microsoft's.
-use Rattle.std.specs.Prelude.{List, Some, [], codes, length, map, ◌++◌, ◌∷◌, ◌≡◌, ◌≤◌}
-use Rattle.implib.specs.declared.flavor.Flavor.TheVariants.{Gnu, Msvc}
+-- The objects of a closed program by hand, of two libraries, one of which has an alias.
+use Rattle.std.specs.Prelude.{List, [], ◌∷◌, ◌++◌, codes, Some, length, map, ◌≡◌, ◌≤◌}
 use Rattle.implib.specs.declared.machine.MachineType.TheVariants.{AMD64}
+use Rattle.implib.specs.Formats.Constants.{class_external}
 use Rattle.implib.specs.Formats.Object.{Object}
-use Rattle.implib.specs.LibraryName.{own_names}
+use Rattle.implib.specs.Link.LinkedMembers.{objects_in}
 use Rattle.implib.specs.Link.Placement.{Bases, placed_from}
-use Rattle.implib.specs.Link.Resolution.{definitions_of}
+use Rattle.implib.specs.Members.Gnu.{weak_name}
 use Rattle.implib.specs.Members.GnuMembers.{export_spec, head_spec, tail_spec}
 use Rattle.implib.specs.Members.MemberSpec.{MemberView, member_of}
+use Rattle.implib.specs.Members.WeakExternal.{weak_spec}
 use Rattle.implib.specs.Worked.Statements.{plain_export}
-use Rattle.implib_link.specs.Flavors.Program.{FlavorInput, OfMember, objects_taken}
 use Rattle.implib_link.specs.Gnu.Packed.{packed, packed_end}
-use Rattle.implib_link.specs.Search.BothFlavors.{AreClosed, AreGiven, FlavorLibrary, IsClosed}
-use Rattle.implib_link.specs.Search.BothFlavors.{IsFlavorArchive, LinksClosed, TakesOfLibraries}
-use Rattle.implib_link.specs.Search.BothFlavors.{archive_of_both, inputs_in, symbols_kept}
-use Rattle.implib_link.specs.Search.Closed.{unresolved}
-use Rattle.implib_link.specs.Search.MsvcArchives.{PullsIntoFor, TakesIntoFor}
-use Rattle.implib_link.specs.Search.MsvcArchives.{wanted_for}
+use Rattle.implib_link.specs.Flavors.Program.{null_descriptor, FlavorInput, OfMember, objects_taken}
+use Rattle.implib_link.specs.Flavors.Program.{OfLinker}
+use Rattle.implib_link_instances.specs.Worked.Programs.{code_object, symbol_of_class}
+use Rattle.implib.specs.LibraryName.{own_names}
+use Rattle.implib.specs.declared.flavor.Flavor.TheVariants.{Gnu, Msvc}
+use Rattle.implib.specs.Link.Resolution.{definitions_of}
+use Rattle.implib_link.specs.Search.Libraries.{AreClosed, AreGiven, FlavorLibrary, IsClosed}
+use Rattle.implib_link.specs.Search.Libraries.{IsFlavorArchive, LinksClosed, TakesOfLibraries}
+use Rattle.implib_link.specs.Search.Libraries.{archive_of_both, inputs_in, symbols_kept}
+use Rattle.implib_link.specs.Search.Libraries.{PullsIntoFor, TakesIntoFor, wanted_for, HasClosed}
+use Rattle.implib_link.specs.Search.Libraries.{tables_end_by, LieWithin}
+use Rattle.implib_link.specs.Search.Search.{unresolved}
 use Rattle.implib_link_instances.specs.Worked.Search.{aliased, library_of}
-use Rattle.implib_link_instances.specs.Worked.Closed.{choosing, clashing, foo_alias, foo_linked}
 use Rattle.implib_link_instances.specs.Worked.MsvcSearch.{descriptor_named, msvc_zed, null_named}
 use Rattle.implib_link_instances.specs.Worked.MsvcSearch.{short_named, thunk_named, zed_members}
+use Rattle.implib_link_instances.specs.Worked.MsvcSearch.{msvc_library}
 use Rattle.implib.specs.Link.Image.{image_of}
-use Rattle.implib_link.specs.Search.BothExists.{HasClosed, tables_end_by}
-use Rattle.implib_link.specs.Search.Exists.{LieWithin}
+use Rattle.implib.specs.Worked.Members.{of_dll}
+
+-- an object that names data of foo.dll by its alias, a function of zed.dll by its pointer, and one
+-- of another library; and that has a function of its own, `stack`, which zed.dll exports, too
+abbrev pub choosing : Object
+choosing = code_object (
+    symbol_of_class (codes "main") 1 class_external
+    ∷ symbol_of_class (codes "stack") 1 class_external
+    ∷ symbol_of_class (codes "bar") 0 class_external
+    ∷ symbol_of_class (codes "__imp_queue") 0 class_external
+    ∷ symbol_of_class (codes "printf") 0 class_external
+    ∷ [])
+
+-- the same with `queue` for `stack`: of its own, and by its pointer from zed.dll
+abbrev pub clashing : Object
+clashing = code_object (
+    symbol_of_class (codes "main") 1 class_external
+    ∷ symbol_of_class (codes "queue") 1 class_external
+    ∷ symbol_of_class (codes "bar") 0 class_external
+    ∷ symbol_of_class (codes "__imp_queue") 0 class_external
+    ∷ symbol_of_class (codes "printf") 0 class_external
+    ∷ [])
+
+-- the members that are taken: of foo.dll the alias, and of both the head, an export's member and
+-- the tail
+abbrev pub foo_alias : MemberView
+foo_alias = member_of (weak_spec AMD64 (weak_name (codes "foo.dll") 0) (codes "bar") (codes "baz"))
+
+abbrev pub foo_linked : List MemberView
+foo_linked =
+    member_of (head_spec AMD64 (codes "foo.dll"))
+    ∷ member_of (export_spec AMD64 (codes "foo.dll") 1 (plain_export (codes "baz")))
+    ∷ member_of (tail_spec AMD64 (own_names (codes "foo.dll")))
+    ∷ []
+
+abbrev pub zed_linked : List MemberView
+zed_linked =
+    member_of (head_spec AMD64 (codes "zed.dll"))
+    ∷ member_of (export_spec AMD64 (codes "zed.dll") 0 (plain_export (codes "queue")))
+    ∷ member_of (tail_spec AMD64 (own_names (codes "zed.dll")))
+    ∷ []
+
+-- as a linker takes them, the last one first
+abbrev pub closed_taken : List MemberView
+closed_taken =
+    member_of (tail_spec AMD64 (own_names (codes "zed.dll")))
+    ∷ member_of (head_spec AMD64 (codes "zed.dll"))
+    ∷ member_of (export_spec AMD64 (codes "zed.dll") 0 (plain_export (codes "queue")))
+    ∷ member_of (tail_spec AMD64 (own_names (codes "foo.dll")))
+    ∷ member_of (head_spec AMD64 (codes "foo.dll"))
+    ∷ member_of (export_spec AMD64 (codes "foo.dll") 1 (plain_export (codes "baz")))
+    ∷ foo_alias
+    ∷ []
+
+-- what is linked: the alias, zed.dll's members, the object, foo.dll's members, the null descriptor
+abbrev pub closed_objects : List Object
+closed_objects =
+    objects_in (foo_alias ∷ zed_linked) ++ choosing
+    ∷ (objects_in foo_linked ++ null_descriptor ∷ [])
+
+abbrev pub closed_bases : Bases
+closed_bases = packed 0x2000 closed_objects
+
+-- A closed program by hand of an archive of both flavours: of foo.dll's members for GNU's linker,
+-- some of them of an alias, and of zed.dll's for Microsoft's.
 
 -- foo.dll with data `bar`, an alias of the function `baz`, and zed.dll with two functions
 abbrev pub gnu_foo : FlavorLibrary
@@ -129,3 +197,48 @@ pub record WorkedBothExists : Type 0 where
       (image_of AMD64 mixed_bases (placed_from mixed_bases mixed_objects))
   pub exists : HasClosed AMD64 foo_and_zed (choosing ∷ []) 0x2000
   pub at_zero : HasClosed AMD64 foo_and_zed (choosing ∷ []) 0 → ⊥
+
+-- A closed program by hand of libraries of which one is for Microsoft's linker and nothing of it is
+-- wanted, so that the linker's null descriptor ends it.
+
+-- foo.dll and zed.dll for GNU's linker, and between them far.dll for Microsoft's
+abbrev pub short_far : FlavorLibrary
+short_far = record {
+  flavor = Msvc;
+  library = msvc_library (of_dll (codes "far.dll") (plain_export (codes "pop") ∷ []));
+}
+
+abbrev pub gnu_zed : FlavorLibrary
+gnu_zed = record {
+  flavor = Gnu;
+  library = library_of
+      (of_dll (codes "zed.dll") (plain_export (codes "queue") ∷ plain_export (codes "stack") ∷ []));
+}
+
+abbrev pub with_far : List FlavorLibrary
+with_far = gnu_foo ∷ short_far ∷ gnu_zed ∷ []
+
+-- as they are linked, zed.dll first
+abbrev pub zed_first : List FlavorLibrary
+zed_first = gnu_zed ∷ short_far ∷ gnu_foo ∷ []
+
+-- For the object a linker takes seven members, none of far.dll, and with them it is a closed program,
+-- in which `printf` alone is left. The pointer to `queue` is zed.dll's first entry, and that to
+-- `baz` foo.dll's. The object may be given, and so there is a closed program.
+pub record WorkedByLinker : Type 0 where
+  pub archive : IsFlavorArchive AMD64 with_far
+  pub takes : TakesIntoFor AMD64 (archive_of_both with_far) (choosing ∷ []) closed_taken
+  pub chosen :
+      map (λ p. p.input.chosen) (inputs_in AMD64 zed_first (choosing ∷ []) closed_taken)
+      ≡ (0 ∷ []) ∷ (1 ∷ []) ∷ []
+  pub closed : IsClosed AMD64 OfLinker with_far (choosing ∷ []) closed_taken zed_first
+      closed_bases closed_objects
+  pub links : LinksClosed AMD64 OfLinker with_far (choosing ∷ []) closed_taken zed_first
+      closed_bases closed_objects
+  pub left : unresolved closed_objects ≡ codes "printf" ∷ []
+  pub queue : definitions_of (codes "__imp_queue") (placed_from closed_bases closed_objects)
+      ≡ record { name = codes "__imp_queue"; address = Some 0x2060 } ∷ []
+  pub baz : definitions_of (codes "__imp_baz") (placed_from closed_bases closed_objects)
+      ≡ record { name = codes "__imp_baz"; address = Some 0x2070 } ∷ []
+  pub given : AreGiven AMD64 with_far (choosing ∷ [])
+  pub exists : HasClosed AMD64 with_far (choosing ∷ []) 0x2000

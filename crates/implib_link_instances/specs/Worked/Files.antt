@@ -14,8 +14,8 @@ use Rattle.implib_link.specs.Flavors.LldImports.{grouped}
 use Rattle.implib_link.specs.Gnu.Fields.{AreLinkedBeside, ranges_of_codes}
 use Rattle.implib_link.specs.Gnu.Stored.{AreFurtherHeld}
 use Rattle.implib_link.specs.Tables.{AreTables, Tables, block_of_group, tables_of_lld}
-use Rattle.implib_link_instances.specs.Worked.LldPrograms.{addresses_on, linked_thunk, lld_image_on}
-use Rattle.implib_link_instances.specs.Worked.LldPrograms.{shorts_on, tables_on}
+use Rattle.implib_link_instances.specs.Worked.Programs.{addresses_on, linked_thunk, lld_image_on}
+use Rattle.implib_link_instances.specs.Worked.Programs.{shorts_on, tables_on}
 use Rattle.implib_link_instances.specs.Worked.Stored.{held_linked, holding_codes, holding_placed}
 use Rattle.implib_link_instances.specs.Worked.Stored.{holding_targets, picking_linked}
 use Rattle.implib_link_instances.specs.Worked.Stored.{unwind_linked}

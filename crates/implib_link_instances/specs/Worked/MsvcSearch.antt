@@ -11,7 +11,7 @@ use Rattle.implib.specs.Renaming.{renamed}
 use Rattle.implib.specs.Worked.Members.{of_dll}
 use Rattle.implib.specs.Worked.Statements.{plain_export}
 use Rattle.implib.specs.LibraryName.{own_names}
-use Rattle.implib_link.specs.Search.Archives.{Library}
+use Rattle.implib_link.specs.Search.Search.{Library}
 
 abbrev pub msvc_library : DefinitionView → Library
 msvc_library d =

@@ -15,15 +15,14 @@ use Rattle.implib.specs.Link.Placement.{Bases, Placed, placed_from}
 use Rattle.implib.specs.Members.Gnu.{section}
 use Rattle.implib.specs.Worked.Members.{of_dll}
 use Rattle.implib.specs.Worked.Statements.{plain_export}
-use Rattle.implib_link.specs.Gnu.Fields.{LinkedCode, ranges_of_codes}
+use Rattle.implib_link.specs.Gnu.Fields.{LinkedCode, ranges_of_codes, HasInstruction}
+use Rattle.implib_link.specs.Gnu.Fields.{InstructionArrives}
 use Rattle.implib_link.specs.Gnu.Moves.{AreInMemory}
-use Rattle.implib_link.specs.Gnu.Operands.{HasInstruction, InstructionArrives}
-use Rattle.implib_link.specs.Gnu.Program.{null_descriptor}
-use Rattle.implib_link.specs.Gnu.Reading.{ReadsAndWrites}
+use Rattle.implib_link.specs.Flavors.Program.{null_descriptor}
+use Rattle.implib_link.specs.Gnu.Writing.{ReadsAndWrites}
 use Rattle.implib_link.specs.Parts.{IsPart, IsProgramOfParts, Part, older_part_of, part_of}
 use Rattle.implib_link.specs.Tables.{AreSteady, AreTables, Table, TableEntry}
-use Rattle.implib_link_instances.specs.Worked.LldPrograms.{taken_address}
-use Rattle.implib_link_instances.specs.Worked.Programs.{chosen_input, input_objects}
+use Rattle.implib_link_instances.specs.Worked.Programs.{taken_address, chosen_input, input_objects}
 use Rattle.implib.specs.Definition.{DefinitionView, ExportView}
 use Rattle.implib.specs.Members.MemberSpec.{member_of}
 use Rattle.implib.specs.Members.OlderSymbols.{AreOlderMembersOf, older_specs}

@@ -1,7 +1,7 @@
 -- Searches of the members for GNU's linker that were done by hand: of one library, of two, by
 -- sweeps; and what is taken by names.
-use Rattle.std.specs.Prelude.{List, None, Option, Some, [], bytes_eq, codes, if◌then◌else◌}
-use Rattle.std.specs.Prelude.{map, true, ℕ, ◌==◌, ◌∷◌, ◌≡◌}
+use Rattle.std.specs.Prelude.{List, None, Option, Some, [], bytes_eq, codes, if◌then◌else◌, map}
+use Rattle.std.specs.Prelude.{true, ℕ, ◌==◌, ◌∷◌, ◌≡◌}
 use Rattle.std.specs.List.{IsDistinct, flat_map}
 use Rattle.implib.specs.declared.flavor.Flavor.TheVariants.{Gnu, Msvc}
 use Rattle.implib.specs.declared.machine.MachineType.TheVariants.{AMD64}
@@ -11,13 +11,12 @@ use Rattle.implib.specs.Members.MemberSpec.{MemberView, member_of}
 use Rattle.implib.specs.Renaming.{renamed}
 use Rattle.implib.specs.Worked.Members.{of_dll}
 use Rattle.implib.specs.Worked.Statements.{plain_export}
-use Rattle.implib_link.specs.Search.Archives.{IsArchive, Library}
+use Rattle.implib_link.specs.Search.Search.{IsArchive, Library, TakesIntoAs}
 use Rattle.implib.specs.Formats.Constants.{class_external}
 use Rattle.implib.specs.Formats.Object.{Object}
 use Rattle.implib_link.specs.Flavors.Program.{IsFoundByName}
 use Rattle.implib_link_instances.specs.Worked.Programs.{code_object, symbol_of_class}
 use Rattle.implib.specs.LibraryName.{names_for}
-use Rattle.implib_link.specs.Search.Closed.{TakesIntoAs}
 use Rattle.implib_link.specs.Search.Sweeps.{SweepsTake}
 use Rattle.implib.specs.Worked.LibraryNames.{of_library}
 use Rattle.implib_link.specs.Search.NamedApart.{AreNamedApart, names_in, stem}

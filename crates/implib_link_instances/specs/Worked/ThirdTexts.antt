@@ -13,17 +13,16 @@ use Rattle.implib.specs.Link.Image.{Range}
 use Rattle.implib.specs.Link.Placement.{Placed, Unplaced}
 use Rattle.implib.specs.Machine.{machine_number}
 use Rattle.implib.specs.Members.Gnu.{section, text_name}
-use Rattle.implib_link.specs.Flavors.LldImports.{placed_by_lld}
-use Rattle.implib_link.specs.Flavors.LldTables.{ArePiecesAt, built_bytes}
-use Rattle.implib_link.specs.Flavors.LldThunks.{BranchArrivesByThunk, placed_thunk, thunk_section}
-use Rattle.implib_link.specs.Gnu.Fields.{AreLinkedBeside, LinkedCode, ranges_of_codes}
-use Rattle.implib_link.specs.Gnu.Operands.{AllLead, HasBranch, HasInstruction}
-use Rattle.implib_link.specs.Gnu.Reading.{ReadsAndWrites}
+use Rattle.implib_link.specs.Flavors.LldImports.{placed_by_lld, ArePiecesAt, built_bytes}
+use Rattle.implib_link.specs.Flavors.LldImports.{BranchArrivesByThunk, placed_thunk, thunk_section}
+use Rattle.implib_link.specs.Gnu.Fields.{AreLinkedBeside, LinkedCode, ranges_of_codes, AllLead}
+use Rattle.implib_link.specs.Gnu.Fields.{HasBranch, HasInstruction}
+use Rattle.implib_link.specs.Gnu.Writing.{ReadsAndWrites}
 use Rattle.implib_link.specs.Tables.{AreSteady, AreTables, Block, Table, imported_by_table}
 use Rattle.implib_link.specs.Tables.{packed_tables}
-use Rattle.implib_link_instances.specs.Worked.LldPrograms.{short_on, taken_address}
+use Rattle.implib_link_instances.specs.Worked.Programs.{short_on, taken_address, object_with}
+use Rattle.implib_link_instances.specs.Worked.Programs.{symbol_of_class}
 use Rattle.implib_link_instances.specs.Worked.Parts.{asking}
-use Rattle.implib_link_instances.specs.Worked.Programs.{object_with, symbol_of_class}
 
 -- the section `.rdata`, from 0x2000 on
 abbrev pub third_written : List ℕ

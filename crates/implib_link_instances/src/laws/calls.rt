@@ -1,6 +1,6 @@
 //! Calls and stubs in linked programs, and the instructions of compilers.
 
-ghost use Rattle.implib_link_instances.specs.Worked.Calls.{WorkedReading, WorkedChoices};
+ghost use Rattle.implib_link_instances.specs.Worked.Operands.{WorkedReading, WorkedChoices};
 
 /// A loader that reads the image of a program that was linked by hand loads it.
 ///

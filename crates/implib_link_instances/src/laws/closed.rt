@@ -1,8 +1,7 @@
 //! Worked instances of the laws of closed programs.
 
 ghost use Rattle.implib_link_instances.specs.Worked.BothFlavors.{WorkedBoth, WorkedBothExists};
-ghost use Rattle.implib_link_instances.specs.Worked.BothFlavors.{WorkedGiven};
-ghost use Rattle.implib_link_instances.specs.Worked.ByLinker.{WorkedByLinker};
+ghost use Rattle.implib_link_instances.specs.Worked.BothFlavors.{WorkedGiven, WorkedByLinker};
 
 /// A closed program by hand, of an object that names data of one library by an alias and a function
 /// of another, of the other flavour, by its pointer, and has a function of its own that a library

@@ -2,8 +2,7 @@
 
 ghost use Rattle.implib_link_instances.specs.Worked.Operands.{AdjacentCalls, MovableCode};
 ghost use Rattle.implib_link_instances.specs.Worked.Operands.{PassingFields, WorkedOperands};
-ghost use Rattle.implib_link_instances.specs.Worked.Registered.{WorkedRegistering};
-ghost use Rattle.implib_link_instances.specs.Worked.Stored.{WorkedHoldings};
+ghost use Rattle.implib_link_instances.specs.Worked.Stored.{WorkedRegistering, WorkedHoldings};
 
 /// Code as compilers write it, worked by hand on AMD64, I386 and ARM64: fields that follow one
 /// another without a gap, some of types of which nothing is said, are in memory at two bases, and

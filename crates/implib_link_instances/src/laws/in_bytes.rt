@@ -2,8 +2,7 @@
 
 ghost use Rattle.implib_link_instances.specs.Archives.Files.{WorkedFileLines, WorkedFiles};
 ghost use Rattle.implib_link_instances.specs.Archives.Worked.{WorkedSearches};
-ghost use Rattle.implib_link_instances.specs.Archives.WorkedBothWay.{WorkedBothWay};
-ghost use Rattle.implib_link_instances.specs.Archives.WorkedLldWay.{WorkedLldWay};
+ghost use Rattle.implib_link_instances.specs.Archives.WorkedWays.{WorkedBothWay, WorkedLldWay};
 
 /// Searches by hand in the bytes of archives of two members.
 ///

@@ -1,6 +1,6 @@
 //! Names that stand for others, and names that are wanted otherwise.
 
-ghost use Rattle.implib_link_instances.specs.Worked.Aliases.{WorkedAlias, WorkedFlavorAlias};
+ghost use Rattle.implib_link_instances.specs.Worked.OtherNames.{WorkedAlias, WorkedFlavorAlias};
 ghost use Rattle.implib_link_instances.specs.Worked.OtherNames.{HoldsOfSome, WorkedAlternateNames};
 ghost use Rattle.implib_link_instances.specs.Worked.OtherNames.{WorkedOtherNames};
 ghost use Rattle.implib_link_instances.specs.Worked.Wanting.{WorkedWanting};

@@ -1,11 +1,9 @@
 //! Programs that were linked by hand, what a loader makes of them, and images that are wrong.
 
 ghost use Rattle.implib_link_instances.specs.Worked.Expansion.{WorkedExpansion};
-ghost use Rattle.implib_link_instances.specs.Worked.Flavors.{WorkedFlavors};
-ghost use Rattle.implib_link_instances.specs.Worked.Loads.{WorkedLoads};
-ghost use Rattle.implib_link_instances.specs.Worked.Loads.{WorkedPackings};
+ghost use Rattle.implib_link_instances.specs.Worked.Flavors.{WorkedFlavors, WorkedSources};
+ghost use Rattle.implib_link_instances.specs.Worked.Loads.{WorkedLoads, WorkedPackings};
 ghost use Rattle.implib_link_instances.specs.Worked.Programs.{WorkedPrograms};
-ghost use Rattle.implib_link_instances.specs.Worked.Sources.{WorkedSources};
 
 /// Programs that were linked by hand, on AMD64, I386 and ARMNT, meet what the laws ask for and have
 /// these tables.

@@ -22,9 +22,8 @@ ghost use Rattle.implib_link_instances.specs.Refused.Links.{RefusedFlavorTextLin
 ghost use Rattle.implib_link_instances.specs.Refused.Links.{RefusedFlavorTextsLink};
 ghost use Rattle.implib_link_instances.specs.Refused.Links.{RefusedInputImports};
 ghost use Rattle.implib_link_instances.specs.Refused.Links.{RefusedIsImportedBy, RefusedIsImported};
-ghost use Rattle.implib_link_instances.specs.Refused.Links.{RefusedIsTaken};
-ghost use Rattle.implib_link_instances.specs.Refused.Links.{RefusedLinksClosed, RefusedLldLinks};
-ghost use Rattle.implib_link_instances.specs.Refused.Links.{RefusedProgramLinks};
+ghost use Rattle.implib_link_instances.specs.Refused.Links.{RefusedIsTaken, RefusedLinksClosed};
+ghost use Rattle.implib_link_instances.specs.Refused.Links.{RefusedLldLinks, RefusedProgramLinks};
 ghost use Rattle.implib_link_instances.specs.Refused.Searches.{RefusedIsWeakData};
 ghost use Rattle.implib_link_instances.specs.Refused.Searches.{RefusedIsWeakShort};
 ghost use Rattle.implib_link_instances.specs.Refused.Searches.{RefusedPullsIntoAs, RefusedSearches};

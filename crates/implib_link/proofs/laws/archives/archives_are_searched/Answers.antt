@@ -1,4 +1,4 @@
-use Rattle.implib_link.specs.Search.Closed.{TakesIntoAs}
+use Rattle.implib_link.specs.Search.Search.{TakesIntoAs}
 use Rattle.implib_link.proofs.Archives.InBytes.{leads_to_first, search_of, takes_just}
 use Rattle.implib_link.proofs.laws.archives.archives_are_searched.Goals as goal
 

@@ -1,4 +1,4 @@
-use Rattle.implib_link.proofs.Archives.BothWay.{bytes_lead_to_both}
+use Rattle.implib_link.proofs.Archives.Ways.{bytes_lead_to_both}
 use Rattle.implib_link.proofs.laws.archives.bytes_lead_to_calls.Goals as goal
 
 pub returns : goal.returns

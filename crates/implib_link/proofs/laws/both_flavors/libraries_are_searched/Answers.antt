@@ -1,6 +1,6 @@
 use Rattle.implib_link.specs.Flavors.Expansion.{expanded_in}
-use Rattle.implib_link.specs.Search.BothFlavors.{archive_of_both}
-use Rattle.implib_link.specs.Search.Closed.{unresolved}
+use Rattle.implib_link.specs.Search.Libraries.{archive_of_both}
+use Rattle.implib_link.specs.Search.Search.{unresolved}
 use Rattle.implib_link.proofs.Search.Closing.{takes_apart}
 use Rattle.implib_link.proofs.Search.Taken.{both_taken}
 use Rattle.implib_link.proofs.laws.both_flavors.libraries_are_searched.Goals as goal

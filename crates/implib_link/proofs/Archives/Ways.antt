@@ -1,22 +1,41 @@
--- The way for lld, from the bytes of an archive to the DLL.
-use Rattle.std.proofs.Common.{◌≡◌, ℕ, ◌+◌, Bool, true, false, List, [], ◌∷◌, ◌++◌, map, Option, None, Some, refl, ap, sym, ◌∙◌, subst, inl, inr}
-use Rattle.std.specs.Prelude.{bytes_eq, nat_le, if◌then◌else◌}
+-- The whole way for libraries of both flavours, by the laws on it.
+use Rattle.std.proofs.Common.{◌+◌, ◌*◌, Bool, List, ℕ, map, ◌∙◌, ◌≡◌, true, false, [], ◌∷◌, ◌++◌, Option, None, Some, refl, ap, sym, subst, inl, inr}
 use Rattle.std.specs.List.{AllByRecursion, Contains, IsDistinct, cons_option, filter, filter_map, flat_map, list_any}
+use Rattle.implib.specs.declared.machine.MachineType.{MachineType}
+use Rattle.implib.specs.Formats.Object.{Object, object_in}
+use Rattle.implib.specs.Link.Placement.{Bases, Placed}
+use Rattle.implib.specs.Members.ImportTables.{thunk_width}
+use Rattle.implib.specs.Members.MemberSpec.{MemberView, MemberSpec, member_of}
+use Rattle.implib_archive.specs.declared.kind.Kind.{Kind}
+use Rattle.implib_link.specs.Archives.Ways.{AreLinkedFor, CallsArrive, AreCalledAlike, IsBuiltByLld, IsWantedBy, LldArrives, defining, defining_alone, is_short, read_by_lld, short_of_export, shorts_in, SearchesByLld}
+use Rattle.implib_link.specs.Search.CommandLines.{Input, SearchesFlavors, given_with, objects_given, others_of}
+use Rattle.implib_link.specs.Search.Sweeps.{members_at}
+use Rattle.implib_link.proofs.Search.CommandLines.{takes_of_libraries, taken_as_given}
+use Rattle.implib_link.specs.Archives.InBytes.{LinkerMember, HaveArchive, TakesJust}
+use Rattle.implib_link.proofs.Archives.InBytes.{takes_just}
+use Rattle.implib_link.specs.Flavors.Program.{Ending, FlavorInput, IsMadeFor, ask_in, dll_of, symbol_in, thunks_of, claimed_name, claimed_names}
+use Rattle.implib_link.specs.Search.Libraries.{AreGiven, FlavorLibrary, IsFlavorArchive, LinksClosed, archive_of_both, inputs_in, TakesIntoFor, wanted_for, IsMsvcArchive, IsMsvcLibrary, is_short_alias, is_weak_in}
+use Rattle.implib_link.proofs.Flavors.Steady.{program_tables_none}
+use Rattle.implib_link.proofs.Search.Chosen.{both_made}
+use Rattle.implib_link.proofs.Search.BothClosed.{closed_links_of_both}
+use Rattle.implib_link.proofs.Search.Taken.{both_given_closes}
+use Rattle.implib_link.proofs.Tables.{tables_read}
+use Rattle.implib_link.proofs.TablesInMemory.{leads_beside, tables_load_in_memory}
+use Rattle.implib_link.proofs.TablesOfPrograms.{can_read, program_count, program_entry, program_tables, lld_tables}
+use Rattle.implib_link.specs.Tables.{AreTables, Tables, block_of_flavor, tables_at, tables_of_lld}
+use Rattle.implib_link.specs.Flavors.Expansion.{expanded_in, is_import_for}
+use Rattle.implib.specs.Import.{imp_symbol, Ask, Name, Ordinal}
+use Rattle.std.specs.Prelude.{bytes_eq, nat_le, if◌then◌else◌}
 use Rattle.std.specs.Option.{option_and_then, option_map}
 use Rattle.std.proofs.lemmas.Bool.{cases_Bool, false_from_ne_true, le-leb, true≢false}
-use Rattle.implib.specs.declared.machine.MachineType.{MachineType}
 use Rattle.implib.specs.declared.flavor.Flavor.{Flavor}
 use Rattle.implib.specs.declared.flavor.Flavor.TheVariants.{Gnu, Msvc}
 use Rattle.implib.specs.Definition.{ExportView}
 use Rattle.std.proofs.lemmas.Slice.Eq.{bytes_eq-Decides}
 use Rattle.implib.specs.Formats.File.{ObjectFile, ShortImportFile, file_in, short_import_or_object}
-use Rattle.implib.specs.Formats.Object.{Object, object_in}
 use Rattle.implib.specs.Formats.ShortImport.{ShortImport, ask_of_short_import, import_name_undecorate, short_import_in}
-use Rattle.implib.specs.Import.{Ask, Name, Ordinal, imp_symbol}
 use Rattle.implib.specs.Link.Image.{Range}
-use Rattle.implib.specs.Link.Placement.{Placed}
 use Rattle.implib.specs.LibraryName.{NamesOfDll, linked_dll, names_for}
-use Rattle.implib.specs.Members.MemberSpec.{MemberSpec, MemberView, member_of}
 use Rattle.implib.specs.Members.Members.{member_specs}
 use Rattle.implib.specs.Members.ReadBack.{file_of}
 use Rattle.implib.specs.Renaming.{renamed}
@@ -27,42 +46,65 @@ use Rattle.implib.proofs.Members.NotRefused.{Sound, exports_sound, import_name_i
 use Rattle.implib.proofs.Members.Import.{name_type_is_ordinal, name_type_of_fits}
 use Rattle.implib.proofs.Link.LinkedMembers.{among_contains, among_map}
 use Rattle.implib.proofs.Link.Ranges.{Among, all_among, among_back, among_first, among_flat, among_front, among_later}
-use Rattle.implib_archive.specs.declared.kind.Kind.{Kind}
-use Rattle.implib_link.specs.Archives.InBytes.{LinkerMember}
-use Rattle.implib_link.specs.Archives.LldWay.{AreCalledAlike, IsBuiltByLld, IsWantedBy, LldArrives, defining, defining_alone, is_short, read_by_lld, short_of_export, shorts_in}
-use Rattle.implib_link.specs.Archives.Results.{HaveArchive, TakesJust}
-use Rattle.implib_link.proofs.Archives.InBytes.{takes_just}
-use Rattle.implib_link.specs.Flavors.Expansion.{expanded_in, is_import_for}
-use Rattle.implib_link.specs.Flavors.LldImports.{IsLldProgram, if_for, imp_symbols_of, in_small, short_for}
-use Rattle.implib_link.specs.Flavors.LldTables.{IsAskable, IsImportable}
-use Rattle.implib_link.specs.Flavors.LldThunks.{BranchArrivesByThunk}
-use Rattle.implib_link.specs.Flavors.Program.{ask_in}
-use Rattle.implib_link.specs.Gnu.Program.{claimed_name, claimed_names}
-use Rattle.implib_link.specs.Gnu.Operands.{AllLead}
-use Rattle.implib_link.specs.Search.Archives.{Library, archive_of, exports_of}
-use Rattle.implib_link.specs.Search.Closed.{AreTakenIntoAs, PullsIntoAs, TakesIntoAs, claims_of, references_of, unresolved}
-use Rattle.implib_link.specs.Search.BothFlavors.{FlavorLibrary, IsFlavorArchive}
-use Rattle.implib_link.specs.Search.MsvcArchives.{IsMsvcArchive, IsMsvcLibrary, is_short_alias, is_weak_in}
-use Rattle.implib_link.specs.Search.Search.{first_listed, is_listed_for, objects_as, undefined_in}
+use Rattle.implib_link.specs.Flavors.LldImports.{IsLldProgram, if_for, imp_symbols_of, in_small, short_for, IsAskable, IsImportable, BranchArrivesByThunk}
+use Rattle.implib_link.specs.Gnu.Fields.{AllLead}
+use Rattle.implib_link.specs.Search.Search.{Library, archive_of, exports_of, AreTakenIntoAs, PullsIntoAs, TakesIntoAs, claims_of, references_of, unresolved, first_listed, is_listed_for, objects_as, undefined_in}
 use Rattle.implib_link.proofs.Flavors.Block.{FitsIn}
 use Rattle.implib_link.proofs.Flavors.Expanded.{AskFits}
 use Rattle.implib_link.proofs.Flavors.Inputs.{descriptor_at, export_fits, null_at, read_of, short_at, thunk_at, same_machine as own_machine}
 use Rattle.implib_link.proofs.Flavors.LldPrograms.{lld_calls, lld_count, lld_leads}
 use Rattle.implib_link.proofs.Search.Closing.{IsFirstAs, unresolved_from, unresolved_parts}
-use Rattle.implib_link.proofs.Search.FlavorGroups.{gnu_there, made_of, msvc_there}
-use Rattle.implib_link.proofs.Search.Found.{HasRole, expands, finds, first_by_role, found}
-use Rattle.implib_link.proofs.Search.GnuAlone.{no_gnu, short_libraries, short_members, shorts_alone, shorts_archive}
+use Rattle.implib_link.proofs.Search.FlavorGroups.{gnu_there, made_of, msvc_there, HasRole, expands, finds, first_by_role, found, no_gnu, short_libraries, short_members, shorts_alone, shorts_archive}
 use Rattle.implib_link.proofs.Search.Lists.{among_any, among_at, among_either, any_among, any_member, contains_among, listed_is, name_as, names_more, none_listed, passes, kept_into, at_index}
 use Rattle.implib_link.proofs.Search.Roles.{IsRole, Last, Null, Own, Role, Top, Weak, in_flavor, member, pair, weak_symbol, weak_target}
-use Rattle.implib_link.proofs.Search.MsvcMembers.{pair_there, short_of}
-use Rattle.implib_link.proofs.Search.Search.{in_nothing}
-use Rattle.implib_link.proofs.TablesInMemory.{tables_load_in_memory}
-use Rattle.implib_link.proofs.TablesOfPrograms.{lld_tables}
-use Rattle.implib_link.specs.Tables.{tables_of_lld}
-use Rattle.implib_link.proofs.Search.MsvcArchives.{made_of as short_made}
+use Rattle.implib_link.proofs.Search.MsvcMembers.{pair_there, short_of, made_of as short_made}
+use Rattle.implib_link.proofs.Search.ArchiveMembers.{in_nothing}
 use Rattle.std.proofs.lemmas.Grind.{flat_map-append}
 use Rattle.std.proofs.lemmas.Option.{same_Some}
 use Rattle.implib_link.proofs.Gnu.Texts.{all_filter}
+use Rattle.implib_link.specs.Archives.Files.{ArchiveFile, members_in_files}
+
+pub both_arrive : (machine : MachineType) (ending : Ending) (libraries : List FlavorLibrary) (own : List Object) (taken : List MemberView) (arranged : List FlavorLibrary) (bases : Bases) (objects : List Object) →
+    IsFlavorArchive machine libraries → AreGiven machine libraries own → TakesIntoFor machine (archive_of_both libraries) own taken →
+    AreLinkedFor machine ending libraries own taken arranged bases objects → CallsArrive machine ending libraries own taken arranged bases objects
+both_arrive machine ending libraries own taken arranged bases objects archive given takes linked =
+    let closed = both_given_closes machine ending libraries own taken arranged objects archive given takes linked.order linked.others linked.ended in
+    let links : LinksClosed machine ending libraries own taken arranged bases objects =
+    closed_links_of_both machine ending libraries own taken arranged bases objects archive
+    (record { closed = closed; admissible = linked.admissible; lookups = linked.lookups; addresses = linked.addresses; follows = linked.follows }) in
+    let inputs : List FlavorInput = inputs_in machine arranged own taken in
+    let made : AllByRecursion (IsMadeFor machine) inputs = both_made machine libraries archive arranged linked.order (wanted_for machine own taken) in
+    let own_tables : Tables = tables_at machine bases objects (map (block_of_flavor machine) inputs) in
+    let tables : AreTables machine own_tables = program_tables machine ending bases inputs objects made links.program in
+    record {
+      links = links;
+      ends = λ gives n written wide reads. (tables_read machine own_tables gives n written tables wide reads).0 ∙ program_count machine bases inputs objects;
+      leads = λ image_base codes targets gives n written i j p e can beside wide reads input chosen.
+          leads_beside machine image_base own_tables codes targets gives tables (program_tables_none machine ending bases inputs objects made links.program.held.ended) beside n written wide reads (imp_symbol (symbol_in p.flavor e)) (dll_of p)
+          (ask_in p.flavor machine e) (bases.addresses + thunk_width machine * thunks_of i inputs) j (program_entry machine bases inputs objects i j p e input chosen) (can_read machine image_base bases (thunks_of i inputs) can);
+    }
+
+pub bytes_lead_to_both : (kind : Kind) (linker : LinkerMember) (machine : MachineType) (libraries : List FlavorLibrary) (own : List Object) → HaveArchive kind linker (archive_of_both libraries) →
+    IsFlavorArchive machine libraries → AreGiven machine libraries own →
+    TakesJust kind linker (archive_of_both libraries) (expanded_in machine) own (λ taken. (ending : Ending) (arranged : List FlavorLibrary) (bases : Bases) (objects : List Object) →
+    AreLinkedFor machine ending libraries own taken arranged bases objects → CallsArrive machine ending libraries own taken arranged bases objects)
+bytes_lead_to_both kind linker machine libraries own ready archive given =
+    takes_just kind linker (archive_of_both libraries) (expanded_in machine) own
+    (λ taken. (ending : Ending) (arranged : List FlavorLibrary) (bases : Bases) (objects : List Object) → AreLinkedFor machine ending libraries own taken arranged bases objects →
+    CallsArrive machine ending libraries own taken arranged bases objects) ready
+    (λ taken takes ending arranged bases objects linked. both_arrive machine ending libraries own taken arranged bases objects archive given takes linked)
+
+-- The archives of a command line.
+pub lines_lead_to_both : (machine : MachineType) (ending : Ending) (libraries : List FlavorLibrary) (members : List MemberView) (inputs : List Input) (is_given : MemberView → Bool) (taken : List ℕ) (arranged : List FlavorLibrary)
+    (bases : Bases) (objects : List Object) → SearchesFlavors machine libraries members inputs is_given taken → IsFlavorArchive machine libraries →
+    AreGiven machine libraries (given_with (expanded_in machine) is_given (objects_given inputs) (members_at members taken)) →
+    AreLinkedFor machine ending libraries (given_with (expanded_in machine) is_given (objects_given inputs) (members_at members taken)) (others_of is_given (members_at members taken)) arranged bases objects →
+    CallsArrive machine ending libraries (given_with (expanded_in machine) is_given (objects_given inputs) (members_at members taken)) (others_of is_given (members_at members taken)) arranged bases objects
+lines_lead_to_both machine ending libraries members inputs is_given taken arranged bases objects searches archive given linked =
+    both_arrive machine ending libraries (given_with (expanded_in machine) is_given (objects_given inputs) (members_at members taken)) (others_of is_given (members_at members taken)) arranged bases objects archive given
+    (takes_of_libraries (expanded_in machine) (archive_of_both libraries) members inputs is_given taken searches) linked
+
+-- The way for lld, from the bytes of an archive to the DLL.
 
 -- The short import of an export, read in its member's bytes.
 
@@ -422,3 +464,14 @@ pub bytes_lead_to_lld_calls : (kind : Kind) (linker : LinkerMember) (machine : M
 bytes_lead_to_lld_calls kind linker machine libraries own ready archive alike =
     takes_just kind linker (archive_of libraries) (read_by_lld machine) own (LldArrives machine libraries own) ready
     (lld_arrives machine libraries archive alike own)
+
+-- What lld takes of a command line's files arrives.
+
+pub files_lead_to_lld : (machine : MachineType) (libraries : List Library) (files : List ArchiveFile) (own : List Object) (is_given : MemberView → Bool) (taken : List MemberView) →
+    SearchesByLld machine libraries (members_in_files files) own is_given taken → IsMsvcArchive machine libraries → AreCalledAlike libraries →
+    LldArrives machine libraries (given_with (read_by_lld machine) is_given own taken) (others_of is_given taken)
+files_lead_to_lld machine libraries files own is_given taken s archive alike =
+    let reads = read_by_lld machine in
+    let given = given_with reads is_given own taken in
+    lld_arrives machine libraries archive alike given (others_of is_given taken)
+    (subst (λ ms. TakesIntoAs reads ms given (others_of is_given taken)) s.libraries_are (taken_as_given reads (members_in_files files) own s.whole is_given taken s.first s.searches))

@@ -1,39 +1,93 @@
--- The way for lld: what it takes in the bytes of an archive, and what its program does with it. lld
--- does not expand a short import: this defines its symbols, and leaves nothing to others.
-use Rattle.std.specs.Prelude.{◌≡◌, ℕ, ◌+◌, ◌<◌, ◌^◌, Bool, false, true, List, [], ◌∷◌, ◌++◌, Option}
-use Rattle.std.specs.Prelude.{bytes_eq, if◌then◌else◌, is_some, length, map}
-use Rattle.std.specs.List.{AllByRecursion, Contains, filter, filter_map, list_any}
+-- The whole way for libraries of which some are for GNU's linker and others for Microsoft's: from
+-- the bytes of their archive and the objects of a program to what a DLL gives.
+use Rattle.std.specs.Prelude.{◌≡◌, ℕ, ◌%◌, List, ◌++◌, IsPermutation, Some, length, not, slice_get}
+use Rattle.std.specs.Prelude.{◌+◌, ◌<◌, ◌^◌, Bool, false, true, [], ◌∷◌, Option, bytes_eq}
+use Rattle.std.specs.Prelude.{if◌then◌else◌, is_some, map}
+use Rattle.std.specs.List.{filter, AllByRecursion, Contains, filter_map, list_any}
 use Rattle.implib.specs.declared.machine.MachineType.{MachineType}
 use Rattle.implib.specs.Definition.{ExportView}
-use Rattle.std.specs.Option.{option_map}
-use Rattle.implib.specs.Formats.Constants.{class_external}
-use Rattle.implib.specs.Formats.Object.{ASymbol, Entry, Object}
-use Rattle.implib.specs.Formats.ShortImport.{ShortImport, short_import_in}
+use Rattle.implib.specs.Formats.Object.{Object, ASymbol, Entry}
 use Rattle.implib.specs.Import.{Ask, imp_symbol}
-use Rattle.implib.specs.Link.Image.{Range, range_end}
-use Rattle.implib.specs.Link.Placement.{Placed}
-use Rattle.implib.specs.Link.Resolution.{definitions_of}
+use Rattle.implib.specs.Link.Image.{IsAdmissible, Range, image_of, range_end}
+use Rattle.implib.specs.Link.Placement.{Bases, Descriptors, placed_from, Placed}
 use Rattle.implib.specs.Members.ImportTables.{thunk_width}
 use Rattle.implib.specs.Members.MemberSpec.{MemberView}
+use Rattle.implib_link.specs.Flavors.Program.{AreEnded, Ending, FlavorInput, WhereMember, ask_in}
+use Rattle.implib_link.specs.Flavors.Program.{dll_of, exports_chosen, objects_taken, symbol_in}
+use Rattle.implib_link.specs.Flavors.Program.{has_tables, HaveSame, claimed_names, ClaimsNone}
+use Rattle.implib_link.specs.Gnu.Fields.{AreBeside, LinkedCode, ranges_of_codes, AllLead, HasBranch}
+use Rattle.implib_link.specs.Gnu.Fields.{CanBranch}
+use Rattle.implib_link.specs.Gnu.Packed.{group_end}
+use Rattle.implib_link.specs.Gnu.Writing.{ReadsAndWrites}
+use Rattle.implib_link.specs.Search.Libraries.{FlavorLibrary, LinksClosed, inputs_in, weak_in}
+use Rattle.implib_link.specs.Search.Libraries.{is_short_alias}
+use Rattle.implib_link.specs.Stub.{CanJump}
+use Rattle.implib_link.specs.InMemory.{AreAsWide}
+use Rattle.std.specs.Option.{option_map}
+use Rattle.implib.specs.Formats.Constants.{class_external}
+use Rattle.implib.specs.Formats.ShortImport.{ShortImport, short_import_in}
+use Rattle.implib.specs.Link.Resolution.{definitions_of}
 use Rattle.implib.specs.Members.Msvc.{short_import_of, short_import_symbol, short_import_symbols}
 use Rattle.implib.specs.declared.flavor.Flavor.TheVariants.{Msvc}
 use Rattle.implib_link.specs.Flavors.Expansion.{expanded_in}
 use Rattle.implib_link.specs.Flavors.LldImports.{IsLldProgram, grouped, imp_symbols_of}
 use Rattle.implib_link.specs.Flavors.LldImports.{imports_of_lld, in_small, placed_by_lld, short_for}
-use Rattle.implib_link.specs.Flavors.LldTables.{ArePiecesAt}
-use Rattle.implib_link.specs.Flavors.LldThunks.{BranchArrivesByThunk, IsThunk}
-use Rattle.implib_link.specs.Flavors.Program.{ask_in}
-use Rattle.implib_link.specs.Gnu.Calls.{CanBranch}
-use Rattle.implib_link.specs.Gnu.Fields.{LinkedCode}
+use Rattle.implib_link.specs.Flavors.LldImports.{ArePiecesAt, BranchArrivesByThunk, IsThunk}
 use Rattle.implib_link.specs.Gnu.Moves.{AreInMemory}
-use Rattle.implib_link.specs.Gnu.Operands.{AllLead, HasBranch}
-use Rattle.implib_link.specs.Gnu.Program.{claimed_names}
-use Rattle.implib_link.specs.Gnu.Reading.{ReadsAndWrites}
-use Rattle.implib_link.specs.Search.Archives.{Library, exports_of}
-use Rattle.implib_link.specs.Search.Closed.{claims_of}
-use Rattle.implib_link.specs.Search.CommandLines.{names_left}
-use Rattle.implib_link.specs.Search.MsvcArchives.{is_short_alias}
+use Rattle.implib_link.specs.Search.Search.{Library, exports_of, claims_of, archive_of, TakesIntoAs}
+use Rattle.implib_link.specs.Search.Search.{listed_in}
+use Rattle.implib_link.specs.Search.CommandLines.{names_left, AreFirst, AreListedWhole, others_of}
 use Rattle.implib_link.specs.Tables.{AreSteady, AreTablesLoaded, CanReadFrom, tables_of_lld}
+
+-- What is taken of such libraries is linked with the given objects:
+-- `order`: the libraries are linked in this order, which may be another than that of the archive;
+-- `others`: the objects without import tables are those that are given and the weak externals that
+-- are taken;
+-- `ended`: those with import tables are what the other members are taken for, and what ends the
+-- directory;
+-- `admissible`, `lookups`, `addresses`, `follows`: the bases are those of a program.
+pub record AreLinkedFor (machine : MachineType) (ending : Ending)
+    (libraries : List FlavorLibrary) (own : List Object) (taken : List MemberView)
+    (arranged : List FlavorLibrary) (bases : Bases) (objects : List Object) : Type 0 where
+  pub order : IsPermutation libraries arranged
+  pub others : HaveSame (filter (λ o. not (has_tables o)) objects)
+      (own ++ objects_taken machine (weak_in machine taken))
+  pub ended : AreEnded ending machine (inputs_in machine arranged own taken) objects
+  pub admissible : IsAdmissible machine bases objects
+  pub lookups : WhereMember ending (bases.lookups % thunk_width machine ≡ 0)
+  pub addresses : WhereMember ending (bases.addresses % thunk_width machine ≡ 0)
+  pub follows : WhereMember ending
+      (bases.directory_ends ≡ group_end Descriptors bases.descriptors objects)
+
+-- What is taken for the objects of a program closes it (`links`). A loader that reads the image
+-- stops after as many descriptors as there are DLLs (`ends`). In the memory that it leaves, each
+-- field of linked code against `__imp_T` of an import of either flavour, whatever instruction holds
+-- it, leads to what its DLL gives for what the import asks for (`leads`).
+pub record CallsArrive (machine : MachineType) (ending : Ending) (libraries : List FlavorLibrary)
+    (own : List Object) (taken : List MemberView) (arranged : List FlavorLibrary) (bases : Bases)
+    (objects : List Object) : Type 0 where
+  pub links : LinksClosed machine ending libraries own taken arranged bases objects
+  pub ends : (gives : List ℕ → Ask → List ℕ) (n : ℕ) (written : List Range) →
+      AreAsWide machine gives →
+      ReadsAndWrites (image_of machine bases (placed_from bases objects)) (thunk_width machine)
+      gives n bases.descriptors written →
+      n ≡ length (inputs_in machine arranged own taken)
+  pub leads : (image_base : ℕ) (codes : List LinkedCode) (targets : LinkedCode → ℕ → ℕ)
+      (gives : List ℕ → Ask → List ℕ) (n : ℕ) (written : List Range) (i j : ℕ) (p : FlavorInput)
+      (e : ExportView) →
+      CanJump machine image_base bases →
+      AreBeside machine image_base bases objects codes targets →
+      AreAsWide machine gives →
+      ReadsAndWrites (image_of machine bases (placed_from bases objects)) (thunk_width machine)
+      gives n bases.descriptors written →
+      slice_get (inputs_in machine arranged own taken) i ≡ Some p →
+      slice_get (exports_chosen p) j ≡ Some e →
+      AllLead machine image_base (placed_from bases objects) codes
+      (written ++ (image_of machine bases (placed_from bases objects) ++ ranges_of_codes codes))
+      (imp_symbol (symbol_in p.flavor e)) (gives (dll_of p) (ask_in p.flavor machine e))
+
+-- The way for lld: what it takes in the bytes of an archive, and what its program does with it. lld
+-- does not expand a short import: this defines its symbols, and leaves nothing to others.
 
 -- whether bytes are a short import
 abbrev pub is_short : List ℕ → Bool
@@ -184,3 +238,23 @@ pub record LldArrives (machine : MachineType) (libraries : List Library) (own : 
       CanBranch machine (c.position + offset) d.position →
       BranchArrivesByThunk machine image_base (written ++ memory) (c.position + offset) after
       (gives l.definition.import_name (ask_in Msvc machine e))
+
+-- What lld takes of the files of a command line.
+
+-- What lld takes of the archives of a command line, for the objects there, in whatever order these
+-- stand:
+-- `libraries_are`: the members that are not as given are those of libraries for Microsoft's linker,
+-- archive by archive;
+-- `first`, `whole`: what is asked of the members;
+-- `unclaimed`: no given object claims a name that a taken member is listed for: a member for which
+-- a name has asked stays in lld's queue, and lld says "duplicate symbol" if an object behind it
+-- claims the name, too;
+-- `searches`: the search.
+pub record SearchesByLld (machine : MachineType) (libraries : List Library)
+    (members : List MemberView)
+    (own : List Object) (is_given : MemberView → Bool) (taken : List MemberView) : Type 0 where
+  pub libraries_are : others_of is_given members ≡ archive_of libraries
+  pub first : AreFirst members (names_left (read_by_lld machine) own taken) taken
+  pub whole : AreListedWhole (read_by_lld machine) members
+  pub unclaimed : AllByRecursion (ClaimsNone (listed_in taken)) own
+  pub searches : TakesIntoAs (read_by_lld machine) members own taken
