@@ -5,12 +5,9 @@ pub mod NullDescriptor
 pub mod Inputs
 pub mod Program
 pub mod Texts
-pub mod GnuPrograms
-pub mod Beside
 pub mod Writing
 pub mod Stubs
 pub mod Steady
-pub mod LldTables
 pub mod LldImports
 pub mod LldPrograms
 pub mod LldThunks

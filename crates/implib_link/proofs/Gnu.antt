@@ -1,11 +1,8 @@
 -- Lemmas about programs of members for GNU's linker.
 pub mod Others
-pub mod Blocks
-pub mod Claims
 pub mod Texts
 pub mod Loaded
 pub mod CallReads
-pub mod Memory
 pub mod Sized
 pub mod Packed
 pub mod Stubs
@@ -14,13 +11,10 @@ pub mod Fields
 pub mod FieldsInMemory
 pub mod Operands
 pub mod Stored
-pub mod UsualCode
-pub mod CallsByName
 pub mod LinkedBytes
 pub mod Filling
 pub mod Apart
 pub mod Beside
 pub mod Runs
 pub mod Choices
-pub mod MovedPrograms
 pub mod LinkedCodes

@@ -2,8 +2,6 @@ pub mod Gnu
 pub mod Flavors
 pub mod Search
 pub mod Tables
-pub mod TablesOfPrograms
-pub mod TablesInMemory
 pub mod StoredInMemory
 pub mod Parts
 pub mod Archives

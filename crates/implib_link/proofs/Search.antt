@@ -3,10 +3,8 @@ pub mod Lists
 pub mod Plainly
 pub mod Ends
 pub mod ArchiveMembers
-pub mod Arranged
 pub mod Closing
 pub mod MsvcMembers
-pub mod NamedApart
 pub mod Roles
 pub mod FlavorGroups
 pub mod Taken

@@ -20,11 +20,11 @@ use Rattle.implib_link.specs.Gnu.Stored.{AreFurtherHeld, AreStoredInMemory, Hold
 use Rattle.implib_link.specs.Tables.{AreSteady, AreTables, CanReadFrom, Table, TableEntry, Tables}
 use Rattle.implib_link.proofs.Flavors.LldThunks.{bare_symbol, thunk_defines}
 use Rattle.implib_link.proofs.Gnu.FieldsInMemory.{StoredRests, stored_in_memory, stored_rests}
-use Rattle.implib_link.proofs.Gnu.Memory.{Covers}
-use Rattle.implib_link.proofs.Gnu.MovedPrograms.{code_places, moved_exists}
+use Rattle.implib_link.proofs.Gnu.Loaded.{Covers}
+use Rattle.implib_link.proofs.Gnu.Fields.{code_places, moved_exists}
 use Rattle.implib_link.proofs.Gnu.Stored.{holds_address, settled_by_code, settled_by_tables}
 use Rattle.implib_link.proofs.Search.Lists.{contains_among}
-use Rattle.implib_link.proofs.TablesInMemory.{covering, entry_in, stub_in_memory, thunk_in_memory}
+use Rattle.implib_link.proofs.Tables.{covering, entry_in, stub_in_memory, thunk_in_memory}
 
 module _ (machine : MachineType) (image_base : ℕ) (t : Tables) (codes : List LinkedCode) (targets : LinkedCode → ℕ → ℕ) (memory : List Range) (gives : List ℕ → Ask → List ℕ)
     (tables : AreTables machine t) (steady : AreSteady machine t.linked) (at : AreStoredInMemory machine image_base t.image t.linked codes targets memory) (n : ℕ) (written : List Range)

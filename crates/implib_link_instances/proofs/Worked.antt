@@ -12,7 +12,6 @@ pub mod GnuPacked
 pub mod Lemmas
 pub mod Loads
 pub mod Opened
-pub mod Operands
 pub mod OtherNames
 pub mod Packed
 pub mod Parts
@@ -20,7 +19,6 @@ pub mod Plainly
 pub mod Programs
 pub mod Registered
 pub mod Search
-pub mod Sources
 pub mod Stored
 pub mod ThirdTexts
 pub mod Writing

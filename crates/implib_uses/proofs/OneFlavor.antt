@@ -20,12 +20,10 @@ use Rattle.implib_link.specs.Directory.{DirectoryAt, imported}
 use Rattle.implib_link.specs.Flavors.Program.{InputImports, IsProgram, LinksAmong, OfLinker, SymbolsAt, SymbolsGet, all_members, gnu_input, imp_symbols, imported_in, symbols_listed, linked_symbols, thunks_before, null_descriptor, ClaimsNone, has_tables}
 use Rattle.implib_link.specs.Gnu.Writing.{HoldsAt, Writes}
 use Rattle.implib_link.specs.Tables.{AreTables, AreTablesLoaded, IsInTable, Tables, block_of_flavor, imported_by_table, tables_at, Table, packed_tables, Block}
-use Rattle.implib_link.proofs.Flavors.GnuPrograms.{gnu_made, gnu_members, gnu_objects, gnu_thunks}
-use Rattle.implib_link.proofs.Flavors.Program.{program_links}
-use Rattle.implib_link.proofs.Tables.{packed_imports, entries_until, tables_can_be_written, tables_load}
-use Rattle.implib_link.proofs.TablesOfPrograms.{inputs_blocks, program_entry, program_tables, inputs_until}
+use Rattle.implib_link.proofs.Flavors.Program.{gnu_made, gnu_members, gnu_objects, gnu_thunks, program_links}
+use Rattle.implib_link.proofs.Tables.{packed_imports, entries_until, tables_can_be_written, tables_load, inputs_blocks, program_entry, program_tables, inputs_until}
 use Rattle.implib_uses.specs.OneFlavor.{AreImported, EachGets, IsOneFlavor, LinksOneFlavor, LoadsOneFlavor}
-use Rattle.implib_link.proofs.Gnu.Blocks.{table_sum}
+use Rattle.implib_link.proofs.Flavors.Block.{table_sum}
 use Rattle.implib_link.proofs.Search.Lists.{contains_among}
 use Rattle.std.proofs.lemmas.Option.{slice_get-map}
 use Rattle.std.specs.Option.{option_map}

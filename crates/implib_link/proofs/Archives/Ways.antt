@@ -19,9 +19,7 @@ use Rattle.implib_link.proofs.Flavors.Steady.{program_tables_none}
 use Rattle.implib_link.proofs.Search.Chosen.{both_made}
 use Rattle.implib_link.proofs.Search.BothClosed.{closed_links_of_both}
 use Rattle.implib_link.proofs.Search.Taken.{both_given_closes}
-use Rattle.implib_link.proofs.Tables.{tables_read}
-use Rattle.implib_link.proofs.TablesInMemory.{leads_beside, tables_load_in_memory}
-use Rattle.implib_link.proofs.TablesOfPrograms.{can_read, program_count, program_entry, program_tables, lld_tables}
+use Rattle.implib_link.proofs.Tables.{tables_read, leads_beside, tables_load_in_memory, can_read, program_count, program_entry, program_tables, lld_tables}
 use Rattle.implib_link.specs.Tables.{AreTables, Tables, block_of_flavor, tables_at, tables_of_lld}
 use Rattle.implib_link.specs.Flavors.Expansion.{expanded_in, is_import_for}
 use Rattle.implib.specs.Import.{imp_symbol, Ask, Name, Ordinal}

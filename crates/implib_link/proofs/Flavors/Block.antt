@@ -1,40 +1,139 @@
--- The objects of one DLL, in either flavour, link among others.
-use Rattle.std.proofs.Common.{◌≡◌, ℕ, ◌+◌, ◌%◌, ◌<◌, ◌^◌, Bool, true, false, List, [], ◌∷◌, ◌++◌, map, Some, None, refl, ap, sym, ◌∙◌, arith, subst, if◌then◌else◌, zero, suc, ◌*◌, length}
-use Rattle.std.specs.List.{AllByRecursion, flat_map}
+-- Where the descriptors and the address tables of blocks are, and the null descriptor after them.
+use Rattle.std.proofs.Common.{◌≡◌, ℕ, suc, ◌+◌, ◌*◌, ◌-◌, List, [], ◌∷◌, ◌++◌, length, map, refl, ap, sym, ◌∙◌, subst, arith, false, Some, inl, inr, ◌%◌, ◌<◌, ◌^◌, Bool, true, None, if◌then◌else◌, zero}
+use Rattle.std.proofs.Math.Nat.{mul-add, mul-suc}
 use Rattle.std.proofs.lemmas.List.{append_assoc, map-append}
 use Rattle.implib.specs.declared.machine.MachineType.{MachineType}
+use Rattle.implib.specs.Definition.{ExportView}
+use Rattle.implib.specs.Link.Image.{Range, range_end}
+use Rattle.implib.specs.Link.Load.{BytesAt, LoadsStrictly, TextAt}
+use Rattle.implib.specs.Members.ImportTables.{thunk_width, zeros}
+use Rattle.implib.specs.Formats.Object.{Object}
+use Rattle.implib.specs.Link.Placement.{Bases, Placed, next_multiple, ends_after, placed_from}
+use Rattle.implib.proofs.Link.LinkedBlocks.{Block, blocks_objects}
+use Rattle.implib.proofs.Link.Linked.{LocatedFrom, ends_of_block, BlockLinks, aligned_block, all_of_stub, block_defined, block_definitions, block_links, block_targets, definitions-block, head_definition, rest_located}
+use Rattle.implib.proofs.Link.Placement.{AreAligned, aligned, descriptors_end, ends_of_all, ends_of_export, ends_of_exports, ends_of_head, export, head, tail, after_head, names-after}
+use Rattle.implib_link.specs.Flavors.Program.{null_descriptor, ClaimsNone, GetsAddress, claimed_names, names_claimed_in, Ending, IsFoundByName, OfLinker, OfMember, SymbolsAt, WhereMember, ask_in, descriptor_in, symbol_in}
+use Rattle.implib.specs.LibraryName.{NamesOfDll}
+use Rattle.std.specs.Prelude.{bytes_eq, slice_get}
+use Rattle.std.specs.List.{AllByRecursion, list_any, flat_map}
+use Rattle.implib.specs.Link.Linked.{IsDefinedOnce, AllFind, EntriesAt, FindsTarget, IsDefinedAt, undefined_names}
+use Rattle.implib.specs.Link.Resolution.{SymbolDefinition, definitions_of, defined_by, definitions}
+use Rattle.implib.proofs.Link.Ranges.{Among, among_first, among_later, among_back, among_front}
+use Rattle.std.proofs.lemmas.Bool.{cases_Bool}
+use Rattle.implib.specs.Members.Gnu.{archive_symbols, export_object, head_object, head_symbol, iname_symbol, tail_object}
 use Rattle.implib.specs.declared.flavor.Flavor.{Flavor}
 use Rattle.implib.specs.declared.flavor.Flavor.TheVariants.{Gnu, Msvc}
-use Rattle.implib.specs.Definition.{ExportView}
-use Rattle.implib.specs.Members.Gnu.{archive_symbols, head_symbol, iname_symbol}
-use Rattle.implib.specs.Link.Image.{Range, range_end}
 use Rattle.implib.specs.Import.{Ask, Name, Ordinal, imp_symbol}
-use Rattle.implib.specs.Members.ImportTables.{thunk_width, zeros}
 use Rattle.implib.specs.Formats.Layout.{HasNoNul, entries_of, name_text, object_of}
-use Rattle.implib.specs.Link.Linked.{AllFind, EntriesAt, FindsTarget, IsDefinedAt, undefined_names}
-use Rattle.implib.specs.Link.Load.{LoadsStrictly, TextAt, BytesAt}
 use Rattle.implib.specs.Members.Msvc.{short_import_symbols, short_import_symbol}
 use Rattle.implib.specs.Members.MsvcObjects.{descriptor, descriptor_symbol, null_descriptor_symbol, null_thunk, null_thunk_symbol}
-use Rattle.implib.specs.Formats.Object.{Object}
-use Rattle.implib.specs.Link.Placement.{Bases, Placed, next_multiple, placed_from}
-use Rattle.implib.specs.Link.Resolution.{SymbolDefinition, defined_by, definitions, definitions_of}
 use Rattle.implib.proofs.Link.Descriptors.{descriptor_loads}
-use Rattle.implib.proofs.Link.Linked.{BlockLinks, LocatedFrom, aligned_block, all_of_stub, block_defined, block_definitions, block_links, block_targets, definitions-block, ends_of_block, head_definition, rest_located}
-use Rattle.implib.proofs.Link.Placement.{AreAligned, after_head, ends_of_all, ends_of_export, ends_of_exports, ends_of_head, head, names-after}
-use Rattle.implib.proofs.Link.Ranges.{Among, among_back, among_first, among_later, among_front}
 use Rattle.implib.proofs.Link.Tables.{CanBeAsked}
 use Rattle.implib.proofs.Link.Thunks.{StrictTableAt}
 use Rattle.implib_link.specs.Flavors.Expansion.{Code, Constant, Data, Use, import_object, descriptor_symbol_by_name, stub_relocations_for}
-use Rattle.implib_link.specs.Flavors.Program.{Ending, IsFoundByName, OfLinker, OfMember, SymbolsAt, WhereMember, ask_in, descriptor_in, symbol_in, null_descriptor}
 use Rattle.implib_link.specs.Flavors.SectionSymbols.{with_section_symbols}
 use Rattle.implib_link.proofs.Flavors.Expanded.{AreWide, AskFits, ends_of_asking, ends_of_descriptor, ends_of_null_thunk, placed-asking, placed-descriptor, placed-null_thunk, placed_asking, placed_descriptor, taken_descriptor, taken_null_thunk, wide_aligned, wide_asking, wide_descriptor, wide_next, wide_null_thunk, TableFrom, asking_stands, descriptor_stands, null_thunk_stands}
-use Rattle.implib.specs.LibraryName.{NamesOfDll}
 use Rattle.implib_link.proofs.Gnu.Beside.{LocatedBeside, zero_table, table_with}
-use Rattle.std.specs.Prelude.{slice_get}
-use Rattle.std.proofs.Math.Nat.{mul-suc}
 use Rattle.implib_link.specs.Directory.{DirectoryAt, Imported}
-use Rattle.implib_link.proofs.Gnu.Blocks.{addresses_after, descriptors_after, table_sum, plus_twice, plus_sum}
 use Rattle.implib_link.proofs.Gnu.Loaded.{times_none as plus_zero}
+
+-- objects after blocks
+pub objects_behind : (machine : MachineType) (blocks : List Block) (rest : List Object) →
+    blocks_objects machine blocks [] ++ rest ≡ blocks_objects machine blocks rest
+objects_behind machine [] rest = refl
+objects_behind machine (k ∷ blocks) rest =
+    ap (λ others. head machine k.dll ∷ others)
+    (append_assoc (map (export machine k.dll) k.exports) (tail machine k.dll ∷ blocks_objects machine blocks []) rest
+    ∙ ap (λ others. map (export machine k.dll) k.exports ++ tail machine k.dll ∷ others) (objects_behind machine blocks rest))
+
+-- the descriptors' end after a block
+pub descriptors_after : (machine : MachineType) (dll : NamesOfDll) (b : Bases) (es : List ExportView) →
+    b.descriptors + 20 ≡ (ends_of_block machine dll b es).descriptors
+descriptors_after machine dll b es = descriptors_end machine dll (ends_of_head machine dll b) es
+
+pub plus_twice : (a w m : ℕ) → a + w + m ≡ a + (m + w)
+plus_twice a w m = omega arith
+
+-- the address tables' end after a block's thunks and its null thunk
+pub addresses_after : (machine : MachineType) (dll : NamesOfDll) (b : Bases) (es : List ExportView) →
+    (ends_of_all machine dll b es).addresses ≡ b.addresses + thunk_width machine * (length es + 1)
+unfolding ends_of_exports
+addresses_after machine dll b [] = omega arith
+addresses_after machine dll b (e ∷ es) =
+    let later = addresses_after machine dll (ends_of_export machine dll b e) es in
+    let count : suc (length es) + 1 ≡ suc (length es + 1) = omega arith in
+    let product : thunk_width machine * (suc (length es) + 1) ≡ thunk_width machine * (length es + 1) + thunk_width machine =
+    ap (λ n. thunk_width machine * n) count ∙ mul-suc (thunk_width machine) (length es + 1) in
+    later ∙ plus_twice b.addresses (thunk_width machine) (thunk_width machine * (length es + 1)) ∙ ap (λ n. b.addresses + n) (sym product)
+
+-- the null descriptor is where the descriptors end
+pub null_located : (machine : MachineType) (linked : List Placed) (image : List Range) (b : Bases) → AreAligned b →
+    LocatedFrom machine linked image b (null_descriptor ∷ []) → BytesAt image b.descriptors (zeros 20)
+null_located machine linked image b even located =
+    let position : next_multiple 4 b.descriptors ≡ b.descriptors = aligned b.descriptors even.descriptors in
+    let none : b.descriptors - b.descriptors ≡ 0 = omega arith in
+    let all : List ℕ = zeros (next_multiple 4 b.descriptors - b.descriptors) ++ (zeros 20 ++ []) in
+    let same : all ≡ zeros 20 = rw (position, none) refl in
+    subst (BytesAt image b.descriptors) same located.descriptors
+
+pub plus_sum : (a n : ℕ) → a + 20 + 20 * n ≡ a + 20 * suc n
+plus_sum a n = omega arith
+
+pub table_sum : (a w n m : ℕ) → a + w * n + w * m ≡ a + w * (n + m)
+table_sum a w n m = let split : w * (n + m) ≡ w * n + w * m = mul-add w n m in omega arith
+
+-- Names that objects do not claim, and the address of a name that is defined once.
+
+claims_of : (name : List ℕ) (names : List (List ℕ)) → Among name names → (o : Object) → ClaimsNone names o → list_any (bytes_eq name) (claimed_names o) ≡ false
+unfolding Among
+claims_of name [] m o none = absurd m
+claims_of name (n ∷ names) (inl e) o none = subst (λ t. list_any (bytes_eq t) (claimed_names o) ≡ false) (sym e) none.0
+claims_of name (n ∷ names) (inr m) o none = claims_of name names m o none.1
+
+pub all_claim : (name : List ℕ) (names : List (List ℕ)) → Among name names → (objects : List Object) → AllByRecursion (ClaimsNone names) objects →
+    AllByRecursion (λ o. list_any (bytes_eq name) (claimed_names o) ≡ false) objects
+all_claim name names m [] none = tt
+all_claim name names m (o ∷ objects) none = (claims_of name names m o none.0, all_claim name names m objects none.1)
+
+pub once_of : (linked : List Placed) (ds : List SymbolDefinition) → ((d : SymbolDefinition) → Among d ds → definitions_of d.name linked ≡ d ∷ []) →
+    AllByRecursion (IsDefinedOnce linked) (map (λ (d : SymbolDefinition). d.name) ds)
+once_of linked [] only = tt
+once_of linked (d ∷ ds) only = ((d, only d (among_first d ds)), once_of linked ds (λ other m. only other (among_later other d ds m)))
+
+-- an undefined symbol has the address of the only definition of its name
+pub gets_address : (linked : List Placed) (name : List ℕ) (address : ℕ) →
+    definitions_of name linked ≡ record { name = name; address = Some address } ∷ [] → GetsAddress linked name address
+gets_address linked name address once p s held entry undefined named = rw (undefined, named, once) refl
+
+-- The names that the members claim: those that they are listed for.
+
+pub claimed_tail : (machine : MachineType) (dll : NamesOfDll) → claimed_names (tail machine dll) ≡ iname_symbol machine dll.linked ∷ []
+unfolding tail_object
+claimed_tail machine dll = refl
+
+pub claimed_head : (machine : MachineType) (dll : NamesOfDll) → claimed_names (head machine dll) ≡ head_symbol machine dll.linked ∷ []
+unfolding head_object
+claimed_head machine dll = refl
+
+pub claimed_export : (machine : MachineType) (dll : NamesOfDll) (e : ExportView) → claimed_names (export machine dll e) ≡ archive_symbols e
+unfolding export_object
+claimed_export machine dll e = elim (cases_Bool e.is_data) [ inl is ↦ rw is refl | inr is ↦ rw is refl ]
+
+pub claimed_after : (machine : MachineType) (dll : NamesOfDll) (es : List ExportView) (rest : List Object) →
+    flat_map claimed_names (after_head machine dll es rest) ≡ (flat_map archive_symbols es ++ iname_symbol machine dll.linked ∷ []) ++ flat_map claimed_names rest
+claimed_after machine dll [] rest = ap (λ names. names ++ flat_map claimed_names rest) (claimed_tail machine dll)
+claimed_after machine dll (e ∷ es) rest =
+    ap (λ names. names ++ flat_map claimed_names (after_head machine dll es rest)) (claimed_export machine dll e)
+    ∙ ap (λ names. archive_symbols e ++ names) (claimed_after machine dll es rest)
+    ∙ sym (append_assoc (archive_symbols e) (flat_map archive_symbols es ++ iname_symbol machine dll.linked ∷ []) (flat_map claimed_names rest))
+    ∙ ap (λ names. names ++ flat_map claimed_names rest) (sym (append_assoc (archive_symbols e) (flat_map archive_symbols es) (iname_symbol machine dll.linked ∷ [])))
+
+-- the names that placed objects claim are those of the objects
+pub claimed_placed : (b : Bases) (objects : List Object) → names_claimed_in (placed_from b objects) ≡ flat_map claimed_names objects
+claimed_placed b [] = refl
+claimed_placed b (o ∷ objects) = ap (λ names. claimed_names o ++ names) (claimed_placed (ends_after b o.sections) objects)
+
+-- The objects of one DLL, in either flavour, link among others.
 
 -- Where tables may begin, by what ends the directory: at multiples of 4, or of a thunk's width.
 abbrev pub AreEven : Ending → MachineType → Bases → Type 0

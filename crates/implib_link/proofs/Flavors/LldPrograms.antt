@@ -13,12 +13,9 @@ use Rattle.implib_link.specs.Gnu.Fields.{LinkedCode, CanBranch, AllLead, HasBran
 use Rattle.implib_link.specs.Gnu.Moves.{AreInMemory}
 use Rattle.implib_link.specs.Gnu.Writing.{ReadsAndWrites}
 use Rattle.implib_link.specs.Tables.{AreSteady, AreTables, Block, CanReadFrom, Table, TableEntry, block_of_group, entry_of_short, tables_of_lld}
-use Rattle.implib_link.proofs.Flavors.LldTables.{grouped_holds, in_place}
-use Rattle.implib_link.proofs.Flavors.LldImports.{get_map, only}
+use Rattle.implib_link.proofs.Flavors.LldImports.{grouped_holds, in_place, get_map, only}
 use Rattle.implib_link.proofs.Search.Lists.{contains_among}
-use Rattle.implib_link.proofs.TablesInMemory.{entry_leads, thunk_called_in_memory}
-use Rattle.implib_link.proofs.Tables.{HasEntry, block_entry, entries_until, packed_count, reads_further}
-use Rattle.implib_link.proofs.TablesOfPrograms.{lld_tables}
+use Rattle.implib_link.proofs.Tables.{entry_leads, thunk_called_in_memory, HasEntry, block_entry, entries_until, packed_count, reads_further, lld_tables}
 use Rattle.implib.proofs.Link.LinkedMembers.{all_at}
 
 module _ (machine : MachineType) (descriptors addresses : ℕ) (taken : List ShortImport) (image : List Range) (linked : List Placed)

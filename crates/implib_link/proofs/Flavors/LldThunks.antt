@@ -18,9 +18,8 @@ use Rattle.implib_link.specs.Flavors.LldImports.{IsThunk, ThunkArrives, placed_t
 use Rattle.implib_link.specs.Gnu.Fields.{DefinesIn, LinkedCode, MeetsAlone, field_at, meets, AllLead, AreKept, InstructionArrives, IsOperand, Names, PairArrives}
 use Rattle.implib_link.specs.Stub.{adrp_immediate, bits_of, jump_reads, ldr_immediate, plus_signed, with_adrp, with_bits}
 use Rattle.implib_link.specs.Tables.{CanReadFrom}
-use Rattle.implib_link.proofs.Gnu.MovedPrograms.{four_of}
+use Rattle.implib_link.proofs.Gnu.Fields.{four_of, pair_read}
 use Rattle.implib_link.proofs.Gnu.Operands.{arm64_jump}
-use Rattle.implib_link.proofs.Gnu.UsualCode.{pair_read}
 
 i386_jump : (address : ℕ) (field : List ℕ) → length field ≡ 4 → jump_reads I386 address (0xFF ∷ 0x25 ∷ (field ++ [])) ≡ Some (number_in field)
 i386_jump address field four = (let f = four_of field four in subst (λ xs. jump_reads I386 address (0xFF ∷ 0x25 ∷ (xs ++ [])) ≡ Some (number_in xs)) (sym f.is) refl)

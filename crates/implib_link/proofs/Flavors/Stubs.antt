@@ -22,8 +22,7 @@ use Rattle.implib.proofs.Link.Placement.{AreAligned, after_head, aligned_head, e
 use Rattle.implib.proofs.Link.Ranges.{Among, all_among, among_first, among_front, among_later, among_flat}
 use Rattle.implib_link.specs.Flavors.Expansion.{Code, Constant, Data, Use, import_object}
 use Rattle.implib_link.specs.Flavors.Program.{Ending, FlavorInput, IsCode, IsMadeFor, all_members, ask_in, exports_chosen, symbol_in, symbols_listed, IsProgramOf, dll_names_in, thunks_of, has_tables}
-use Rattle.implib_link.proofs.Gnu.Blocks.{table_sum}
-use Rattle.implib_link.proofs.Flavors.Block.{AreEven, Suits, behind_descriptor, ends_in, ends_of_askings, even_aligned, even_in, even_wide, objects_of, symbols_of, use_for, AllSuit, FlavorBlock, addresses_one, all_objects, ends_one, thunks_in, rest_of}
+use Rattle.implib_link.proofs.Flavors.Block.{table_sum, AreEven, Suits, behind_descriptor, ends_in, ends_of_askings, even_aligned, even_in, even_wide, objects_of, symbols_of, use_for, AllSuit, FlavorBlock, addresses_one, all_objects, ends_one, thunks_in, rest_of}
 use Rattle.implib_link.proofs.Flavors.Inputs.{block_in, inputs_symbols}
 use Rattle.implib_link.proofs.Flavors.Program.{even, program_links, suit, placed_among, thunks_are}
 use Rattle.implib_link.proofs.Gnu.Loaded.{times_next, times_none}

@@ -19,11 +19,10 @@ use Rattle.implib.proofs.Link.Ranges.{Among}
 use Rattle.implib_link.specs.Flavors.Program.{Ending, FlavorInput, IsMadeFor, ask_in, exports_chosen, imported_in, thunks_of, IsProgramOf}
 use Rattle.implib_link.specs.Gnu.Fields.{LinkedCode}
 use Rattle.implib_link.specs.Gnu.Moves.{AreInMemory}
-use Rattle.implib_link.proofs.Flavors.Beside.{all_beside, all_long}
+use Rattle.implib_link.proofs.Flavors.Steady.{all_beside, all_long, program_tables_none}
 use Rattle.implib_link.proofs.Flavors.Block.{FlavorBlock, all_objects, rest_of, thunks_in}
 use Rattle.implib_link.proofs.Flavors.Inputs.{block_in, inputs_link}
 use Rattle.implib_link.proofs.Flavors.Program.{definitions_are, each, even, null_there, only, program_links, stand, suit, thunks_are, imported_are as imports_same}
-use Rattle.implib_link.proofs.Flavors.Steady.{program_tables_none}
 use Rattle.implib_link.proofs.Gnu.Beside.{LocatedBeside}
 use Rattle.implib_link.proofs.Gnu.FieldsInMemory.{rests}
 

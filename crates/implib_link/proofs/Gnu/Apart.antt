@@ -11,8 +11,7 @@ use Rattle.implib.specs.Link.Placement.{Addresses, Bases, Descriptors, Directory
 use Rattle.implib.proofs.Link.LinkedBlocks.{ends, group_located, starts}
 use Rattle.implib.proofs.Link.Ranges.{Among, among_back, among_front, is_in_from}
 use Rattle.implib_link.proofs.Gnu.Filling.{Avoids, same_behind}
-use Rattle.implib_link.proofs.Gnu.Loaded.{Keeps, kept_outside}
-use Rattle.implib_link.proofs.Gnu.Memory.{holder, not_in_both}
+use Rattle.implib_link.proofs.Gnu.Loaded.{Keeps, kept_outside, holder, not_in_both}
 use Rattle.implib_link.proofs.Gnu.Moved.{apart_back as back_apart}
 use Rattle.implib_link.proofs.Search.Lists.{all_parts, among_either, any_of}
 use Rattle.implib.proofs.Link.Linked.{all_append}

@@ -21,7 +21,7 @@ use Rattle.implib.proofs.Link.Ranges.{Among, address_bounds, among_back, among_f
 use Rattle.implib.proofs.Link.Tables.{CanBeAsked, descriptors_filled, filled_first, hint_bytes, hint_names_end, hint_names_filled, lookups_end, lookups_filled, table_at, thunk_bytes}
 use Rattle.implib.proofs.Link.Thunks.{same_number, StrictTableAt, StrictThunkAt, zeros_number}
 use Rattle.implib_link.proofs.Gnu.Filling.{DescriptorBeside}
-use Rattle.implib_link.proofs.Gnu.Memory.{byte_first}
+use Rattle.implib_link.proofs.Gnu.Loaded.{byte_first}
 use Rattle.implib_link.proofs.Gnu.Stubs.{wide_thunk}
 use Rattle.implib.specs.LibraryName.{NamesOfDll}
 

@@ -19,8 +19,7 @@ use Rattle.implib.proofs.Link.Ranges.{Among, all_among, among_back, among_front,
 use Rattle.implib_link.specs.Gnu.Fields.{Defines, PlacedCode, Resolves, amd64_addr64, arm64_addr64}
 use Rattle.implib_link.specs.Gnu.Choices.{ArePlacesApart, DefineOnce}
 use Rattle.implib_link.specs.Gnu.Rebased.{IsRebased, Place, absolute_width, amd64_addr32, arm64_addr32, covers, moved_number, places_at}
-use Rattle.implib_link.proofs.Gnu.Loaded.{Keeps, bytes_kept, kept_outside}
-use Rattle.implib_link.proofs.Gnu.Memory.{byte_front}
+use Rattle.implib_link.proofs.Gnu.Loaded.{Keeps, bytes_kept, kept_outside, byte_front}
 use Rattle.implib_link.proofs.Gnu.Moved.{covered_bounds}
 use Rattle.implib_link.proofs.Search.Lists.{among_at, among_either, contains_among, all_parts}
 use Rattle.implib.proofs.Link.Definitions.{same_text}

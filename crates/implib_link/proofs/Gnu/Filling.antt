@@ -13,8 +13,7 @@ use Rattle.implib.proofs.Link.Linked.{all_append}
 use Rattle.implib.proofs.Link.Loading.{number_once, text_led_to, text_once}
 use Rattle.implib_link.specs.Directory.{DirectoryAt, Imported, StopsAt, WalkFinds}
 use Rattle.implib_link.specs.Gnu.Writing.{Writes, entries_written, AreAlike, FillsTable, WritesAsItGoes}
-use Rattle.implib_link.proofs.Gnu.Loaded.{directory_walk, same_imports, nonzero, Keeps, number_kept, text_kept, thunk_kept, entries_within, thunks_asked, times_next}
-use Rattle.implib_link.proofs.Gnu.Memory.{within_bounds}
+use Rattle.implib_link.proofs.Gnu.Loaded.{directory_walk, same_imports, nonzero, Keeps, number_kept, text_kept, thunk_kept, entries_within, thunks_asked, times_next, within_bounds}
 
 -- no byte of these ranges is from one address to another
 unfoldable pub Avoids : List Range → ℕ → ℕ → Type 0

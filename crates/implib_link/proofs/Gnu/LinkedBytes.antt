@@ -16,8 +16,7 @@ use Rattle.implib.proofs.Formats.Bytes.{length-u32_bytes}
 use Rattle.implib_link.specs.Gnu.Fields.{amd64_addr64, arm64_addr64, arm64_branch26, field_width, FieldHolds, IsRelocated, MeetsAlone, field_at, meets}
 use Rattle.implib_link.specs.Gnu.Stored.{HoldsFurther, IsFurtherHeld, amd64_addr32nb, arm64_addr32nb, arm64_pageoffset_12a, i386_dir32nb}
 use Rattle.implib_link.specs.Stub.{adrp_immediate, bits_of, ldr_immediate, page, with_adrp, with_bits}
-use Rattle.implib_link.proofs.Gnu.Fields.{get_drop, get_front, meets_bounds, meets_from}
-use Rattle.implib_link.proofs.Gnu.UsualCode.{number-u32}
+use Rattle.implib_link.proofs.Gnu.Fields.{get_drop, get_front, meets_bounds, meets_from, number-u32}
 
 -- Lists by their places.
 

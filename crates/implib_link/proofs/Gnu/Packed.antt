@@ -5,7 +5,7 @@ use Rattle.std.specs.List.{AllByRecursion, filter, list_any}
 use Rattle.std.proofs.lemmas.Bool.{and_parts, cases_Bool, leb-true, ltb-true, or_parts}
 use Rattle.std.proofs.lemmas.List.{append_assoc, length-append, length-replicate}
 use Rattle.implib.specs.declared.machine.MachineType.{MachineType}
-use Rattle.implib.specs.Link.Image.{AllApart, AreApart, Contribution, IsAdmissible, IsBase, Range, contribution_at, contributions, contributions_in, filled, image_of, range_end, range_of, relocated}
+use Rattle.implib.specs.Link.Image.{AllApart, AreApart, Contribution, IsAdmissible, IsBase, Range, contribution_at, contributions, contributions_in, contributions_of, filled, image_of, range_end, range_of, relocated}
 use Rattle.implib.specs.Members.ImportTables.{zeros}
 use Rattle.implib.specs.Formats.Object.{Object, ObjectSection}
 use Rattle.implib.specs.Link.Placement.{Addresses, Bases, Descriptors, DirectoryEnds, DllNames, Group, HintNames, Lookups, Placed, alignment, base_of, end_after, ends_after, group_named, next_multiple, address_after, section_address_of, placed_from, section_addresses_of, same_group, with_base}
@@ -59,62 +59,82 @@ end_of_sections group b (s ∷ sections) =
 unfoldable pub span : ℕ → List Contribution → ℕ
 span base cs = base + length (filled base cs)
 
-span_nil : (base : ℕ) → span base [] ≡ base
-unfolding span
-span_nil base = omega arith
+-- contributions fill from a base to an end, from which on those behind them are filled in
+pub record Fills (base : ℕ) (cs : List Contribution) (end : ℕ) : Type 0 where
+  pub ends : span base cs ≡ end
+  pub behind : (rest : List Contribution) → filled base (cs ++ rest) ≡ filled base cs ++ filled end rest
 
-span_next : (base : ℕ) (c : Contribution) (cs : List Contribution) → base ≤ c.address → span base (c ∷ cs) ≡ span (c.address + length c.bytes) cs
+fills_none : (base : ℕ) → Fills base [] base
 unfolding span
-span_next base c cs low =
+fills_none base = record { ends = omega arith; behind = λ rest. refl }
+
+fills_one : (base end : ℕ) (c : Contribution) → base ≤ c.address → c.address + length c.bytes ≡ end → Fills base (c ∷ []) end
+unfolding span
+fills_one base end c low is =
     let padding : List ℕ = zeros (c.address - base) in
     let padded : length padding ≡ c.address - base = length-replicate {A = ℕ} (c.address - base) 0 in
-    let all : length (padding ++ (c.bytes ++ filled (c.address + length c.bytes) cs)) ≡ length padding + length (c.bytes ++ filled (c.address + length c.bytes) cs) =
-    length-append padding (c.bytes ++ filled (c.address + length c.bytes) cs) in
-    let rest : length (c.bytes ++ filled (c.address + length c.bytes) cs) ≡ length c.bytes + length (filled (c.address + length c.bytes) cs) =
-    length-append c.bytes (filled (c.address + length c.bytes) cs) in
-    omega arith
+    let all : length (padding ++ (c.bytes ++ [])) ≡ length padding + length (c.bytes ++ []) = length-append padding (c.bytes ++ []) in
+    let own : length (c.bytes ++ []) ≡ length c.bytes + 0 = length-append c.bytes [] in
+    record {
+      ends = omega arith;
+      behind = λ rest. ap (λ n. padding ++ (c.bytes ++ filled n rest)) is
+          ∙ ap (λ bytes. padding ++ bytes) (sym (append_assoc c.bytes [] (filled end rest)))
+          ∙ sym (append_assoc padding (c.bytes ++ []) (filled end rest));
+    }
+
+fills_both : (base middle end : ℕ) (front back : List Contribution) → Fills base front middle → Fills middle back end → Fills base (front ++ back) end
+unfolding span
+fills_both base middle end front back one two =
+    let sum : length (filled base front ++ filled middle back) ≡ length (filled base front) + length (filled middle back) = length-append (filled base front) (filled middle back) in
+    let first : base + length (filled base front) ≡ middle = one.ends in
+    let second : middle + length (filled middle back) ≡ end = two.ends in
+    record {
+      ends = ap (λ bytes. base + length bytes) (one.behind back) ∙ omega arith;
+      behind = λ rest. ap (filled base) (append_assoc front back rest)
+          ∙ one.behind (back ++ rest)
+          ∙ ap (λ bytes. filled base front ++ bytes) (two.behind rest)
+          ∙ sym (append_assoc (filled base front) (filled middle back) (filled end rest))
+          ∙ ap (λ bytes. bytes ++ filled end rest) (sym (one.behind back));
+    }
 
 module _ (machine : MachineType) (linked : List Placed) (group : Group) where
-  span_section : (p : Placed) (b : Bases) (s : ObjectSection) (named : Option Group) (cs : List Contribution) → AreWithin (length s.bytes) s.relocations →
-      span (base_of group b) (contribution_at group (address_after b s.flags named) (relocated machine linked p s.relocations s.bytes) ++ cs) ≡ span (end_with group (base_of group b) s named) cs
-  span_section p b s None cs within = refl
-  span_section p b s (Some other) cs within =
+  fills_section : (p : Placed) (b : Bases) (s : ObjectSection) (named : Option Group) → AreWithin (length s.bytes) s.relocations →
+      Fills (base_of group b) (contribution_at group (address_after b s.flags named) (relocated machine linked p s.relocations s.bytes)) (end_with group (base_of group b) s named)
+  fills_section p b s None within = fills_none (base_of group b)
+  fills_section p b s (Some other) within =
       elim (cases_Bool (same_group group other)) [
         | inl is ↦
-            let bytes : List ℕ = relocated machine linked p s.relocations s.bytes in
             let position : ℕ = next_multiple (alignment s.flags) (base_of group b) in
-            let long : length bytes ≡ length s.bytes = length-relocated machine linked p s.relocations s.bytes (length s.bytes) within refl in
             rw (is, same_base group other b is) (
-            span_next (base_of group b) (record { address = position; bytes = bytes }) cs (at_least (alignment s.flags) (base_of group b))
-            ∙ ap (λ n. span (position + n) cs) long)
-        | inr is ↦ rw is refl
+            fills_one (base_of group b) (position + length s.bytes) (record { address = position; bytes = relocated machine linked p s.relocations s.bytes })
+            (at_least (alignment s.flags) (base_of group b))
+            (ap (λ n. position + n) (length-relocated machine linked p s.relocations s.bytes (length s.bytes) within refl)))
+        | inr is ↦ rw is (fills_none (base_of group b))
       ]
 
-  span_sections : (p : Placed) (b : Bases) (sections : List ObjectSection) (cs : List Contribution) → AllByRecursion (λ s. AreWithin (length s.bytes) s.relocations) sections →
-      span (base_of group b) (contributions_in machine linked p group (section_addresses_of b sections) sections ++ cs) ≡ span (sections_end group (base_of group b) sections) cs
+  fills_sections : (p : Placed) (b : Bases) (sections : List ObjectSection) → AllByRecursion (λ s. AreWithin (length s.bytes) s.relocations) sections →
+      Fills (base_of group b) (contributions_in machine linked p group (section_addresses_of b sections) sections) (sections_end group (base_of group b) sections)
   unfolding sections_end
-  span_sections p b [] cs sized = refl
-  span_sections p b (s ∷ sections) cs sized =
+  fills_sections p b [] sized = fills_none (base_of group b)
+  fills_sections p b (s ∷ sections) sized =
       let later : Bases = end_after b (section_address_of b s) (length s.bytes) in
-      let own : List Contribution = contribution_at group (section_address_of b s) (relocated machine linked p s.relocations s.bytes) in
-      let others : List Contribution = contributions_in machine linked p group (section_addresses_of later sections) sections in
-      ap (span (base_of group b)) (append_assoc own others cs)
-      ∙ span_section p b s (group_named s.name) (others ++ cs) sized.0
-      ∙ ap (λ n. span n (others ++ cs)) (sym (end_of_section group b s (group_named s.name)))
-      ∙ span_sections p later sections cs sized.1
-      ∙ ap (λ n. span (sections_end group n sections) cs) (end_of_section group b s (group_named s.name))
+      let end : base_of group later ≡ end_with group (base_of group b) s (group_named s.name) = end_of_section group b s (group_named s.name) in
+      fills_both (base_of group b) (end_with group (base_of group b) s (group_named s.name)) (sections_end group (end_with group (base_of group b) s (group_named s.name)) sections)
+      (contribution_at group (section_address_of b s) (relocated machine linked p s.relocations s.bytes)) (contributions_in machine linked p group (section_addresses_of later sections) sections)
+      (fills_section p b s (group_named s.name) sized.0)
+      (subst (λ n. Fills n (contributions_in machine linked p group (section_addresses_of later sections) sections) (sections_end group n sections)) end (fills_sections p later sections sized.1))
 
-  pub span_objects : (b : Bases) (objects : List Object) → AllByRecursion IsSized objects →
-      span (base_of group b) (contributions machine linked group (placed_from b objects)) ≡ group_end group (base_of group b) objects
+  pub fills_objects : (b : Bases) (objects : List Object) → AllByRecursion IsSized objects →
+      Fills (base_of group b) (contributions machine linked group (placed_from b objects)) (group_end group (base_of group b) objects)
   unfolding group_end
-  span_objects b [] sized = span_nil (base_of group b)
-  span_objects b (o ∷ objects) sized =
+  fills_objects b [] sized = fills_none (base_of group b)
+  fills_objects b (o ∷ objects) sized =
       let p : Placed = record { object = o; section_addresses = section_addresses_of b o.sections } in
-      let others : List Contribution = contributions machine linked group (placed_from (ends_after b o.sections) objects) in
-      span_sections p b o.sections others sized.0
-      ∙ ap (λ n. span n others) (sym (end_of_sections group b o.sections))
-      ∙ span_objects (ends_after b o.sections) objects sized.1
-      ∙ ap (λ n. group_end group n objects) (end_of_sections group b o.sections)
+      let later : Bases = ends_after b o.sections in
+      fills_both (base_of group b) (sections_end group (base_of group b) o.sections) (group_end group (sections_end group (base_of group b) o.sections) objects)
+      (contributions_of machine linked group p) (contributions machine linked group (placed_from later objects))
+      (fills_sections p b o.sections sized.0)
+      (subst (λ n. Fills n (contributions machine linked group (placed_from later objects)) (group_end group n objects)) (end_of_sections group b o.sections) (fills_objects later objects sized.1))
 
 -- objects without tables end nothing later
 end_without : (group : Group) (n : ℕ) (sections : List ObjectSection) → list_any is_table sections ≡ false → sections_end group n sections ≡ n
@@ -241,7 +261,7 @@ module _ (machine : MachineType) (first : ℕ) (objects : List Object) (sized : 
   group_span : (group : Group) → span (base_of group bases) (contributions machine linked group linked) ≡ group_end group (base_of group bases) objects
   group_span group =
       ap (span (base_of group bases)) (contributions_kept machine linked group bases objects)
-      ∙ span_objects machine linked group bases (filter has_tables objects) sized
+      ∙ (fills_objects machine linked group bases (filter has_tables objects) sized).ends
       ∙ sym (end_kept group (base_of group bases) objects)
 
   -- a group's range, and the others after the next base

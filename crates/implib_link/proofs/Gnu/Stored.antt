@@ -17,9 +17,9 @@ use Rattle.implib_link.specs.Gnu.Rebased.{absolute_width}
 use Rattle.implib_link.specs.Gnu.Stored.{HasAddField, HasRelative, HoldAddress, HoldsFurther, IsImageRelative, SumArrives, arm64_pageoffset_12a}
 use Rattle.implib_link.specs.Stub.{adrp_immediate, bits_of, page, plus_signed}
 use Rattle.implib_link.proofs.Gnu.FieldsInMemory.{Settles, StoredRests, field_there, linked_there, own_end, settled_in_tables}
-use Rattle.implib_link.proofs.Gnu.Memory.{Covers}
+use Rattle.implib_link.proofs.Gnu.Loaded.{Covers}
 use Rattle.implib_link.proofs.Gnu.Operands.{addr64_is, dir32_is, page_leads, pair_leads, pointer_width}
-use Rattle.implib_link.proofs.Gnu.Claims.{gets_address}
+use Rattle.implib_link.proofs.Flavors.Block.{gets_address}
 use Rattle.implib_link.proofs.Search.Lists.{among_at, contains_among}
 
 -- Numbers of fields.

@@ -28,8 +28,7 @@ use Rattle.implib_link.specs.Tables.{TableEntry}
 use Rattle.implib_link.proofs.Gnu.Packed.{end_of_sections}
 use Rattle.implib_link.proofs.Gnu.Runs.{ends_behind, located_behind}
 use Rattle.implib_link.proofs.Gnu.Sized.{IsSized}
-use Rattle.implib_link.proofs.Parts.Sections.{none_ends, one_address, one_ends, one_is}
-use Rattle.implib_link.proofs.Parts.Texts.{ended_is, named_located, null_located, only_located, thunk_located, field_is}
+use Rattle.implib_link.proofs.Parts.Texts.{none_ends, one_address, one_ends, one_is, ended_is, named_located, null_located, only_located, thunk_located, field_is}
 use Rattle.implib_link.proofs.Gnu.Loaded.{plus_none, times_next, times_none}
 use Rattle.implib_link.proofs.Flavors.Program.{later_even}
 use Rattle.implib_link.proofs.Gnu.Beside.{zero_table, table_with}

@@ -12,9 +12,8 @@ use Rattle.implib.specs.Link.Placement.{Bases, placed_from}
 use Rattle.implib.specs.Members.MemberSpec.{MemberView}
 use Rattle.implib_link.specs.Flavors.Program.{IsProgram, OfLinker, all_members, gnu_input, symbols_listed, ClaimsNone, claimed_names, has_tables, names_claimed_in, null_descriptor}
 use Rattle.implib_link.specs.Parts.{IsProgramOfParts, Part, names_of_parts, objects_of_parts, part_of}
-use Rattle.implib_link.proofs.Flavors.GnuPrograms.{gnu_made, gnu_members}
-use Rattle.implib_link.proofs.Flavors.Program.{program_links}
-use Rattle.implib_link.proofs.Gnu.Claims.{claimed_placed}
+use Rattle.implib_link.proofs.Flavors.Program.{gnu_made, gnu_members, program_links}
+use Rattle.implib_link.proofs.Flavors.Block.{claimed_placed}
 use Rattle.implib_link.proofs.Gnu.Others.{placed_kept}
 
 abbrev parts_of : MachineType → List LinkInput → List Part

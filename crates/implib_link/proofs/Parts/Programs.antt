@@ -23,10 +23,9 @@ use Rattle.implib_link.specs.Directory.{DirectoryAt}
 use Rattle.implib_link.specs.Flavors.Program.{claimed_name, claimed_names, has_tables, is_reference, is_shared, null_descriptor}
 use Rattle.implib_link.specs.Parts.{BeginWithHead, HoldsFields, IsPart, IsProgramOfParts, Part, names_of_parts, objects_of_parts}
 use Rattle.implib_link.specs.Tables.{AreTables, Block, TableEntry, tables_at}
-use Rattle.implib_link.proofs.Gnu.Blocks.{plus_sum, null_located, table_sum}
+use Rattle.implib_link.proofs.Flavors.Block.{plus_sum, null_located, table_sum, all_claim}
 use Rattle.implib_link.proofs.Gnu.Loaded.{times_none as plus_zero}
 use Rattle.implib_link.proofs.Gnu.Others.{contributions_kept, defined_is_claimed, definitions_kept, placed_kept}
-use Rattle.implib_link.proofs.Gnu.Claims.{all_claim}
 use Rattle.implib_link.proofs.Gnu.Runs.{ends_behind, located_behind, placed_parts}
 use Rattle.implib_link.proofs.Tables.{are_packed, entries_until, imported_by_block}
 use Rattle.implib_link.proofs.Search.Lists.{among_filter}

@@ -25,16 +25,15 @@ use Rattle.implib_link.specs.Flavors.Program.{AreEnded, AreEndedByLinker, AreEnd
 use Rattle.implib_link.specs.Gnu.Packed.{packed, packed_end}
 use Rattle.implib_link.specs.Search.Search.{Library, exports_of, TakesIntoAs, listed_in, unresolved, first_listed, left_as, objects_as}
 use Rattle.implib_link.specs.Search.Libraries.{AreClosed, FlavorLibrary, IsClosed, IsFlavorArchive, IsImported, IsUsedIn, LinksClosed, NamesNoMembers, archive_of_both, flavor_inputs, inputs_in, msvc_among, symbols_in, first_null, is_weak_in, wanted_for}
-use Rattle.implib_link.proofs.TablesOfPrograms.{entry_of}
+use Rattle.implib_link.proofs.Tables.{entry_of}
 use Rattle.implib_link.proofs.Flavors.Program.{packed_objects, program_links}
-use Rattle.implib_link.proofs.Search.Arranged.{among_moved}
+use Rattle.implib_link.proofs.Search.ArchiveMembers.{among_moved, only_one}
 use Rattle.implib_link.proofs.Search.Chosen.{both_distinct, both_found, both_made, members_distinct, AnOwn, AnyOf, IsLinked, TheLast, TheTop, chosen_are, chosen_by, chosen_name, export_chosen, input_held, input_in, input_is, is_chosen, linked_from, linked_into, own_chosen}
 use Rattle.implib_link.proofs.Search.Closing.{IsFirstAs, IsListed, TakesAs, first_of, listed_other, none_left, others_claim_none, reached, still_named, takes_apart}
 use Rattle.implib_link.proofs.Search.FlavorGroups.{first_held, made_of, msvc_there, there_msvc, IsReader, expands, found, weak_by_role}
 use Rattle.implib_link.proofs.Search.Lists.{among_at, among_either, among_flat_map, contains_among, from_not, passes, passing, at_index}
 use Rattle.implib_link.proofs.Search.MsvcMembers.{by_symbol, null_tables, null_is, null_of}
 use Rattle.implib_link.proofs.Search.Roles.{IsRole, Last, Null, Own, Role, Top, Weak, in_flavor, is_weak_role, listed_as, member, plain_as, symbols}
-use Rattle.implib_link.proofs.Search.ArchiveMembers.{only_one}
 use Rattle.implib_link.proofs.Search.Taken.{Why, as_other, both_taken, each_first, linked_other, needed, not_wanted}
 
 -- a symbol of an export's own member is that of its address, or its name, where it is no data

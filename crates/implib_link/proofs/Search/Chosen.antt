@@ -19,12 +19,11 @@ use Rattle.implib.proofs.Link.Ranges.{Among, among_back, among_first, among_flat
 use Rattle.implib_link.specs.Flavors.Program.{FlavorInput, all_members, gnu_input, members_linked, specs_in, IsFoundByName, IsMadeFor, dll_names_in, symbols_listed}
 use Rattle.implib_link.specs.Search.Search.{Library, exports_of, input_if_any, inputs_wanted, exports_wanted, is_wanted}
 use Rattle.implib_link.specs.Search.Libraries.{FlavorLibrary, flavor_input, flavor_inputs, symbols_in, imports_wanted, is_import_wanted, short_input_if_any, short_inputs, IsFlavorArchive, msvc_among}
-use Rattle.implib_link.proofs.Flavors.GnuPrograms.{gnu_members}
-use Rattle.implib_link.proofs.Search.Arranged.{chosen_are as gnu_chosen_are, among_moved, library_fewer as gnu_fewer, distinct_from, times, times_both, times_moved}
+use Rattle.implib_link.proofs.Flavors.Program.{gnu_members}
+use Rattle.implib_link.proofs.Search.ArchiveMembers.{chosen_are as gnu_chosen_are, among_moved, library_fewer as gnu_fewer, distinct_from, times, times_both, times_moved, Chosen, in_nothing, member_spec_chosen, member_spec_linked, numbers_are_wanted, only_one, some_export, wanted_name, wants}
 use Rattle.implib_link.proofs.Search.Lists.{among_at, among_either, among_flat_map, among_mapped, passes, passing, at_index, kept_from, kept_into, all_from as all_each, distinct_later}
 use Rattle.implib_link.proofs.Search.MsvcMembers.{both_parts, first_one, import_parts, imports_are, library_fewer as short_fewer}
 use Rattle.implib_link.proofs.Search.Roles.{IsOwn, Last, Own, Top, in_flavor, member}
-use Rattle.implib_link.proofs.Search.ArchiveMembers.{Chosen, in_nothing, member_spec_chosen, member_spec_linked, numbers_are_wanted, only_one, some_export, wanted_name, wants}
 use Rattle.std.proofs.lemmas.Option.{same_Some}
 use Rattle.std.proofs.lemmas.List.Sorted.{IsPermutation-sym}
 use Rattle.implib.specs.Members.MsvcObjects.{null_descriptor_symbol}

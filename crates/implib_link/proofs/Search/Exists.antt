@@ -25,7 +25,7 @@ use Rattle.implib_link.specs.Flavors.Program.{has_tables, null_descriptor, ask_i
 use Rattle.implib_link.specs.Search.Search.{Library, exports_of, exports_wanted, is_wanted, input_if_any, TakesIntoAs, unresolved, objects_as}
 use Rattle.implib_link.specs.Search.Libraries.{export_room, library_room, imports_wanted, is_import_wanted, msvc_library_room, short_room, room_in, room_of, tables_end_by, FlavorLibrary, flavor_input, flavor_inputs, short_input_if_any, HasClosed, objects_closed, tables_closed, AreClosed, AreGiven, IsClosed, IsFlavorArchive, archive_of_both, inputs_in, msvc_among, LieWithin, first_null, is_weak_in, short_inputs, weak_in, TakesIntoFor, wanted_for}
 use Rattle.implib_link.proofs.Gnu.Packed.{end_kept, lies_within}
-use Rattle.implib_link.proofs.Search.Arranged.{chosen_are}
+use Rattle.implib_link.proofs.Search.ArchiveMembers.{chosen_are, only_one}
 use Rattle.implib.specs.LibraryName.{NamesOfDll, names_for}
 use Rattle.implib_link.proofs.Gnu.Loaded.{by_width}
 use Rattle.implib.specs.declared.flavor.Flavor.TheVariants.{Msvc, Gnu}
@@ -44,13 +44,12 @@ use Rattle.std.specs.Option.{option_map}
 use Rattle.std.proofs.lemmas.List.Sorted.{sum_by-IsPermutation, IsPermutation-refl}
 use Rattle.implib.specs.declared.flavor.Flavor.{Flavor}
 use Rattle.implib_link.proofs.Flavors.Inputs.{block_in}
-use Rattle.implib_link.proofs.Flavors.Program.{kept_are, linker_kept, parts_are, kept_sized}
+use Rattle.implib_link.proofs.Flavors.Program.{kept_are, linker_kept, parts_are, kept_sized, all_kept, none_left}
 use Rattle.std.proofs.lemmas.List.Elements.{filter-append}
 use Rattle.implib.specs.Link.Image.{image_of}
 use Rattle.implib.specs.Members.MemberSpec.{MemberView}
 use Rattle.implib.proofs.Link.LinkedMembers.{among_contains}
 use Rattle.implib.proofs.Link.Ranges.{Among}
-use Rattle.implib_link.proofs.Flavors.GnuPrograms.{all_kept, none_left}
 use Rattle.implib_link.proofs.Search.Chosen.{both_made, AnOwn, AnyOf, IsLinked, TheLast, TheTop, input_held, input_in, input_is, linked_from, own_chosen, short_some, some_short}
 use Rattle.implib_link.proofs.Search.BothClosed.{gnu_taken, packed_both}
 use Rattle.implib_link.proofs.Search.Taken.{both_given_closes}
@@ -59,7 +58,6 @@ use Rattle.implib_link.proofs.Search.Closing.{each_read, in_turn_for, pulled}
 use Rattle.implib_link.proofs.Search.FlavorGroups.{first_held, made_of, msvc_there, there_msvc, HasRole, IsReader, expands, found, tables_by_role, weak_by_role}
 use Rattle.implib_link.proofs.Search.Lists.{all_from as all_each, among_either, passing}
 use Rattle.implib_link.proofs.Search.Roles.{Last, Null, Own, Top, in_flavor, is_weak_role}
-use Rattle.implib_link.proofs.Search.ArchiveMembers.{only_one}
 use Rattle.implib.proofs.Link.Linked.{all_append}
 use Rattle.implib_link.proofs.Gnu.Filling.{within_by}
 

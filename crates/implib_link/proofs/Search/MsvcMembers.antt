@@ -21,7 +21,7 @@ use Rattle.implib_link.specs.Search.Libraries.{IsMsvcLibrary, is_short_alias, sy
 use Rattle.implib_link.proofs.Flavors.Block.{asking, symbols_of}
 use Rattle.implib_link.proofs.Flavors.Expanded.{taken_descriptor, taken_null, taken_null_thunk}
 use Rattle.implib_link.proofs.Flavors.Inputs.{descriptor_taken, null_taken, short_taken, taken_of, thunk_taken, objects_with_null}
-use Rattle.implib_link.proofs.Search.ArchiveMembers.{Group, IsWithin, members_of_groups, symbols_of_groups, in_nothing, only_one, passing_chosen, no_address}
+use Rattle.implib_link.proofs.Search.ArchiveMembers.{Group, IsWithin, members_of_groups, symbols_of_groups, in_nothing, only_one, passing_chosen, no_address, times, times_both}
 use Rattle.implib_link.proofs.Search.Lists.{listed_is, among_any, any_among, among_either, from_not}
 use Rattle.implib.specs.LibraryName.{NamesOfDll, linked_dll, names_for}
 use Rattle.implib.specs.declared.flavor.Flavor.TheVariants.{Msvc}
@@ -29,7 +29,6 @@ use Rattle.std.proofs.lemmas.Option.{same_Some}
 use Rattle.implib.specs.Members.MsvcObjects.{descriptor, null_descriptor, null_descriptor_symbol, null_thunk, null_thunk_symbol, descriptor_symbol}
 use Rattle.std.specs.Prelude.{not}
 use Rattle.implib.specs.Link.LinkedMembers.{chosen_exports}
-use Rattle.implib_link.proofs.Search.Arranged.{times, times_both}
 
 -- The members.
 

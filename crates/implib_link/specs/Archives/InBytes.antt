@@ -37,8 +37,8 @@ contents_at kind bytes headers =
     filter_map (λ h. option_map (λ r. r.bytes) (member_at kind bytes h)) headers
 
 -- An unresolved name pulls in the member after a header: the given objects and the members that are
--- taken, as the linker reads them, leave it unresolved, it leads to this header, and the member after
--- it is not taken.
+-- taken, as the linker reads them, leave it unresolved, it leads to this header, and the member
+-- after it is not taken.
 pub record PullsInAt (kind : Kind) (linker : LinkerMember) (bytes : List ℕ)
     (reads : List ℕ → Option Object) (own : List Object) (taken : List ℕ) (name : List ℕ)
     (header : ℕ) : Type 0 where
@@ -55,8 +55,8 @@ AreTakenAt kind linker bytes reads own (header ∷ earlier) =
     ((name : List ℕ) × PullsInAt kind linker bytes reads own earlier name header)
     × AreTakenAt kind linker bytes reads own earlier
 
--- What a linker takes of the archive: the members after these headers, until no unresolved name pulls
--- in another.
+-- What a linker takes of the archive: the members after these headers, until no unresolved name
+-- pulls in another.
 pub record TakesAt (kind : Kind) (linker : LinkerMember) (bytes : List ℕ)
     (reads : List ℕ → Option Object) (own : List Object) (taken : List ℕ) : Type 0 where
   pub in_turn : AreTakenAt kind linker bytes reads own taken

@@ -3,9 +3,9 @@
 -- then. The index has the members in their order (PE/COFF specification, "First Linker Member": the
 -- offsets ascend).
 --
--- So it does with `--disable-auto-import`. By default (`pei386_auto_import` there) it looks up X for
--- an entry `__imp_X` that no object so far names: where X is unresolved, it takes the member, and
--- where X is defined, it passes the entry over from then on. Command lines where this makes no
+-- So it does with `--disable-auto-import`. By default (`pei386_auto_import` there) it looks up X
+-- for an entry `__imp_X` that no object so far names: where X is unresolved, it takes the member,
+-- and where X is defined, it passes the entry over from then on. Command lines where this makes no
 -- difference are those of `ImportsByName`.
 use Rattle.std.specs.Prelude.{◌≡◌, ℕ, zero, suc, Bool, ◌&&◌, ◌==◌, List, [], ◌∷◌, ◌++◌, bytes_eq}
 use Rattle.std.specs.Prelude.{length, map, not, slice_get, Option, Some, None, if◌then◌else◌}

@@ -26,9 +26,9 @@ ghost use Rattle.std.specs.List.{IsDistinct, flat_map};
 ghost use Rattle.std.specs.Prelude.{◌≡◌, ◌<◌, ℕ, Bool, List, Option, None, bytes_eq, length};
 
 /// The bytes of the archive of members are an archive in the sense of searches: a name leads to the
-/// first member that it is listed for, by either linker member; what a linker takes in the bytes for
-/// given objects, however it reads members, are members that it takes of the list; and each search of
-/// the list is one in the bytes.
+/// first member that it is listed for, by either linker member; what a linker takes in the bytes
+/// for given objects, however it reads members, are members that it takes of the list; and each
+/// search of the list is one in the bytes.
 pub fn archives_are_searched()
     ensures leads { (kind : Kind) (linker : LinkerMember) (members : List MemberView)
         (name : List ℕ) →
@@ -77,11 +77,11 @@ pub fn bytes_lead_to_lld_calls()
         (LldArrives machine libraries own) }
 {}
 
-/// The whole way for libraries of which some are for GNU's linker and others for Microsoft's, or all
-/// for one: what a linker takes in their archive's bytes for objects that may be given closes the
-/// program, wherever it is linked; and in the memory that a loader leaves, which reads the image and
-/// knows nothing else, each field against an import's `__imp_` symbol, of either flavour, in any
-/// object's linked code, as that of a call, leads to what its DLL gives.
+/// The whole way for libraries of which some are for GNU's linker and others for Microsoft's, or
+/// all for one: what a linker takes in their archive's bytes for objects that may be given closes
+/// the program, wherever it is linked; and in the memory that a loader leaves, which reads the
+/// image and knows nothing else, each field against an import's `__imp_` symbol, of either flavour,
+/// in any object's linked code, as that of a call, leads to what its DLL gives.
 pub fn bytes_lead_to_calls()
     ensures { (kind : Kind) (linker : LinkerMember) (machine : MachineType)
         (libraries : List FlavorLibrary) (own : List Object) →
@@ -97,9 +97,9 @@ pub fn bytes_lead_to_calls()
 
 /// The whole way for a linker that expands short imports, as GNU `ld`, of the archives of a command
 /// line: what it takes in their order of their members, which may be those that their files have
-/// (`members_in_files`), of libraries for either linker and of anything else, for the given objects,
-/// closes the program; and in the memory that a loader leaves each field against an import's `__imp_`
-/// symbol, as that of a call, leads to what its DLL gives.
+/// (`members_in_files`), of libraries for either linker and of anything else, for the given
+/// objects, closes the program; and in the memory that a loader leaves each field against an
+/// import's `__imp_` symbol, as that of a call, leads to what its DLL gives.
 pub fn command_lines_lead_to_calls()
     ensures { (machine : MachineType) (ending : Ending) (libraries : List FlavorLibrary)
         (members : List MemberView) (inputs : List Input) (is_given : MemberView → Bool)

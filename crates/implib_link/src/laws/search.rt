@@ -11,8 +11,8 @@ ghost use Rattle.std.specs.List.{AllByRecursion, IsDistinct, flat_map};
 ghost use Rattle.std.specs.Prelude.{◌≤◌, ℕ, List, Option, bytes_eq, length};
 
 /// The members of libraries for GNU's linker are an archive of the laws of searches where the
-/// libraries are named apart: the DLLs' names, as symbols have them, which begin with no underscore,
-/// and the exports' names, none of which is a symbol that is made of a name.
+/// libraries are named apart: the DLLs' names, as symbols have them, which begin with no
+/// underscore, and the exports' names, none of which is a symbol that is made of a name.
 pub fn libraries_named_apart_are_archive()
     ensures { (machine : MachineType) (libraries : List Library) →
         AllByRecursion (IsLibrary machine) libraries →

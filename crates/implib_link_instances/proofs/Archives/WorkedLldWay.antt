@@ -27,7 +27,7 @@ use Rattle.implib_link.specs.Tables.{AreSteady}
 use Rattle.implib_link_instances.specs.Worked.Operands.{given_on}
 use Rattle.implib_link_instances.specs.Worked.MsvcSearch.{short_named}
 use Rattle.implib_link_instances.specs.Worked.Programs.{symbol_of_class}
-use Rattle.implib_link.proofs.Flavors.LldTables.{built_pieces}
+use Rattle.implib_link.proofs.Flavors.LldImports.{built_pieces}
 use Rattle.implib_link.proofs.Search.Lists.{contains_among}
 use Rattle.implib_link_instances.proofs.Worked.Calls.{wide}
 use Rattle.implib_link_instances.proofs.Worked.CommandLines.{ended_by, pulls_by}

@@ -24,7 +24,7 @@ use Rattle.implib_link.specs.Archives.Files.{entries_by}
 use Rattle.implib_link.specs.Archives.InBytes.{First, TakesAt, header_by, AreHeadersOf}
 use Rattle.implib_link.specs.Archives.Ways.{IsBuiltByLld, IsWantedBy, read_by_lld, short_of_export, shorts_in}
 use Rattle.implib_link.specs.Flavors.LldImports.{IsLldProgram, imports_of_lld, placed_by_lld, addresses_at, built, hints_at, lookups_at, names_at}
-use Rattle.implib_link.proofs.Flavors.LldTables.{built_pieces}
+use Rattle.implib_link.proofs.Flavors.LldImports.{built_pieces}
 use Rattle.implib_link.specs.Search.CommandLines.{names_left}
 use Rattle.implib_link.proofs.Search.Lists.{among_any, any_among, contains_among}
 use Rattle.implib_link_instances.proofs.Archives.Files.{opened_files}

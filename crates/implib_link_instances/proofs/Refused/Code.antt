@@ -8,9 +8,9 @@ use Rattle.implib.specs.Link.Load.{BytesAt, NumberAt, number_in}
 use Rattle.implib.proofs.Link.Loading.{number_once}
 use Rattle.implib_link.specs.Gnu.Fields.{direct_leads, branch_leads, operand_leads}
 use Rattle.implib_link.specs.Stub.{adrp_immediate, bits_of, jump_reads, ldr_immediate, page, plus_signed, with_adrp, with_bits}
-use Rattle.implib_link.proofs.Gnu.Memory.{byte_first}
+use Rattle.implib_link.proofs.Gnu.Loaded.{byte_first}
 use Rattle.implib_link_instances.proofs.Worked.Lemmas.{are_located, differ, entry_is, number, same_bytes, value}
-use Rattle.implib_link_instances.proofs.Worked.Operands.{passing_fields}
+use Rattle.implib_link_instances.proofs.Worked.Programs.{passing_fields}
 use Rattle.implib_link_instances.proofs.Worked.Stored.{worked_holdings}
 use Rattle.implib_link_instances.specs.Refused.Code.{RefusedAllLeadTo, RefusedBranchArrives, RefusedBranchArrivesByThunk, RefusedBranchStays, RefusedDirectCallArrives, RefusedFields, RefusedHoldAddress, RefusedHoldsFurther, RefusedInstructionArrives, RefusedOperandArrives, RefusedPairArrives, RefusedPointerArrives, RefusedPointsTo, RefusedResolves, RefusedStubArrives, RefusedStubAt, RefusedSumArrives, RefusedThunkArrives, asking_f, back, calling_nops, empty_code, nops, one, one_code, page_back, placed_f}
 use Rattle.implib_link_instances.specs.Worked.Operands.{field, passing_at}

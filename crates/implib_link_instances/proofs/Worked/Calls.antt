@@ -13,8 +13,7 @@ use Rattle.implib_link.proofs.Gnu.LinkedCodes.{linked_beside, takes_from}
 use Rattle.implib_link_instances.proofs.Worked.Programs.{relocated_by, relocated_test, opened as opened_of_programs, worked_programs}
 use Rattle.implib.proofs.Members.MemberReadings.{map_after}
 use Rattle.implib_link.specs.Gnu.Writing.{HoldsAt, ReadsAndWrites}
-use Rattle.implib_link.proofs.Tables.{tables_end, tables_read}
-use Rattle.implib_link.proofs.TablesOfPrograms.{program_count, program_entry, program_tables}
+use Rattle.implib_link.proofs.Tables.{tables_end, tables_read, program_count, program_entry, program_tables}
 use Rattle.implib_link.specs.Tables.{block_of_flavor, tables_at}
 use Rattle.std.specs.Fmt.{digits}
 use Rattle.implib.specs.declared.machine.MachineType.TheVariants.{AMD64, ARM64, I386}

@@ -25,8 +25,7 @@ use Rattle.implib_link.specs.Tables.{AreSteady, AreTables, Table, Tables, tables
 use Rattle.implib_link.proofs.Parts.Members.{parts_steady}
 use Rattle.implib_link.proofs.Parts.Programs.{parts_tables}
 use Rattle.implib_link.proofs.Search.Lists.{contains_among, each_of}
-use Rattle.implib_link.proofs.TablesInMemory.{other_leads, stub_called_otherwise, tables_end_in_memory, thunk_called_otherwise}
-use Rattle.implib_link.proofs.TablesOfPrograms.{lld_tables}
+use Rattle.implib_link.proofs.Tables.{other_leads, stub_called_otherwise, tables_end_in_memory, thunk_called_otherwise, lld_tables}
 use Rattle.implib_link_instances.specs.Worked.Programs.{code_of_thunk, lld_image_on, linked_code, linked_thunk, mid_on, object_section, shorts_on, taken_address, symbol_of_class}
 use Rattle.implib_link_instances.specs.Worked.Parts.{named_start, asking, gnu_bases, gnu_image, start_code, stub_code, table_at, zoo_parts, zoo_tables, objects_of}
 use Rattle.implib_link_instances.specs.Worked.OtherNames.{HoldsOfSome, eight_zeros, other_tables, WorkedAlternateNames, WorkedOtherNames, lld_other_address, lld_other_code, lld_other_codes, lld_other_linked, lld_other_memory, lld_other_targets, other_address, other_codes, other_linked, other_memory, other_objects, other_placed, other_start, other_targets}

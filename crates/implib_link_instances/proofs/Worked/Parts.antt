@@ -24,7 +24,7 @@ use Rattle.implib_link.proofs.Parts.Members.{members_are_part, members_store_non
 use Rattle.implib_link.proofs.Parts.Programs.{parts_tables}
 use Rattle.implib_link_instances.specs.Worked.Parts.{IsWritten, WorkedOlder, WorkedParts, WorkedReach, asking, gnu_bases, gnu_image, i386_gnu_bases, i386_gnu_image, i386_kernel, i386_older_objects, i386_older_parts, i386_older_start, i386_older_zoo, i386_start_bytes, i386_zoo, i386_zoo_objects, i386_zoo_parts, kernel, named_start, older_objects, older_parts, older_zoo, start_bytes, start_code, stub_code, table_at, zoo, zoo_codes, zoo_linked, zoo_memory, zoo_objects, zoo_parts, zoo_tables, zoo_targets, objects_of}
 use Rattle.implib_link_instances.specs.Worked.Programs.{symbol_of_class}
-use Rattle.implib_link.proofs.TablesInMemory.{tables_lead_in_memory, tables_load_in_memory}
+use Rattle.implib_link.proofs.Tables.{tables_lead_in_memory, tables_load_in_memory}
 use Rattle.implib_link_instances.proofs.Worked.Programs.{relocated_by, relocated_test, disjoint, meet_test, takes_outside, admissible_by, all_claim_none, all_hold_fields, distinct_by, instruction_by, opened}
 use Rattle.implib.specs.Definition.{ExportView}
 use Rattle.implib.specs.Members.OlderSymbols.{AreOlderMembersOf, older_object, older_refusal, older_renamed_refusal, older_spec}

@@ -21,7 +21,7 @@ use Rattle.implib_link.proofs.Search.Sweeps.{sweeps_take}
 use Rattle.implib.specs.Members.MsvcObjects.{base_name, descriptor_symbol}
 use Rattle.implib_link.specs.Flavors.Expansion.{descriptor_symbol_by_name}
 use Rattle.implib_link.specs.Search.NamedApart.{AreNamedApart, names_in, stem}
-use Rattle.implib_link.proofs.Search.NamedApart.{named_apart}
+use Rattle.implib_link.proofs.Search.FlavorGroups.{named_apart}
 use Rattle.implib_link.proofs.Search.Closing.{AreTakenInTurnAs, PullsInAs, TakesAs, claims_apart, takes_into}
 use Rattle.implib_link.specs.Flavors.Program.{ClaimsNone}
 

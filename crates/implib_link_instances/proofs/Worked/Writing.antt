@@ -3,7 +3,7 @@ use Rattle.implib.specs.Link.LinkedMembers.{IsMade}
 use Rattle.std.specs.List.{AllByRecursion}
 use Rattle.implib.specs.Link.Placement.{Bases}
 use Rattle.implib_link_instances.specs.Worked.Operands.{moved_memory, passing_codes, passing_objects, passing_targets, given_on}
-use Rattle.implib_link_instances.proofs.Worked.Operands.{worked_operands}
+use Rattle.implib_link_instances.proofs.Worked.Programs.{worked_operands, opened, worked_programs}
 use Rattle.std.proofs.Common.{◌≡◌, ℕ, List, ◌++◌, length, map, refl, ◌∙◌, subst}
 use Rattle.implib.specs.declared.machine.MachineType.{MachineType}
 use Rattle.implib.specs.declared.machine.MachineType.TheVariants.{I386, AMD64}
@@ -23,7 +23,6 @@ use Rattle.implib_link.proofs.Gnu.Loaded.{Keeps}
 use Rattle.implib_link.proofs.Flavors.Writing.{run_can, run_once, program_beside, program_long, writer_ends, writer_loads}
 use Rattle.implib_link_instances.proofs.Worked.Calls.{wide}
 use Rattle.implib_link_instances.proofs.Worked.Loads.{given}
-use Rattle.implib_link_instances.proofs.Worked.Programs.{opened, worked_programs}
 
 keeps_itself : (image : List Range) → Keeps image image
 unfolding Keeps

@@ -7,8 +7,8 @@ ghost use Rattle.implib_link_instances.specs.Worked.BothFlavors.{WorkedGiven, Wo
 /// of another, of the other flavour, by its pointer, and has a function of its own that a library
 /// exports, too; as the law says that there is one.
 ///
-/// The same of two libraries for GNU's linker, with one for Microsoft's between them of which nothing
-/// is wanted.
+/// The same of two libraries for GNU's linker, with one for Microsoft's between them of which
+/// nothing is wanted.
 pub fn worked_closed_programs()
     ensures worked_both { WorkedBoth }
     ensures worked_given { WorkedGiven }

@@ -1,4 +1,4 @@
-use Rattle.implib_link_instances.proofs.Worked.Operands.{adjacent_calls, movable_code, passing_fields, worked_operands}
+use Rattle.implib_link_instances.proofs.Worked.Programs.{adjacent_calls, movable_code, passing_fields, worked_operands}
 use Rattle.implib_link_instances.proofs.Worked.Registered.{worked_registering}
 use Rattle.implib_link_instances.proofs.Worked.Stored.{worked_holdings}
 use Rattle.implib_link_instances.proofs.laws.fields.worked_fields.Goals as goal

@@ -3,7 +3,7 @@ use Rattle.implib_link_instances.proofs.Worked.Flavors.{worked_flavors}
 use Rattle.implib_link_instances.proofs.Worked.Loads.{worked_loads}
 use Rattle.implib_link_instances.proofs.Worked.Packed.{worked_packings}
 use Rattle.implib_link_instances.proofs.Worked.Programs.{worked_programs}
-use Rattle.implib_link_instances.proofs.Worked.Sources.{worked_sources}
+use Rattle.implib_link_instances.proofs.Worked.Aliases.{worked_sources}
 use Rattle.implib_link_instances.proofs.laws.programs.worked_programs.Goals as goal
 
 pub returns : goal.returns
