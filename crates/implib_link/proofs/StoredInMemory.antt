@@ -12,10 +12,9 @@ use Rattle.implib.specs.Link.Placement.{Placed}
 use Rattle.implib.specs.Members.ImportTables.{thunk_width}
 use Rattle.implib.proofs.Link.Ranges.{all_among}
 use Rattle.implib_link.specs.Flavors.LldImports.{IsThunk, ThunkArrives}
-use Rattle.implib_link.specs.Gnu.Fields.{StubAt, AreLinkedBeside, DefinesIn, LinkedCode, placed_code, HasPointer}
+use Rattle.implib_link.specs.Gnu.Fields.{StubAt, AreLinkedBeside, DefinesIn, LinkedCode, placed_code, HasPointer, StubArrives}
 use Rattle.implib_link.specs.Gnu.Moves.{AreInMemory, ArePaged, CanBeMoved, places_of_code}
 use Rattle.implib_link.specs.Gnu.Writing.{ReadsAndWrites}
-use Rattle.implib_link.specs.Gnu.Rebased.{StubArrives}
 use Rattle.implib_link.specs.Gnu.Stored.{AreFurtherHeld, AreStoredInMemory, HoldAddress, PointsTo}
 use Rattle.implib_link.specs.Tables.{AreSteady, AreTables, CanReadFrom, Table, TableEntry, Tables}
 use Rattle.implib_link.proofs.Flavors.LldThunks.{bare_symbol, thunk_defines}

@@ -29,7 +29,7 @@ use Rattle.implib_link.specs.Flavors.Program.{Ending, FlavorInput, SymbolsAt, im
 use Rattle.implib.specs.Formats.ShortImport.{ShortImport, ask_of_short_import}
 use Rattle.implib.proofs.Link.LinkedBlocks.{ends, starts}
 use Rattle.implib_link.specs.Flavors.LldImports.{IsLldProgram, dll_of_group, grouped, imported_by, imports_of_lld, placed_by_lld, ArePiecesAt, IsImportable, thunks_until, BranchArrivesByThunk, IsThunk, ThunkArrives}
-use Rattle.implib_link.specs.Gnu.Rebased.{table_places, table_places_in, StubArrives}
+use Rattle.implib_link.specs.Gnu.Fields.{table_places, table_places_in, StubArrives, CanBranch, DirectCallArrives, HasDirectCall, StubAt, AreLinkedBeside, DefinesIn, LinkedCode, placed_code, field_at, ranges_of_codes, AllLead, AllLeadTo, AreKept, BranchArrives, HasBranch, BranchStays, Names}
 use Rattle.implib_link.specs.Stub.{CanJump}
 use Rattle.implib_link.proofs.Flavors.LldImports.{all_define, defined_once, get_map, lld_links, nth_stands, only, stand, pieces_directory, pieces_stand}
 use Rattle.implib_link.proofs.Flavors.Program.{program_links}
@@ -38,7 +38,6 @@ use Rattle.implib.specs.Formats.Layout.{entries_of, name_text, object_of}
 use Rattle.implib.specs.Members.WeakExternal.{weak_object}
 use Rattle.implib_link.specs.Gnu.Aliases.{weak_target, ResolvesAliases, StandsFor}
 use Rattle.implib.proofs.Link.Definitions.{same_text}
-use Rattle.implib_link.specs.Gnu.Fields.{CanBranch, DirectCallArrives, HasDirectCall, StubAt, AreLinkedBeside, DefinesIn, LinkedCode, placed_code, field_at, ranges_of_codes, AllLead, AllLeadTo, AreKept, BranchArrives, HasBranch, BranchStays, Names}
 use Rattle.implib_link.specs.Gnu.Moves.{AreInMemory}
 use Rattle.implib_link.proofs.Flavors.LldThunks.{bare_symbol, thunk_arrives, thunk_defines, thunk_is}
 use Rattle.implib_link.proofs.Gnu.CallReads.{CanReach}

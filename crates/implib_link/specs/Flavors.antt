@@ -1,5 +1,4 @@
 -- Programs of members of both flavours.
-pub mod SectionSymbols
 pub mod Expansion
 pub mod Program
 pub mod Texts

@@ -1,8 +1,5 @@
 -- Programs of members for GNU's linker.
-pub mod Texts
 pub mod Fields
-pub mod Packed
-pub mod Rebased
 pub mod Moves
 pub mod Stored
 pub mod Pointers

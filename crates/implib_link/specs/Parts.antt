@@ -33,7 +33,7 @@ use Rattle.implib.specs.Members.OlderSymbols.{older_spec, older_symbol}
 use Rattle.implib.specs.Renaming.{renamed}
 use Rattle.implib_link.specs.Flavors.Program.{gnu_input, ClaimsNone, claimed_names, has_tables}
 use Rattle.implib_link.specs.Flavors.Program.{is_table, null_descriptor}
-use Rattle.implib_link.specs.Gnu.Rebased.{absolute_width}
+use Rattle.implib_link.specs.Gnu.Fields.{absolute_width}
 use Rattle.implib_link.specs.Tables.{Block, TableEntry, block_of_flavor}
 
 -- the objects of a DLL's library that are linked, and its entries

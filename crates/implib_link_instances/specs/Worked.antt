@@ -4,8 +4,6 @@ pub mod CommandLines
 pub mod Expansion
 pub mod Files
 pub mod Flavors
-pub mod Loads
-pub mod MsvcSearch
 pub mod Operands
 pub mod OtherNames
 pub mod Parts
@@ -13,5 +11,4 @@ pub mod Plainly
 pub mod Programs
 pub mod Search
 pub mod Stored
-pub mod ThirdTexts
 pub mod Wanting

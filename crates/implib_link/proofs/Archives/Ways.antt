@@ -9,7 +9,7 @@ use Rattle.implib.specs.Members.MemberSpec.{MemberView, MemberSpec, member_of}
 use Rattle.implib_archive.specs.declared.kind.Kind.{Kind}
 use Rattle.implib_link.specs.Archives.Ways.{AreLinkedFor, CallsArrive, AreCalledAlike, IsBuiltByLld, IsWantedBy, LldArrives, defining, defining_alone, is_short, read_by_lld, short_of_export, shorts_in, SearchesByLld}
 use Rattle.implib_link.specs.Search.CommandLines.{Input, SearchesFlavors, given_with, objects_given, others_of}
-use Rattle.implib_link.specs.Search.Sweeps.{members_at}
+use Rattle.implib_link.specs.Search.Search.{members_at, Library, archive_of, exports_of, AreTakenIntoAs, PullsIntoAs, TakesIntoAs, claims_of, references_of, unresolved, first_listed, is_listed_for, objects_as, undefined_in}
 use Rattle.implib_link.proofs.Search.CommandLines.{takes_of_libraries, taken_as_given}
 use Rattle.implib_link.specs.Archives.InBytes.{LinkerMember, HaveArchive, TakesJust}
 use Rattle.implib_link.proofs.Archives.InBytes.{takes_just}
@@ -46,7 +46,6 @@ use Rattle.implib.proofs.Link.LinkedMembers.{among_contains, among_map}
 use Rattle.implib.proofs.Link.Ranges.{Among, all_among, among_back, among_first, among_flat, among_front, among_later}
 use Rattle.implib_link.specs.Flavors.LldImports.{IsLldProgram, if_for, imp_symbols_of, in_small, short_for, IsAskable, IsImportable, BranchArrivesByThunk}
 use Rattle.implib_link.specs.Gnu.Fields.{AllLead}
-use Rattle.implib_link.specs.Search.Search.{Library, archive_of, exports_of, AreTakenIntoAs, PullsIntoAs, TakesIntoAs, claims_of, references_of, unresolved, first_listed, is_listed_for, objects_as, undefined_in}
 use Rattle.implib_link.proofs.Flavors.Block.{FitsIn}
 use Rattle.implib_link.proofs.Flavors.Expanded.{AskFits}
 use Rattle.implib_link.proofs.Flavors.Inputs.{descriptor_at, export_fits, null_at, read_of, short_at, thunk_at, same_machine as own_machine}

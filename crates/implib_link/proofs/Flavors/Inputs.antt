@@ -16,9 +16,8 @@ use Rattle.implib.specs.Formats.Object.{Object, object_in}
 use Rattle.implib.proofs.Link.LinkedMembers.{among_contains, among_map, exports_fit, members_among, objects_are, symbols_are, among_reverse}
 use Rattle.implib.proofs.Link.Placement.{export, tail, head}
 use Rattle.implib.proofs.Link.Ranges.{Among, among_back, among_front, all_among, among_first, among_flat, among_later}
-use Rattle.implib_link.specs.Flavors.Expansion.{Code, Constant, Data, import_object, expansion, is_import_for, expanded_as, expanded_in, use_of}
+use Rattle.implib_link.specs.Flavors.Expansion.{Code, Constant, Data, import_object, expansion, is_import_for, expanded_as, expanded_in, use_of, with_section_symbols}
 use Rattle.implib_link.specs.Flavors.Program.{Ending, OfLinker, OfMember, ask_in, claimed_names, HaveSame, FlavorInput, IsFoundByName, IsMadeFor, IsTaken, all_members, exports_chosen, members_linked, null_member, objects_taken, specs_in, symbols_listed, dll_names_in}
-use Rattle.implib_link.specs.Flavors.SectionSymbols.{with_section_symbols}
 use Rattle.implib_link.proofs.Flavors.Block.{claimed_after, claimed_head, behind_descriptor, objects_of, symbols_of, FitsIn, asking, FlavorBlock, all_objects, rest_of, AllSuit, CanLink}
 use Rattle.implib_link.proofs.Search.Lists.{among_either, contains_among, all_from}
 use Rattle.implib_link.proofs.Flavors.Expanded.{taken_descriptor, taken_null, taken_null_thunk, AskFits}

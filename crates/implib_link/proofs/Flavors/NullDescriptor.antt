@@ -16,8 +16,8 @@ use Rattle.implib.specs.Link.Resolution.{SymbolDefinition, defined_by, definitio
 use Rattle.implib.proofs.Link.Definitions.{none_of, same_text}
 use Rattle.implib.proofs.Link.Placement.{aligned}
 use Rattle.implib.proofs.Link.Ranges.{Among}
-use Rattle.implib_link.specs.Gnu.Packed.{group_end, sections_end}
-use Rattle.implib_link.specs.Flavors.SectionSymbols.{with_section_symbols}
+use Rattle.implib_link.specs.Flavors.Program.{group_end, sections_end}
+use Rattle.implib_link.specs.Flavors.Expansion.{with_section_symbols}
 use Rattle.implib_link.proofs.Flavors.Expanded.{taken_null}
 use Rattle.implib_link.proofs.Gnu.Runs.{ends_behind, placed_parts}
 use Rattle.implib_link.proofs.Search.Lists.{all_parts}

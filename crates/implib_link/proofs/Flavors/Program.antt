@@ -10,7 +10,7 @@ use Rattle.implib.specs.Formats.Object.{Object, object_in}
 use Rattle.implib.proofs.Link.LinkedBlocks.{Block, blocks_objects, linked_objects, each_located, ends, even as even_bases, group_located, starts}
 use Rattle.implib.proofs.Link.LinkedInputs.{block_of, gnu_inputs_objects}
 use Rattle.implib.proofs.Link.Placement.{export, head, tail, AreAligned, aligned}
-use Rattle.implib_link.specs.Flavors.Program.{has_tables, null_descriptor, AreEndedByLinker, AreProgramObjects, IsFoundByName, IsMadeFor, OfLinker, all_members, dll_names_in, gnu_input, symbols_listed, thunks_of, ClaimsNone, linked_symbols, thunks_before, AreClaimed, AreEnded, AreEndedByMember, Ending, FlavorInput, InputImports, OfMember, WhereMember, own_names, SymbolsAt, SymbolsGet, imp_symbols, ask_in, exports_chosen, imported_in, null_member, objects_taken, symbol_in, ProgramLinks, IsProgramOf, claimed_names, names_claimed_in, with_tables, HaveSame}
+use Rattle.implib_link.specs.Flavors.Program.{has_tables, null_descriptor, AreEndedByLinker, AreProgramObjects, IsFoundByName, IsMadeFor, OfLinker, all_members, dll_names_in, gnu_input, symbols_listed, thunks_of, ClaimsNone, linked_symbols, thunks_before, AreClaimed, AreEnded, AreEndedByMember, Ending, FlavorInput, InputImports, OfMember, WhereMember, own_names, SymbolsAt, SymbolsGet, imp_symbols, ask_in, exports_chosen, imported_in, null_member, objects_taken, symbol_in, ProgramLinks, IsProgramOf, claimed_names, names_claimed_in, with_tables, HaveSame, group_end, sections_end, packed, packed_descriptors, packed_end}
 use Rattle.implib_link.proofs.Flavors.Block.{objects_behind, plus_sum, AreEven, NullDefined, OneLinks, behind_descriptor, objects_of, use_for, AllSuit, EachIn, even_all, rest_of, FlavorBlock, all_objects, definitions-all, definitions_all, descriptors_all, directory_in, each_in, ends_all, imported_of, names-all, nth_in, thunks_in, claimed_placed, all_claim, gets_address, once_of}
 use Rattle.implib.specs.LibraryName.{NamesOfDll, names_for, linked_dll}
 use Rattle.std.proofs.lemmas.List.{map-append, append-nil, length-map, length-replicate}
@@ -35,9 +35,7 @@ use Rattle.implib.specs.Link.Resolution.{SymbolDefinition, definitions, definiti
 use Rattle.implib.proofs.Link.Definitions.{not_same_turned, only_definition}
 use Rattle.implib.proofs.Link.Ranges.{Among, all_among, among_first, among_later}
 use Rattle.implib_link.specs.Directory.{DirectoryAt}
-use Rattle.implib_link.specs.Flavors.Expansion.{import_object, expanded_in, Code, Constant, Data, Use, stub_for, stub_relocations_for}
-use Rattle.implib_link.specs.Gnu.Packed.{group_end, sections_end, packed, packed_descriptors, packed_end}
-use Rattle.implib_link.specs.Flavors.SectionSymbols.{with_section_symbols}
+use Rattle.implib_link.specs.Flavors.Expansion.{import_object, expanded_in, Code, Constant, Data, Use, stub_for, stub_relocations_for, with_section_symbols}
 use Rattle.implib_link.proofs.Flavors.Inputs.{all_claim_listed, claimed_with_null, block_in, inputs_link, inputs_objects, inputs_plainly, inputs_symbols, inputs_taken, null_object, objects_with_null}
 use Rattle.implib_link.proofs.Flavors.NullDescriptor.{EndsNothing, all_insert, among_same, descriptors_end_same, finds_same, null_filled, null_once, others_same, undefined_same, group_same}
 use Rattle.implib_link.proofs.Gnu.Others.{contributions_kept, definitions_kept, placed_kept}

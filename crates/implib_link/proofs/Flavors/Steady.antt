@@ -22,9 +22,8 @@ use Rattle.implib.proofs.Link.Linked.{ends_of_block}
 use Rattle.implib.proofs.Link.Placement.{AreAligned, after_head, aligned_head, ends_of_all, ends_of_head, placed-head, export, head, tail}
 use Rattle.implib.proofs.Link.Ranges.{Among, among_back, among_front}
 use Rattle.implib.proofs.Link.Tables.{addresses_end, addresses_filled, filled_first, thunk_bytes}
-use Rattle.implib_link.specs.Flavors.Expansion.{Use, import_object}
+use Rattle.implib_link.specs.Flavors.Expansion.{Use, import_object, with_section_symbols}
 use Rattle.implib_link.specs.Flavors.Program.{Ending, OfLinker, OfMember, ask_in, has_tables, is_table, AreEnded, FlavorInput, IsMadeFor}
-use Rattle.implib_link.specs.Flavors.SectionSymbols.{with_section_symbols}
 use Rattle.implib_link.proofs.Gnu.Beside.{LocatedBeside, block_beside, rest_beside, descriptor_beside, table_bounds}
 use Rattle.implib_link.proofs.Flavors.Block.{addresses_after, AreEven, FitsIn, Suits, behind_descriptor, definitions-in, definitions_in, ends_in, ends_of_askings, even_aligned, even_in, even_wide, objects_of, use_for, askings_stand, AllSuit, BlocksIn, CanLink, FlavorBlock, addresses_one, all_objects, descriptors_one, ends_all, ends_one, imported_of, rest_of, thunks_in}
 use Rattle.implib_link.proofs.Gnu.Filling.{DescriptorBeside, DirectoryBeside}
@@ -35,7 +34,7 @@ use Rattle.std.proofs.lemmas.Bool.{cases_Bool}
 use Rattle.implib.specs.declared.coff.object.Relocation.{Relocation}
 use Rattle.implib.specs.declared.machine.MachineType.TheVariants.{I386, ARMNT, AMD64, ARM64}
 use Rattle.implib.specs.Formats.Constants.{image_relative}
-use Rattle.implib_link.specs.Gnu.Rebased.{absolute_width, places_at, table_places, table_places_in}
+use Rattle.implib_link.specs.Gnu.Fields.{absolute_width, places_at, table_places, table_places_in}
 use Rattle.implib_link.proofs.Gnu.Others.{no_group}
 use Rattle.implib_link.proofs.Search.Lists.{all_from, none_among}
 use Rattle.implib_link.proofs.Flavors.Inputs.{block_in}

@@ -16,9 +16,8 @@ use Rattle.implib.specs.Link.Placement.{Placed}
 use Rattle.implib.specs.Link.Resolution.{is_undefined_external, symbol_address}
 use Rattle.implib.proofs.Link.LinkedMembers.{among_contains, among_map}
 use Rattle.implib.proofs.Link.Ranges.{Among, all_among, among_back, among_front, is_in_from, range_located}
-use Rattle.implib_link.specs.Gnu.Fields.{Defines, PlacedCode, Resolves, amd64_addr64, arm64_addr64}
+use Rattle.implib_link.specs.Gnu.Fields.{Defines, PlacedCode, Resolves, amd64_addr64, arm64_addr64, IsRebased, Place, absolute_width, amd64_addr32, arm64_addr32, covers, moved_number, places_at}
 use Rattle.implib_link.specs.Gnu.Choices.{ArePlacesApart, DefineOnce}
-use Rattle.implib_link.specs.Gnu.Rebased.{IsRebased, Place, absolute_width, amd64_addr32, arm64_addr32, covers, moved_number, places_at}
 use Rattle.implib_link.proofs.Gnu.Loaded.{Keeps, bytes_kept, kept_outside, byte_front}
 use Rattle.implib_link.proofs.Gnu.Moved.{covered_bounds}
 use Rattle.implib_link.proofs.Search.Lists.{among_at, among_either, contains_among, all_parts}

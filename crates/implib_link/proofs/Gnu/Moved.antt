@@ -11,8 +11,7 @@ use Rattle.implib.specs.Formats.Constants.{i386_dir32}
 use Rattle.implib.specs.Link.Image.{AllApart, AreApart, Range, is_in}
 use Rattle.implib.proofs.Link.LinkedMembers.{among_map}
 use Rattle.implib.proofs.Link.Ranges.{Among, all_among}
-use Rattle.implib_link.specs.Gnu.Fields.{amd64_addr64, arm64_addr64, field_width}
-use Rattle.implib_link.specs.Gnu.Rebased.{Place, absolute_width, amd64_addr32, arm64_addr32, covers, places_at}
+use Rattle.implib_link.specs.Gnu.Fields.{amd64_addr64, arm64_addr64, field_width, Place, absolute_width, amd64_addr32, arm64_addr32, covers, places_at}
 
 pub places_from : (machine : MachineType) (position : ℕ) (rs : List Relocation) → AllByRecursion (λ (p : Place). position ≤ p.address) (places_at machine position rs)
 places_from machine position [] = tt

@@ -10,8 +10,7 @@ use Rattle.implib.specs.Members.ImportTables.{zeros}
 use Rattle.implib.specs.Formats.Object.{Object, ObjectSection}
 use Rattle.implib.specs.Link.Placement.{Addresses, Bases, Descriptors, DirectoryEnds, DllNames, Group, HintNames, Lookups, Placed, alignment, base_of, end_after, ends_after, group_named, next_multiple, address_after, section_address_of, placed_from, section_addresses_of, same_group, with_base}
 use Rattle.implib.proofs.Link.Placement.{at_least}
-use Rattle.implib_link.specs.Gnu.Packed.{end_with, group_end, packed, packed_addresses, packed_descriptors, packed_directory_ends, packed_dll_names, packed_end, packed_hint_names, packed_lookups, sections_end}
-use Rattle.implib_link.specs.Flavors.Program.{has_tables, is_table}
+use Rattle.implib_link.specs.Flavors.Program.{end_with, group_end, packed, packed_addresses, packed_descriptors, packed_directory_ends, packed_dll_names, packed_end, packed_hint_names, packed_lookups, sections_end, has_tables, is_table}
 use Rattle.implib_link.proofs.Gnu.Others.{contributions_kept, no_group}
 use Rattle.implib_link.proofs.Gnu.Sized.{AreWithin, IsSized, length-relocated}
 

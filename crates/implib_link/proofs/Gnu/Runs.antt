@@ -9,7 +9,7 @@ use Rattle.implib.specs.Link.Load.{BytesAt}
 use Rattle.implib.specs.Link.Placement.{Addresses, Bases, Descriptors, DllNames, Group, HintNames, Lookups, Placed, base_of, ends_after, placed_from, section_addresses_of}
 use Rattle.implib.proofs.Link.Linked.{LocatedFrom}
 use Rattle.implib.proofs.Link.Ranges.{located_parts}
-use Rattle.implib_link.specs.Gnu.Packed.{group_end}
+use Rattle.implib_link.specs.Flavors.Program.{group_end}
 use Rattle.implib_link.proofs.Gnu.Packed.{Fills, end_of_sections, fills_objects, span}
 use Rattle.implib_link.proofs.Gnu.Sized.{IsSized}
 

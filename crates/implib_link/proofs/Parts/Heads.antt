@@ -22,7 +22,7 @@ use Rattle.implib.proofs.Link.Linked.{LocatedFrom}
 use Rattle.implib.proofs.Link.Placement.{AreAligned, aligned_thunk}
 use Rattle.implib.proofs.Link.Ranges.{Among, among_back, among_first, among_front, among_later, located_parts}
 use Rattle.implib.proofs.Link.Thunks.{StrictTableAt}
-use Rattle.implib_link.specs.Gnu.Packed.{sections_end}
+use Rattle.implib_link.specs.Flavors.Program.{sections_end}
 use Rattle.implib_link.specs.Parts.{AreEntries, IsHead, Row, ask_of, begins, dll_text, entry_name, has_none, is_empty, is_field, is_in_group, leads_to, named_bytes, names_entry, only_section, row_in, row_of, sections_of}
 use Rattle.implib_link.specs.Tables.{TableEntry}
 use Rattle.implib_link.proofs.Gnu.Packed.{end_of_sections}

@@ -30,7 +30,7 @@ use Rattle.implib.proofs.Link.LinkedMembers.{dll_free, exports_fit, objects_are,
 use Rattle.implib.proofs.Link.Placement.{after_head, head, tail}
 use Rattle.implib.proofs.Link.Tables.{CanBeAsked}
 use Rattle.implib_link.specs.Flavors.Program.{is_table, null_descriptor}
-use Rattle.implib_link.specs.Gnu.Rebased.{absolute_width}
+use Rattle.implib_link.specs.Gnu.Fields.{absolute_width, Defines, PlacedCode, StubAt}
 use Rattle.implib_link.specs.Parts.{AreEntries, BeginWithHead, HoldsFields, IsEntry, IsPart, IsProgramOfParts, IsTail, Part, ask_of, begins, dll_text, entry_name, hint_and_name, is_field, is_whole, named_bytes, names_entry, objects_of_parts, ordinal_with, own_bytes, part_of, row_in, stores_none, older_linked, older_numbered, older_part_of, is_in_group, leads_to}
 use Rattle.implib_link.specs.Tables.{AreSteady, TableEntry, Table, tables_at}
 use Rattle.implib_link.proofs.Gnu.Others.{no_group, one_definer}
@@ -51,7 +51,6 @@ use Rattle.implib.proofs.Members.GnuObjects.{Fits-head_object, Fits-older_object
 use Rattle.implib.proofs.Members.NotRefused.{Sound, first_none, if_none, linked_free_by_names, name_asked_free, short_enough, sound_by_names, text_free_by_names}
 use Rattle.implib.specs.Formats.File.{is_defined_external}
 use Rattle.implib.specs.Link.Resolution.{SymbolDefinition, address_in, defined_by_entry, definitions_of, is_undefined_external, symbol_address}
-use Rattle.implib_link.specs.Gnu.Fields.{Defines, PlacedCode, StubAt}
 use Rattle.implib_link.proofs.Flavors.LldImports.{get_map}
 use Rattle.implib_link.proofs.Flavors.Stubs.{symbol_of_entry}
 use Rattle.implib_link.proofs.Tables.{entries_until, packed_at}

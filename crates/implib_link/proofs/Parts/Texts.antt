@@ -12,7 +12,7 @@ use Rattle.implib.specs.Link.Placement.{Bases, Group, Placed, SectionAddress, ad
 use Rattle.implib.specs.Link.Resolution.{address_at, SymbolDefinition, address_in, address_or_zero, defined_by_entry, is_undefined_external, symbol_address, target_address}
 use Rattle.implib.proofs.Link.Linked.{contribution_located, LocatedFrom, same_order}
 use Rattle.implib.proofs.Link.Placement.{at_least, length-thunk_of}
-use Rattle.implib_link.specs.Gnu.Packed.{end_with, sections_end}
+use Rattle.implib_link.specs.Flavors.Program.{end_with, sections_end}
 use Rattle.implib_link.specs.Parts.{fits_four, is_of, one_of, sections_of, ask_of, bytes_at_symbol, bytes_from, has_none, hint_and_name, holds_texts, is_field, named_bytes_in, null_thunk_of, only_section, ordinal_with, own_bytes, thunk_ask}
 use Rattle.implib_link.proofs.Gnu.Packed.{end_of_section, same_base}
 use Rattle.implib_link.proofs.Gnu.Sized.{AreWithin, length-relocated, IsSized}

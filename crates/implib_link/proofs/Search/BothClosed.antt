@@ -21,8 +21,7 @@ use Rattle.implib.specs.Members.MsvcObjects.{null_descriptor_symbol}
 use Rattle.implib.proofs.Link.LinkedMembers.{among_contains}
 use Rattle.implib.proofs.Link.Ranges.{Among, all_among, among_back, among_first, among_flat, among_front, among_later}
 use Rattle.implib_link.specs.Flavors.Expansion.{expanded_in}
-use Rattle.implib_link.specs.Flavors.Program.{AreEnded, AreEndedByLinker, AreEndedByMember, AreProgramObjects, Ending, FlavorInput, IsMadeFor, IsProgramOf, OfLinker, OfMember, ProgramLinks, all_members, null_member, objects_taken, exports_chosen, symbol_in, symbols_listed, thunks_of, ClaimsNone, HaveSame, has_tables, null_descriptor}
-use Rattle.implib_link.specs.Gnu.Packed.{packed, packed_end}
+use Rattle.implib_link.specs.Flavors.Program.{AreEnded, AreEndedByLinker, AreEndedByMember, AreProgramObjects, Ending, FlavorInput, IsMadeFor, IsProgramOf, OfLinker, OfMember, ProgramLinks, all_members, null_member, objects_taken, exports_chosen, symbol_in, symbols_listed, thunks_of, ClaimsNone, HaveSame, has_tables, null_descriptor, packed, packed_end}
 use Rattle.implib_link.specs.Search.Search.{Library, exports_of, TakesIntoAs, listed_in, unresolved, first_listed, left_as, objects_as}
 use Rattle.implib_link.specs.Search.Libraries.{AreClosed, FlavorLibrary, IsClosed, IsFlavorArchive, IsImported, IsUsedIn, LinksClosed, NamesNoMembers, archive_of_both, flavor_inputs, inputs_in, msvc_among, symbols_in, first_null, is_weak_in, wanted_for}
 use Rattle.implib_link.proofs.Tables.{entry_of}

@@ -10,9 +10,8 @@ use Rattle.implib.specs.Members.MemberSpec.{MemberView}
 use Rattle.implib.proofs.Link.LinkedMembers.{among_contains}
 use Rattle.implib.proofs.Link.Ranges.{Among, all_among, among_back, among_first, among_front, among_later}
 use Rattle.implib_link.specs.Flavors.Program.{HaveSame, claimed_names}
-use Rattle.implib_link.specs.Search.Search.{AreTakenIntoAs, PullsIntoAs, TakesIntoAs, references_of, unresolved, claimed_as, first_listed, is_listed_for, objects_as, undefined_in}
+use Rattle.implib_link.specs.Search.Search.{AreTakenIntoAs, PullsIntoAs, TakesIntoAs, references_of, unresolved, claimed_as, first_listed, is_listed_for, objects_as, undefined_in, IndexEntry, index_at, members_at, numbers_from, sweeps, swept}
 use Rattle.implib_link.specs.Search.CommandLines.{AnObject, Archives, AreFirst, AreListedWhole, AreRounds, AreSwept, AreUnclaimedBehind, Input, IsOrdered, IsSwept, LeavesNone, NoneIsLost, SearchesFor, TakesFirst, SearchesCommandLine, SearchesFrom, listed_at, names_left, numbers_but, numbers_in, numbers_of, object_of, objects_given, others_of, given_with}
-use Rattle.implib_link.specs.Search.Sweeps.{IndexEntry, index_at, members_at, numbers_from, sweeps, swept}
 use Rattle.implib_link.proofs.Search.ArchiveMembers.{found_or_not, only_one}
 use Rattle.implib_link.proofs.Search.Closing.{unresolved_from, unresolved_parts, claims_apart}
 use Rattle.implib_link.proofs.Search.Lists.{all_listed, among_any, any_among, among_either, among_flat_map, among_listed, as_name, contains_among, listed_is, listed_once, name_as, passes, passing, at_index, names_more, among_filter}

@@ -20,8 +20,7 @@ use Rattle.implib.specs.Ascii.{without_first, at_sign, begins_with, question_mar
 use Rattle.implib.specs.Import.{name_asked, Ask, Name, Ordinal}
 use Rattle.implib.specs.Underscore.{asked_name, has_underscore}
 use Rattle.implib.proofs.Link.Placement.{after_head, export, head, length-thunk, tail, at_least}
-use Rattle.implib_link.specs.Gnu.Packed.{end_with, group_end, packed_addresses, packed_descriptors, packed_directory_ends, packed_dll_names, packed_end, packed_hint_names, packed_lookups, sections_end, packed}
-use Rattle.implib_link.specs.Flavors.Program.{has_tables, null_descriptor, ask_in, AreEnded, Ending, FlavorInput, IsMadeFor, OfLinker, OfMember, gnu_input, objects_taken, all_members, HaveSame}
+use Rattle.implib_link.specs.Flavors.Program.{end_with, group_end, packed_addresses, packed_descriptors, packed_directory_ends, packed_dll_names, packed_end, packed_hint_names, packed_lookups, sections_end, packed, has_tables, null_descriptor, ask_in, AreEnded, Ending, FlavorInput, IsMadeFor, OfLinker, OfMember, gnu_input, objects_taken, all_members, HaveSame}
 use Rattle.implib_link.specs.Search.Search.{Library, exports_of, exports_wanted, is_wanted, input_if_any, TakesIntoAs, unresolved, objects_as}
 use Rattle.implib_link.specs.Search.Libraries.{export_room, library_room, imports_wanted, is_import_wanted, msvc_library_room, short_room, room_in, room_of, tables_end_by, FlavorLibrary, flavor_input, flavor_inputs, short_input_if_any, HasClosed, objects_closed, tables_closed, AreClosed, AreGiven, IsClosed, IsFlavorArchive, archive_of_both, inputs_in, msvc_among, LieWithin, first_null, is_weak_in, short_inputs, weak_in, TakesIntoFor, wanted_for}
 use Rattle.implib_link.proofs.Gnu.Packed.{end_kept, lies_within}
@@ -34,8 +33,7 @@ use Rattle.implib.specs.Formats.Layout.{entries_of, name_text, object_of}
 use Rattle.implib.specs.Formats.ShortImport.{asked_by_name_type, import_name, import_name_noprefix, without_prefix}
 use Rattle.implib.specs.Members.Msvc.{name_type_of, short_import_symbol}
 use Rattle.implib.specs.Members.MsvcObjects.{descriptor, null_thunk}
-use Rattle.implib_link.specs.Flavors.Expansion.{Use, import_object, expanded_in}
-use Rattle.implib_link.specs.Flavors.SectionSymbols.{with_section_symbols}
+use Rattle.implib_link.specs.Flavors.Expansion.{Use, import_object, expanded_in, with_section_symbols}
 use Rattle.implib_link.proofs.Flavors.Block.{behind_descriptor, use_for, all_objects, rest_of}
 use Rattle.implib_link.proofs.Flavors.Expanded.{taken_descriptor, taken_null, taken_null_thunk}
 use Rattle.implib_link.proofs.Search.MsvcMembers.{imports_are, null_tables, null_is, null_of}

@@ -15,9 +15,8 @@ use Rattle.implib.proofs.Link.LinkedMembers.{among_contains, among_map}
 use Rattle.implib.proofs.Link.Ranges.{Among, all_among, among_flat, among_later}
 use Rattle.implib_link.specs.Flavors.Expansion.{expanded_in}
 use Rattle.implib_link.specs.Flavors.Program.{claimed_name, claimed_names}
-use Rattle.implib_link.specs.Search.Search.{is_weak_entry, AreTakenIntoAs, PullsIntoAs, TakesIntoAs, unresolved, first_listed, objects_as, undefined_in}
+use Rattle.implib_link.specs.Search.Search.{is_weak_entry, AreTakenIntoAs, PullsIntoAs, TakesIntoAs, unresolved, first_listed, objects_as, undefined_in, AreOnlyWeak, HaveNoWeak, IsWeakAmong, TakesPlainly, WeakAreFirst, left_plainly, plainly, weak_names, without_weak}
 use Rattle.implib_link.specs.Search.Libraries.{FlavorLibrary, IsFlavorArchive, archive_of_both, TakesIntoFor, is_weak_in}
-use Rattle.implib_link.specs.Search.Plainly.{AreOnlyWeak, HaveNoWeak, IsWeakAmong, TakesPlainly, WeakAreFirst, left_plainly, plainly, weak_names, without_weak}
 use Rattle.implib_link.proofs.Search.Closing.{IsFirstAs, in_turn_for, pulled, there_not, unresolved_from, unresolved_parts}
 use Rattle.implib_link.proofs.Search.FlavorGroups.{expands, first_by_role, found}
 use Rattle.implib_link.proofs.Search.Lists.{NameAs, among_either, among_filter, among_flat_map, among_mapped, any_among, contains_among, from_not, kept_from, kept_into, none_among, passes, passing}

@@ -18,9 +18,8 @@ use Rattle.implib.specs.Members.MsvcObjects.{descriptor_symbol, null_descriptor_
 use Rattle.implib.specs.Members.WeakExternal.{weak_object, weak_spec}
 use Rattle.implib.specs.Formats.Layout.{entries_of, name_text, object_of}
 use Rattle.implib.proofs.Link.Placement.{export, head, tail}
-use Rattle.implib_link.specs.Flavors.Expansion.{expanded_in}
+use Rattle.implib_link.specs.Flavors.Expansion.{expanded_in, with_section_symbols}
 use Rattle.implib_link.specs.Flavors.Program.{IsFoundByName, ask_in, symbol_in, claimed_names, has_tables}
-use Rattle.implib_link.specs.Flavors.SectionSymbols.{with_section_symbols}
 use Rattle.implib_link.specs.Search.Search.{IsLibrary, Library, exports_of, has_weak, undefined_in}
 use Rattle.implib_link.specs.Search.Libraries.{FlavorLibrary, msvc_among, symbols_in, is_short_alias}
 use Rattle.implib_link.proofs.Flavors.Block.{asking, use_for, claimed_export, claimed_head, claimed_tail}

@@ -12,10 +12,8 @@ use Rattle.implib.specs.Link.Image.{AllApart, IsAdmissible, Range, contribution_
 use Rattle.implib.specs.Link.Linked.{undefined_name}
 use Rattle.implib.specs.Link.Placement.{Bases, Group, Placed, SectionAddress, base_of, groups, placed_from}
 use Rattle.implib.specs.Link.Resolution.{address_or_zero, defined_by_entry, definitions_of, first_address, is_undefined_external, symbol_address, target_address}
-use Rattle.implib_link.specs.Flavors.Program.{AreEnded, Ending, FlavorInput, IsProgramOf, OfLinker, OfMember, own_names, ClaimsNone, claimed_name, claimed_names, has_tables}
-use Rattle.implib_link.specs.Gnu.Packed.{group_end, sections_end}
-use Rattle.implib_link.specs.Search.Search.{claims_of, references_of, unresolved, undefined_in}
-use Rattle.implib_link.specs.Search.Wanting.{unclaimed, undefined_symbol, wanting}
+use Rattle.implib_link.specs.Flavors.Program.{AreEnded, Ending, FlavorInput, IsProgramOf, OfLinker, OfMember, own_names, ClaimsNone, claimed_name, claimed_names, has_tables, group_end, sections_end}
+use Rattle.implib_link.specs.Search.Search.{claims_of, references_of, unresolved, undefined_in, unclaimed, undefined_symbol, wanting}
 
 -- The list: what it leaves to others, what it claims, what it defines.
 

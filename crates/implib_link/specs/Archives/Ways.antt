@@ -15,9 +15,9 @@ use Rattle.implib.specs.Members.MemberSpec.{MemberView}
 use Rattle.implib_link.specs.Flavors.Program.{AreEnded, Ending, FlavorInput, WhereMember, ask_in}
 use Rattle.implib_link.specs.Flavors.Program.{dll_of, exports_chosen, objects_taken, symbol_in}
 use Rattle.implib_link.specs.Flavors.Program.{has_tables, HaveSame, claimed_names, ClaimsNone}
+use Rattle.implib_link.specs.Flavors.Program.{group_end}
 use Rattle.implib_link.specs.Gnu.Fields.{AreBeside, LinkedCode, ranges_of_codes, AllLead, HasBranch}
 use Rattle.implib_link.specs.Gnu.Fields.{CanBranch}
-use Rattle.implib_link.specs.Gnu.Packed.{group_end}
 use Rattle.implib_link.specs.Gnu.Writing.{ReadsAndWrites}
 use Rattle.implib_link.specs.Search.Libraries.{FlavorLibrary, LinksClosed, inputs_in, weak_in}
 use Rattle.implib_link.specs.Search.Libraries.{is_short_alias}

@@ -22,7 +22,7 @@ use Rattle.implib_link.specs.Flavors.Expansion.{expanded_in}
 use Rattle.implib_link.specs.Search.Libraries.{FlavorLibrary, archive_of_both}
 use Rattle.implib_link.specs.Search.Search.{listed_in, references_of, unresolved, claimed_as}
 use Rattle.implib_link.specs.Search.Search.{first_listed, is_listed_for, objects_as, undefined_in}
-use Rattle.implib_link.specs.Search.Sweeps.{index_at, members_at, numbers_from, sweeps, swept}
+use Rattle.implib_link.specs.Search.Search.{index_at, members_at, numbers_from, sweeps, swept}
 
 -- an input: an object, or archives that are searched as a group; an archive by itself is a group of
 -- one

@@ -28,7 +28,7 @@ use Rattle.implib_link.specs.Flavors.Program.{FlavorInput, all_members, null_mem
 use Rattle.implib_link.specs.Flavors.Program.{Ending, IsProgramOf, ProgramLinks, WhereMember}
 use Rattle.implib_link.specs.Flavors.Program.{exports_chosen, gnu_input, objects_taken, symbol_in}
 use Rattle.implib_link.specs.Flavors.Program.{thunks_of, ClaimsNone, has_tables, HaveSame, OfLinker}
-use Rattle.implib_link.specs.Flavors.Program.{OfMember, null_descriptor}
+use Rattle.implib_link.specs.Flavors.Program.{OfMember, null_descriptor, group_end, packed}
 use Rattle.implib.specs.Formats.Object.{Object}
 use Rattle.std.specs.Option.{option_map}
 use Rattle.implib.specs.declared.flavor.Flavor.{Flavor}
@@ -37,7 +37,6 @@ use Rattle.implib.specs.Link.LinkedMembers.{all_linked}
 use Rattle.implib.specs.Link.Placement.{Bases, Descriptors, Placed, placed_from}
 use Rattle.implib.specs.Link.Resolution.{definitions_of}
 use Rattle.implib.specs.Members.ImportTables.{thunk_width}
-use Rattle.implib_link.specs.Gnu.Packed.{group_end, packed}
 
 -- The same for a linker for a machine, which reads short imports, too, as what it takes them for:
 -- the names that members leave to others.

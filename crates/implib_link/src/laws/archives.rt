@@ -16,12 +16,11 @@ ghost use Rattle.implib_link.specs.Archives.InBytes.{LinkerMember, HaveArchive, 
 ghost use Rattle.implib_link.specs.Archives.InBytes.{LeadsToFirst, TakesJust};
 ghost use Rattle.implib_link.specs.Flavors.Program.{Ending};
 ghost use Rattle.implib_link.specs.Flavors.Expansion.{expanded_in};
-ghost use Rattle.implib_link.specs.Search.Search.{Library, archive_of, TakesIntoAs};
+ghost use Rattle.implib_link.specs.Search.Search.{Library, archive_of, TakesIntoAs, members_at};
 ghost use Rattle.implib_link.specs.Search.Libraries.{AreGiven, FlavorLibrary, IsFlavorArchive};
 ghost use Rattle.implib_link.specs.Search.Libraries.{archive_of_both, IsMsvcArchive};
 ghost use Rattle.implib_link.specs.Search.CommandLines.{Input, SearchesFlavors, given_with};
 ghost use Rattle.implib_link.specs.Search.CommandLines.{objects_given, others_of};
-ghost use Rattle.implib_link.specs.Search.Sweeps.{members_at};
 ghost use Rattle.std.specs.List.{IsDistinct, flat_map};
 ghost use Rattle.std.specs.Prelude.{◌≡◌, ◌<◌, ℕ, Bool, List, Option, None, bytes_eq, length};
 

@@ -3,13 +3,12 @@
 ghost use Rattle.implib.specs.Formats.Object.{Object};
 ghost use Rattle.implib.specs.Members.MemberSpec.{MemberView};
 ghost use Rattle.implib_link.specs.Flavors.Program.{HaveSame};
-ghost use Rattle.implib_link.specs.Search.Search.{TakesIntoAs};
+ghost use Rattle.implib_link.specs.Search.Search.{TakesIntoAs, members_at};
 ghost use Rattle.implib_link.specs.Search.CommandLines.{AreFirst, AreListedWhole};
 ghost use Rattle.implib_link.specs.Search.CommandLines.{AreUnclaimedBehind, NoneIsLost, TakesFirst};
 ghost use Rattle.implib_link.specs.Search.CommandLines.{names_left, Input, IsOrdered};
 ghost use Rattle.implib_link.specs.Search.CommandLines.{SearchesCommandLine, given_with};
 ghost use Rattle.implib_link.specs.Search.CommandLines.{objects_given, others_of};
-ghost use Rattle.implib_link.specs.Search.Sweeps.{members_at};
 ghost use Rattle.std.specs.Prelude.{ℕ, [], Bool, List, Option};
 
 /// What GNU `ld` takes of the archives of a command line is what one search of all their members

@@ -4,9 +4,8 @@ ghost use Rattle.implib.specs.Formats.Object.{Object};
 ghost use Rattle.implib.specs.Members.MemberSpec.{MemberView};
 ghost use Rattle.implib.specs.declared.machine.MachineType.{MachineType};
 ghost use Rattle.implib_link.specs.Search.Search.{IsArchive, IsLibrary, Library, AreTakenIntoAs};
-ghost use Rattle.implib_link.specs.Search.Search.{TakesIntoAs};
+ghost use Rattle.implib_link.specs.Search.Search.{TakesIntoAs, SweepsTake, members_at};
 ghost use Rattle.implib_link.specs.Search.NamedApart.{AreNamedApart};
-ghost use Rattle.implib_link.specs.Search.Sweeps.{SweepsTake, members_at};
 ghost use Rattle.std.specs.List.{AllByRecursion, IsDistinct, flat_map};
 ghost use Rattle.std.specs.Prelude.{◌≤◌, ℕ, List, Option, bytes_eq, length};
 

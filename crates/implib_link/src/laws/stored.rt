@@ -3,8 +3,7 @@
 ghost use Rattle.implib.specs.Formats.Object.{ObjectSymbol};
 ghost use Rattle.implib.specs.Members.ImportTables.{thunk_width};
 ghost use Rattle.implib_link.specs.Flavors.LldImports.{ThunkArrives};
-ghost use Rattle.implib_link.specs.Gnu.Fields.{DefinesIn, LinkedCode, HasPointer};
-ghost use Rattle.implib_link.specs.Gnu.Rebased.{StubArrives};
+ghost use Rattle.implib_link.specs.Gnu.Fields.{DefinesIn, LinkedCode, HasPointer, StubArrives};
 ghost use Rattle.implib_link.specs.Gnu.Stored.{AreStoredInMemory, HoldAddress, PointsTo};
 ghost use Rattle.implib_link.specs.InMemory.{OfStubs, OfThunks, WhereLoaded};
 ghost use Rattle.implib_link.specs.Tables.{Table, TableEntry};

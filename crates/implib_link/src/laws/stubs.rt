@@ -11,9 +11,8 @@ ghost use Rattle.implib_link.specs.Flavors.Program.{IsProgramOf, exports_chosen,
 ghost use Rattle.implib_link.specs.Flavors.Program.{thunks_of};
 ghost use Rattle.implib_link.specs.Gnu.Fields.{CanBranch, Defines, DirectCallArrives};
 ghost use Rattle.implib_link.specs.Gnu.Fields.{HasDirectCall, PlacedCode, StubAt, DefinesIn};
-ghost use Rattle.implib_link.specs.Gnu.Fields.{LinkedCode, placed_code, HasBranch};
+ghost use Rattle.implib_link.specs.Gnu.Fields.{LinkedCode, placed_code, HasBranch, StubArrives};
 ghost use Rattle.implib_link.specs.Gnu.Moves.{AreInMemory};
-ghost use Rattle.implib_link.specs.Gnu.Rebased.{StubArrives};
 ghost use Rattle.implib_link.specs.InMemory.{OfStubs, OfThunks, WhereLoaded};
 ghost use Rattle.std.specs.List.{AllByRecursion, Contains};
 ghost use Rattle.std.specs.Prelude.{◌≡◌, ◌+◌, ◌*◌, ◌++◌, ℕ, List, Some, slice_get};

@@ -7,9 +7,9 @@ ghost use Rattle.implib_link.specs.Flavors.Expansion.{expanded_in};
 ghost use Rattle.implib_link.specs.Search.Libraries.{FlavorLibrary, IsFlavorArchive};
 ghost use Rattle.implib_link.specs.Search.Libraries.{archive_of_both, TakesIntoFor};
 ghost use Rattle.implib_link.specs.Search.Search.{TakesIntoAs, unresolved, objects_as};
-ghost use Rattle.implib_link.specs.Search.Search.{undefined_in};
-ghost use Rattle.implib_link.specs.Search.Plainly.{AreOnlyWeak, HaveNoWeak, IsWeakAmong};
-ghost use Rattle.implib_link.specs.Search.Plainly.{TakesPlainly, WeakAreFirst, left_plainly};
+ghost use Rattle.implib_link.specs.Search.Search.{undefined_in, AreOnlyWeak, HaveNoWeak};
+ghost use Rattle.implib_link.specs.Search.Search.{IsWeakAmong, TakesPlainly, WeakAreFirst};
+ghost use Rattle.implib_link.specs.Search.Search.{left_plainly};
 ghost use Rattle.std.specs.List.{Contains, flat_map};
 ghost use Rattle.std.specs.Prelude.{ℕ, ◌++◌, List, Option};
 

@@ -12,14 +12,13 @@ use Rattle.implib_link.specs.Archives.InBytes.{Second, HaveArchive}
 use Rattle.implib_link_instances.specs.Archives.WorkedWays.{WorkedBothWay, bar_for_gnu, bases, before_null, both, calls_bar, calls_queue, code, linked, objects, own, placed, queue_for_msvc, taken}
 use Rattle.implib_link.proofs.Archives.Ways.{both_arrive}
 use Rattle.implib_link.proofs.Archives.InBytes.{search_of}
-use Rattle.implib_link.specs.Flavors.Program.{AreEnded, FlavorInput, OfMember, ClaimsNone}
+use Rattle.implib_link.specs.Flavors.Program.{AreEnded, FlavorInput, OfMember, ClaimsNone, group_end, packed_end, sections_end}
 use Rattle.implib_link.specs.Gnu.Choices.{AreSections, DefineOnce, plain_range}
 use Rattle.implib_link.specs.Gnu.Fields.{AreBeside, LinkedCode, placed_code}
-use Rattle.implib_link.specs.Gnu.Packed.{group_end, packed_end, sections_end}
 use Rattle.implib_link.specs.Search.Libraries.{AreGiven, IsClosed, IsFlavorArchive, archive_of_both, inputs_in, symbols_kept, left_in, TakesIntoFor}
 use Rattle.implib_link.specs.Search.Search.{listed_in}
 use Rattle.implib_link_instances.specs.Worked.Operands.{given_on}
-use Rattle.implib_link_instances.specs.Worked.MsvcSearch.{thunk_named}
+use Rattle.implib_link_instances.specs.Worked.Search.{thunk_named}
 use Rattle.implib_link.proofs.Gnu.Choices.{found, found_in}
 use Rattle.implib_link.proofs.Gnu.LinkedCodes.{codes_can_be_linked}
 use Rattle.implib_link.proofs.Search.BothClosed.{packed_both}

@@ -15,17 +15,15 @@ use Rattle.implib_link.specs.Archives.Ways.{AreCalledAlike, IsBuiltByLld, IsWant
 use Rattle.implib_link_instances.specs.Archives.WorkedWays.{WorkedLldWay, bar_short, calls_linked, is_live, live_shorts, lld_codes, lld_image, lld_libraries, lld_library, lld_linked, lld_memory, lld_own, lld_tables, lld_taken, lld_targets, placed_calls, thunk_linked, two_calls}
 use Rattle.implib_link.proofs.Archives.InBytes.{search_of}
 use Rattle.implib_link.proofs.Archives.Ways.{lld_arrives}
-use Rattle.implib_link.specs.Flavors.Expansion.{descriptor_symbol_by_name, expanded_in, import_object}
+use Rattle.implib_link.specs.Flavors.Expansion.{descriptor_symbol_by_name, expanded_in, import_object, with_section_symbols}
 use Rattle.implib_link.specs.Flavors.LldImports.{imports_of_lld, ArePiecesAt, built, built_bytes, placed_thunk, thunk_section}
-use Rattle.implib_link.specs.Flavors.SectionSymbols.{with_section_symbols}
-use Rattle.implib_link.specs.Gnu.Fields.{AreLinkedBeside, range_of_code, HasBranch, HasInstruction}
+use Rattle.implib_link.specs.Gnu.Fields.{AreLinkedBeside, range_of_code, HasBranch, HasInstruction, table_places}
 use Rattle.implib_link.specs.Gnu.Moves.{AreInMemory, AreMoved}
-use Rattle.implib_link.specs.Gnu.Rebased.{table_places}
 use Rattle.implib_link.specs.Search.Search.{Library, archive_of, AreTakenIntoAs, TakesIntoAs, claims_of, references_of, undefined_in}
 use Rattle.implib_link.specs.Search.Libraries.{IsMsvcArchive, symbols_of_shorts}
 use Rattle.implib_link.specs.Tables.{AreSteady}
 use Rattle.implib_link_instances.specs.Worked.Operands.{given_on}
-use Rattle.implib_link_instances.specs.Worked.MsvcSearch.{short_named}
+use Rattle.implib_link_instances.specs.Worked.Search.{short_named}
 use Rattle.implib_link_instances.specs.Worked.Programs.{symbol_of_class}
 use Rattle.implib_link.proofs.Flavors.LldImports.{built_pieces}
 use Rattle.implib_link.proofs.Search.Lists.{contains_among}

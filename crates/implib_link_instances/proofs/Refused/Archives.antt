@@ -38,8 +38,7 @@ use Rattle.implib_link_instances.proofs.Worked.Programs.{lld_opened}
 use Rattle.implib_link_instances.proofs.Worked.Opened.{searched}
 use Rattle.implib_link_instances.specs.Refused.Archives.{RefusedAreMembersAt, RefusedCallsArrive, RefusedHasMembersAs, RefusedInBytes, RefusedIsHeaderOf, RefusedIsInDirectory, RefusedIsSearchOf, RefusedIsWantedBy, RefusedLeadsToFirst, RefusedLldArrives, ways_taken, with_header_in}
 use Rattle.implib_link_instances.specs.Archives.WorkedWays.{bar_short, lld_taken}
-use Rattle.implib_link_instances.specs.Refused.Links.{f_library, listing, own}
-use Rattle.implib_link_instances.specs.Refused.Searches.{f_export}
+use Rattle.implib_link_instances.specs.Refused.Links.{f_library, listing, own, f_export}
 use Rattle.implib_link_instances.specs.Worked.Operands.{given_on}
 use Rattle.implib.specs.Formats.Object.{object_in}
 use Rattle.implib_link.specs.Search.Search.{claims_of, references_of, undefined_in}

@@ -18,7 +18,7 @@ use Rattle.implib_link.proofs.Search.Lists.{contains_among, any_among}
 use Rattle.implib_link_instances.proofs.Refused.Code.{absent, nothing_there}
 use Rattle.implib_link_instances.proofs.Worked.Calls.{one_of}
 use Rattle.implib_link_instances.proofs.Worked.Lemmas.{differ, none_in, number, no_definition, none_at, none_passes}
-use Rattle.implib_link_instances.specs.Refused.Tables.{RefusedAreTables, RefusedAreTablesLoaded, RefusedFillsBy, RefusedFindsBy, RefusedHoldsAt, RefusedIsInTable, RefusedLoaders, asking, table_at, table_of_f, zero_image}
+use Rattle.implib_link_instances.specs.Refused.Links.{RefusedAreTables, RefusedAreTablesLoaded, RefusedFillsBy, RefusedFindsBy, RefusedHoldsAt, RefusedIsInTable, RefusedLoaders, asking, table_at, table_of_f, zero_image, RefusedFlavorTextLinks, RefusedFlavorTextsLink, RefusedInputImports, RefusedIsImportedBy, RefusedIsImported, RefusedIsTaken, RefusedLinksClosed, RefusedLldLinks, RefusedProgramLinks, asking_entry, f_input, f_library, f_short, for_gnu, later_short, listing, nul_within, unchosen}
 use Rattle.implib_link_instances.specs.Worked.Programs.{symbol_of_class, touching_8}
 use Rattle.implib.specs.declared.flavor.Flavor.TheVariants.{Gnu}
 use Rattle.implib.specs.declared.machine.MachineType.TheVariants.{AMD64}
@@ -31,7 +31,6 @@ use Rattle.implib_link.specs.Search.Libraries.{IsImported, archive_of_both, IsWe
 use Rattle.implib_link.specs.Search.Search.{listed_in}
 use Rattle.implib_link_instances.proofs.Worked.Programs.{lld_opened}
 use Rattle.implib_link_instances.proofs.Worked.Opened.{searched}
-use Rattle.implib_link_instances.specs.Refused.Links.{RefusedFlavorTextLinks, RefusedFlavorTextsLink, RefusedInputImports, RefusedIsImportedBy, RefusedIsImported, RefusedIsTaken, RefusedLinksClosed, RefusedLldLinks, RefusedProgramLinks, asking_entry, f_input, f_library, f_short, for_gnu, later_short, listing, nul_within, unchosen}
 use Rattle.implib_link_instances.specs.Worked.Flavors.{source_in, zed_meant, zed_text}
 
 -- a field that is 0 leads to nothing

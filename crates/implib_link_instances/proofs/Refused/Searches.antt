@@ -13,8 +13,7 @@ use Rattle.implib_link.proofs.Search.Lists.{contains_among}
 use Rattle.implib_link_instances.proofs.Worked.Calls.{one_of}
 use Rattle.implib_link_instances.proofs.Worked.Lemmas.{differ, none_in}
 use Rattle.implib_link_instances.proofs.Worked.Opened.{searched}
-use Rattle.implib_link_instances.specs.Refused.Links.{f_library, listing}
-use Rattle.implib_link_instances.specs.Refused.Searches.{RefusedIsWeakData, RefusedIsWeakShort, RefusedPullsIntoAs, RefusedSearches, RefusedTakesIntoAs, RefusedTakesOfLibraries, exportless, f_export}
+use Rattle.implib_link_instances.specs.Refused.Links.{f_library, listing, RefusedIsWeakData, RefusedIsWeakShort, RefusedPullsIntoAs, RefusedSearches, RefusedTakesIntoAs, RefusedTakesOfLibraries, exportless, f_export}
 
 pub refused_pulls_into : RefusedPullsIntoAs
 unfolding searched

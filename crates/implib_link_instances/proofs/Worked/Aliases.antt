@@ -13,12 +13,9 @@ use Rattle.implib.specs.Members.MsvcObjects.{base_name, descriptor, descriptor_s
 use Rattle.implib.specs.Members.WeakExternal.{weak_object}
 use Rattle.implib.specs.Text.Parses.{Parses}
 use Rattle.implib.proofs.Worked.Statements.{opened as text_opened, parses}
-use Rattle.implib_link.specs.Flavors.Expansion.{import_object, descriptor_symbol_by_name, expanded_in}
-use Rattle.implib_link.specs.Flavors.Program.{OfMember, all_members, IsProgramOf, AreProgramObjects, IsProgram, OfLinker, has_tables, linked_symbols, symbols_listed}
-use Rattle.implib_link.specs.Flavors.SectionSymbols.{with_section_symbols}
-use Rattle.implib_link.specs.Flavors.Texts.{FlavorSource, IsFlavorSource, input_of}
-use Rattle.implib_link.specs.Gnu.Packed.{group_end, packed, packed_end, sections_end}
-use Rattle.implib_link.specs.Gnu.Texts.{link_input_of}
+use Rattle.implib_link.specs.Flavors.Expansion.{import_object, descriptor_symbol_by_name, expanded_in, with_section_symbols}
+use Rattle.implib_link.specs.Flavors.Program.{OfMember, all_members, IsProgramOf, AreProgramObjects, IsProgram, OfLinker, has_tables, linked_symbols, symbols_listed, group_end, packed, packed_end, sections_end}
+use Rattle.implib_link.specs.Flavors.Texts.{FlavorSource, IsFlavorSource, input_of, link_input_of}
 use Rattle.implib_link_instances.specs.Worked.Flavors.{WorkedSource, WorkedSources, both_sources, both_text_objects, foo_meant, foo_text, gnu_sources, gnu_text_objects, source_in, zed_meant, zed_text, both_inputs as flavor_inputs, flavor_bases_8, foo_input as msvc_input}
 use Rattle.implib_link.proofs.Flavors.Program.{packed_objects, gnu_objects}
 use Rattle.implib_link.proofs.Flavors.Texts.{texts_link}

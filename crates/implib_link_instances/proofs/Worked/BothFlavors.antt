@@ -11,12 +11,11 @@ use Rattle.implib.specs.Members.MemberSpec.{MemberView}
 use Rattle.implib.specs.Members.MsvcObjects.{descriptor_symbol, null_descriptor_symbol}
 use Rattle.implib.proofs.Link.LinkedMembers.{among_contains, among_map}
 use Rattle.implib.proofs.Link.Ranges.{Among, all_among, among_front}
-use Rattle.implib_link.specs.Flavors.Program.{AreEnded, Ending, FlavorInput, OfMember, objects_taken, ClaimsNone, HaveSame, claimed_names, has_tables}
-use Rattle.implib_link.specs.Gnu.Packed.{group_end, packed, packed_end, sections_end}
+use Rattle.implib_link.specs.Flavors.Program.{AreEnded, Ending, FlavorInput, OfMember, objects_taken, ClaimsNone, HaveSame, claimed_names, has_tables, group_end, packed, packed_end, sections_end}
 use Rattle.implib_link.specs.Search.Search.{IsArchive, IsLibrary, symbols_of_library, listed_in, unresolved}
 use Rattle.implib_link.specs.Search.Libraries.{AreClosed, AreGiven, FlavorLibrary, IsClosed, IsFlavorArchive, NamesNoMembers, archive_of_both, gnu_among, inputs_in, symbols_kept, msvc_among, LinksClosed, left_in, IsMsvcArchive, IsMsvcLibrary, PullsIntoFor, TakesIntoFor, symbols_of_all_shorts, symbols_of_shorts, wanted_for, weak_in, HasClosed, objects_closed, tables_end_by}
 use Rattle.implib_link_instances.specs.Worked.BothFlavors.{WorkedBoth, WorkedBothExists, WorkedGiven, foo_and_zed, mixed_bases, mixed_objects, mixed_taken, mixed_without_last, zed_and_foo, choosing, clashing, foo_linked}
-use Rattle.implib_link_instances.specs.Worked.MsvcSearch.{msvc_zed, thunk_named, zed_members}
+use Rattle.implib_link_instances.specs.Worked.Search.{msvc_zed, thunk_named, zed_members}
 use Rattle.implib_link.proofs.Search.BothClosed.{closed_links_of_both, packed_both}
 use Rattle.implib_link.proofs.Search.Ends.{into_ends, search_bounded}
 use Rattle.implib_link.proofs.Search.Closing.{unresolved_parts}

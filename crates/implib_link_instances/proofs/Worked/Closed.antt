@@ -5,11 +5,9 @@ use Rattle.implib.specs.declared.machine.MachineType.TheVariants.{AMD64, I386}
 use Rattle.implib.specs.Formats.Object.{Object}
 use Rattle.implib.proofs.Link.LinkedMembers.{among_contains}
 use Rattle.implib.proofs.Link.Ranges.{Among}
-use Rattle.implib_link.specs.Flavors.Program.{AreEnded, OfLinker, gnu_input, ClaimsNone, HaveSame}
-use Rattle.implib_link.specs.Gnu.Packed.{group_end, sections_end}
+use Rattle.implib_link.specs.Flavors.Program.{AreEnded, OfLinker, gnu_input, ClaimsNone, HaveSame, group_end, sections_end}
 use Rattle.implib_link.specs.Search.Libraries.{tables_end_by, AreClosed, AreGiven, IsClosed, IsFlavorArchive, NamesNoMembers, archive_of_both, inputs_in, symbols_kept, left_in, TakesIntoFor, wanted_for}
-use Rattle.implib_link.specs.Search.Search.{claims_of, listed_in, references_of, undefined_in}
-use Rattle.implib_link.specs.Search.Wanting.{wanting}
+use Rattle.implib_link.specs.Search.Search.{claims_of, listed_in, references_of, undefined_in, wanting}
 use Rattle.implib_link_instances.specs.Worked.BothFlavors.{WorkedByLinker, with_far, zed_first, choosing, closed_bases, closed_objects, closed_taken}
 use Rattle.implib_link_instances.specs.Worked.Programs.{both_inputs, program_objects, touching_4, touching_8}
 use Rattle.implib_link_instances.specs.Worked.Wanting.{WorkedWanting, listed_names, quiet, with_names}

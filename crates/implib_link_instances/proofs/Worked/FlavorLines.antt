@@ -8,9 +8,8 @@ use Rattle.implib.specs.Machine.{is_32bit}
 use Rattle.implib.specs.Members.MemberSpec.{MemberView}
 use Rattle.implib_link.specs.Flavors.Expansion.{expanded_in}
 use Rattle.implib_link.specs.Search.Libraries.{AreGiven, FlavorLibrary, archive_of_both, symbols_kept}
-use Rattle.implib_link.specs.Search.Search.{listed_in}
+use Rattle.implib_link.specs.Search.Search.{listed_in, members_at, sweeps, swept}
 use Rattle.implib_link.specs.Search.CommandLines.{AreListedWhole, AreRounds, AreSwept, AreUnclaimedBehind, Input, IsOrdered, NoneIsLost, SearchesCommandLine, SearchesFlavors, SearchesFrom, names_left}
-use Rattle.implib_link.specs.Search.Sweeps.{members_at, sweeps, swept}
 use Rattle.implib_link.proofs.Search.CommandLines.{first_of_distinct, takes_of_libraries}
 use Rattle.implib_link_instances.specs.Worked.CommandLines.{is_quit, WorkedFlavorLine, WorkedFlavorLines, amd64_kernels, amd64_shorts, i386_kernels, i386_shorts, shorts_grouped, shorts_last, shorts_taken, with_quit}
 use Rattle.implib_link_instances.proofs.Worked.BothFlavors.{archive_by}

@@ -7,8 +7,7 @@ use Rattle.implib.specs.Formats.Object.{Object}
 use Rattle.implib.specs.Link.Image.{IsAdmissible}
 use Rattle.implib.specs.Link.LinkedMembers.{IsMade, LinkInput, all_linked, objects_in}
 use Rattle.implib.specs.Link.Placement.{Bases}
-use Rattle.implib_link.specs.Flavors.Program.{IsProgram, OfLinker, gnu_input, has_tables, linked_symbols, null_descriptor}
-use Rattle.implib_link.specs.Gnu.Packed.{packed, packed_end}
+use Rattle.implib_link.specs.Flavors.Program.{IsProgram, OfLinker, gnu_input, has_tables, linked_symbols, null_descriptor, packed, packed_end}
 use Rattle.implib_link.proofs.Flavors.Program.{gnu_ended, gnu_made, members_are_objects, packed_admissible, packed_objects}
 
 pub packed_is_admissible : (machine : MachineType) (first : ℕ) (inputs : List LinkInput) (objects : List Object) → AllByRecursion (IsMade machine) inputs →

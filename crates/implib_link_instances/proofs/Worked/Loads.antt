@@ -17,7 +17,7 @@ use Rattle.implib_link.specs.Gnu.Writing.{Writes, entries_written}
 use Rattle.implib_link.specs.Flavors.Program.{has_tables, IsProgram, Ending, FlavorInput, IsMadeFor, IsProgramOf, OfLinker, gnu_input, imported_in}
 use Rattle.implib_link.proofs.Tables.{packed_imports, tables_load, inputs_blocks, program_tables}
 use Rattle.implib_link.specs.Tables.{AreTablesLoaded, block_of_flavor, tables_at}
-use Rattle.implib_link_instances.specs.Worked.Loads.{WorkedLoad, WorkedLoads, gives_by_hand, written_4, written_8}
+use Rattle.implib_link_instances.specs.Worked.Files.{WorkedLoad, WorkedLoads, gives_by_hand, written_4, written_8}
 use Rattle.implib_link_instances.specs.Worked.Programs.{both_inputs, program_image, program_objects, touching_4, touching_8}
 use Rattle.implib_link.proofs.Gnu.Loaded.{directory_walk}
 use Rattle.implib_link.proofs.Flavors.Program.{program_links}

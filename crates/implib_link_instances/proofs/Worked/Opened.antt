@@ -8,8 +8,7 @@ use Rattle.implib.specs.Members.MsvcObjects.{base_name, descriptor, descriptor_s
 use Rattle.implib.specs.Members.WeakExternal.{weak_object}
 use Rattle.implib_archive.specs.Archive.{entries_from, entries_of, first_linker_size, first_place, front_size, is_long, long_names, name_end, names_bytes, names_size, offset_of, places_from, second_linker_size, strings_of, with_first, with_name}
 use Rattle.implib_archive.specs.Refusal.{has_short_places, has_too_many, member_refusal, members_refusal, name_refusal, places_refusal, refusal_of, symbol_refusal, symbols_refusal}
-use Rattle.implib_link.specs.Flavors.Expansion.{descriptor_symbol_by_name, expanded_in, import_object}
-use Rattle.implib_link.specs.Flavors.SectionSymbols.{with_section_symbols}
+use Rattle.implib_link.specs.Flavors.Expansion.{descriptor_symbol_by_name, expanded_in, import_object, with_section_symbols}
 use Rattle.implib_link.specs.Flavors.Program.{has_tables}
 use Rattle.implib_link.specs.Search.Search.{archive_of, is_weak, symbols_of_library, claims_of, references_of, claimed_as, left_as, undefined_in}
 use Rattle.implib_link.specs.Search.Libraries.{is_weak_in, symbols_of_shorts}

@@ -9,9 +9,8 @@ use Rattle.implib.specs.Members.WeakExternal.{weak_spec}
 use Rattle.implib.proofs.Link.LinkedMembers.{among_contains}
 use Rattle.implib_link.specs.Flavors.Expansion.{expanded_in}
 use Rattle.implib_link.specs.Flavors.Program.{claimed_name}
-use Rattle.implib_link.specs.Search.Search.{is_weak_entry, AreTakenIntoAs, PullsIntoAs, unresolved, first_listed, objects_as}
+use Rattle.implib_link.specs.Search.Search.{is_weak_entry, AreTakenIntoAs, PullsIntoAs, unresolved, first_listed, objects_as, AreOnlyWeak, without_weak}
 use Rattle.implib_link.specs.Search.Libraries.{FlavorLibrary, IsFlavorArchive, archive_of_both, TakesIntoFor}
-use Rattle.implib_link.specs.Search.Plainly.{AreOnlyWeak, without_weak}
 use Rattle.implib_link.proofs.Search.Lists.{any_among, contains_among, each_of}
 use Rattle.implib_link.proofs.Search.Plainly.{libraries_plain}
 use Rattle.implib_link_instances.specs.Worked.Plainly.{WorkedPlainly, descriptor_on, kernel, kernel_library, kernel_taken, null_on, short_on, thunk_on}

@@ -18,9 +18,8 @@ use Rattle.implib.proofs.Link.Definitions.{same_text}
 use Rattle.implib.proofs.Link.LinkedMembers.{among_contains}
 use Rattle.implib.proofs.Link.Loading.{number_once}
 use Rattle.implib.proofs.Link.Ranges.{all_among, among_flat, range_located, apart_as_they_rise, ends_below, rise_below, Among}
-use Rattle.implib_link.specs.Gnu.Fields.{amd64_addr64, arm64_addr64, arm64_branch26, field_width, i386_rel32, Amd64Holds, Arm64Holds, FieldHolds, I386Holds, IsRelocated, LinkedCode, TakesSymbols, field_at, meets, PlacedCode, IsAside, HasInstructions, moved_by, HasInstruction, IsOperand, Names, MeetsAlone, AreLinkedBeside}
+use Rattle.implib_link.specs.Gnu.Fields.{amd64_addr64, arm64_addr64, arm64_branch26, field_width, i386_rel32, Amd64Holds, Arm64Holds, FieldHolds, I386Holds, IsRelocated, LinkedCode, TakesSymbols, field_at, meets, PlacedCode, IsAside, HasInstructions, moved_by, HasInstruction, IsOperand, Names, MeetsAlone, AreLinkedBeside, IsRebased, Place, absolute_width, covers, moved_number, table_places}
 use Rattle.implib_link.specs.Gnu.Moves.{places_of_code, AreInMemory, AreMoved, CanBeMoved}
-use Rattle.implib_link.specs.Gnu.Rebased.{IsRebased, Place, absolute_width, covers, moved_number, table_places}
 use Rattle.implib_link.specs.Stub.{adrp_immediate, bits_of, ldr_immediate, page, with_adrp, with_bits}
 use Rattle.implib_link_instances.specs.Worked.Operands.{in_code, named_or, or_else, AdjacentCalls, MovableCode, PassingFields, WorkedFields, WorkedOperands, amd64_rel32_1, field, imp_open, arm64_pageoffset_12a, arm64_secrel, moved_memory, open_on, passing_at, passing_bytes, passing_codes, passing_image, passing_memory, passing_objects, passing_placed, passing_places, passing_targets, stub_of_open, x86_secrel}
 use Rattle.implib_link.proofs.Gnu.Fields.{alone_among, moved_memory_exists}

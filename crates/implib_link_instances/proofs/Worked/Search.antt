@@ -11,12 +11,11 @@ use Rattle.implib.specs.Formats.Object.{Object}
 use Rattle.implib.specs.Formats.Layout.{encoded_size}
 use Rattle.implib.proofs.Link.LinkedMembers.{among_contains, among_map}
 use Rattle.implib.proofs.Link.Ranges.{Among, among_back}
-use Rattle.implib_link.specs.Search.Search.{claimed_as, first_listed, left_as, undefined_in, AreTakenIntoAs, claims_of, references_of, unresolved, listed_in, TakesIntoAs}
+use Rattle.implib_link.specs.Search.Search.{claimed_as, first_listed, left_as, undefined_in, AreTakenIntoAs, claims_of, references_of, unresolved, listed_in, TakesIntoAs, SweepsTake, sweeps, swept}
 use Rattle.implib_link_instances.specs.Worked.Search.{WorkedFound, WorkedNamedApart, WorkedSweeps, first_x, given_f, reads_by_hand, second_x, two_libraries, wants_x}
 use Rattle.implib_link.proofs.Search.Lists.{among_any, any_among, contains_among}
 use Rattle.implib.specs.Members.WeakExternal.{weak_object}
 use Rattle.implib_link_instances.proofs.Worked.Programs.{distinct_by, opened as opened_of_programs}
-use Rattle.implib_link.specs.Search.Sweeps.{SweepsTake, sweeps, swept}
 use Rattle.implib_link.proofs.Search.Sweeps.{sweeps_take}
 use Rattle.implib.specs.Members.MsvcObjects.{base_name, descriptor_symbol}
 use Rattle.implib_link.specs.Flavors.Expansion.{descriptor_symbol_by_name}

@@ -11,9 +11,8 @@ use Rattle.implib.specs.Machine.{is_32bit}
 use Rattle.implib.specs.Link.Image.{Range}
 use Rattle.implib.proofs.Link.Ranges.{apart_as_they_rise}
 use Rattle.implib_link.specs.Flavors.LldImports.{IsLldProgram, placed_thunk, thunk_section}
-use Rattle.implib_link.specs.Gnu.Fields.{field_width, AreLinkedBeside, LinkedCode, field_at, range_of_code, ranges_of_codes, Names}
+use Rattle.implib_link.specs.Gnu.Fields.{field_width, AreLinkedBeside, LinkedCode, field_at, range_of_code, ranges_of_codes, Names, IsRebased, table_places}
 use Rattle.implib_link.specs.Gnu.Moves.{AreMoved}
-use Rattle.implib_link.specs.Gnu.Rebased.{IsRebased, table_places}
 use Rattle.implib_link.specs.Gnu.Stored.{AreFurtherHeld, AreStoredInMemory, HoldsFurther, amd64_addr32nb, arm64_add, arm64_addr32nb, arm64_pageoffset_12a, i386_dir32nb}
 use Rattle.implib_link.specs.Stub.{bits_of, with_bits}
 use Rattle.implib_link_instances.specs.Worked.Programs.{linked_thunk, lld_image_on, mid_on, shorts_on, tables_on, addresses_on, symbol_of_class}

@@ -12,9 +12,8 @@ use Rattle.implib_link.specs.Gnu.Fields.{AreLinkedBeside, ranges_of_codes, HasBr
 use Rattle.implib_link.specs.Tables.{AreSteady, AreTables, DefineEntries, Table, TableEntry, Tables, imported_by_table}
 use Rattle.implib_link.proofs.Flavors.LldImports.{built_pieces}
 use Rattle.implib_link.proofs.Tables.{tables_lead_in_memory, thunk_called_in_memory, pieces_tables}
-use Rattle.implib_link_instances.specs.Worked.Parts.{asking, table_at}
+use Rattle.implib_link_instances.specs.Worked.Parts.{asking, table_at, PiecesAsk, WorkedThirdTexts, block_asking, third_code, third_codes, third_feed, third_image, third_linked, third_memory, third_section, third_tables, third_targets, third_thunk, third_written}
 use Rattle.implib_link_instances.specs.Worked.Programs.{symbol_of_class}
-use Rattle.implib_link_instances.specs.Worked.ThirdTexts.{PiecesAsk, WorkedThirdTexts, block_asking, third_code, third_codes, third_feed, third_image, third_linked, third_memory, third_section, third_tables, third_targets, third_thunk, third_written}
 use Rattle.implib_link_instances.proofs.Worked.Programs.{relocated_by, relocated_test, lld_opened, meet_test, meets_up, takes_outside, instruction_by}
 use Rattle.implib_link_instances.proofs.Worked.Parts.{all_apart, all_apart_test, is_apart}
 

@@ -16,7 +16,7 @@ use Rattle.implib.specs.Members.WeakExternal.{weak_object}
 use Rattle.implib_link.specs.Directory.{Imported, imported}
 use Rattle.implib_link.specs.Flavors.Program.{has_tables, IsProgram, OfLinker, gnu_input}
 use Rattle.implib_link.specs.Gnu.Writing.{WritesAsItGoes}
-use Rattle.implib_link_instances.specs.Worked.Loads.{gives_by_hand, WorkedWriting, WorkedWritings, left_4, left_8}
+use Rattle.implib_link_instances.specs.Worked.Files.{gives_by_hand, WorkedWriting, WorkedWritings, left_4, left_8}
 use Rattle.implib_link_instances.specs.Worked.Programs.{both_inputs, program_image, program_objects, touching_4, touching_8}
 use Rattle.implib_link.proofs.Gnu.Filling.{all_filled, table_filled}
 use Rattle.implib_link.proofs.Gnu.Loaded.{Keeps}

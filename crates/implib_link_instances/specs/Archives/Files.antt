@@ -20,9 +20,8 @@ use Rattle.implib.specs.Formats.Object.{Object}
 use Rattle.implib.specs.Members.MemberSpec.{MemberView}
 use Rattle.implib_link.specs.Archives.Ways.{SearchesByLld, AreCalledAlike, LldArrives, read_by_lld}
 use Rattle.implib_link.specs.Search.CommandLines.{Input, SearchesFlavors, given_with, others_of}
-use Rattle.implib_link.specs.Search.Sweeps.{members_at}
+use Rattle.implib_link.specs.Search.Search.{members_at, archive_of}
 use Rattle.implib_link.specs.Archives.InBytes.{HaveArchive, Second}
-use Rattle.implib_link.specs.Search.Search.{archive_of}
 
 abbrev pub libquit : List ℕ
 libquit =

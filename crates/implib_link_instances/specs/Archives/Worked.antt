@@ -4,7 +4,7 @@ use Rattle.implib.specs.Formats.Object.{Object, object_in}
 use Rattle.implib_archive.specs.Worked.{worked_coff, worked_gnu}
 use Rattle.implib_archive.specs.declared.kind.Kind.TheVariants.{Coff, Gnu}
 use Rattle.implib_link.specs.Archives.InBytes.{First, Has, Second, TakesAt}
-use Rattle.implib_link.specs.Search.Wanting.{wanting}
+use Rattle.implib_link.specs.Search.Search.{wanting}
 
 -- names, as an object that leaves them to others: a function, one of the second member, and one of
 -- another library

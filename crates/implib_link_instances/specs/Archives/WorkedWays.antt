@@ -16,7 +16,8 @@ use Rattle.implib_link.specs.Gnu.Fields.{PlacedCode, call_bytes, call_relocation
 use Rattle.implib_link.specs.Gnu.Fields.{AreBeside, LinkedCode, placed_code, ranges_of_codes}
 use Rattle.implib_link.specs.Gnu.Fields.{AllLead, HasBranch, HasInstruction}
 use Rattle.implib_link.specs.Search.Search.{Library, unresolved, archive_of}
-use Rattle.implib_link_instances.specs.Worked.Search.{library_of}
+use Rattle.implib_link_instances.specs.Worked.Search.{library_of, descriptor_named, msvc_library}
+use Rattle.implib_link_instances.specs.Worked.Search.{null_named, short_named, thunk_named}
 use Rattle.implib_link_instances.specs.Worked.Operands.{first_bytes, given_on, last_bytes}
 use Rattle.implib.specs.declared.flavor.Flavor.TheVariants.{Gnu, Msvc}
 use Rattle.implib.specs.Link.Image.{Range, image_of}
@@ -29,14 +30,11 @@ use Rattle.implib_archive.specs.declared.kind.Kind.TheVariants.{Coff}
 use Rattle.implib_link.specs.Archives.Ways.{AreLinkedFor, AreCalledAlike, IsBuiltByLld, IsWantedBy}
 use Rattle.implib_link.specs.Archives.Ways.{read_by_lld, short_of_export, shorts_in}
 use Rattle.implib_link.specs.Archives.InBytes.{Second, HaveArchive, IsSearchOf}
-use Rattle.implib_link.specs.Flavors.Program.{OfMember, objects_taken}
+use Rattle.implib_link.specs.Flavors.Program.{OfMember, objects_taken, packed}
 use Rattle.implib_link.specs.Gnu.Choices.{AreSections}
-use Rattle.implib_link.specs.Gnu.Packed.{packed}
 use Rattle.implib_link.specs.Gnu.Writing.{ReadsAndWrites}
 use Rattle.implib_link.specs.Search.Libraries.{AreGiven, FlavorLibrary, IsFlavorArchive}
 use Rattle.implib_link.specs.Search.Libraries.{archive_of_both, IsMsvcArchive}
-use Rattle.implib_link_instances.specs.Worked.MsvcSearch.{descriptor_named, msvc_library}
-use Rattle.implib_link_instances.specs.Worked.MsvcSearch.{null_named, short_named, thunk_named}
 use Rattle.implib_link_instances.specs.Worked.Programs.{object_with, symbol_of_class, taken_address}
 use Rattle.implib_link.specs.Flavors.Expansion.{expanded_in}
 use Rattle.std.specs.List.{filter}

@@ -14,14 +14,13 @@ use Rattle.implib_link.specs.Archives.InBytes.{First, Second, AreHeadersOf, AreM
 use Rattle.implib_link.specs.Archives.InBytes.{IsHeaderOf, IsSearchOf, LeadsToFirst, TakesJust}
 use Rattle.implib_link.specs.Image.Files.{DataDirectory}
 use Rattle.implib_link.specs.Image.Laws.{IsInDirectory}
-use Rattle.implib_link.specs.Search.Wanting.{wanting}
+use Rattle.implib_link.specs.Search.Search.{wanting}
 use Rattle.implib_link_instances.specs.Archives.Files.{libquit}
 use Rattle.implib_link_instances.specs.Archives.WorkedWays.{both, own as calling_both}
 use Rattle.implib_link_instances.specs.Archives.WorkedWays.{lld_libraries, lld_taken}
-use Rattle.implib_link_instances.specs.Refused.Links.{f_library, for_gnu, listing, own}
-use Rattle.implib_link_instances.specs.Refused.Searches.{exportless, f_export}
-use Rattle.implib_link_instances.specs.Refused.Tables.{range_at}
-use Rattle.implib_link_instances.specs.Worked.MsvcSearch.{short_named}
+use Rattle.implib_link_instances.specs.Refused.Links.{f_library, for_gnu, listing, own, exportless}
+use Rattle.implib_link_instances.specs.Refused.Links.{f_export, range_at}
+use Rattle.implib_link_instances.specs.Worked.Search.{short_named}
 use Rattle.implib_link_instances.specs.Worked.Programs.{program_objects, touching_8}
 use Rattle.implib_link.specs.Search.Libraries.{archive_of_both}
 use Rattle.implib_link.specs.Flavors.Expansion.{expanded_in}

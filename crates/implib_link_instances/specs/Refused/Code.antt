@@ -11,8 +11,7 @@ use Rattle.implib_link.specs.Flavors.LldImports.{BranchArrivesByThunk, ThunkArri
 use Rattle.implib_link.specs.Gnu.Fields.{DirectCallArrives, PlacedCode, Resolves, StubAt}
 use Rattle.implib_link.specs.Gnu.Fields.{LinkedCode, AllLeadTo, AreKept, BranchArrives, BranchStays}
 use Rattle.implib_link.specs.Gnu.Fields.{InstructionArrives, OperandArrives, PairArrives}
-use Rattle.implib_link.specs.Gnu.Fields.{PointerArrives}
-use Rattle.implib_link.specs.Gnu.Rebased.{StubArrives}
+use Rattle.implib_link.specs.Gnu.Fields.{PointerArrives, StubArrives}
 use Rattle.implib_link.specs.Gnu.Stored.{HoldAddress, HoldsFurther, IsFurtherHeld, PointsTo}
 use Rattle.implib_link.specs.Gnu.Stored.{SumArrives, amd64_addr32nb, arm64_pageoffset_12a}
 use Rattle.implib_link_instances.specs.Worked.Operands.{field, imp_open, passing_at}

@@ -10,9 +10,8 @@ use Rattle.implib.specs.Members.GnuMembers.{export_spec, head_spec, tail_spec}
 use Rattle.implib.specs.Members.MemberSpec.{MemberView, member_of}
 use Rattle.implib.specs.Members.WeakExternal.{weak_spec}
 use Rattle.implib.specs.Worked.Statements.{plain_export}
-use Rattle.implib_link.specs.Gnu.Packed.{packed, packed_end}
-use Rattle.implib_link.specs.Flavors.Program.{null_descriptor, FlavorInput, OfMember, objects_taken}
-use Rattle.implib_link.specs.Flavors.Program.{OfLinker}
+use Rattle.implib_link.specs.Flavors.Program.{packed, packed_end, null_descriptor, FlavorInput}
+use Rattle.implib_link.specs.Flavors.Program.{OfMember, objects_taken, OfLinker}
 use Rattle.implib_link_instances.specs.Worked.Programs.{code_object, symbol_of_class}
 use Rattle.implib.specs.LibraryName.{own_names}
 use Rattle.implib.specs.declared.flavor.Flavor.TheVariants.{Gnu, Msvc}
@@ -23,10 +22,9 @@ use Rattle.implib_link.specs.Search.Libraries.{archive_of_both, inputs_in, symbo
 use Rattle.implib_link.specs.Search.Libraries.{PullsIntoFor, TakesIntoFor, wanted_for, HasClosed}
 use Rattle.implib_link.specs.Search.Libraries.{tables_end_by, LieWithin}
 use Rattle.implib_link.specs.Search.Search.{unresolved}
-use Rattle.implib_link_instances.specs.Worked.Search.{aliased, library_of}
-use Rattle.implib_link_instances.specs.Worked.MsvcSearch.{descriptor_named, msvc_zed, null_named}
-use Rattle.implib_link_instances.specs.Worked.MsvcSearch.{short_named, thunk_named, zed_members}
-use Rattle.implib_link_instances.specs.Worked.MsvcSearch.{msvc_library}
+use Rattle.implib_link_instances.specs.Worked.Search.{aliased, library_of, descriptor_named}
+use Rattle.implib_link_instances.specs.Worked.Search.{msvc_zed, null_named, short_named}
+use Rattle.implib_link_instances.specs.Worked.Search.{thunk_named, zed_members, msvc_library}
 use Rattle.implib.specs.Link.Image.{image_of}
 use Rattle.implib.specs.Worked.Members.{of_dll}
 

@@ -18,13 +18,13 @@ use Rattle.implib.specs.Worked.Statements.{plain_export}
 use Rattle.implib_link.specs.Flavors.Program.{HaveSame}
 use Rattle.implib_link.specs.Flavors.Expansion.{expanded_in}
 use Rattle.implib_link.specs.Search.Search.{Library, listed_in, objects_as, TakesIntoAs, unresolved}
+use Rattle.implib_link.specs.Search.Search.{members_at}
 use Rattle.implib_link.specs.Search.Libraries.{HasClosed, AreGiven, FlavorLibrary, IsFlavorArchive}
 use Rattle.implib_link.specs.Search.Libraries.{archive_of_both, TakesIntoFor, msvc_among}
 use Rattle.implib_link.specs.Search.Libraries.{short_inputs}
 use Rattle.implib_link.specs.Search.CommandLines.{AnObject, Archives, AreListedWhole, Input}
 use Rattle.implib_link.specs.Search.CommandLines.{IsOrdered, SearchesCommandLine, SearchesFlavors}
 use Rattle.implib_link.specs.Search.CommandLines.{given_with, others_of}
-use Rattle.implib_link.specs.Search.Sweeps.{members_at}
 use Rattle.implib_link.specs.Archives.InBytes.{HaveArchive, Second}
 use Rattle.implib_archive.specs.declared.kind.Kind.TheVariants.{Coff}
 use Rattle.implib.specs.Definition.{ExportView}

@@ -17,11 +17,9 @@ use Rattle.implib.specs.Worked.Members.{of_dll}
 use Rattle.implib.specs.Worked.Statements.{plain_export}
 use Rattle.implib_link.specs.Flavors.Program.{OfMember, all_members, null_member, objects_taken}
 use Rattle.implib_link.specs.Flavors.Program.{IsProgramOf, IsProgram, OfLinker, null_descriptor}
-use Rattle.implib_link.specs.Flavors.Program.{FlavorInput, IsMadeFor}
+use Rattle.implib_link.specs.Flavors.Program.{FlavorInput, IsMadeFor, packed}
 use Rattle.implib_link.specs.Flavors.Texts.{FlavorSource, FlavorTextsLink, IsFlavorSource}
-use Rattle.implib_link.specs.Flavors.Texts.{flavor_source, input_of}
-use Rattle.implib_link.specs.Gnu.Packed.{packed}
-use Rattle.implib_link.specs.Gnu.Texts.{link_input_of}
+use Rattle.implib_link.specs.Flavors.Texts.{flavor_source, input_of, link_input_of}
 use Rattle.implib_link_instances.specs.Worked.Programs.{symbol_on, another, caller, symbol_of_class}
 use Rattle.implib_link_instances.specs.Worked.Programs.{zed_dll}
 use Rattle.implib.specs.Formats.Constants.{class_external}

@@ -16,7 +16,7 @@ use Rattle.implib_link.specs.Gnu.Fields.{AreBeside, IsRelocated, LinkedCode, pla
 use Rattle.implib_link.specs.Gnu.Fields.{HasDirectCall, amd64_addr64, arm64_addr64, StubAt}
 use Rattle.implib_link.specs.Gnu.Fields.{ranges_of_codes, HasBranch, HasInstruction, HasOffsetField}
 use Rattle.implib_link.specs.Gnu.Fields.{HasOperand, HasPageField, HasPointer, branch_leads}
-use Rattle.implib_link.specs.Gnu.Fields.{operand_leads}
+use Rattle.implib_link.specs.Gnu.Fields.{operand_leads, Place}
 use Rattle.implib_link.specs.Stub.{bits_of, code_word, with_bits, with_word, word_at}
 use Rattle.std.specs.List.{AllByRecursion}
 use Rattle.implib.specs.Formats.Bytes.{u32_bytes}
@@ -37,7 +37,6 @@ use Rattle.implib_link.specs.Gnu.Pointers.{load_bytes, load_relocations}
 use Rattle.implib_link.specs.Gnu.Choices.{AreSections, DefineOnce}
 use Rattle.implib.specs.Link.Resolution.{target_address}
 use Rattle.implib_link.specs.Gnu.Moves.{AreInMemory, CanBeMoved}
-use Rattle.implib_link.specs.Gnu.Rebased.{Place}
 
 -- a word that a relocation changes in code: as in a stub's, on I386 relative to the byte after the
 -- field too, and on ARM64 in a branch

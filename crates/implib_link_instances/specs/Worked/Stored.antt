@@ -17,7 +17,7 @@ use Rattle.implib.specs.Members.Gnu.{section, text_name}
 use Rattle.implib_link.specs.Flavors.Program.{IsProgram, null_descriptor}
 use Rattle.implib_link.specs.Gnu.Fields.{StubAt, amd64_addr64, arm64_addr64, DefinesIn, LinkedCode}
 use Rattle.implib_link.specs.Gnu.Fields.{placed_code, ranges_of_codes, HasPageField, HasPointer}
-use Rattle.implib_link.specs.Gnu.Fields.{HasBranch, HasInstruction}
+use Rattle.implib_link.specs.Gnu.Fields.{HasBranch, HasInstruction, Place}
 use Rattle.implib_link.specs.Gnu.Stored.{AreStoredInMemory, HasAddField, HasRelative}
 use Rattle.implib_link.specs.Gnu.Stored.{amd64_addr32nb, arm64_addr32nb, arm64_pageoffset_12a}
 use Rattle.implib_link.specs.Gnu.Stored.{i386_dir32nb}
@@ -32,7 +32,6 @@ use Rattle.implib.specs.Import.{imp_symbol}
 use Rattle.implib.specs.Machine.{machine_number}
 use Rattle.implib_link.specs.Flavors.LldImports.{IsLldProgram, placed_by_lld, IsThunk, placed_thunk}
 use Rattle.implib_link.specs.Flavors.LldImports.{thunk_section}
-use Rattle.implib_link.specs.Gnu.Rebased.{Place}
 use Rattle.implib_link.specs.Tables.{AreSteady}
 
 -- The section. I386: a pointer; `push offset _open`; three `nop`; an address from the image's base.

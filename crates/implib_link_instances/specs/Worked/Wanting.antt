@@ -7,8 +7,7 @@ use Rattle.implib.specs.Formats.Constants.{class_external}
 use Rattle.implib.specs.Formats.Object.{ASymbol, Object}
 use Rattle.implib_link.specs.Flavors.Program.{IsProgram, claimed_names}
 use Rattle.implib_link.specs.Search.Libraries.{archive_of_both, TakesIntoFor}
-use Rattle.implib_link.specs.Search.Search.{unresolved}
-use Rattle.implib_link.specs.Search.Wanting.{wanting}
+use Rattle.implib_link.specs.Search.Search.{unresolved, wanting}
 use Rattle.implib_link_instances.specs.Worked.BothFlavors.{with_far, closed_taken}
 use Rattle.implib_link_instances.specs.Worked.Programs.{both_inputs, code_object, program_objects}
 use Rattle.implib_link_instances.specs.Worked.Programs.{symbol_of_class, touching_4, touching_8}

@@ -2,7 +2,7 @@
 
 ghost use Rattle.implib_link_instances.specs.Worked.Expansion.{WorkedExpansion};
 ghost use Rattle.implib_link_instances.specs.Worked.Flavors.{WorkedFlavors, WorkedSources};
-ghost use Rattle.implib_link_instances.specs.Worked.Loads.{WorkedLoads, WorkedPackings};
+ghost use Rattle.implib_link_instances.specs.Worked.Files.{WorkedLoads, WorkedPackings};
 ghost use Rattle.implib_link_instances.specs.Worked.Programs.{WorkedPrograms};
 
 /// Programs that were linked by hand, on AMD64, I386 and ARMNT, meet what the laws ask for and have
