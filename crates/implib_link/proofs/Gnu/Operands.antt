@@ -490,12 +490,7 @@ by_stub machine image_base memory address stub instruction bytes here whole lead
   whole = whole;
   stub = stub;
   leads = leads;
-  code = arrives.code;
-  there = arrives.there;
-  whole_stub = arrives.whole;
-  entry = arrives.entry;
-  reads = arrives.reads;
-  located = arrives.located;
+  jumps = arrives;
 }
 
 -- I386's and AMD64's call.

@@ -23,8 +23,7 @@ use Rattle.implib.specs.Formats.Object.{Object, ObjectSection, ASymbol, Entry}
 use Rattle.implib.specs.Formats.ShortImport.{ShortImport, ask_of_short_import, short_import_in}
 use Rattle.implib.specs.Machine.{machine_number}
 use Rattle.implib.specs.Members.Gnu.{section, text_name}
-use Rattle.implib_link.specs.Gnu.Fields.{LinkedCode, BranchArrives}
-use Rattle.implib_link.specs.Stub.{jump_reads}
+use Rattle.implib_link.specs.Gnu.Fields.{LinkedCode, BranchArrives, JumpArrives}
 use Rattle.std.specs.Option.{option_and_then}
 use Rattle.implib.specs.Link.Resolution.{definitions_of}
 use Rattle.implib_link.specs.Flavors.Program.{GetsAddress}
@@ -201,16 +200,9 @@ pub record IsThunk (machine : MachineType) (d : LinkedCode) (r : ShortImport) : 
   pub from : d.from ≡ placed_thunk machine r
   pub number : d.number ≡ 1
 
--- At an address of memory is a thunk, by the bytes that are there, and where its jump reads its
--- target are these bytes: say, the address of a DLL's function.
-pub record ThunkArrives (machine : MachineType) (image_base : ℕ) (memory : List Range) (address : ℕ)
-    (bytes : List ℕ) : Type 0 where
-  pub code : List ℕ
-  pub there : BytesAt memory address code
-  pub whole : length code ≡ length (thunk_code machine)
-  pub entry : ℕ
-  pub reads : jump_reads machine (image_base + address) code ≡ Some (image_base + entry)
-  pub located : BytesAt memory entry bytes
+-- a thunk in memory arrives at these bytes
+abbrev pub ThunkArrives : MachineType → ℕ → List Range → ℕ → List ℕ → Type 0
+ThunkArrives machine = JumpArrives machine (length (thunk_code machine))
 
 -- At an address of memory is the field of a branch that leads to a thunk, which arrives at these
 -- bytes.

@@ -180,8 +180,23 @@ direct_leads ARM64 address bytes =
     then Some (plus_signed 26 4 (bits_of 0 26 (word_at bytes 0)) address)
     else None
 
--- At an address of memory is a direct call, by the bytes that are there; where it leads is a stub,
--- by the bytes that are there; and where this reads its target are these bytes.
+-- At an address of memory is code that jumps, so many bytes of it, by the bytes that are there, and
+-- where its jump reads its target are these bytes: say, the address of a DLL's function.
+pub record JumpArrives (machine : MachineType) (size image_base : ℕ) (memory : List Range)
+    (address : ℕ) (bytes : List ℕ) : Type 0 where
+  pub code : List ℕ
+  pub there : BytesAt memory address code
+  pub whole : length code ≡ size
+  pub entry : ℕ
+  pub reads : jump_reads machine (image_base + address) code ≡ Some (image_base + entry)
+  pub located : BytesAt memory entry bytes
+
+-- so does a stub
+abbrev pub StubArrives : MachineType → ℕ → List Range → ℕ → List ℕ → Type 0
+StubArrives machine = JumpArrives machine (length (stub_bytes machine))
+
+-- At an address of memory is a direct call, by the bytes that are there, and it leads to a stub,
+-- which arrives at these bytes.
 pub record DirectCallArrives (machine : MachineType) (image_base : ℕ) (memory : List Range)
     (address : ℕ) (bytes : List ℕ) : Type 0 where
   pub instruction : List ℕ
@@ -189,12 +204,7 @@ pub record DirectCallArrives (machine : MachineType) (image_base : ℕ) (memory 
   pub whole : length instruction ≡ length (direct_bytes machine)
   pub stub : ℕ
   pub leads : direct_leads machine (image_base + address) instruction ≡ Some (image_base + stub)
-  pub code : List ℕ
-  pub there : BytesAt memory stub code
-  pub whole_stub : length code ≡ length (stub_bytes machine)
-  pub entry : ℕ
-  pub reads : jump_reads machine (image_base + stub) code ≡ Some (image_base + entry)
-  pub located : BytesAt memory entry bytes
+  pub jumps : StubArrives machine image_base memory stub bytes
 
 -- What a linker makes of code, as a relation: a byte in no relocation's field is as it was, and a
 -- field that no other relocation meets holds what its type asks (PE/COFF specification, "COFF
@@ -633,14 +643,3 @@ pub record IsRebased (from to : ℕ) (places : List Place)
       NumberAt rebased p.width p.address (moved_number p.width from to n)
   pub kept : (address byte : ℕ) → list_any (covers address) places ≡ false →
       byte_at memory address ≡ Some byte → byte_at rebased address ≡ Some byte
-
--- At an address of memory is a stub, by the bytes that are there, and where its jump reads its
--- target are these bytes: say, the address of a DLL's function.
-pub record StubArrives (machine : MachineType) (image_base : ℕ) (memory : List Range) (address : ℕ)
-    (bytes : List ℕ) : Type 0 where
-  pub code : List ℕ
-  pub there : BytesAt memory address code
-  pub whole : length code ≡ length (stub_bytes machine)
-  pub entry : ℕ
-  pub reads : jump_reads machine (image_base + address) code ≡ Some (image_base + entry)
-  pub located : BytesAt memory entry bytes

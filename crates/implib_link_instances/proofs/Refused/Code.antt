@@ -1,5 +1,5 @@
 -- What does not arrive, by computing.
-use Rattle.std.proofs.Common.{List, None, Option, Some, [], ap, append-nil, arith, codes, length, refl, subst, sym, ℕ, ◌*◌, ◌+◌, ◌++◌, ◌<◌, ◌∙◌, ◌∷◌, ◌≡◌}
+use Rattle.std.proofs.Common.{List, None, Option, Some, [], ap, append-nil, arith, codes, length, refl, sym, ℕ, ◌*◌, ◌+◌, ◌++◌, ◌<◌, ◌∙◌, ◌∷◌, ◌≡◌}
 use Rattle.implib.specs.declared.machine.MachineType.TheVariants.{AMD64, ARM64}
 use Rattle.implib.specs.Formats.Constants.{class_external}
 use Rattle.implib.specs.Formats.Object.{ASymbol}
@@ -9,10 +9,10 @@ use Rattle.implib.proofs.Link.Loading.{number_once}
 use Rattle.implib_link.specs.Gnu.Fields.{direct_leads, branch_leads, operand_leads}
 use Rattle.implib_link.specs.Stub.{adrp_immediate, bits_of, jump_reads, ldr_immediate, page, plus_signed, with_adrp, with_bits}
 use Rattle.implib_link.proofs.Gnu.Loaded.{byte_first}
-use Rattle.implib_link_instances.proofs.Worked.Lemmas.{are_located, differ, entry_is, number, same_bytes, value}
+use Rattle.implib_link_instances.proofs.Worked.Lemmas.{are_located, differ, number, same_bytes, value}
 use Rattle.implib_link_instances.proofs.Worked.Programs.{passing_fields}
 use Rattle.implib_link_instances.proofs.Worked.Stored.{worked_holdings}
-use Rattle.implib_link_instances.specs.Refused.Code.{RefusedAllLeadTo, RefusedBranchArrives, RefusedBranchArrivesByThunk, RefusedBranchStays, RefusedDirectCallArrives, RefusedFields, RefusedHoldAddress, RefusedHoldsFurther, RefusedInstructionArrives, RefusedOperandArrives, RefusedPairArrives, RefusedPointerArrives, RefusedPointsTo, RefusedResolves, RefusedStubArrives, RefusedStubAt, RefusedSumArrives, RefusedThunkArrives, asking_f, back, calling_nops, empty_code, nops, one, one_code, page_back, placed_f}
+use Rattle.implib_link_instances.specs.Refused.Code.{RefusedAllLeadTo, RefusedBranchArrives, RefusedBranchArrivesByThunk, RefusedBranchStays, RefusedDirectCallArrives, RefusedFields, RefusedHoldAddress, RefusedHoldsFurther, RefusedInstructionArrives, RefusedOperandArrives, RefusedPairArrives, RefusedPointerArrives, RefusedPointsTo, RefusedResolves, RefusedJumpArrives, RefusedStubAt, RefusedSumArrives, asking_f, back, empty_code, nops, one, one_code, page_back, placed_f}
 use Rattle.implib_link_instances.specs.Worked.Operands.{field, passing_at}
 use Rattle.implib_link_instances.specs.Worked.Programs.{symbol_of_class}
 use Rattle.implib_link_instances.specs.Worked.Stored.{held_at, picking_at, unwind_at}
@@ -53,19 +53,11 @@ eight = 0x90 ∷ seven
 nop : (n : ℕ) → NumberAt nops 4 0x1000 n → n ≡ 0x9090_9090
 nop n there = number_once nops 4 0x1000 n 0x9090_9090 there (number nops 4 0x1000 0x9090_9090 four refl refl refl)
 
-pub refused_stub_arrives : RefusedStubArrives
-refused_stub_arrives = record {
+pub refused_jump_arrives : RefusedJumpArrives
+refused_jump_arrives = record {
   there = λ x. nothing_at x.code 0x1000 8 x.whole (omega arith) x.there;
   whole = λ x. nothing_at x.code 0x1000 8 x.whole (omega arith) x.there;
   reads = λ x. no_code (jump_reads AMD64 0x1_4000_1000) x.code eight (0x1_4000_0000 + x.entry) x.there (are_located nops eight 0x1000 refl) x.whole refl x.reads;
-  located = λ x. nothing_there one x.entry (omega arith) x.located;
-}
-
-pub refused_thunk_arrives : RefusedThunkArrives
-refused_thunk_arrives = record {
-  there = λ x. nothing_at x.code 0x1000 6 x.whole (omega arith) x.there;
-  whole = λ x. nothing_at x.code 0x1000 6 x.whole (omega arith) x.there;
-  reads = λ x. no_code (jump_reads AMD64 0x1_4000_1000) x.code six (0x1_4000_0000 + x.entry) x.there (are_located nops six 0x1000 refl) x.whole refl x.reads;
   located = λ x. nothing_there one x.entry (omega arith) x.located;
 }
 
@@ -74,17 +66,7 @@ refused_direct_call_arrives = record {
   here = λ x. nothing_at x.instruction 0x1000 5 x.whole (omega arith) x.here;
   whole = λ x. nothing_at x.instruction 0x1000 5 x.whole (omega arith) x.here;
   leads = λ x. no_code (direct_leads AMD64 0x1_4000_1000) x.instruction five (0x1_4000_0000 + x.stub) x.here (are_located nops five 0x1000 refl) x.whole refl x.leads;
-  there = λ x. nothing_at x.code x.stub 8 x.whole_stub (omega arith) x.there;
-  whole_stub = λ x. nothing_at x.code x.stub 8 x.whole_stub (omega arith) x.there;
-  reads = λ x.
-      let call : List ℕ = 0xE8 ∷ 0 ∷ 0 ∷ 0 ∷ 0 ∷ [] in
-      let same : x.instruction ≡ 0xE8 ∷ 0 ∷ 0 ∷ 0 ∷ 0 ∷ [] = same_bytes calling_nops x.instruction call 0xFFB x.here (are_located calling_nops (0xE8 ∷ 0 ∷ 0 ∷ 0 ∷ 0 ∷ []) 0xFFB refl) x.whole in
-      let at : x.stub ≡ 0x1000 = entry_is 0x1_4000_0000 x.stub 0x1000 (sym (ap (direct_leads AMD64 0x1_4000_0FFB) same) ∙ x.leads) in
-      let code : x.code ≡ eight = same_bytes calling_nops x.code eight 0x1000 (subst (λ a. BytesAt calling_nops a x.code) at x.there) (are_located calling_nops eight 0x1000 refl) x.whole_stub in
-      let read : jump_reads AMD64 0x1_4000_1000 x.code ≡ Some (0x1_4000_0000 + x.entry) = subst (λ a. jump_reads AMD64 (0x1_4000_0000 + a) x.code ≡ Some (0x1_4000_0000 + x.entry)) at x.reads in
-      let none : None ≡ Some (0x1_4000_0000 + x.entry) = sym (ap (jump_reads AMD64 0x1_4000_1000) code) ∙ read in
-      cc;
-  located = λ x. nothing_there one x.entry (omega arith) x.located;
+  jumps = λ x. nothing_at x.jumps.code x.stub 8 x.jumps.whole (omega arith) x.jumps.there;
 }
 
 -- where ARM64's pages are

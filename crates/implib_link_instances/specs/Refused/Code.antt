@@ -7,11 +7,11 @@ use Rattle.implib.specs.Link.Image.{Range}
 use Rattle.implib.specs.Link.Placement.{Addresses, At, Placed, Unplaced}
 use Rattle.implib.specs.Members.Gnu.{section}
 use Rattle.implib.specs.Members.ImportTables.{table_flags, zeros}
-use Rattle.implib_link.specs.Flavors.LldImports.{BranchArrivesByThunk, ThunkArrives}
+use Rattle.implib_link.specs.Flavors.LldImports.{BranchArrivesByThunk}
 use Rattle.implib_link.specs.Gnu.Fields.{DirectCallArrives, PlacedCode, Resolves, StubAt}
 use Rattle.implib_link.specs.Gnu.Fields.{LinkedCode, AllLeadTo, AreKept, BranchArrives, BranchStays}
 use Rattle.implib_link.specs.Gnu.Fields.{InstructionArrives, OperandArrives, PairArrives}
-use Rattle.implib_link.specs.Gnu.Fields.{PointerArrives, StubArrives}
+use Rattle.implib_link.specs.Gnu.Fields.{JumpArrives, PointerArrives}
 use Rattle.implib_link.specs.Gnu.Stored.{HoldAddress, HoldsFurther, IsFurtherHeld, PointsTo}
 use Rattle.implib_link.specs.Gnu.Stored.{SumArrives, amd64_addr32nb, arm64_pageoffset_12a}
 use Rattle.implib_link_instances.specs.Worked.Operands.{field, imp_open, passing_at}
@@ -41,26 +41,17 @@ page_back =
 abbrev pub one : List ℕ
 one = 0 ∷ []
 
-pub record RefusedStubArrives : Type 0 where
-  pub there : StubArrives AMD64 base [] 0x1000 [] → ⊥
-  pub whole : StubArrives AMD64 base [] 0x1000 [] → ⊥
-  pub reads : StubArrives AMD64 base nops 0x1000 [] → ⊥
-  pub located : StubArrives AMD64 base [] 0x1000 one → ⊥
-
-pub record RefusedThunkArrives : Type 0 where
-  pub there : ThunkArrives AMD64 base [] 0x1000 [] → ⊥
-  pub whole : ThunkArrives AMD64 base [] 0x1000 [] → ⊥
-  pub reads : ThunkArrives AMD64 base nops 0x1000 [] → ⊥
-  pub located : ThunkArrives AMD64 base [] 0x1000 one → ⊥
+pub record RefusedJumpArrives : Type 0 where
+  pub there : JumpArrives AMD64 8 base [] 0x1000 [] → ⊥
+  pub whole : JumpArrives AMD64 8 base [] 0x1000 [] → ⊥
+  pub reads : JumpArrives AMD64 8 base nops 0x1000 [] → ⊥
+  pub located : JumpArrives AMD64 8 base [] 0x1000 one → ⊥
 
 pub record RefusedDirectCallArrives : Type 0 where
   pub here : DirectCallArrives AMD64 base [] 0x1000 [] → ⊥
   pub whole : DirectCallArrives AMD64 base [] 0x1000 [] → ⊥
   pub leads : DirectCallArrives AMD64 base nops 0x1000 [] → ⊥
-  pub there : DirectCallArrives AMD64 base [] 0x1000 [] → ⊥
-  pub whole_stub : DirectCallArrives AMD64 base [] 0x1000 [] → ⊥
-  pub reads : DirectCallArrives AMD64 base calling_nops 0xFFB [] → ⊥
-  pub located : DirectCallArrives AMD64 base [] 0x1000 one → ⊥
+  pub jumps : DirectCallArrives AMD64 base [] 0x1000 [] → ⊥
 
 pub record RefusedPairArrives : Type 0 where
   pub adrp_there : PairArrives base [] [] 16 20 0 0 (codes "f") [] → ⊥

@@ -10,9 +10,8 @@ ghost use Rattle.implib_link_instances.specs.Refused.Code.{RefusedInstructionArr
 ghost use Rattle.implib_link_instances.specs.Refused.Code.{RefusedOperandArrives};
 ghost use Rattle.implib_link_instances.specs.Refused.Code.{RefusedPairArrives};
 ghost use Rattle.implib_link_instances.specs.Refused.Code.{RefusedPointerArrives, RefusedPointsTo};
-ghost use Rattle.implib_link_instances.specs.Refused.Code.{RefusedResolves, RefusedStubArrives};
+ghost use Rattle.implib_link_instances.specs.Refused.Code.{RefusedResolves, RefusedJumpArrives};
 ghost use Rattle.implib_link_instances.specs.Refused.Code.{RefusedStubAt, RefusedSumArrives};
-ghost use Rattle.implib_link_instances.specs.Refused.Code.{RefusedThunkArrives};
 ghost use Rattle.implib_link_instances.specs.Refused.Links.{RefusedAreTables};
 ghost use Rattle.implib_link_instances.specs.Refused.Links.{RefusedAreTablesLoaded, RefusedFillsBy};
 ghost use Rattle.implib_link_instances.specs.Refused.Links.{RefusedFindsBy, RefusedHoldsAt};
@@ -39,8 +38,7 @@ ghost use Rattle.implib_link_instances.specs.Refused.Archives.{RefusedLldArrives
 
 /// Code of `nop`s and no memory are no calls, loads, stubs or held addresses.
 pub fn refused_code()
-    ensures refused_stub_arrives { RefusedStubArrives }
-    ensures refused_thunk_arrives { RefusedThunkArrives }
+    ensures refused_jump_arrives { RefusedJumpArrives }
     ensures refused_direct_call_arrives { RefusedDirectCallArrives }
     ensures refused_pair_arrives { RefusedPairArrives }
     ensures refused_sum_arrives { RefusedSumArrives }
