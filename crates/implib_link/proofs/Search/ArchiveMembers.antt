@@ -653,21 +653,15 @@ exports_fewer name test (e ∷ es) =
 module _ (machine : MachineType) where
   pub library_fewer : (name : List ℕ) (l : Library) (wanted : List (List ℕ)) →
       times name (linked_symbols machine (names_for Gnu l.definition) (chosen_exports l.definition (exports_wanted l.definition wanted))) ≤ times name (symbols_of_library machine l)
-  unfolding symbols_of_library
+  unfolding symbols_of_library times
   library_fewer name l wanted =
       let dll : NamesOfDll = names_for Gnu l.definition in
       let chosen : List ExportView = filter (is_wanted wanted) (exports_of l) in
       let turned : times name (flat_map symbols_of_export (reverse (exports_of l))) ≡ times name (flat_map symbols_of_export (exports_of l)) =
       times_moved symbols_of_export name (exports_of l) (reverse (exports_of l)) (IsPermutation-reverse (exports_of l)) in
       let few : times name (flat_map archive_symbols chosen) ≤ times name (flat_map symbols_of_export (exports_of l)) = exports_fewer name (is_wanted wanted) (exports_of l) in
-      let left : times name (linked_symbols machine dll chosen)
-      ≡ times name (head_symbol machine dll.linked ∷ []) + (times name (flat_map archive_symbols chosen) + times name (iname_symbol machine dll.linked ∷ [])) =
-      times_both name (head_symbol machine dll.linked ∷ []) (flat_map archive_symbols chosen ++ iname_symbol machine dll.linked ∷ [])
-      ∙ ap (λ n. times name (head_symbol machine dll.linked ∷ []) + n) (times_both name (flat_map archive_symbols chosen) (iname_symbol machine dll.linked ∷ [])) in
-      let right : times name (iname_symbol machine dll.linked ∷ head_symbol machine dll.linked ∷ flat_map symbols_of_export (reverse (exports_of l)))
-      ≡ times name (iname_symbol machine dll.linked ∷ []) + (times name (head_symbol machine dll.linked ∷ []) + times name (flat_map symbols_of_export (reverse (exports_of l)))) =
-      times_both name (iname_symbol machine dll.linked ∷ []) (head_symbol machine dll.linked ∷ flat_map symbols_of_export (reverse (exports_of l)))
-      ∙ ap (λ n. times name (iname_symbol machine dll.linked ∷ []) + n) (times_both name (head_symbol machine dll.linked ∷ []) (flat_map symbols_of_export (reverse (exports_of l)))) in
+      let both : times name (flat_map archive_symbols chosen ++ iname_symbol machine dll.linked ∷ []) ≡ times name (flat_map archive_symbols chosen) + times name (iname_symbol machine dll.linked ∷ []) =
+      times_both name (flat_map archive_symbols chosen) (iname_symbol machine dll.linked ∷ []) in
       subst (λ (es : List ExportView). times name (linked_symbols machine dll es)
       ≤ times name (iname_symbol machine dll.linked ∷ head_symbol machine dll.linked ∷ flat_map symbols_of_export (reverse (exports_of l)))) (sym (chosen_are l wanted))
       (omega arith)

@@ -405,18 +405,12 @@ shorts_fewer name names (e ∷ es) =
 module _ (machine : MachineType) where
   pub library_fewer : (name : List ℕ) (l : Library) (names : List (List ℕ)) →
       times name (symbols_of machine Msvc (names_for Msvc l.definition) (chosen_exports l.definition (imports_wanted l names))) ≤ times name (symbols_of_shorts l)
-  unfolding symbols_of_shorts
+  unfolding symbols_of_shorts times
   library_fewer name l names =
       let dll : NamesOfDll = names_for Msvc l.definition in
       let chosen : List ExportView = filter (is_import_wanted names) (exports_of l) in
       let few : times name (flat_map short_import_symbols chosen) ≤ times name (flat_map symbols_of_short (exports_of l)) = shorts_fewer name names (exports_of l) in
-      let left : times name (symbols_of machine Msvc dll chosen)
-      ≡ times name (descriptor_symbol dll.linked ∷ []) + (times name (flat_map short_import_symbols chosen) + times name (null_thunk_symbol dll.linked ∷ [])) =
-      times_both name (descriptor_symbol dll.linked ∷ []) (flat_map short_import_symbols chosen ++ null_thunk_symbol dll.linked ∷ [])
-      ∙ ap (λ n. times name (descriptor_symbol dll.linked ∷ []) + n) (times_both name (flat_map short_import_symbols chosen) (null_thunk_symbol dll.linked ∷ [])) in
-      let right : times name (descriptor_symbol dll.linked ∷ null_thunk_symbol dll.linked ∷ flat_map symbols_of_short (exports_of l))
-      ≡ times name (descriptor_symbol dll.linked ∷ []) + (times name (null_thunk_symbol dll.linked ∷ []) + times name (flat_map symbols_of_short (exports_of l))) =
-      times_both name (descriptor_symbol dll.linked ∷ []) (null_thunk_symbol dll.linked ∷ flat_map symbols_of_short (exports_of l))
-      ∙ ap (λ n. times name (descriptor_symbol dll.linked ∷ []) + n) (times_both name (null_thunk_symbol dll.linked ∷ []) (flat_map symbols_of_short (exports_of l))) in
+      let both : times name (flat_map short_import_symbols chosen ++ null_thunk_symbol dll.linked ∷ []) ≡ times name (flat_map short_import_symbols chosen) + times name (null_thunk_symbol dll.linked ∷ []) =
+      times_both name (flat_map short_import_symbols chosen) (null_thunk_symbol dll.linked ∷ []) in
       subst (λ (es : List ExportView). times name (symbols_of machine Msvc dll es) ≤ times name (descriptor_symbol dll.linked ∷ null_thunk_symbol dll.linked ∷ flat_map symbols_of_short (exports_of l))) (sym (imports_are l names))
       (omega arith)
