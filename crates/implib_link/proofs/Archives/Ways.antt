@@ -429,19 +429,21 @@ module _ (machine : MachineType) (libraries : List Library) (archive : IsMsvcArc
     shorts = short_taken;
     wanted = λ r held. all_among (IsWanted own taken) r (shorts_in machine taken) (contains_among r (shorts_in machine taken) held) (shorts_wanted own taken taken (λ x there. there) takes.in_turn);
     program = is_program alike own taken takes;
-    loads = λ is_live descriptors addresses image linked built image_base codes targets memory gives steady at n written wide reads.
+    loaded = λ is_live descriptors addresses image linked built image_base codes targets memory gives steady at n written wide reads.
         let program = is_program alike own taken takes is_live descriptors addresses image linked built in
-        let live : List ShortImport = filter is_live (shorts_in machine taken) in
-        let loaded = tables_load_in_memory machine image_base (tables_of_lld machine descriptors addresses live image linked) codes targets memory gives (lld_tables machine descriptors addresses live image linked program) steady at n written wide reads in
-        (loaded.0 ∙ lld_count machine descriptors addresses live image linked program, loaded.1);
-    leads = λ is_live descriptors addresses image linked built image_base codes targets memory gives steady at n written wide reads l e wanted live can.
-        subst (λ ask. AllLead machine image_base linked codes (written ++ memory) (imp_symbol (short_import_symbol e)) (gives l.definition.import_name ask)) (asks_so machine l e)
-        (lld_leads machine descriptors addresses (filter is_live (shorts_in machine taken)) image linked (is_program alike own taken takes is_live descriptors addresses image linked built) image_base codes targets memory gives steady at n written wide reads (short_of_export machine l e)
-        (live_taken is_live l e wanted live) can);
-    calls = λ is_live descriptors addresses image linked built image_base codes targets memory gives steady at n written wide reads l e wanted live can c d offset after caller held thunk has near.
-        subst (λ ask. BranchArrivesByThunk machine image_base (written ++ memory) (c.position + offset) after (gives l.definition.import_name ask)) (asks_so machine l e)
-        (lld_calls machine descriptors addresses (filter is_live (shorts_in machine taken)) image linked (is_program alike own taken takes is_live descriptors addresses image linked built) image_base codes targets memory gives steady at n written wide reads (short_of_export machine l e) d
-        (live_taken is_live l e wanted live) can held thunk c offset after caller has near);
+        let kept : List ShortImport = filter is_live (shorts_in machine taken) in
+        let loaded = tables_load_in_memory machine image_base (tables_of_lld machine descriptors addresses kept image linked) codes targets memory gives (lld_tables machine descriptors addresses kept image linked program) steady at n written wide reads in
+        record {
+          count = loaded.0 ∙ lld_count machine descriptors addresses kept image linked program;
+          loads = loaded.1;
+          leads = λ l e wanted live can.
+              subst (λ ask. AllLead machine image_base linked codes (written ++ memory) (imp_symbol (short_import_symbol e)) (gives l.definition.import_name ask)) (asks_so machine l e)
+              (lld_leads machine descriptors addresses kept image linked program image_base codes targets memory gives steady at n written wide reads (short_of_export machine l e) (live_taken is_live l e wanted live) can);
+          calls = λ l e wanted live can c d offset after caller held thunk has near.
+              subst (λ ask. BranchArrivesByThunk machine image_base (written ++ memory) (c.position + offset) after (gives l.definition.import_name ask)) (asks_so machine l e)
+              (lld_calls machine descriptors addresses kept image linked program image_base codes targets memory gives steady at n written wide reads (short_of_export machine l e) d
+              (live_taken is_live l e wanted live) can held thunk c offset after caller has near);
+        };
   }
     where
       short_taken : (l : Library) (e : ExportView) → IsWantedBy machine libraries own taken l e → Contains (shorts_in machine taken) (short_of_export machine l e)

@@ -154,16 +154,47 @@ pub record IsBuiltByLld (machine : MachineType) (descriptors addresses : ℕ)
   pub starts : AllByRecursion (λ r. 0 < r.start) image
   pub ends : AllByRecursion (λ r. range_end r < 2 ^ 31) image
 
+-- Where a loader has read, in memory at any base, what lld wrote of the short imports that are live:
+-- `count`: it stops after as many descriptors as there are DLLs;
+-- `loads`: it loads exactly these imports;
+-- `leads`: every field of code against the `__imp_` symbol of a wanted export that is live leads to
+-- its own entry, and there is what the DLL gives for what the export asks for;
+-- `calls`: and where its thunk is among the code, a branch to its bare name arrives there by the
+-- thunk.
+pub record LldLoads (machine : MachineType) (libraries : List Library) (own : List Object)
+    (taken : List MemberView) (is_live : ShortImport → Bool) (descriptors addresses : ℕ)
+    (image : List Range) (linked : List Placed) (image_base : ℕ) (codes : List LinkedCode)
+    (memory : List Range) (gives : List ℕ → Ask → List ℕ) (n : ℕ) (written : List Range)
+    : Type 0 where
+  pub count : n ≡ length (grouped (filter is_live (shorts_in machine taken)))
+  pub loads : AreTablesLoaded machine
+      (tables_of_lld machine descriptors addresses (filter is_live (shorts_in machine taken)) image
+      linked) gives written
+  pub leads : (l : Library) (e : ExportView) →
+      IsWantedBy machine libraries own taken l e →
+      is_live (short_of_export machine l e) ≡ true →
+      CanReadFrom machine image_base addresses →
+      AllLead machine image_base linked codes (written ++ memory)
+      (imp_symbol (short_import_symbol e))
+      (gives l.definition.import_name (ask_in Msvc machine e))
+  pub calls : (l : Library) (e : ExportView) →
+      IsWantedBy machine libraries own taken l e →
+      is_live (short_of_export machine l e) ≡ true →
+      CanReadFrom machine image_base addresses →
+      (c d : LinkedCode) (offset after : ℕ) →
+      Contains codes c →
+      Contains codes d →
+      IsThunk machine d (short_of_export machine l e) →
+      HasBranch machine c offset after (short_import_symbol e) →
+      CanBranch machine (c.position + offset) d.position →
+      BranchArrivesByThunk machine image_base (written ++ memory) (c.position + offset) after
+      (gives l.definition.import_name (ask_in Msvc machine e))
+
 -- What lld takes for given objects:
 -- `shorts`, `wanted`: the short imports of exactly the exports that are wanted;
 -- `program`: what it writes of those that are live, which `/OPT:REF` kept, is a program of its
 -- laws;
--- `loads`: in memory at any base, a loader that reads it there stops after as many descriptors as
--- there are DLLs, and loads exactly these imports;
--- `leads`: then every field of code against the `__imp_` symbol of a wanted export that is live
--- leads to its own entry, and there is what the DLL gives for what the export asks for;
--- `calls`: and where its thunk is among the code, a branch to its bare name arrives there by the
--- thunk.
+-- `loaded`: and a loader that reads it in memory finds that.
 pub record LldArrives (machine : MachineType) (libraries : List Library) (own : List Object)
     (taken : List MemberView) : Type 0 where
   pub shorts : (l : Library) (e : ExportView) →
@@ -179,65 +210,19 @@ pub record LldArrives (machine : MachineType) (libraries : List Library) (own : 
       linked →
       IsLldProgram machine descriptors addresses (filter is_live (shorts_in machine taken)) image
       linked
-  pub loads : (is_live : ShortImport → Bool) (descriptors addresses : ℕ) (image : List Range)
+  pub loaded : (is_live : ShortImport → Bool) (descriptors addresses : ℕ) (image : List Range)
       (linked : List Placed) →
       IsBuiltByLld machine descriptors addresses (filter is_live (shorts_in machine taken)) image
       linked →
       (image_base : ℕ) (codes : List LinkedCode) (targets : LinkedCode → ℕ → ℕ)
-      (memory : List Range)
-      (gives : List ℕ → Ask → List ℕ) →
+      (memory : List Range) (gives : List ℕ → Ask → List ℕ) →
       AreSteady machine linked →
       AreInMemory machine image_base image linked codes targets memory →
       (n : ℕ) (written : List Range) →
       ((dll : List ℕ) (ask : Ask) → length (gives dll ask) ≡ thunk_width machine) →
       ReadsAndWrites memory (thunk_width machine) gives n descriptors written →
-      (n ≡ length (grouped (filter is_live (shorts_in machine taken))))
-      × AreTablesLoaded machine
-      (tables_of_lld machine descriptors addresses (filter is_live (shorts_in machine taken)) image
-      linked) gives written
-  pub leads : (is_live : ShortImport → Bool) (descriptors addresses : ℕ) (image : List Range)
-      (linked : List Placed) →
-      IsBuiltByLld machine descriptors addresses (filter is_live (shorts_in machine taken)) image
-      linked →
-      (image_base : ℕ) (codes : List LinkedCode) (targets : LinkedCode → ℕ → ℕ)
-      (memory : List Range)
-      (gives : List ℕ → Ask → List ℕ) →
-      AreSteady machine linked →
-      AreInMemory machine image_base image linked codes targets memory →
-      (n : ℕ) (written : List Range) →
-      ((dll : List ℕ) (ask : Ask) → length (gives dll ask) ≡ thunk_width machine) →
-      ReadsAndWrites memory (thunk_width machine) gives n descriptors written →
-      (l : Library) (e : ExportView) →
-      IsWantedBy machine libraries own taken l e →
-      is_live (short_of_export machine l e) ≡ true →
-      CanReadFrom machine image_base addresses →
-      AllLead machine image_base linked codes (written ++ memory)
-      (imp_symbol (short_import_symbol e))
-      (gives l.definition.import_name (ask_in Msvc machine e))
-  pub calls : (is_live : ShortImport → Bool) (descriptors addresses : ℕ) (image : List Range)
-      (linked : List Placed) →
-      IsBuiltByLld machine descriptors addresses (filter is_live (shorts_in machine taken)) image
-      linked →
-      (image_base : ℕ) (codes : List LinkedCode) (targets : LinkedCode → ℕ → ℕ)
-      (memory : List Range)
-      (gives : List ℕ → Ask → List ℕ) →
-      AreSteady machine linked →
-      AreInMemory machine image_base image linked codes targets memory →
-      (n : ℕ) (written : List Range) →
-      ((dll : List ℕ) (ask : Ask) → length (gives dll ask) ≡ thunk_width machine) →
-      ReadsAndWrites memory (thunk_width machine) gives n descriptors written →
-      (l : Library) (e : ExportView) →
-      IsWantedBy machine libraries own taken l e →
-      is_live (short_of_export machine l e) ≡ true →
-      CanReadFrom machine image_base addresses →
-      (c d : LinkedCode) (offset after : ℕ) →
-      Contains codes c →
-      Contains codes d →
-      IsThunk machine d (short_of_export machine l e) →
-      HasBranch machine c offset after (short_import_symbol e) →
-      CanBranch machine (c.position + offset) d.position →
-      BranchArrivesByThunk machine image_base (written ++ memory) (c.position + offset) after
-      (gives l.definition.import_name (ask_in Msvc machine e))
+      LldLoads machine libraries own taken is_live descriptors addresses image linked image_base
+      codes memory gives n written
 
 -- What lld takes of the files of a command line.
 

@@ -1,5 +1,5 @@
 -- The way for lld by hand, by computing and by the law.
-use Rattle.std.proofs.Common.{◌≡◌, [], ◌∷◌, codes, refl, ap, sym, ◌∙◌, inl, inr, arith}
+use Rattle.std.proofs.Common.{ℕ, List, ◌≡◌, [], ◌∷◌, codes, refl, ap, sym, ◌∙◌, inl, inr, arith}
 use Rattle.implib.specs.declared.machine.MachineType.TheVariants.{AMD64}
 use Rattle.implib.specs.Formats.Constants.{amd64_rel32, class_external}
 use Rattle.implib.specs.Formats.Layout.{encoded_size}
@@ -11,7 +11,7 @@ use Rattle.implib.proofs.Link.LinkedMembers.{among_contains}
 use Rattle.implib.proofs.Link.Ranges.{Among}
 use Rattle.implib_archive.specs.declared.kind.Kind.TheVariants.{Coff}
 use Rattle.implib_link.specs.Archives.InBytes.{Second, HaveArchive}
-use Rattle.implib_link.specs.Archives.Ways.{AreCalledAlike, IsBuiltByLld, IsWantedBy, LldArrives, read_by_lld, shorts_in}
+use Rattle.implib_link.specs.Archives.Ways.{AreCalledAlike, IsBuiltByLld, IsWantedBy, LldArrives, read_by_lld, shorts_in, LldLoads}
 use Rattle.implib_link_instances.specs.Archives.WorkedWays.{WorkedLldWay, bar_short, calls_linked, is_live, live_shorts, lld_codes, lld_image, lld_libraries, lld_library, lld_linked, lld_memory, lld_own, lld_tables, lld_taken, lld_targets, placed_calls, thunk_linked, two_calls}
 use Rattle.implib_link.proofs.Archives.InBytes.{search_of}
 use Rattle.implib_link.proofs.Archives.Ways.{lld_arrives}
@@ -31,6 +31,9 @@ use Rattle.implib_link_instances.proofs.Worked.Calls.{wide}
 use Rattle.implib_link_instances.proofs.Worked.CommandLines.{ended_by, pulls_by}
 use Rattle.implib_link_instances.proofs.Worked.Programs.{all_needed, only_absolute, rebased_by, relocated_by, relocated_test, lld_opened, disjoint, meet_test, takes_outside, distinct_by, opened, instruction_by}
 use Rattle.implib_link_instances.proofs.Worked.Opened.{archived}
+use Rattle.implib_link.specs.Gnu.Writing.{ReadsAndWrites}
+use Rattle.implib.specs.Members.ImportTables.{thunk_width}
+use Rattle.implib.specs.Link.Image.{Range}
 
 -- what the computing has to open
 unfoldable way_opened : Unit {0}
@@ -155,6 +158,11 @@ branch = record {
 arrive : LldArrives AMD64 lld_libraries lld_own lld_taken
 arrive = lld_arrives AMD64 lld_libraries archive alike lld_own lld_taken takes
 
+loaded_at : (image_base : ℕ) → AreInMemory AMD64 image_base lld_image lld_linked lld_codes lld_targets lld_memory → (n : ℕ) (written : List Range) →
+    ReadsAndWrites lld_memory (thunk_width AMD64) (given_on AMD64) n 0x2000 written → LldLoads AMD64 lld_libraries lld_own lld_taken is_live 0x2000 0x2038 lld_image lld_linked image_base lld_codes lld_memory (given_on AMD64) n written
+loaded_at image_base at n written reads =
+    arrive.loaded is_live 0x2000 0x2038 lld_image lld_linked built_by_lld image_base lld_codes lld_targets lld_memory (given_on AMD64) steady at n written (wide AMD64) reads
+
 pub worked_lld_way : WorkedLldWay
 unfolding way_opened
 worked_lld_way = record {
@@ -171,13 +179,9 @@ worked_lld_way = record {
   thunk = record { from = refl; number = refl };
   call = call;
   branch = branch;
-  leads = λ n written reads. (
-    (arrive.loads is_live 0x2000 0x2038 lld_image lld_linked built_by_lld 0x1_4000_0000 lld_codes lld_targets lld_memory (given_on AMD64) steady at n written (wide AMD64) reads).0,
-    arrive.leads is_live 0x2000 0x2038 lld_image lld_linked built_by_lld 0x1_4000_0000 lld_codes lld_targets lld_memory (given_on AMD64) steady at n written (wide AMD64) reads lld_library (plain_export (codes "bar")) wanted refl tt,
-  );
-  leads_moved = λ n written reads.
-      arrive.leads is_live 0x2000 0x2038 lld_image lld_linked built_by_lld 0x7FF6_1234_0000 lld_codes lld_targets lld_memory (given_on AMD64) steady moved n written (wide AMD64) reads lld_library (plain_export (codes "bar")) wanted refl tt;
+  leads = λ n written reads. let loaded = loaded_at 0x1_4000_0000 at n written reads in (loaded.count, loaded.leads lld_library (plain_export (codes "bar")) wanted refl tt);
+  leads_moved = λ n written reads. (loaded_at 0x7FF6_1234_0000 moved n written reads).leads lld_library (plain_export (codes "bar")) wanted refl tt;
   calls = λ n written reads.
-      arrive.calls is_live 0x2000 0x2038 lld_image lld_linked built_by_lld 0x1_4000_0000 lld_codes lld_targets lld_memory (given_on AMD64) steady at n written (wide AMD64) reads lld_library (plain_export (codes "bar")) wanted refl tt
+      (loaded_at 0x1_4000_0000 at n written reads).calls lld_library (plain_export (codes "bar")) wanted refl tt
       calls_linked thunk_linked 7 0 (0, omega arith, refl) (1, omega arith, refl) (record { from = refl; number = refl }) branch tt;
 }
