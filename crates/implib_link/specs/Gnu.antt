@@ -2,7 +2,6 @@
 pub mod Fields
 pub mod Moves
 pub mod Stored
-pub mod Pointers
 pub mod Writing
 pub mod Choices
 pub mod Aliases

@@ -154,7 +154,8 @@ pub record IsBuiltByLld (machine : MachineType) (descriptors addresses : ℕ)
   pub starts : AllByRecursion (λ r. 0 < r.start) image
   pub ends : AllByRecursion (λ r. range_end r < 2 ^ 31) image
 
--- Where a loader has read, in memory at any base, what lld wrote of the short imports that are live:
+-- Where a loader has read, in memory at any base, what lld wrote of the short imports that are
+-- live:
 -- `count`: it stops after as many descriptors as there are DLLs;
 -- `loads`: it loads exactly these imports;
 -- `leads`: every field of code against the `__imp_` symbol of a wanted export that is live leads to

@@ -107,24 +107,6 @@ pub record HasInstructions (machine : MachineType) (c : PlacedCode) (offset : �
   pub undefined : is_undefined_external symbol ≡ true
   pub named : symbol.name ≡ name
 
--- A call through a pointer, with empty fields: I386 `call [disp32]`; AMD64 `call [rip + disp32]`;
--- ARM64 `adrp x16, page`, `ldr x16, [x16, offset]`, `blr x16`.
-abbrev pub call_bytes : MachineType → List ℕ
-call_bytes I386 = 0xFF ∷ 0x15 ∷ 0 ∷ 0 ∷ 0 ∷ 0 ∷ []
-call_bytes ARMNT = []
-call_bytes AMD64 = 0xFF ∷ 0x15 ∷ 0 ∷ 0 ∷ 0 ∷ 0 ∷ []
-call_bytes ARM64 = 0x10 ∷ 0 ∷ 0 ∷ 0x90 ∷ 0x10 ∷ 2 ∷ 0x40 ∷ 0xF9 ∷ 0 ∷ 2 ∷ 0x3F ∷ 0xD6 ∷ []
-
--- the relocations of such a call against the symbol of an index
-abbrev pub call_relocations : MachineType → ℕ → List Relocation
-call_relocations I386 index = record { offset = 2; symbol = index; kind = i386_dir32 } ∷ []
-call_relocations ARMNT index = []
-call_relocations AMD64 index = record { offset = 2; symbol = index; kind = amd64_rel32 } ∷ []
-call_relocations ARM64 index =
-    record { offset = 0; symbol = index; kind = arm64_pagebase_rel21 }
-    ∷ record { offset = 4; symbol = index; kind = arm64_pageoffset_12l }
-    ∷ []
-
 -- Code is the stub of the entry at an address: its bytes and relocations are a stub's, its symbol 2
 -- has the entry's address, and the name that it stands for is at its beginning.
 pub record StubAt (machine : MachineType) (linked : List Placed) (d : PlacedCode) (t : ObjectSymbol)

@@ -16,8 +16,8 @@ use Rattle.implib.specs.Members.MsvcObjects.{null_thunk_symbol}
 use Rattle.implib_link.specs.Search.Search.{left_as, Library, exports_of, has_weak, IsArchive}
 use Rattle.implib_link.specs.Search.Search.{IsWeakData, NamesNoHeadOrTailOf, archive_of}
 use Rattle.implib_link.specs.Search.Search.{input_if_any, inputs_wanted, symbols_of_library}
-use Rattle.implib_link.specs.Search.Search.{is_wanted, numbers_passing, exports_wanted, PullsIntoAs}
-use Rattle.implib_link.specs.Search.Search.{TakesIntoAs, unresolved, listed_in}
+use Rattle.implib_link.specs.Search.Search.{is_wanted, numbers_passing, exports_wanted, TakesIntoAs}
+use Rattle.implib_link.specs.Search.Search.{unresolved, listed_in}
 use Rattle.implib.specs.Link.Image.{Range, range_end, IsAdmissible}
 use Rattle.implib.specs.Import.{is_alias, imp_symbol}
 use Rattle.implib.specs.Members.Gnu.{archive_symbols, head_symbol, iname_symbol}
@@ -240,13 +240,7 @@ import_symbols_wanted libraries names =
 -- What a linker takes for objects that are given, where nothing is wanted but what the objects
 -- leave unresolved.
 
--- an unresolved name pulls in a member, where a linker for a machine reads short imports as what it
--- takes them for
-abbrev pub PullsIntoFor : MachineType → List MemberView → List Object → List MemberView → List ℕ →
-    MemberView → Type 0
-PullsIntoFor machine = PullsIntoAs (expanded_in machine)
-
--- what the linker takes
+-- what a linker for a machine takes, which reads short imports as what it takes them for
 abbrev pub TakesIntoFor : MachineType → List MemberView → List Object → List MemberView → Type 0
 TakesIntoFor machine = TakesIntoAs (expanded_in machine)
 

@@ -12,8 +12,8 @@ use Rattle.implib.specs.Members.MsvcObjects.{descriptor_symbol, null_descriptor_
 use Rattle.implib.proofs.Link.LinkedMembers.{among_contains, among_map}
 use Rattle.implib.proofs.Link.Ranges.{Among, all_among, among_front}
 use Rattle.implib_link.specs.Flavors.Program.{AreEnded, Ending, FlavorInput, OfMember, objects_taken, ClaimsNone, HaveSame, claimed_names, has_tables, group_end, packed, packed_end, sections_end}
-use Rattle.implib_link.specs.Search.Search.{IsArchive, IsLibrary, symbols_of_library, listed_in, unresolved}
-use Rattle.implib_link.specs.Search.Libraries.{AreClosed, AreGiven, FlavorLibrary, IsClosed, IsFlavorArchive, NamesNoMembers, archive_of_both, gnu_among, inputs_in, symbols_kept, msvc_among, LinksClosed, left_in, IsMsvcArchive, IsMsvcLibrary, PullsIntoFor, TakesIntoFor, symbols_of_all_shorts, symbols_of_shorts, wanted_for, weak_in, HasClosed, objects_closed, tables_end_by}
+use Rattle.implib_link.specs.Search.Search.{IsArchive, IsLibrary, symbols_of_library, listed_in, unresolved, PullsIntoAs}
+use Rattle.implib_link.specs.Search.Libraries.{AreClosed, AreGiven, FlavorLibrary, IsClosed, IsFlavorArchive, NamesNoMembers, archive_of_both, gnu_among, inputs_in, symbols_kept, msvc_among, LinksClosed, left_in, IsMsvcArchive, IsMsvcLibrary, TakesIntoFor, symbols_of_all_shorts, symbols_of_shorts, wanted_for, weak_in, HasClosed, objects_closed, tables_end_by}
 use Rattle.implib_link_instances.specs.Worked.BothFlavors.{WorkedBoth, WorkedBothExists, WorkedGiven, foo_and_zed, mixed_bases, mixed_objects, mixed_taken, mixed_without_last, zed_and_foo, choosing, clashing, foo_linked}
 use Rattle.implib_link_instances.specs.Worked.Search.{msvc_zed, thunk_named, zed_members}
 use Rattle.implib_link.proofs.Search.BothClosed.{closed_links_of_both, packed_both}
@@ -139,7 +139,7 @@ stopped taken_so_far =
       new = new_by mixed_without_last (thunk_named (codes "zed.dll")) refl;
     })
 
-claimed : (taken : List MemberView) (m : MemberView) → PullsIntoFor AMD64 (archive_of_both foo_and_zed) (choosing ∷ []) taken (codes "stack") m → ⊥
+claimed : (taken : List MemberView) (m : MemberView) → PullsIntoAs (expanded_in AMD64) (archive_of_both foo_and_zed) (choosing ∷ []) taken (codes "stack") m → ⊥
 claimed taken m pulls =
     let name : List ℕ = codes "stack" in
     let objects : List Object = objects_taken AMD64 taken in

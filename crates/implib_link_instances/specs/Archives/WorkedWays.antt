@@ -12,13 +12,13 @@ use Rattle.implib.specs.Members.Gnu.{section, text_name}
 use Rattle.implib.specs.Definition.{DefinitionView}
 use Rattle.implib.specs.Worked.Members.{of_dll}
 use Rattle.implib.specs.Worked.Statements.{plain_export}
-use Rattle.implib_link.specs.Gnu.Fields.{PlacedCode, call_bytes, call_relocations, moved_by}
-use Rattle.implib_link.specs.Gnu.Fields.{AreBeside, LinkedCode, placed_code, ranges_of_codes}
-use Rattle.implib_link.specs.Gnu.Fields.{AllLead, HasBranch, HasInstruction}
+use Rattle.implib_link.specs.Gnu.Fields.{PlacedCode, moved_by, AreBeside, LinkedCode, placed_code}
+use Rattle.implib_link.specs.Gnu.Fields.{ranges_of_codes, AllLead, HasBranch, HasInstruction}
 use Rattle.implib_link.specs.Search.Search.{Library, unresolved, archive_of}
 use Rattle.implib_link_instances.specs.Worked.Search.{library_of, descriptor_named, msvc_library}
 use Rattle.implib_link_instances.specs.Worked.Search.{null_named, short_named, thunk_named}
 use Rattle.implib_link_instances.specs.Worked.Operands.{first_bytes, given_on, last_bytes}
+use Rattle.implib_link_instances.specs.Worked.Operands.{call_bytes, pointer_relocations}
 use Rattle.implib.specs.declared.flavor.Flavor.TheVariants.{Gnu, Msvc}
 use Rattle.implib.specs.Link.Image.{Range, image_of}
 use Rattle.implib.specs.Link.Placement.{Bases, Placed, Unplaced, placed_from}
@@ -55,7 +55,7 @@ bar_library = library_of bar_definition
 abbrev pub code : ObjectSection
 code = section text_name (cnt_code + align_16bytes + mem_execute_read)
     (first_bytes AMD64 ++ (call_bytes AMD64 ++ last_bytes AMD64))
-    (map (moved_by 4) (call_relocations AMD64 1))
+    (map (moved_by 4) (pointer_relocations 2 AMD64 1))
 
 abbrev pub bar_for_gnu : FlavorLibrary
 bar_for_gnu = record { flavor = Gnu; library = bar_library }

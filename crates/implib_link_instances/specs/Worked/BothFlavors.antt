@@ -19,14 +19,15 @@ use Rattle.implib.specs.Link.Resolution.{definitions_of}
 use Rattle.implib_link.specs.Search.Libraries.{AreClosed, AreGiven, FlavorLibrary, IsClosed}
 use Rattle.implib_link.specs.Search.Libraries.{IsFlavorArchive, LinksClosed, TakesOfLibraries}
 use Rattle.implib_link.specs.Search.Libraries.{archive_of_both, inputs_in, symbols_kept}
-use Rattle.implib_link.specs.Search.Libraries.{PullsIntoFor, TakesIntoFor, wanted_for, HasClosed}
-use Rattle.implib_link.specs.Search.Libraries.{tables_end_by, LieWithin}
-use Rattle.implib_link.specs.Search.Search.{unresolved}
+use Rattle.implib_link.specs.Search.Libraries.{TakesIntoFor, wanted_for, HasClosed, tables_end_by}
+use Rattle.implib_link.specs.Search.Libraries.{LieWithin}
+use Rattle.implib_link.specs.Search.Search.{unresolved, PullsIntoAs}
 use Rattle.implib_link_instances.specs.Worked.Search.{aliased, library_of, descriptor_named}
 use Rattle.implib_link_instances.specs.Worked.Search.{msvc_zed, null_named, short_named}
 use Rattle.implib_link_instances.specs.Worked.Search.{thunk_named, zed_members, msvc_library}
 use Rattle.implib.specs.Link.Image.{image_of}
 use Rattle.implib.specs.Worked.Members.{of_dll}
+use Rattle.implib_link.specs.Flavors.Expansion.{expanded_in}
 
 -- an object that names data of foo.dll by its alias, a function of zed.dll by its pointer, and one
 -- of another library; and that has a function of its own, `stack`, which zed.dll exports, too
@@ -162,7 +163,7 @@ pub record WorkedBoth : Type 0 where
   pub stopped : TakesIntoFor AMD64 (archive_of_both foo_and_zed) (choosing ∷ [])
       mixed_without_last → ⊥
   pub claimed : (taken : List MemberView) (m : MemberView) →
-      PullsIntoFor AMD64 (archive_of_both foo_and_zed) (choosing ∷ []) taken (codes "stack") m → ⊥
+      PullsIntoAs (expanded_in AMD64) (archive_of_both foo_and_zed) (choosing ∷ []) taken (codes "stack") m → ⊥
   pub clashes : (arranged : List FlavorLibrary) (objects : List Object) →
       AreClosed AMD64 OfMember foo_and_zed (clashing ∷ []) mixed_taken arranged objects → ⊥
 

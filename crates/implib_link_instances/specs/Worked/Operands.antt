@@ -10,13 +10,13 @@ use Rattle.implib.specs.declared.machine.MachineType.TheVariants.{AMD64, ARM64, 
 use Rattle.implib.specs.Formats.Object.{ASymbol, Object, ObjectSection, Auxiliary, Entry}
 use Rattle.implib.specs.Link.Image.{Range, image_of}
 use Rattle.implib.specs.Link.Placement.{Bases, Placed, Unplaced, placed_from, SectionAddress}
-use Rattle.implib_link.specs.Gnu.Fields.{PlacedCode, arm64_branch26, call_bytes, call_relocations}
-use Rattle.implib_link.specs.Gnu.Fields.{direct_bytes, direct_relocations, i386_rel32, moved_by}
-use Rattle.implib_link.specs.Gnu.Fields.{AreBeside, IsRelocated, LinkedCode, placed_code}
-use Rattle.implib_link.specs.Gnu.Fields.{HasDirectCall, amd64_addr64, arm64_addr64, StubAt}
-use Rattle.implib_link.specs.Gnu.Fields.{ranges_of_codes, HasBranch, HasInstruction, HasOffsetField}
-use Rattle.implib_link.specs.Gnu.Fields.{HasOperand, HasPageField, HasPointer, branch_leads}
-use Rattle.implib_link.specs.Gnu.Fields.{operand_leads, Place}
+use Rattle.implib_link.specs.Gnu.Fields.{PlacedCode, arm64_branch26, direct_bytes}
+use Rattle.implib_link.specs.Gnu.Fields.{direct_relocations, i386_rel32, moved_by, AreBeside}
+use Rattle.implib_link.specs.Gnu.Fields.{IsRelocated, LinkedCode, placed_code, HasDirectCall}
+use Rattle.implib_link.specs.Gnu.Fields.{amd64_addr64, arm64_addr64, StubAt, ranges_of_codes}
+use Rattle.implib_link.specs.Gnu.Fields.{HasBranch, HasInstruction, HasOffsetField, HasOperand}
+use Rattle.implib_link.specs.Gnu.Fields.{HasPageField, HasPointer, branch_leads, operand_leads}
+use Rattle.implib_link.specs.Gnu.Fields.{Place}
 use Rattle.implib_link.specs.Stub.{bits_of, code_word, with_bits, with_word, word_at}
 use Rattle.std.specs.List.{AllByRecursion}
 use Rattle.implib.specs.Formats.Bytes.{u32_bytes}
@@ -33,10 +33,38 @@ use Rattle.implib_link_instances.specs.Worked.Programs.{foo_input, input_objects
 use Rattle.implib_link_instances.specs.Worked.Programs.{object_with, symbol_of_class, symbol_on}
 use Rattle.implib_link_instances.specs.Worked.Programs.{touching_4, touching_8, zed_input, another}
 use Rattle.implib_link_instances.specs.Worked.Programs.{both_inputs}
-use Rattle.implib_link.specs.Gnu.Pointers.{load_bytes, load_relocations}
 use Rattle.implib_link.specs.Gnu.Choices.{AreSections, DefineOnce}
 use Rattle.implib.specs.Link.Resolution.{target_address}
 use Rattle.implib_link.specs.Gnu.Moves.{AreInMemory, CanBeMoved}
+use Rattle.implib.specs.Machine.{is_32bit}
+
+-- A call through a pointer, with empty fields: I386 `call [disp32]`; AMD64 `call [rip + disp32]`;
+-- ARM64 `adrp x16, page`, `ldr x16, [x16, offset]`, `blr x16`.
+abbrev pub call_bytes : MachineType → List ℕ
+call_bytes I386 = 0xFF ∷ 0x15 ∷ 0 ∷ 0 ∷ 0 ∷ 0 ∷ []
+call_bytes ARMNT = []
+call_bytes AMD64 = 0xFF ∷ 0x15 ∷ 0 ∷ 0 ∷ 0 ∷ 0 ∷ []
+call_bytes ARM64 = 0x10 ∷ 0 ∷ 0 ∷ 0x90 ∷ 0x10 ∷ 2 ∷ 0x40 ∷ 0xF9 ∷ 0 ∷ 2 ∷ 0x3F ∷ 0xD6 ∷ []
+
+-- instructions that read a pointer: `mov eax, [disp32]`; `mov rax, [rip + disp32]`; `adrp x8, page`,
+-- `ldr x8, [x8, offset]`
+abbrev pub load_bytes : MachineType → List ℕ
+load_bytes I386 = 0xA1 ∷ 0 ∷ 0 ∷ 0 ∷ 0 ∷ []
+load_bytes ARMNT = []
+load_bytes AMD64 = 0x48 ∷ 0x8B ∷ 5 ∷ 0 ∷ 0 ∷ 0 ∷ 0 ∷ []
+load_bytes ARM64 = 8 ∷ 0 ∷ 0 ∷ 0x90 ∷ 8 ∷ 1 ∷ 0x40 ∷ 0xF9 ∷ []
+
+-- the relocations of either against the symbol of an index, by where x86's field is
+abbrev pub pointer_relocations : ℕ → MachineType → ℕ → List Relocation
+pointer_relocations field I386 index =
+    record { offset = field; symbol = index; kind = i386_dir32 } ∷ []
+pointer_relocations field ARMNT index = []
+pointer_relocations field AMD64 index =
+    record { offset = field; symbol = index; kind = amd64_rel32 } ∷ []
+pointer_relocations field ARM64 index =
+    record { offset = 0; symbol = index; kind = arm64_pagebase_rel21 }
+    ∷ record { offset = 4; symbol = index; kind = arm64_pageoffset_12l }
+    ∷ []
 
 -- a word that a relocation changes in code: as in a stub's, on I386 relative to the byte after the
 -- field too, and on ARM64 in a branch
@@ -119,7 +147,7 @@ last_bytes ARM64 = 0xFD ∷ 0x7B ∷ 0xC1 ∷ 0xA8 ∷ 0xC0 ∷ 3 ∷ 0x5F ∷ 0
 abbrev pub calling_code : MachineType → ObjectSection
 calling_code machine = section text_name (cnt_code + align_16bytes + mem_execute_read)
     (first_bytes machine ++ (call_bytes machine ++ last_bytes machine))
-    (map (moved_by 4) (call_relocations machine 1))
+    (map (moved_by 4) (pointer_relocations 2 machine 1))
 
 -- an object with this code, whose symbol 1 is `__imp_open`
 abbrev pub calling : MachineType → Object
@@ -178,7 +206,7 @@ pub record WorkedReading : Type 0 where
 abbrev pub loading_code : MachineType → ObjectSection
 loading_code machine = section text_name (cnt_code + align_16bytes + mem_execute_read)
     (first_bytes machine ++ (load_bytes machine ++ last_bytes machine))
-    (map (moved_by 4) (load_relocations machine 1))
+    (map (moved_by 4) (pointer_relocations (if is_32bit machine then 1 else 3) machine 1))
 
 -- an object with this code, whose symbol 1 is `__imp_stat`
 abbrev pub loading : MachineType → Object
