@@ -5,7 +5,6 @@ pub mod NullDescriptor
 pub mod Inputs
 pub mod Program
 pub mod Texts
-pub mod Writing
 pub mod Stubs
 pub mod Steady
 pub mod LldImports

@@ -11,7 +11,6 @@ pub mod Flavors
 pub mod GnuPacked
 pub mod Lemmas
 pub mod Loads
-pub mod Opened
 pub mod OtherNames
 pub mod Packed
 pub mod Parts

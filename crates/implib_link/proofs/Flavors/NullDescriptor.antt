@@ -19,7 +19,7 @@ use Rattle.implib.proofs.Link.Ranges.{Among}
 use Rattle.implib_link.specs.Flavors.Program.{group_end, sections_end}
 use Rattle.implib_link.specs.Flavors.Expansion.{with_section_symbols}
 use Rattle.implib_link.proofs.Flavors.Expanded.{taken_null}
-use Rattle.implib_link.proofs.Gnu.Runs.{ends_behind, placed_parts}
+use Rattle.implib_link.proofs.Gnu.Packed.{ends_behind, placed_parts}
 use Rattle.implib_link.proofs.Search.Lists.{all_parts}
 
 -- whether a group is that of `.idata$3`

@@ -39,12 +39,11 @@ use Rattle.implib_link.specs.Flavors.Expansion.{import_object, expanded_in, Code
 use Rattle.implib_link.proofs.Flavors.Inputs.{all_claim_listed, claimed_with_null, block_in, inputs_link, inputs_objects, inputs_plainly, inputs_symbols, inputs_taken, null_object, objects_with_null}
 use Rattle.implib_link.proofs.Flavors.NullDescriptor.{EndsNothing, all_insert, among_same, descriptors_end_same, finds_same, null_filled, null_once, others_same, undefined_same, group_same}
 use Rattle.implib_link.proofs.Gnu.Others.{contributions_kept, definitions_kept, placed_kept}
-use Rattle.implib_link.proofs.Gnu.Packed.{end_kept, admissible, packed_eights}
+use Rattle.implib_link.proofs.Gnu.Packed.{end_kept, admissible, packed_eights, AreWithin, IsSized, exports_sized, head_sized, tail_sized, thunk_size}
 use Rattle.implib_link.proofs.Search.Lists.{contains_among}
 use Rattle.implib_link.proofs.Flavors.Expanded.{taken_null, taken_descriptor}
 use Rattle.implib_link.proofs.Gnu.Loaded.{times_none, by_width}
 use Rattle.implib.specs.declared.machine.MachineType.TheVariants.{I386, ARMNT, AMD64, ARM64}
-use Rattle.implib_link.proofs.Gnu.Sized.{AreWithin, IsSized, exports_sized, head_sized, tail_sized, thunk_size}
 
 pub head_has : (machine : MachineType) (dll : NamesOfDll) → has_tables (head machine dll) ≡ true
 unfolding has_tables head_object

@@ -12,8 +12,7 @@ use Rattle.implib.proofs.Link.LinkedMembers.{among_contains}
 use Rattle.implib.proofs.Link.Ranges.{among_flat, Among}
 use Rattle.implib_link.specs.Gnu.Fields.{AreLinkedBeside, IsRelocated, LinkedCode, range_of_code, ranges_of_codes, amd64_addr64, arm64_addr64, field_width, i386_rel32, FieldHolds, MeetsAlone, meets, HasInstructions, IsAside, moved_by, field_at, placed_code, HasOffsetField, HasPageField, Names, PairArrives, Place, absolute_width, covers, table_places, amd64_addr32, arm64_addr32, moved_number, places_at}
 use Rattle.implib_link.specs.Gnu.Moves.{AreMoved, AreInMemory, ArePaged, CanBeMoved, places_of_code}
-use Rattle.implib_link.proofs.Gnu.Choices.{PlaceIn, all_widths, can_rebase, places_apart, places_in, places_widths}
-use Rattle.implib_link.proofs.Gnu.Moved.{among_place, apart_back, places_from, covered_bounds, narrow}
+use Rattle.implib_link.proofs.Gnu.Choices.{PlaceIn, all_widths, can_rebase, places_apart, places_in, places_widths, among_place, apart_back, places_from, covered_bounds, narrow}
 use Rattle.implib_link.proofs.Search.Lists.{contains_among, passes as among_filter, among_filter as filter_among, any_of}
 use Rattle.std.specs.Prelude.{◌==◌, if◌then◌else◌, cond, nat_lt, slice_get}
 use Rattle.std.proofs.lemmas.Bool.{and_from, and_parts, cases_Bool, eqb-true, false_from_ne_true, lt-ltb, ltb-true, ltb-false}

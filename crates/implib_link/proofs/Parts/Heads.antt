@@ -25,9 +25,7 @@ use Rattle.implib.proofs.Link.Thunks.{StrictTableAt}
 use Rattle.implib_link.specs.Flavors.Program.{sections_end}
 use Rattle.implib_link.specs.Parts.{AreEntries, IsHead, Row, ask_of, begins, dll_text, entry_name, has_none, is_empty, is_field, is_in_group, leads_to, named_bytes, names_entry, only_section, row_in, row_of, sections_of}
 use Rattle.implib_link.specs.Tables.{TableEntry}
-use Rattle.implib_link.proofs.Gnu.Packed.{end_of_sections}
-use Rattle.implib_link.proofs.Gnu.Runs.{ends_behind, located_behind}
-use Rattle.implib_link.proofs.Gnu.Sized.{IsSized}
+use Rattle.implib_link.proofs.Gnu.Packed.{end_of_sections, ends_behind, located_behind, IsSized}
 use Rattle.implib_link.proofs.Parts.Texts.{none_ends, one_address, one_ends, one_is, ended_is, named_located, null_located, only_located, thunk_located, field_is}
 use Rattle.implib_link.proofs.Gnu.Loaded.{plus_none, times_next, times_none}
 use Rattle.implib_link.proofs.Flavors.Program.{later_even}

@@ -35,7 +35,7 @@ use Rattle.implib_link.specs.Parts.{AreEntries, BeginWithHead, HoldsFields, IsEn
 use Rattle.implib_link.specs.Tables.{AreSteady, TableEntry, Table, tables_at}
 use Rattle.implib_link.proofs.Gnu.Others.{no_group, one_definer}
 use Rattle.implib_link.proofs.Flavors.Steady.{AllSteady, IsSteady, NoneAbsolute, all_steady, tables_none, relative_steady}
-use Rattle.implib_link.proofs.Gnu.Sized.{export_sized, head_sized, tail_sized}
+use Rattle.implib_link.proofs.Gnu.Packed.{export_sized, head_sized, tail_sized}
 use Rattle.implib_link.proofs.Search.Lists.{all_from, each_of, none_among, contains_among}
 use Rattle.std.specs.Option.{option_map}
 use Rattle.implib.specs.Fault.{MemberTooLong}

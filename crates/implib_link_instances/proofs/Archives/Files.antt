@@ -8,7 +8,7 @@ use Rattle.implib_archive.specs.declared.kind.Kind.TheVariants.{Coff}
 use Rattle.implib_link.specs.Search.Libraries.{FlavorLibrary, archive_of_both, msvc_among, IsMsvcArchive, symbols_of_shorts}
 use Rattle.implib_link_instances.specs.Archives.Files.{WorkedFileLine, WorkedFileLines, WorkedFiles, amd64_files, i386_files, i386_kernel_lib, i386_libquit, kernel_lib, libquit, lld_taken}
 use Rattle.implib_link_instances.specs.Worked.CommandLines.{amd64_kernels, i386_kernels, shorts_taken, is_quit}
-use Rattle.implib_link_instances.proofs.Worked.Opened.{searched, archived}
+use Rattle.implib_link_instances.proofs.Worked.Search.{searched, archived}
 use Rattle.std.specs.Prelude.{bytes_eq, drop, if◌then◌else◌, slice_get}
 use Rattle.std.specs.List.{IsDistinct, flat_map}
 use Rattle.implib.specs.declared.machine.MachineType.{MachineType}

@@ -20,15 +20,14 @@ use Rattle.implib_link.specs.Search.Search.{listed_in}
 use Rattle.implib_link_instances.specs.Worked.Operands.{given_on}
 use Rattle.implib_link_instances.specs.Worked.Search.{thunk_named}
 use Rattle.implib_link.proofs.Gnu.Choices.{found, found_in}
-use Rattle.implib_link.proofs.Gnu.LinkedCodes.{codes_can_be_linked}
+use Rattle.implib_link.proofs.Gnu.LinkedBytes.{codes_can_be_linked}
 use Rattle.implib_link.proofs.Search.BothClosed.{packed_both}
 use Rattle.implib_link.proofs.Search.Taken.{both_given_closes}
 use Rattle.implib_link_instances.proofs.Worked.BothFlavors.{archive_by}
 use Rattle.implib_link_instances.proofs.Worked.Calls.{once_by, wide}
-use Rattle.implib_link_instances.proofs.Worked.Opened.{searched, archived}
+use Rattle.implib_link_instances.proofs.Worked.Search.{searched, archived, below_limit, into_by}
 use Rattle.implib_link_instances.proofs.Worked.Programs.{claims_none_by}
 use Rattle.implib_link.specs.Flavors.Expansion.{expanded_in}
-use Rattle.implib_link_instances.proofs.Worked.Search.{below_limit, into_by}
 
 archive : IsFlavorArchive AMD64 both
 unfolding searched

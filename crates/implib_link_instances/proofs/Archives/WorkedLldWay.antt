@@ -30,7 +30,7 @@ use Rattle.implib_link.proofs.Search.Lists.{contains_among}
 use Rattle.implib_link_instances.proofs.Worked.Calls.{wide}
 use Rattle.implib_link_instances.proofs.Worked.CommandLines.{ended_by, pulls_by}
 use Rattle.implib_link_instances.proofs.Worked.Programs.{all_needed, only_absolute, rebased_by, relocated_by, relocated_test, lld_opened, disjoint, meet_test, takes_outside, distinct_by, opened, instruction_by}
-use Rattle.implib_link_instances.proofs.Worked.Opened.{archived}
+use Rattle.implib_link_instances.proofs.Worked.Search.{archived}
 use Rattle.implib_link.specs.Gnu.Writing.{ReadsAndWrites}
 use Rattle.implib.specs.Members.ImportTables.{thunk_width}
 use Rattle.implib.specs.Link.Image.{Range}

@@ -35,7 +35,7 @@ use Rattle.implib_link_instances.proofs.Refused.Links.{first_letter, refused_lin
 use Rattle.implib_link_instances.proofs.Worked.Calls.{one_of, wide, worked_reading}
 use Rattle.implib_link_instances.proofs.Worked.Lemmas.{differ, none_at, none_in}
 use Rattle.implib_link_instances.proofs.Worked.Programs.{lld_opened}
-use Rattle.implib_link_instances.proofs.Worked.Opened.{searched}
+use Rattle.implib_link_instances.proofs.Worked.Search.{searched}
 use Rattle.implib_link_instances.specs.Refused.Archives.{RefusedAreMembersAt, RefusedCallsArrive, RefusedHasMembersAs, RefusedInBytes, RefusedIsHeaderOf, RefusedIsInDirectory, RefusedIsSearchOf, RefusedIsWantedBy, RefusedLeadsToFirst, RefusedLldArrives, ways_taken, with_header_in}
 use Rattle.implib_link_instances.specs.Archives.WorkedWays.{bar_short, lld_taken}
 use Rattle.implib_link_instances.specs.Refused.Links.{f_library, listing, own, f_export}

@@ -30,7 +30,7 @@ use Rattle.implib_link.specs.Flavors.LldImports.{grouped}
 use Rattle.implib_link.specs.Search.Libraries.{IsImported, archive_of_both, IsWeakTaken}
 use Rattle.implib_link.specs.Search.Search.{listed_in}
 use Rattle.implib_link_instances.proofs.Worked.Programs.{lld_opened}
-use Rattle.implib_link_instances.proofs.Worked.Opened.{searched}
+use Rattle.implib_link_instances.proofs.Worked.Search.{searched}
 use Rattle.implib_link_instances.specs.Worked.Flavors.{source_in, zed_meant, zed_text}
 
 -- a field that is 0 leads to nothing

@@ -12,7 +12,7 @@ use Rattle.implib_link.specs.Search.Search.{Library, exports_of, AreTakenIntoAs}
 use Rattle.implib_link.proofs.Search.Lists.{contains_among}
 use Rattle.implib_link_instances.proofs.Worked.Calls.{one_of}
 use Rattle.implib_link_instances.proofs.Worked.Lemmas.{differ, none_in}
-use Rattle.implib_link_instances.proofs.Worked.Opened.{searched}
+use Rattle.implib_link_instances.proofs.Worked.Search.{searched}
 use Rattle.implib_link_instances.specs.Refused.Links.{f_library, listing, RefusedIsWeakData, RefusedIsWeakShort, RefusedPullsIntoAs, RefusedSearches, RefusedTakesIntoAs, RefusedTakesOfLibraries, exportless, f_export}
 
 pub refused_pulls_into : RefusedPullsIntoAs

@@ -20,12 +20,11 @@ use Rattle.implib_link.proofs.Search.BothClosed.{closed_links_of_both, packed_bo
 use Rattle.implib_link.proofs.Search.Ends.{into_ends, search_bounded}
 use Rattle.implib_link.proofs.Search.Closing.{unresolved_parts}
 use Rattle.implib_link.proofs.Search.Lists.{among_any, any_among, contains_among}
-use Rattle.implib_link_instances.proofs.Worked.Opened.{searched}
+use Rattle.implib_link_instances.proofs.Worked.Search.{searched, below_limit, into_by}
 use Rattle.implib_link_instances.proofs.Worked.Programs.{all_differ, claims_none_by, distinct_by, opened}
 use Rattle.implib_link.specs.Flavors.Expansion.{descriptor_symbol_by_name, expanded_in}
 use Rattle.implib.specs.LibraryName.{linked_dll}
 use Rattle.implib.specs.declared.machine.MachineType.{MachineType}
-use Rattle.implib_link_instances.proofs.Worked.Search.{below_limit, into_by}
 use Rattle.implib.specs.Link.Placement.{next_multiple}
 use Rattle.implib_link.proofs.Search.Exists.{both_exists, placed_closed, placed_within}
 

@@ -9,7 +9,7 @@ use Rattle.implib.specs.Link.Image.{AllApart, Range, image_of, with_address}
 use Rattle.implib.specs.Link.Placement.{Bases, Placed, next_multiple, placed_from}
 use Rattle.implib_link.specs.Gnu.Fields.{Defines, PlacedCode, Resolves, IsRelocated, LinkedCode, placed_code, range_of_code, ranges_of_codes}
 use Rattle.implib_link_instances.specs.Worked.Operands.{CodesBeside, WorkedChoices, WorkedReading, as_placed, branch_codes, branching_objects, branching_placed, code_ranges, code_relocated_by, given_on, linked_by, linked_codes}
-use Rattle.implib_link.proofs.Gnu.LinkedCodes.{linked_beside, takes_from}
+use Rattle.implib_link.proofs.Gnu.LinkedBytes.{linked_beside, takes_from}
 use Rattle.implib_link_instances.proofs.Worked.Programs.{relocated_by, relocated_test, opened as opened_of_programs, worked_programs}
 use Rattle.implib.proofs.Members.MemberReadings.{map_after}
 use Rattle.implib_link.specs.Gnu.Writing.{HoldsAt, ReadsAndWrites}

@@ -16,9 +16,8 @@ use Rattle.implib_link.proofs.Search.Exists.{both_exists, placed_closed}
 use Rattle.implib_link.proofs.Search.Lists.{contains_among}
 use Rattle.implib_link.proofs.Search.Wanting.{program_with}
 use Rattle.implib_link_instances.proofs.Worked.BothFlavors.{archive_by}
-use Rattle.implib_link_instances.proofs.Worked.Opened.{searched}
+use Rattle.implib_link_instances.proofs.Worked.Search.{searched, below_limit, into_by}
 use Rattle.implib_link_instances.proofs.Worked.Programs.{claims_none_by, opened, worked_programs}
-use Rattle.implib_link_instances.proofs.Worked.Search.{below_limit, into_by}
 
 abbrev own : List Object
 own = choosing ∷ []

@@ -25,7 +25,7 @@ use Rattle.implib_link_instances.specs.Worked.Programs.{code_object}
 use Rattle.implib_link_instances.proofs.Worked.Programs.{claims_none_by, distinct_by, opened}
 use Rattle.implib_link.specs.Archives.InBytes.{HaveArchive, Second}
 use Rattle.implib_archive.specs.declared.kind.Kind.TheVariants.{Coff}
-use Rattle.implib_link_instances.proofs.Worked.Opened.{archived, searched}
+use Rattle.implib_link_instances.proofs.Worked.Search.{archived, searched}
 use Rattle.implib_link_instances.proofs.Worked.Lemmas.{IsX86}
 use Rattle.implib_link.proofs.Search.Exists.{both_exists}
 use Rattle.implib_link_instances.proofs.Worked.BothFlavors.{archive_by}

@@ -14,7 +14,7 @@ use Rattle.implib_link.proofs.Search.CommandLines.{first_of_distinct, takes_of_l
 use Rattle.implib_link_instances.specs.Worked.CommandLines.{is_quit, WorkedFlavorLine, WorkedFlavorLines, amd64_kernels, amd64_shorts, i386_kernels, i386_shorts, shorts_grouped, shorts_last, shorts_taken, with_quit}
 use Rattle.implib_link_instances.proofs.Worked.BothFlavors.{archive_by}
 use Rattle.implib_link_instances.proofs.Worked.CommandLines.{object_at, own, whole_by}
-use Rattle.implib_link_instances.proofs.Worked.Opened.{searched, archived}
+use Rattle.implib_link_instances.proofs.Worked.Search.{searched, archived}
 use Rattle.implib_link_instances.proofs.Worked.Lemmas.{IsX86}
 use Rattle.implib_link_instances.proofs.Worked.Programs.{claims_none_by, distinct_by}
 

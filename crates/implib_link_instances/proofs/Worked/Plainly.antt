@@ -18,7 +18,7 @@ use Rattle.implib_link_instances.specs.Worked.BothFlavors.{foo_and_zed, mixed_ta
 use Rattle.implib_link_instances.specs.Worked.CommandLines.{read_or_none, wants_bytes}
 use Rattle.implib_link_instances.proofs.Worked.BothFlavors.{archive_by, first_symbol, new_by, worked_both}
 use Rattle.implib_link_instances.proofs.Worked.CommandLines.{ended_by}
-use Rattle.implib_link_instances.proofs.Worked.Opened.{searched}
+use Rattle.implib_link_instances.proofs.Worked.Search.{searched}
 
 -- gcc's object and the library of kernel32.dll
 

@@ -24,7 +24,7 @@ use Rattle.implib_link.specs.Stub.{adrp_immediate, bits_of, ldr_immediate, page,
 use Rattle.implib_link_instances.specs.Worked.Operands.{in_code, named_or, or_else, AdjacentCalls, MovableCode, PassingFields, WorkedFields, WorkedOperands, amd64_rel32_1, field, imp_open, arm64_pageoffset_12a, arm64_secrel, moved_memory, open_on, passing_at, passing_bytes, passing_codes, passing_image, passing_memory, passing_objects, passing_placed, passing_places, passing_targets, stub_of_open, x86_secrel}
 use Rattle.implib_link.proofs.Gnu.Fields.{alone_among, moved_memory_exists}
 use Rattle.implib_link.proofs.Gnu.Loaded.{kept_outside, byte_front, within_bounds}
-use Rattle.implib_link.proofs.Gnu.Moved.{among_place, covered_bounds}
+use Rattle.implib_link.proofs.Gnu.Choices.{among_place, covered_bounds}
 use Rattle.implib_link.proofs.Search.Lists.{among_at, among_mapped, contains_among, each_of}
 use Rattle.implib.specs.Link.LinkedMembers.{LinkInput, objects_in, all_linked}
 use Rattle.std.specs.Fmt.{digits}

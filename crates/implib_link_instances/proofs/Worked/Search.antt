@@ -1,28 +1,45 @@
--- The search that was done by hand, by computing.
+-- What the computing of searches has to open.
+use Rattle.implib.specs.Formats.Layout.{encoded_size}
+use Rattle.implib.specs.Formats.ShortImport.{short_import_in}
+use Rattle.implib.specs.Members.GnuMembers.{alias_specs}
+use Rattle.implib.specs.Members.Members.{refusal, renamed_refusal}
+use Rattle.implib.specs.Members.MsvcMembers.{descriptor_spec, header_specs, null_descriptor_spec, null_thunk_spec, weak_specs}
+use Rattle.implib.specs.Members.MsvcObjects.{base_name, descriptor, descriptor_symbol, null_descriptor, null_descriptor_symbol, null_thunk, null_thunk_symbol}
+use Rattle.implib.specs.Members.WeakExternal.{weak_object}
+use Rattle.implib_archive.specs.Archive.{entries_from, entries_of, first_linker_size, first_place, front_size, is_long, long_names, name_end, names_bytes, names_size, offset_of, places_from, second_linker_size, strings_of, with_first, with_name}
+use Rattle.implib_archive.specs.Refusal.{has_short_places, has_too_many, member_refusal, members_refusal, name_refusal, places_refusal, refusal_of, symbol_refusal, symbols_refusal}
+use Rattle.implib_link.specs.Flavors.Expansion.{descriptor_symbol_by_name, expanded_in, import_object, with_section_symbols}
+use Rattle.implib_link.specs.Flavors.Program.{has_tables, ClaimsNone}
+use Rattle.implib_link.specs.Search.Search.{archive_of, is_weak, symbols_of_library, claims_of, references_of, claimed_as, left_as, undefined_in, first_listed, AreTakenIntoAs, unresolved, listed_in, TakesIntoAs, SweepsTake, sweeps, swept}
+use Rattle.implib_link.specs.Search.Libraries.{is_weak_in, symbols_of_shorts}
+use Rattle.implib_link_instances.proofs.Worked.Programs.{opened, distinct_by, opened as opened_of_programs}
 use Rattle.std.proofs.Common.{Bool, List, Option, Some, [], ap, arith, codes, false, inl, inr, map, refl, subst, sym, true, ℕ, ◌++◌, ◌<◌, ◌^◌, ◌∙◌, ◌∷◌, ◌≡◌}
 use Rattle.std.specs.Prelude.{bytes_eq, is_none, length, nat_lt, not, ◌&&◌, ◌||◌}
 use Rattle.std.specs.List.{IsDistinct, list_all, list_any, AllByRecursion}
 use Rattle.std.proofs.lemmas.Bool.{and_parts, ltb-true, not-true, true≢false}
 use Rattle.implib.specs.declared.machine.MachineType.TheVariants.{AMD64}
 use Rattle.implib.specs.Members.MemberSpec.{MemberView}
-use Rattle.implib.specs.Members.GnuMembers.{alias_specs}
-use Rattle.implib.specs.Members.Members.{refusal, renamed_refusal}
 use Rattle.implib.specs.Formats.Object.{Object}
-use Rattle.implib.specs.Formats.Layout.{encoded_size}
 use Rattle.implib.proofs.Link.LinkedMembers.{among_contains, among_map}
 use Rattle.implib.proofs.Link.Ranges.{Among, among_back}
-use Rattle.implib_link.specs.Search.Search.{claimed_as, first_listed, left_as, undefined_in, AreTakenIntoAs, claims_of, references_of, unresolved, listed_in, TakesIntoAs, SweepsTake, sweeps, swept}
 use Rattle.implib_link_instances.specs.Worked.Search.{WorkedFound, WorkedNamedApart, WorkedSweeps, first_x, given_f, reads_by_hand, second_x, two_libraries, wants_x}
 use Rattle.implib_link.proofs.Search.Lists.{among_any, any_among, contains_among}
-use Rattle.implib.specs.Members.WeakExternal.{weak_object}
-use Rattle.implib_link_instances.proofs.Worked.Programs.{distinct_by, opened as opened_of_programs}
 use Rattle.implib_link.proofs.Search.Sweeps.{sweeps_take}
-use Rattle.implib.specs.Members.MsvcObjects.{base_name, descriptor_symbol}
-use Rattle.implib_link.specs.Flavors.Expansion.{descriptor_symbol_by_name}
 use Rattle.implib_link.specs.Search.NamedApart.{AreNamedApart, names_in, stem}
 use Rattle.implib_link.proofs.Search.FlavorGroups.{named_apart}
 use Rattle.implib_link.proofs.Search.Closing.{AreTakenInTurnAs, PullsInAs, TakesAs, claims_apart, takes_into}
-use Rattle.implib_link.specs.Flavors.Program.{ClaimsNone}
+
+-- what the computing has to open
+unfoldable pub searched : Unit {0}
+unfolding opened refusal renamed_refusal alias_specs encoded_size weak_object expanded_in short_import_in import_object descriptor_symbol_by_name with_section_symbols descriptor null_descriptor null_thunk descriptor_symbol null_descriptor_symbol null_thunk_symbol base_name descriptor_spec null_descriptor_spec null_thunk_spec header_specs weak_specs has_tables archive_of is_weak is_weak_in left_as claimed_as undefined_in references_of claims_of symbols_of_library symbols_of_shorts
+searched = tt
+
+-- what is opened of an archive that is not refused
+unfoldable pub archived : Unit {0}
+unfolding entries_from entries_of first_linker_size first_place front_size is_long long_names name_end names_bytes names_size offset_of places_from second_linker_size strings_of with_first with_name has_short_places has_too_many member_refusal members_refusal name_refusal places_refusal refusal_of symbol_refusal symbols_refusal
+archived = tt
+
+-- The search that was done by hand, by computing.
 
 -- whether a name pulls in no member any more
 abbrev is_settled : (List ℕ → Option Object) → List MemberView → List MemberView → List ℕ → Bool

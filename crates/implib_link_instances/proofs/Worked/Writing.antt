@@ -20,7 +20,7 @@ use Rattle.implib_link_instances.specs.Worked.Files.{gives_by_hand, WorkedWritin
 use Rattle.implib_link_instances.specs.Worked.Programs.{both_inputs, program_image, program_objects, touching_4, touching_8}
 use Rattle.implib_link.proofs.Gnu.Filling.{all_filled, table_filled}
 use Rattle.implib_link.proofs.Gnu.Loaded.{Keeps}
-use Rattle.implib_link.proofs.Flavors.Writing.{run_can, run_once, program_beside, program_long, writer_ends, writer_loads}
+use Rattle.implib_link.proofs.Flavors.Steady.{run_can, run_once, program_beside, program_long, writer_ends, writer_loads}
 use Rattle.implib_link_instances.proofs.Worked.Calls.{wide}
 use Rattle.implib_link_instances.proofs.Worked.Loads.{given}
 
