@@ -1,4 +1,3 @@
 -- The same, proved.
 pub mod InBytes
 pub mod Ways
-pub mod Files

@@ -8,8 +8,6 @@ pub mod Stubs
 pub mod Fields
 pub mod FieldsInMemory
 pub mod Operands
-pub mod Stored
 pub mod LinkedBytes
 pub mod Filling
-pub mod Beside
 pub mod Choices

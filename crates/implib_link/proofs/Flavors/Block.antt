@@ -32,7 +32,7 @@ use Rattle.implib.proofs.Link.Tables.{CanBeAsked}
 use Rattle.implib.proofs.Link.Thunks.{StrictTableAt}
 use Rattle.implib_link.specs.Flavors.Expansion.{Code, Constant, Data, Use, import_object, descriptor_symbol_by_name, stub_relocations_for, with_section_symbols}
 use Rattle.implib_link.proofs.Flavors.Expanded.{AreWide, AskFits, ends_of_asking, ends_of_descriptor, ends_of_null_thunk, placed-asking, placed-descriptor, placed-null_thunk, placed_asking, placed_descriptor, taken_descriptor, taken_null_thunk, wide_aligned, wide_asking, wide_descriptor, wide_next, wide_null_thunk, TableFrom, asking_stands, descriptor_stands, null_thunk_stands}
-use Rattle.implib_link.proofs.Gnu.Beside.{LocatedBeside, zero_table, table_with}
+use Rattle.implib_link.proofs.Gnu.Filling.{LocatedBeside, zero_table, table_with}
 use Rattle.implib_link.specs.Directory.{DirectoryAt, Imported}
 use Rattle.implib_link.proofs.Gnu.Loaded.{times_none as plus_zero}
 

@@ -22,7 +22,7 @@ use Rattle.implib.proofs.Link.Thunks.{StrictTableAt, StrictThunkAt, length-addre
 use Rattle.implib_link.proofs.Search.Lists.{contains_among, all_from}
 use Rattle.implib_link.specs.Directory.{DirectoryAt, Imported}
 use Rattle.implib_link.proofs.Gnu.Stubs.{wide_thunk as some_bytes}
-use Rattle.implib_link.proofs.Gnu.Beside.{zero_table, table_with, bounds_of}
+use Rattle.implib_link.proofs.Gnu.Filling.{zero_table, table_with, bounds_of}
 use Rattle.implib_link.proofs.Gnu.Loaded.{by_width, times_none as nothing_before, times_next as next_entry, plus_none}
 use Rattle.std.proofs.lemmas.List.Elements.{filter_map-append}
 use Rattle.implib.specs.Formats.Layout.{HasNoNul}

@@ -24,9 +24,8 @@ use Rattle.implib.proofs.Link.Ranges.{Among, among_back, among_front}
 use Rattle.implib.proofs.Link.Tables.{addresses_end, addresses_filled, filled_first, thunk_bytes}
 use Rattle.implib_link.specs.Flavors.Expansion.{Use, import_object, with_section_symbols}
 use Rattle.implib_link.specs.Flavors.Program.{Ending, OfLinker, OfMember, ask_in, has_tables, is_table, AreEnded, FlavorInput, IsMadeFor, exports_chosen, imported_in, thunks_of, IsProgramOf}
-use Rattle.implib_link.proofs.Gnu.Beside.{LocatedBeside, block_beside, rest_beside, descriptor_beside, table_bounds}
+use Rattle.implib_link.proofs.Gnu.Filling.{LocatedBeside, block_beside, rest_beside, descriptor_beside, table_bounds, DescriptorBeside, DirectoryBeside, avoids_addresses, beside_of, keeps_beside, descriptors_beside, directory_ends_beside, dll_names_beside, ends_beside, hint_names_beside, lookups_beside, starts_beside, all_filled, can_run, left_alike, runs_once}
 use Rattle.implib_link.proofs.Flavors.Block.{addresses_after, AreEven, FitsIn, Suits, behind_descriptor, definitions-in, definitions_in, ends_in, ends_of_askings, even_aligned, even_in, even_wide, objects_of, use_for, askings_stand, AllSuit, BlocksIn, CanLink, FlavorBlock, addresses_one, all_objects, descriptors_one, ends_all, ends_one, imported_of, rest_of, thunks_in}
-use Rattle.implib_link.proofs.Gnu.Filling.{DescriptorBeside, DirectoryBeside, avoids_addresses, beside_of, keeps_beside, descriptors_beside, directory_ends_beside, dll_names_beside, ends_beside, hint_names_beside, lookups_beside, starts_beside, all_filled, can_run, left_alike, runs_once}
 use Rattle.implib_link.proofs.Flavors.Expanded.{AreWide, ends_of_asking, ends_of_descriptor, ends_of_null_thunk, length-thunk_linked, placed-asking, placed-descriptor, placed-null_thunk, thunk_linked, wide_asking, wide_descriptor, descriptor_stands, taken_descriptor, taken_null}
 use Rattle.implib.specs.LibraryName.{NamesOfDll}
 use Rattle.implib_link.proofs.Gnu.Loaded.{plus_none, Keeps, memory_can_be_read, memory_read, thunks_asked}

@@ -23,7 +23,7 @@ use Rattle.implib_link.proofs.Gnu.Fields.{located_each}
 use Rattle.implib_link.proofs.Gnu.FieldsInMemory.{Rests, StoredRests, part_there, same_pages}
 use Rattle.implib_link.proofs.Gnu.Loaded.{Keeps, bytes_kept, keeps_written, memory_can_be_read, memory_read, number_kept, Covers, byte_front, within_bounds, written_covers}
 use Rattle.implib_link.proofs.Gnu.Operands.{all_lead}
-use Rattle.implib_link.proofs.Gnu.Stored.{holds_address, settled_by_code}
+use Rattle.implib_link.proofs.StoredInMemory.{holds_address, settled_by_code}
 use Rattle.implib_link.proofs.Search.Lists.{contains_among, all_parts}
 use Rattle.implib_link.proofs.Tables.{tables_load, entry_in, entry_reached, written_read}
 

@@ -29,7 +29,7 @@ use Rattle.implib_link.proofs.Gnu.Packed.{end_of_sections, ends_behind, located_
 use Rattle.implib_link.proofs.Parts.Texts.{none_ends, one_address, one_ends, one_is, ended_is, named_located, null_located, only_located, thunk_located, field_is}
 use Rattle.implib_link.proofs.Gnu.Loaded.{plus_none, times_next, times_none}
 use Rattle.implib_link.proofs.Flavors.Program.{later_even}
-use Rattle.implib_link.proofs.Gnu.Beside.{zero_table, table_with}
+use Rattle.implib_link.proofs.Gnu.Filling.{zero_table, table_with}
 
 -- The address of a symbol in the only section of a group.
 module _ (group : Group) (o : Object) (b : Bases) (s : ObjectSection) (is : only_section group o ≡ Some s) (even : base_of group b % 4 ≡ 0) where
