@@ -458,7 +458,7 @@ taken_are machine p made =
     ∙ ap present (objects_read p.input.definition machine p.flavor p.input.members p.input.chosen made)
     ∙ present-some (objects_of machine p.flavor (dll_names_in p) (exports_chosen p) [])
 
-objects_behind : (machine : MachineType) (flavor : Flavor) (dll : NamesOfDll) (es : List ExportView) (rest : List Object) →
+pub objects_behind : (machine : MachineType) (flavor : Flavor) (dll : NamesOfDll) (es : List ExportView) (rest : List Object) →
     objects_of machine flavor dll es [] ++ rest ≡ objects_of machine flavor dll es rest
 objects_behind machine Msvc dll es rest = ap (λ os. taken_descriptor machine dll ∷ os) (append_assoc (map (asking machine dll) es) (taken_null_thunk machine dll ∷ []) rest)
 objects_behind machine Gnu dll es rest = ap (λ os. head machine dll ∷ os) (append_assoc (map (export machine dll) es) (tail machine dll ∷ []) rest)

@@ -650,7 +650,7 @@ one_sized : (machine : MachineType) (flavor : Flavor) (dll : NamesOfDll) (es : L
 one_sized machine Msvc dll es rest all = (descriptor_sized machine dll, askings_sized machine dll es rest all)
 one_sized machine Gnu dll es rest all = (head_sized machine dll, exports_sized machine dll es _ (tail_sized machine dll, all))
 
-all_sized : (machine : MachineType) (ending : Ending) (blocks : List FlavorBlock) → AllByRecursion IsSized (all_objects machine blocks (rest_of ending))
+pub all_sized : (machine : MachineType) (ending : Ending) (blocks : List FlavorBlock) → AllByRecursion IsSized (all_objects machine blocks (rest_of ending))
 all_sized machine OfLinker [] = ((tt, tt), tt)
 all_sized machine OfMember [] = tt
 all_sized machine ending (k ∷ blocks) = one_sized machine k.flavor k.dll k.exports (all_objects machine blocks (rest_of ending)) (all_sized machine ending blocks)

@@ -1,48 +1,48 @@
 -- The import tables of both flavours without the address tables: what a loader reads that writes there.
-use Rattle.std.proofs.Common.{◌≡◌, ℕ, suc, ◌+◌, ◌*◌, ◌<◌, ◌^◌, List, [], ◌∷◌, ◌++◌, length, map, refl, ap, sym, ◌∙◌, subst, arith, ◌⊎◌, false, None, inl, inr, zero}
+use Rattle.std.proofs.Common.{◌≡◌, ℕ, suc, ◌+◌, ◌*◌, ◌<◌, ◌^◌, List, [], ◌∷◌, ◌++◌, length, map, refl, ap, sym, ◌∙◌, subst, arith, ◌⊎◌, false, None, inl, inr, zero, Some, codes, ◌-◌, ◌%◌}
 use Rattle.std.specs.List.{AllByRecursion, filter, list_any}
-use Rattle.std.proofs.Math.Nat.{mul-add, mul-suc}
-use Rattle.std.proofs.lemmas.List.{length-append, length-map, length-replicate}
+use Rattle.std.proofs.lemmas.List.{length-map, append-nil, append_cancel_left, append_assoc}
 use Rattle.implib.specs.declared.machine.MachineType.{MachineType}
 use Rattle.implib.specs.declared.flavor.Flavor.TheVariants.{Gnu, Msvc}
 use Rattle.implib.specs.declared.flavor.Flavor.{Flavor}
 use Rattle.implib.specs.Definition.{ExportView}
 use Rattle.implib.specs.Formats.Layout.{HasNoNul, entries_of, name_text, object_of}
-use Rattle.implib.specs.Formats.Object.{Object, ObjectSection}
+use Rattle.implib.specs.Formats.Object.{Object, ObjectSection, ASymbol}
 use Rattle.implib.specs.Import.{Ask, Name, Ordinal}
-use Rattle.implib.specs.Link.Image.{Contribution, Range, contributions, filled, range_end, IsAdmissible, image_of}
+use Rattle.implib.specs.Link.Image.{Range, contributions, filled, range_end, IsAdmissible, image_of}
 use Rattle.implib.specs.Link.Load.{BytesAt}
 use Rattle.implib.specs.Link.Placement.{Addresses, Bases, Placed, next_multiple, placed_from, At, SectionAddress, Unplaced, end_after, ends_after, group_named, section_address_of, section_addresses_of, Descriptors, DirectoryEnds, DllNames, Group, HintNames, Lookups, base_of, same_group}
-use Rattle.implib.specs.Link.Resolution.{SymbolDefinition, definitions, definitions_of}
+use Rattle.implib.specs.Link.Resolution.{SymbolDefinition, definitions, definitions_of, defined_by, first_address}
 use Rattle.implib.specs.Members.Gnu.{head_object, export_object, relocations_of_thunk, tail_object}
 use Rattle.implib.specs.Members.ImportTables.{thunk_width, zeros}
 use Rattle.implib.specs.Members.Msvc.{short_import_symbol}
 use Rattle.implib.specs.Members.MsvcObjects.{descriptor, null_thunk, null_descriptor}
-use Rattle.implib.proofs.Link.Linked.{ends_of_block}
-use Rattle.implib.proofs.Link.Placement.{AreAligned, after_head, aligned_head, ends_of_all, ends_of_head, placed-head, export, head, tail}
+use Rattle.implib.proofs.Link.Placement.{export, head, tail}
 use Rattle.implib.proofs.Link.Ranges.{Among, among_back, among_front}
-use Rattle.implib.proofs.Link.Tables.{addresses_end, addresses_filled, filled_first, thunk_bytes}
 use Rattle.implib_link.specs.Flavors.Expansion.{Use, import_object, with_section_symbols}
-use Rattle.implib_link.specs.Flavors.Program.{Ending, OfLinker, OfMember, ask_in, has_tables, is_table, AreEnded, FlavorInput, IsMadeFor, exports_chosen, imported_in, thunks_of, IsProgramOf}
+use Rattle.implib_link.specs.Flavors.Program.{Ending, OfLinker, OfMember, ask_in, has_tables, is_table, AreEnded, FlavorInput, IsMadeFor, exports_chosen, imported_in, thunks_of, IsProgramOf, group_end, sections_end}
 use Rattle.implib_link.proofs.Gnu.Filling.{LocatedBeside, block_beside, rest_beside, descriptor_beside, table_bounds, DescriptorBeside, DirectoryBeside, avoids_addresses, beside_of, keeps_beside, descriptors_beside, directory_ends_beside, dll_names_beside, ends_beside, hint_names_beside, lookups_beside, starts_beside, all_filled, can_run, left_alike, runs_once}
-use Rattle.implib_link.proofs.Flavors.Block.{addresses_after, AreEven, FitsIn, Suits, behind_descriptor, definitions-in, definitions_in, ends_in, ends_of_askings, even_aligned, even_in, even_wide, objects_of, use_for, askings_stand, AllSuit, BlocksIn, CanLink, FlavorBlock, addresses_one, all_objects, descriptors_one, ends_all, ends_one, imported_of, rest_of, thunks_in}
-use Rattle.implib_link.proofs.Flavors.Expanded.{AreWide, ends_of_asking, ends_of_descriptor, ends_of_null_thunk, length-thunk_linked, placed-asking, placed-descriptor, placed-null_thunk, thunk_linked, wide_asking, wide_descriptor, descriptor_stands, taken_descriptor, taken_null}
+use Rattle.implib_link.proofs.Flavors.Block.{AreEven, FitsIn, Suits, behind_descriptor, definitions-in, definitions_in, ends_in, even_aligned, even_in, even_wide, objects_of, use_for, askings_stand, AllSuit, BlocksIn, CanLink, FlavorBlock, addresses_one, all_objects, descriptors_one, ends_all, ends_one, imported_of, rest_of, thunks_in, definitions-all, definitions_all, table_sum}
+use Rattle.implib_link.proofs.Flavors.Expanded.{AreWide, ends_of_descriptor, wide_descriptor, descriptor_stands, taken_descriptor, taken_null}
 use Rattle.implib.specs.LibraryName.{NamesOfDll}
-use Rattle.implib_link.proofs.Gnu.Loaded.{plus_none, Keeps, memory_can_be_read, memory_read, thunks_asked}
+use Rattle.implib_link.proofs.Gnu.Loaded.{Keeps, memory_can_be_read, memory_read, thunks_asked}
 use Rattle.std.proofs.lemmas.Bool.{cases_Bool}
 use Rattle.implib.specs.declared.coff.object.Relocation.{Relocation}
 use Rattle.implib.specs.declared.machine.MachineType.TheVariants.{I386, ARMNT, AMD64, ARM64}
-use Rattle.implib.specs.Formats.Constants.{image_relative}
+use Rattle.implib.specs.Formats.Constants.{image_relative, class_external}
 use Rattle.implib_link.specs.Gnu.Fields.{absolute_width, places_at, table_places, table_places_in, LinkedCode}
 use Rattle.implib_link.proofs.Gnu.Others.{no_group}
 use Rattle.implib_link.proofs.Search.Lists.{all_from, none_among}
-use Rattle.implib_link.proofs.Flavors.Inputs.{block_in, inputs_link}
-use Rattle.implib_link.proofs.Flavors.Program.{kept_all, definitions_are, each, even, null_there, only, program_links, stand, suit, thunks_are, imported_are as imports_same}
+use Rattle.implib_link.proofs.Flavors.Inputs.{block_in, inputs_link, objects_behind}
+use Rattle.implib_link.proofs.Flavors.Program.{kept_all, definitions_are, each, even, null_there, only, program_links, stand, suit, thunks_are, imported_are as imports_same, all_sized}
 use Rattle.implib_link.specs.Directory.{DirectoryAt, Imported}
 use Rattle.implib_link.specs.Gnu.Writing.{Writes, ReadsAndWrites, AreAlike, WritesAsItGoes}
 use Rattle.implib.proofs.Link.LinkedBlocks.{ends, starts}
 use Rattle.implib_link.specs.Gnu.Moves.{AreInMemory}
 use Rattle.implib_link.proofs.Gnu.FieldsInMemory.{rests}
+use Rattle.std.proofs.lemmas.Grind.{flat_map-append}
+use Rattle.implib_link.proofs.Gnu.Packed.{ends_behind, end_behind, placed_parts, fills_objects, span}
+use Rattle.implib_link.proofs.Flavors.NullDescriptor.{group_end-append}
 
 module _ (machine : MachineType) (dll : NamesOfDll) (linked : List Placed) (beside : List Range)
     (starts : AllByRecursion (λ r. 0 < r.start) beside) (ends : AllByRecursion (λ r. range_end r < 2 ^ 31) beside) where
@@ -104,95 +104,76 @@ module _ (machine : MachineType) (ending : Ending) (rest : List Object) (linked 
             (subst (λ n. DirectoryBeside beside (thunk_width machine) n last.addresses (map (imported_of machine) blocks)) (sym (descriptors_one machine k.flavor k.dll b es)) others),
       )
 
--- How long the address tables are.
+-- How long the address tables are: an object behind those of DLLs, in the same group, is where they end.
 
-count_on : (w n m : ℕ) → w + (w * (n + 1) + m) ≡ w * (suc n + 1) + m
-count_on w n m =
-    let one : suc n + 1 ≡ suc (n + 1) = omega arith in
-    let product : w * (suc n + 1) ≡ w * (n + 1) + w = ap (λ k. w * k) one ∙ mul-suc w (n + 1) in
+abbrev behind_tables : Object
+behind_tables = record {
+  machine = 0;
+  time = 0;
+  optional_header_size = 0;
+  characteristics = 0;
+  sections = record { name = codes ".idata$5"; flags = 0; bytes = []; relocations = [] } ∷ [];
+  entries = ASymbol (record { name = []; value = 0; section = 1; kind = 0; class = class_external }) ∷ [];
+}
+
+abbrev at_address : ℕ → List SymbolDefinition
+at_address n = record { name = []; address = Some n } ∷ []
+
+one_address : (n m : ℕ) → at_address n ≡ at_address m → n ≡ m
+one_address n m same = let both : Some n ≡ Some m = ap first_address same in cc
+
+begins_at : (b : Bases) → definitions (placed_from b (behind_tables ∷ [])) ≡ at_address b.addresses
+unfolding next_multiple
+begins_at b = let same : b.addresses + (1 - b.addresses % 1) % 1 + 0 ≡ b.addresses = omega arith in ap at_address same
+
+objects_split : (machine : MachineType) (blocks : List FlavorBlock) (rest : List Object) → all_objects machine blocks rest ≡ all_objects machine blocks [] ++ rest
+objects_split machine [] rest = refl
+objects_split machine (k ∷ blocks) rest =
+    sym (objects_behind machine k.flavor k.dll k.exports (all_objects machine blocks rest))
+    ∙ ap (λ os. objects_of machine k.flavor k.dll k.exports [] ++ os) (objects_split machine blocks rest)
+    ∙ sym (append_assoc (objects_of machine k.flavor k.dll k.exports []) (all_objects machine blocks []) rest)
+    ∙ ap (λ os. os ++ rest) (objects_behind machine k.flavor k.dll k.exports (all_objects machine blocks []))
+
+addresses_all : (machine : MachineType) (b : Bases) (blocks : List FlavorBlock) → (ends_all machine b blocks).addresses ≡ b.addresses + thunk_width machine * thunks_in (length blocks) blocks
+unfolding ends_all
+addresses_all machine b [] = omega arith
+addresses_all machine b (k ∷ blocks) =
+    addresses_all machine (ends_one machine b k) blocks
+    ∙ ap (λ n. n + thunk_width machine * thunks_in (length blocks) blocks) (addresses_one machine k.flavor k.dll b k.exports)
+    ∙ table_sum b.addresses (thunk_width machine) (length k.exports + 1) (thunks_in (length blocks) blocks)
+
+tables_end : (machine : MachineType) (ending : Ending) (blocks : List FlavorBlock) (b : Bases) → AllSuit ending blocks → AreEven ending machine b →
+    group_end Addresses b.addresses (all_objects machine blocks (rest_of ending)) ≡ b.addresses + thunk_width machine * thunks_in (length blocks) blocks
+unfolding group_end sections_end
+tables_end machine ending blocks b suit even =
+    let own : List Object = all_objects machine blocks [] in
+    let defined : List SymbolDefinition = definitions_all machine b blocks in
+    let last : Bases = ends_behind b own in
+    let parts : definitions (placed_from b (all_objects machine blocks (behind_tables ∷ []))) ≡ defined ++ at_address last.addresses =
+    ap (λ os. definitions (placed_from b os)) (objects_split machine blocks (behind_tables ∷ []))
+    ∙ ap definitions (placed_parts b own (behind_tables ∷ []))
+    ∙ flat_map-append defined_by (placed_from b own) (placed_from last (behind_tables ∷ []))
+    ∙ ap (λ ds. ds ++ definitions (placed_from last (behind_tables ∷ []))) (definitions-all machine ending b blocks [] suit even ∙ append-nil defined)
+    ∙ ap (λ ds. defined ++ ds) (begins_at last) in
+    let whole : definitions (placed_from b (all_objects machine blocks (behind_tables ∷ []))) ≡ defined ++ at_address (ends_all machine b blocks).addresses =
+    definitions-all machine ending b blocks (behind_tables ∷ []) suit even ∙ ap (λ ds. defined ++ ds) (begins_at (ends_all machine b blocks)) in
+    let ends : last.addresses ≡ (ends_all machine b blocks).addresses =
+    one_address last.addresses (ends_all machine b blocks).addresses (append_cancel_left defined (at_address last.addresses) (at_address (ends_all machine b blocks).addresses) (sym parts ∙ whole)) in
+    rest_behind ending ∙ sym (end_behind Addresses b own) ∙ ends ∙ addresses_all machine b blocks
+  where
+    rest_behind : (ending : Ending) → group_end Addresses b.addresses (all_objects machine blocks (rest_of ending)) ≡ group_end Addresses b.addresses (all_objects machine blocks [])
+    rest_behind OfLinker = ap (group_end Addresses b.addresses) (objects_split machine blocks (rest_of OfLinker)) ∙ group_end-append Addresses b.addresses (all_objects machine blocks []) (rest_of OfLinker)
+    rest_behind OfMember = refl
+
+all_long : (machine : MachineType) (linked : List Placed) (ending : Ending) (blocks : List FlavorBlock) (b : Bases) → AllSuit ending blocks → AreEven ending machine b →
+    length (filled b.addresses (contributions machine linked Addresses (placed_from b (all_objects machine blocks (rest_of ending))))) ≡ thunk_width machine * thunks_in (length blocks) blocks
+unfolding span
+all_long machine linked ending blocks b suit even =
+    let objects : List Object = all_objects machine blocks (rest_of ending) in
+    let ends : b.addresses + length (filled b.addresses (contributions machine linked Addresses (placed_from b objects))) ≡ group_end Addresses b.addresses objects =
+    (fills_objects machine linked Addresses b objects (all_sized machine ending blocks)).ends in
+    let end = tables_end machine ending blocks b suit even in
     omega arith
-
-module _ (machine : MachineType) (linked : List Placed) where
-  abbrev table_from : Bases → List Object → List ℕ
-  table_from b objects = filled b.addresses (contributions machine linked Addresses (placed_from b objects))
-
-  first_long : (a n : ℕ) (bytes : List ℕ) (others : List Contribution) → length bytes ≡ n →
-      length (filled a (record { address = a; bytes = bytes } ∷ others)) ≡ n + length (filled (a + n) others)
-  first_long a n bytes others long =
-      ap length (filled_first a n bytes others long) ∙ length-append bytes (filled (a + n) others) ∙ ap (λ m. m + length (filled (a + n) others)) long
-
-  asking_long : (dll : NamesOfDll) (b : Bases) (symbol : List ℕ) (ask : Ask) (use_kind : Use) (rest : List Object) → AreWide machine b →
-      length (table_from b (import_object machine dll.text symbol ask use_kind ∷ rest)) ≡ thunk_width machine + length (table_from (ends_of_asking machine b ask) rest)
-  unfolding import_object thunk_linked
-  asking_long dll b symbol (Ordinal n) use_kind rest even =
-      ap (λ ps. length (filled b.addresses (contributions machine linked Addresses ps))) (placed-asking machine dll b symbol (Ordinal n) use_kind rest even)
-      ∙ first_long b.addresses (thunk_width machine) (thunk_linked machine dll linked b symbol (Ordinal n) use_kind) (contributions machine linked Addresses (placed_from (ends_of_asking machine b (Ordinal n)) rest))
-      (length-thunk_linked machine dll linked b symbol (Ordinal n) use_kind)
-  asking_long dll b symbol (Name text hint) use_kind rest even =
-      ap (λ ps. length (filled b.addresses (contributions machine linked Addresses ps))) (placed-asking machine dll b symbol (Name text hint) use_kind rest even)
-      ∙ first_long b.addresses (thunk_width machine) (thunk_linked machine dll linked b symbol (Name text hint) use_kind) (contributions machine linked Addresses (placed_from (ends_of_asking machine b (Name text hint)) rest))
-      (length-thunk_linked machine dll linked b symbol (Name text hint) use_kind)
-
-  askings_long : (dll : NamesOfDll) (es : List ExportView) (b : Bases) (rest : List Object) → AreWide machine b →
-      length (table_from b (behind_descriptor machine dll es rest)) ≡ thunk_width machine * (length es + 1) + length (table_from (ends_of_askings machine b es) rest)
-  unfolding ends_of_askings with_section_symbols object_of null_thunk entries_of name_text
-  askings_long dll [] b rest even =
-      ap (λ ps. length (filled b.addresses (contributions machine linked Addresses ps))) (placed-null_thunk machine dll b rest even)
-      ∙ first_long b.addresses (thunk_width machine) (zeros (thunk_width machine)) (contributions machine linked Addresses (placed_from (ends_of_null_thunk machine b) rest)) (length-replicate {A = ℕ} (thunk_width machine) 0)
-      ∙ (let one : thunk_width machine * (0 + 1) ≡ thunk_width machine = omega arith in ap (λ n. n + length (table_from (ends_of_null_thunk machine b) rest)) (sym one))
-  askings_long dll (e ∷ es) b rest even =
-      let ask : Ask = ask_in Msvc machine e in
-      let later : Bases = ends_of_asking machine b ask in
-      asking_long dll b (short_import_symbol e) ask (use_for e) (behind_descriptor machine dll es rest) even
-      ∙ ap (λ n. thunk_width machine + n) (askings_long dll es later rest (wide_asking machine b ask even))
-      ∙ count_on (thunk_width machine) (length es) (length (table_from (ends_of_askings machine later es) rest))
-
-  msvc_long : (dll : NamesOfDll) (es : List ExportView) (b : Bases) (rest : List Object) → AreWide machine b →
-      length (table_from b (objects_of machine Msvc dll es rest)) ≡ thunk_width machine * (length es + 1) + length (table_from (ends_in machine Msvc dll b es) rest)
-  unfolding with_section_symbols object_of descriptor entries_of name_text
-  msvc_long dll es b rest even =
-      let later : Bases = ends_of_descriptor dll b in
-      let others : List Contribution = contributions machine linked Addresses (placed_from later (behind_descriptor machine dll es rest)) in
-      ap (λ ps. length (filled b.addresses (contributions machine linked Addresses ps))) (placed-descriptor machine dll b (behind_descriptor machine dll es rest) even)
-      ∙ ap length (filled_first b.addresses 0 [] others refl ∙ ap (λ n. filled n others) (plus_none b.addresses))
-      ∙ askings_long dll es later rest (wide_descriptor machine dll b even)
-
-  gnu_block_long : (dll : NamesOfDll) (es : List ExportView) (b : Bases) (rest : List Object) → AreAligned b →
-      length (table_from b (objects_of machine Gnu dll es rest)) ≡ thunk_width machine * (length es + 1) + length (table_from (ends_in machine Gnu dll b es) rest)
-  unfolding head_object
-  gnu_block_long dll es b rest even =
-      let later : Bases = ends_of_head machine dll b in
-      let last : Bases = ends_of_block machine dll b es in
-      let others : List Contribution = contributions machine linked Addresses (placed_from later (after_head machine dll es rest)) in
-      let thunks : List ℕ = thunk_bytes machine dll linked later es in
-      let ends_at : later.addresses + length thunks ≡ (ends_of_all machine dll later es).addresses = addresses_end machine dll linked later es in
-      let counted : (ends_of_all machine dll later es).addresses ≡ later.addresses + thunk_width machine * (length es + 1) = addresses_after machine dll later es in
-      let long : length thunks ≡ thunk_width machine * (length es + 1) = omega arith in
-      ap (λ ps. length (filled b.addresses (contributions machine linked Addresses ps))) (placed-head machine dll b (after_head machine dll es rest) even)
-      ∙ ap length (filled_first b.addresses 0 [] others refl ∙ ap (λ n. filled n others) (plus_none b.addresses)
-      ∙ addresses_filled machine dll linked later es rest (aligned_head machine dll b even))
-      ∙ length-append thunks (table_from last rest)
-      ∙ ap (λ n. n + length (table_from last rest)) long
-
-  one_long : (ending : Ending) (flavor : Flavor) (dll : NamesOfDll) (es : List ExportView) (b : Bases) (rest : List Object) → Suits ending flavor → AreEven ending machine b →
-      length (table_from b (objects_of machine flavor dll es rest)) ≡ thunk_width machine * (length es + 1) + length (table_from (ends_in machine flavor dll b es) rest)
-  one_long ending Msvc dll es b rest suits even = msvc_long dll es b rest (even_wide machine ending b suits even)
-  one_long ending Gnu dll es b rest suits even = gnu_block_long dll es b rest (even_aligned machine ending b even)
-
-  none_long : (ending : Ending) (b : Bases) → length (table_from b (rest_of ending)) ≡ 0
-  none_long OfLinker b = refl
-  none_long OfMember b = refl
-
-  pub all_long : (ending : Ending) (blocks : List FlavorBlock) (b : Bases) → AllSuit ending blocks → AreEven ending machine b →
-      length (filled b.addresses (contributions machine linked Addresses (placed_from b (all_objects machine blocks (rest_of ending))))) ≡ thunk_width machine * thunks_in (length blocks) blocks
-  all_long ending [] b suit even = none_long ending b ∙ omega arith
-  all_long ending (k ∷ blocks) b suit even =
-      let later : Bases = ends_one machine b k in
-      let split : thunk_width machine * (length k.exports + 1 + thunks_in (length blocks) blocks) ≡ thunk_width machine * (length k.exports + 1) + thunk_width machine * thunks_in (length blocks) blocks =
-      mul-add (thunk_width machine) (length k.exports + 1) (thunks_in (length blocks) blocks) in
-      one_long ending k.flavor k.dll k.exports b (all_objects machine blocks (rest_of ending)) suit.0 even
-      ∙ ap (λ n. thunk_width machine * (length k.exports + 1) + n) (all_long ending blocks later suit.1 (even_in machine ending k.flavor k.dll b k.exports suit.0 even))
-      ∙ sym split
 
 -- The import tables have no base relocations: members for GNU's linker.
 

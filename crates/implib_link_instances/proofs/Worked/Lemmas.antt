@@ -57,9 +57,6 @@ same_bytes memory (x ∷ xs) [] a first second long = absurd (omega arith)
 same_bytes memory (x ∷ xs) (y ∷ ys) a first second long =
     rw (value x y (sym first.0 ∙ second.0), same_bytes memory xs ys (a + 1) first.1 second.1 (omega arith)) refl
 
-pub entry_is : (base entry place : ℕ) → Some (base + place) ≡ Some (base + entry) → entry ≡ place
-entry_is base entry place is = let same : base + place ≡ base + entry = value (base + place) (base + entry) is in omega arith
-
 none_passes_among : {X : Type 0} (p : X → Bool) (x : X) (xs : List X) → list_any p xs ≡ false → Among x xs → p x ≡ true → ⊥
 unfolding Among
 none_passes_among p x [] none held is = absurd held

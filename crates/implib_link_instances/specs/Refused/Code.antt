@@ -25,10 +25,6 @@ abbrev pub nops : List Range
 nops = record { start = 0x1000; bytes = 0x90 ∷ 0x90 ∷ 0x90 ∷ 0x90 ∷ 0x90 ∷ 0x90 ∷ 0x90 ∷ 0x90 ∷ [] }
     ∷ []
 
--- a call, `E8`, of the first of them
-abbrev pub calling_nops : List Range
-calling_nops = record { start = 0xFFB; bytes = 0xE8 ∷ 0 ∷ 0 ∷ 0 ∷ 0 ∷ [] } ∷ nops
-
 -- at 0 a number that leads 65,532 bytes back; and at 16 `adrp x8, -0x1000` and `ldr x8, [x8]`: to
 -- what is in front of the image
 abbrev pub back : List Range
