@@ -1,8 +1,3 @@
 -- The same, proved.
-pub mod Corollaries
 pub mod InBytes
-pub mod Way
-pub mod LldWay
-pub mod BothWay
-pub mod Files
-pub mod LldFiles
+pub mod Ways

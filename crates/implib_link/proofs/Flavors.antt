@@ -1,22 +1,12 @@
 -- Lemmas about programs of members of both flavours.
 pub mod Expanded
 pub mod Block
-pub mod Blocks
 pub mod NullDescriptor
-pub mod Claims
 pub mod Inputs
 pub mod Program
 pub mod Texts
-pub mod Loaded
-pub mod GnuPrograms
-pub mod Beside
-pub mod Writing
 pub mod Stubs
-pub mod Packed
-pub mod PlacedStubs
 pub mod Steady
-pub mod LldTables
-pub mod LldGroups
 pub mod LldImports
 pub mod LldPrograms
 pub mod LldThunks

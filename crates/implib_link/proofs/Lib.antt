@@ -2,9 +2,6 @@ pub mod Gnu
 pub mod Flavors
 pub mod Search
 pub mod Tables
-pub mod PackedTables
-pub mod TablesOfPrograms
-pub mod TablesInMemory
 pub mod StoredInMemory
 pub mod Parts
 pub mod Archives

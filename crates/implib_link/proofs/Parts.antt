@@ -1,8 +1,4 @@
-pub mod Sections
 pub mod Texts
 pub mod Heads
 pub mod Programs
 pub mod Members
-pub mod Older
-pub mod Stubs
-pub mod OfMembers

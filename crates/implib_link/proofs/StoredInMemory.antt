@@ -1,32 +1,158 @@
--- Fields for addresses beside import tables, in memory at any base: they hold addresses of entries, of what linked code
--- defines, and so of stubs and thunks.
-use Rattle.std.proofs.Common.{◌≡◌, ℕ, ◌+◌, ◌*◌, ◌^◌, ◌<◌, ◌≤◌, List, ◌++◌, length, Some, subst, inr, refl, arith}
-use Rattle.std.specs.Prelude.{slice_get}
+-- Fields for the address of a name hold it, in memory at any base.
+use Rattle.std.proofs.Common.{◌≡◌, ℕ, ◌+◌, ◌*◌, ◌%◌, ◌^◌, ◌<◌, ◌≤◌, List, ◌++◌, [], ◌∷◌, length, None, Some, refl, sym, subst, arith, inr}
 use Rattle.std.specs.List.{AllByRecursion, Contains, flat_map}
 use Rattle.implib.specs.declared.machine.MachineType.{MachineType}
-use Rattle.implib.specs.Formats.Object.{ObjectSymbol}
+use Rattle.implib.specs.declared.machine.MachineType.TheVariants.{I386, ARMNT, AMD64, ARM64}
+use Rattle.implib.specs.Formats.Constants.{arm64_pagebase_rel21}
+use Rattle.implib.specs.Formats.Object.{ASymbol, ObjectSymbol}
+use Rattle.implib.specs.Link.Image.{Range}
+use Rattle.implib.specs.Link.Load.{NumberAt}
+use Rattle.implib.specs.Link.Placement.{Placed}
+use Rattle.implib.specs.Link.Resolution.{definitions_of}
+use Rattle.implib.specs.Members.ImportTables.{thunk_width}
+use Rattle.implib.proofs.Link.LinkedMembers.{among_contains}
+use Rattle.implib.proofs.Link.Ranges.{Among, all_among}
+use Rattle.implib_link.specs.Gnu.Fields.{field_width, DefinesIn, FieldHolds, LinkedCode, MeetsAlone, field_at, HasPageField, HasPointer, IsPointer, Names, absolute_width, StubAt, AreLinkedBeside, placed_code, StubArrives}
+use Rattle.implib_link.specs.Gnu.Stored.{HasAddField, HasRelative, HoldAddress, HoldsFurther, IsImageRelative, SumArrives, arm64_pageoffset_12a, AreFurtherHeld, AreStoredInMemory, PointsTo}
+use Rattle.implib_link.specs.Stub.{adrp_immediate, bits_of, page, plus_signed}
+use Rattle.implib_link.proofs.Gnu.FieldsInMemory.{Settles, StoredRests, field_there, linked_there, own_end, settled_in_tables, stored_in_memory, stored_rests}
+use Rattle.implib_link.proofs.Gnu.Loaded.{Covers}
+use Rattle.implib_link.proofs.Gnu.Operands.{addr64_is, dir32_is, page_leads, pair_leads, pointer_width}
+use Rattle.implib_link.proofs.Flavors.Block.{gets_address}
+use Rattle.implib_link.proofs.Search.Lists.{among_at, contains_among}
+use Rattle.std.specs.Prelude.{slice_get}
 use Rattle.implib.specs.Formats.ShortImport.{ShortImport}
 use Rattle.implib.specs.Import.{Ask, imp_symbol}
-use Rattle.implib.specs.Link.Image.{Range}
-use Rattle.implib.specs.Link.Placement.{Placed}
-use Rattle.implib.specs.Members.ImportTables.{thunk_width}
-use Rattle.implib.proofs.Link.Ranges.{all_among}
-use Rattle.implib_link.specs.Flavors.LldThunks.{IsThunk, ThunkArrives}
-use Rattle.implib_link.specs.Gnu.Calls.{StubAt}
-use Rattle.implib_link.specs.Gnu.Fields.{AreLinkedBeside, DefinesIn, LinkedCode, placed_code}
+use Rattle.implib_link.specs.Flavors.LldImports.{IsThunk, ThunkArrives}
 use Rattle.implib_link.specs.Gnu.Moves.{AreInMemory, ArePaged, CanBeMoved, places_of_code}
-use Rattle.implib_link.specs.Gnu.Operands.{HasPointer}
-use Rattle.implib_link.specs.Gnu.Reading.{ReadsAndWrites}
-use Rattle.implib_link.specs.Gnu.Rebased.{StubArrives}
-use Rattle.implib_link.specs.Gnu.Stored.{AreFurtherHeld, AreStoredInMemory, HoldAddress, PointsTo}
+use Rattle.implib_link.specs.Gnu.Writing.{ReadsAndWrites}
 use Rattle.implib_link.specs.Tables.{AreSteady, AreTables, CanReadFrom, Table, TableEntry, Tables}
 use Rattle.implib_link.proofs.Flavors.LldThunks.{bare_symbol, thunk_defines}
-use Rattle.implib_link.proofs.Gnu.FieldsInMemory.{StoredRests, stored_in_memory, stored_rests}
-use Rattle.implib_link.proofs.Gnu.Memory.{Covers}
-use Rattle.implib_link.proofs.Gnu.MovedPrograms.{code_places, moved_exists}
-use Rattle.implib_link.proofs.Gnu.Stored.{holds_address, settled_by_code, settled_by_tables}
-use Rattle.implib_link.proofs.Search.Lists.{contains_among}
-use Rattle.implib_link.proofs.TablesInMemory.{covering, entry_in, stub_in_memory, thunk_in_memory}
+use Rattle.implib_link.proofs.Gnu.Fields.{code_places, moved_exists}
+use Rattle.implib_link.proofs.Tables.{covering, entry_in, stub_in_memory, thunk_in_memory}
+
+-- Numbers of fields.
+
+stored_is : (machine : MachineType) (type base position target : ℕ) (old new : ℕ → ℕ) → IsPointer machine type → old (thunk_width machine) ≡ 0 → FieldHolds machine type base position target old new →
+    base + 2 ^ 31 ≤ 2 ^ (8 * thunk_width machine) → target < 2 ^ 31 → new (thunk_width machine) ≡ base + target
+stored_is I386 type base position target old new stores empty holds fits small = dir32_is (new 4) (old 4) base target (holds.dir32 stores) empty fits small
+stored_is ARMNT type base position target old new stores empty holds fits small = absurd stores
+stored_is AMD64 type base position target old new stores empty holds fits small = addr64_is (new 8) (old 8) base target (holds.addr64 stores) empty fits small
+stored_is ARM64 type base position target old new stores empty holds fits small = addr64_is (new 8) (old 8) base target (holds.addr64 stores) empty fits small
+
+relative_is : (n old target : ℕ) → n ≡ (old + target) % 2 ^ 32 → old ≡ 0 → target < 2 ^ 31 → n ≡ target
+relative_is n old target is empty small = omega arith
+
+relative_width : (machine : MachineType) (type : ℕ) → IsImageRelative machine type → field_width machine type ≡ 4
+relative_width I386 type relative = refl
+relative_width ARMNT type relative = absurd relative
+relative_width AMD64 type relative = subst (λ t. field_width AMD64 t ≡ 4) (sym relative) refl
+relative_width ARM64 type relative = subst (λ t. field_width ARM64 t ≡ 4) (sym relative) refl
+
+relative_steady : (machine : MachineType) (type : ℕ) → IsImageRelative machine type → absolute_width machine type ≡ None
+relative_steady I386 type relative = subst (λ t. absolute_width I386 t ≡ None) (sym relative) refl
+relative_steady ARMNT type relative = absurd relative
+relative_steady AMD64 type relative = subst (λ t. absolute_width AMD64 t ≡ None) (sym relative) refl
+relative_steady ARM64 type relative = subst (λ t. absolute_width ARM64 t ≡ None) (sym relative) refl
+
+-- the offset in a page is the same at a base that differs by whole pages
+added_is : (n from base target old : ℕ) → n ≡ (from + target + old) % 4096 → old ≡ 0 → from % 4096 ≡ base % 4096 → n ≡ (base + target) % 4096
+added_is n from base target old is empty paged = omega arith
+
+module _ (machine : MachineType) (image_base : ℕ) (image : List Range) (linked : List Placed) (codes : List LinkedCode) (targets : LinkedCode → ℕ → ℕ) (memory : List Range)
+    (stored : StoredRests machine image_base image linked codes targets memory) (written : List Range) (covers_it : AllByRecursion (Covers image) written) where
+  abbrev pub AllSettled : List ℕ → ℕ → Type 0
+  AllSettled name target = (c : LinkedCode) (symbol : ℕ) → Contains codes c → Names c.from symbol name → Settles machine image_base image linked codes targets memory stored.rests c symbol target
+
+  -- of a name that linked code defines
+  pub settled_by_code : (d : LinkedCode) (s : ObjectSymbol) → Contains codes d → DefinesIn d s → AllSettled s.name (d.position + s.value)
+  settled_by_code d s d_held defines c symbol held names = stored.settled c d symbol names.symbol s held d_held names.target names.undefined defines (sym names.named)
+
+  -- of one that the tables define
+  pub settled_by_tables : (name : List ℕ) (entry : ℕ) → definitions_of name linked ≡ record { name = name; address = Some entry } ∷ [] → AllSettled name entry
+  settled_by_tables name entry once c symbol held names =
+      settled_in_tables machine image_base image linked codes targets memory stored.rests c symbol entry (ASymbol names.symbol) held names.target
+      (gets_address linked name entry once c.from names.symbol (all_among (λ (x : LinkedCode). Contains linked x.from) c codes (contains_among c codes held) stored.rests.beside.held)
+      (among_contains (ASymbol names.symbol) c.from.object.entries (among_at (ASymbol names.symbol) c.from.object.entries symbol names.target)) names.undefined names.named)
+
+  module _ (name : List ℕ) (target : ℕ) (small : target < 2 ^ 31) (settled : AllSettled name target) where
+    whole_holds : (c : LinkedCode) (offset : ℕ) → image_base + 2 ^ 31 ≤ 2 ^ (8 * thunk_width machine) → Contains codes c → HasPointer machine c offset name →
+        NumberAt (written ++ memory) (thunk_width machine) (c.position + offset) (image_base + target)
+    whole_holds c offset fits held has =
+        let found = field_there machine image_base image linked codes targets memory stored.rests written covers_it c (contains_among c codes held) offset has.type has.field.symbol has.field.alone has.field.inside target
+        (settled c has.field.symbol held has.field.names) in
+        subst (λ n. NumberAt (written ++ memory) (thunk_width machine) (c.position + offset) n)
+        (stored_is machine has.type image_base (c.position + offset) target (field_at c.code.bytes offset) found.0 has.stores has.empty found.1.1 fits small)
+        (subst (λ w. NumberAt (written ++ memory) w (c.position + offset) (found.0 w)) (pointer_width machine has.type has.stores) found.1.0)
+
+    -- a field of a type that Fields leaves out, as it was linked
+    further_holds : (c : LinkedCode) (offset type symbol : ℕ) → Contains codes c → MeetsAlone machine c.code.relocations offset (field_width machine type) (record { offset = offset; symbol = symbol; kind = type }) →
+        offset + field_width machine type ≤ length c.code.bytes → Names c.from symbol name → HoldsFurther machine type stored.rests.from target (field_at c.code.bytes offset) (field_at c.bytes offset)
+    further_holds c offset type symbol held alone inside names =
+        subst (λ n. HoldsFurther machine type stored.rests.from n (field_at c.code.bytes offset) (field_at c.bytes offset)) (settled c symbol held names).taken
+        (stored.further c held (record { offset = offset; symbol = symbol; kind = type }) alone inside)
+
+    relative_holds : (c : LinkedCode) (offset : ℕ) → Contains codes c → HasRelative machine c offset name → NumberAt (written ++ memory) 4 (c.position + offset) target
+    relative_holds c offset held has =
+        let there = linked_there machine image_base image linked codes targets memory stored.rests written covers_it c (contains_among c codes held) offset has.type has.field.symbol has.field.alone has.field.inside
+        (relative_steady machine has.type has.relative) in
+        let holds = further_holds c offset has.type has.field.symbol held has.field.alone has.field.inside has.field.names in
+        subst (λ n. NumberAt (written ++ memory) 4 (c.position + offset) n) (relative_is (field_at c.bytes offset 4) (field_at c.code.bytes offset 4) target (holds.relative has.relative) has.empty small)
+        (subst (λ w. NumberAt (written ++ memory) w (c.position + offset) (field_at c.bytes offset w)) (relative_width machine has.type has.relative) there)
+
+-- ARM64's two instructions.
+sum_holds : (image_base : ℕ) (image : List Range) (linked : List Placed) (codes : List LinkedCode) (targets : LinkedCode → ℕ → ℕ) (memory : List Range) (stored : StoredRests ARM64 image_base image linked codes targets memory)
+    (written : List Range) (covers_it : AllByRecursion (Covers image) written) (name : List ℕ) (target : ℕ) → target < 2 ^ 31 →
+    ((c : LinkedCode) (symbol : ℕ) → Contains codes c → Names c.from symbol name → Settles ARM64 image_base image linked codes targets memory stored.rests c symbol target) → (c d : LinkedCode) (first second : ℕ) →
+    Contains codes c → Contains codes d → HasPageField c first name → HasAddField d second name →
+    SumArrives image_base (written ++ memory) (c.position + first) (d.position + second) (field_at c.code.bytes first 4) (field_at d.code.bytes second 4) target
+sum_holds image_base image linked codes targets memory stored written covers_it name target small settled c d first second c_held d_held page_field add_field =
+    let m : Among c codes = contains_among c codes c_held in
+    let paged = field_there ARM64 image_base image linked codes targets memory stored.rests written covers_it c m first arm64_pagebase_rel21 page_field.field.symbol page_field.field.alone page_field.field.inside target
+    (settled c page_field.field.symbol c_held page_field.field.names) in
+    let page_holds = paged.1.1.page_of refl in
+    let end : c.position + length c.code.bytes + 16 ≤ 2 ^ 31 = own_end ARM64 image_base image linked codes targets memory stored.rests written covers_it c m in
+    let inside : first + 4 ≤ length c.code.bytes = page_field.field.inside in
+    let there = linked_there ARM64 image_base image linked codes targets memory stored.rests written covers_it d (contains_among d codes d_held) second arm64_pageoffset_12a add_field.field.symbol add_field.field.alone
+    add_field.field.inside refl in
+    let added = (further_holds ARM64 image_base image linked codes targets memory stored written covers_it name target small settled d second arm64_pageoffset_12a add_field.field.symbol d_held add_field.field.alone
+    add_field.field.inside add_field.field.names).added refl refl add_field.adds in
+    let add : ℕ = field_at d.bytes second 4 in
+    record {
+      adrp = paged.0 4;
+      adrp_there = paged.1.0;
+      is_adrp = page_holds.0;
+      add = add;
+      add_there = there;
+      is_add = added.0;
+      leads = pair_leads (paged.0 4) add (plus_signed 21 4096 (adrp_immediate (paged.0 4)) (page (image_base + (c.position + first)) * 4096)) (bits_of 10 12 add) (image_base + target)
+          (page_leads (paged.0 4) (field_at c.code.bytes first 4) image_base (c.position + first) target page_holds.1 page_field.empty (omega arith) small)
+          (added_is (bits_of 10 12 add) stored.rests.from image_base target (bits_of 10 12 (field_at d.code.bytes second 4)) added.1 add_field.empty stored.rests.paged);
+    }
+
+sums_hold : (machine : MachineType) (image_base : ℕ) (image : List Range) (linked : List Placed) (codes : List LinkedCode) (targets : LinkedCode → ℕ → ℕ) (memory : List Range)
+    (stored : StoredRests machine image_base image linked codes targets memory) (written : List Range) → AllByRecursion (Covers image) written → (name : List ℕ) (target : ℕ) → target < 2 ^ 31 →
+    ((c : LinkedCode) (symbol : ℕ) → Contains codes c → Names c.from symbol name → Settles machine image_base image linked codes targets memory stored.rests c symbol target) → (c d : LinkedCode) (first second : ℕ) → machine ≡ ARM64 →
+    Contains codes c → Contains codes d → HasPageField c first name → HasAddField d second name →
+    SumArrives image_base (written ++ memory) (c.position + first) (d.position + second) (field_at c.code.bytes first 4) (field_at d.code.bytes second 4) target
+sums_hold I386 image_base image linked codes targets memory stored written covers_it name target small settled c d first second is c_held d_held page_field add_field = cc
+sums_hold ARMNT image_base image linked codes targets memory stored written covers_it name target small settled c d first second is c_held d_held page_field add_field = cc
+sums_hold AMD64 image_base image linked codes targets memory stored written covers_it name target small settled c d first second is c_held d_held page_field add_field = cc
+sums_hold ARM64 image_base image linked codes targets memory stored written covers_it name target small settled c d first second is c_held d_held page_field add_field =
+    sum_holds image_base image linked codes targets memory stored written covers_it name target small settled c d first second c_held d_held page_field add_field
+
+pub holds_address : (machine : MachineType) (image_base : ℕ) (image : List Range) (linked : List Placed) (codes : List LinkedCode) (targets : LinkedCode → ℕ → ℕ) (memory : List Range)
+    (stored : StoredRests machine image_base image linked codes targets memory) (written : List Range) → AllByRecursion (Covers image) written → (name : List ℕ) (target : ℕ) → target < 2 ^ 31 →
+    ((c : LinkedCode) (symbol : ℕ) → Contains codes c → Names c.from symbol name → Settles machine image_base image linked codes targets memory stored.rests c symbol target) →
+    HoldAddress machine image_base codes (written ++ memory) name target
+holds_address machine image_base image linked codes targets memory stored written covers_it name target small settled = record {
+  whole = whole_holds machine image_base image linked codes targets memory stored written covers_it name target small settled;
+  relative = relative_holds machine image_base image linked codes targets memory stored written covers_it name target small settled;
+  sums = sums_hold machine image_base image linked codes targets memory stored written covers_it name target small settled;
+}
+
+-- Fields for addresses beside import tables, in memory at any base: they hold addresses of entries, of what linked code
+-- defines, and so of stubs and thunks.
 
 module _ (machine : MachineType) (image_base : ℕ) (t : Tables) (codes : List LinkedCode) (targets : LinkedCode → ℕ → ℕ) (memory : List Range) (gives : List ℕ → Ask → List ℕ)
     (tables : AreTables machine t) (steady : AreSteady machine t.linked) (at : AreStoredInMemory machine image_base t.image t.linked codes targets memory) (n : ℕ) (written : List Range)

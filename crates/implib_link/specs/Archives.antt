@@ -1,8 +1,4 @@
 -- Searches in archives' bytes, and the whole way from them to a call.
 pub mod InBytes
-pub mod Results
-pub mod Way
-pub mod LldWay
-pub mod BothWay
+pub mod Ways
 pub mod Files
-pub mod LldFiles

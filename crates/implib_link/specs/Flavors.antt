@@ -1,8 +1,5 @@
 -- Programs of members of both flavours.
-pub mod SectionSymbols
 pub mod Expansion
 pub mod Program
 pub mod Texts
-pub mod LldTables
 pub mod LldImports
-pub mod LldThunks

@@ -9,10 +9,9 @@ use Rattle.implib.specs.Import.{Ask, imp_symbol}
 use Rattle.implib.specs.Link.Image.{Range}
 use Rattle.implib.specs.Link.Placement.{Placed}
 use Rattle.implib.specs.Members.ImportTables.{thunk_width}
-use Rattle.implib_link.specs.Flavors.LldThunks.{IsThunk}
-use Rattle.implib_link.specs.Gnu.Calls.{StubAt}
-use Rattle.implib_link.specs.Gnu.Fields.{LinkedCode, placed_code}
-use Rattle.implib_link.specs.Gnu.Reading.{ReadsAndWrites}
+use Rattle.implib_link.specs.Flavors.LldImports.{IsThunk}
+use Rattle.implib_link.specs.Gnu.Fields.{StubAt, LinkedCode, placed_code}
+use Rattle.implib_link.specs.Gnu.Writing.{ReadsAndWrites}
 use Rattle.implib_link.specs.Tables.{AreSteady, AreTables, CanReadFrom, Table, TableEntry, Tables}
 
 -- what each DLL gives has as many bytes as an entry

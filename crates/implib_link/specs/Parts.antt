@@ -2,9 +2,9 @@
 -- whatever maker, and the table that is read of them: a head with the descriptor, objects with an
 -- entry each, and a tail that ends both tables, as GNU dlltool's libraries have them, and those
 -- that are made here for GNU's linker.
-use Rattle.std.specs.Prelude.{◌≡◌, ℕ, ◌+◌, ◌*◌, ◌-◌, ◌^◌, Bool, ◌&&◌, ◌||◌, ◌==◌, nat_lt, not, true}
-use Rattle.std.specs.Prelude.{false, List, [], ◌∷◌, ◌++◌, bytes_eq, drop, map, slice_get, take}
-use Rattle.std.specs.Prelude.{Option, Some, None, if◌then◌else◌}
+use Rattle.std.specs.Prelude.{◌≡◌, ℕ, ◌+◌, ◌*◌, ◌-◌, ◌^◌, ◌≤◌, Bool, ◌&&◌, ◌||◌, ◌==◌, nat_lt, not}
+use Rattle.std.specs.Prelude.{true, false, List, [], ◌∷◌, ◌++◌, bytes_eq, drop, map, slice_get}
+use Rattle.std.specs.Prelude.{take, Option, Some, length, None, if◌then◌else◌}
 use Rattle.std.specs.List.{AllByRecursion, IsDistinct, filter, filter_map, flat_map, list_all}
 use Rattle.std.specs.List.{list_any}
 use Rattle.std.specs.Option.{option_and_then, option_map}
@@ -31,11 +31,9 @@ use Rattle.implib.specs.Members.ImportTables.{thunk_width, zeros}
 use Rattle.implib.specs.Members.MemberSpec.{MemberSpec, MemberView, member_of}
 use Rattle.implib.specs.Members.OlderSymbols.{older_spec, older_symbol}
 use Rattle.implib.specs.Renaming.{renamed}
-use Rattle.implib_link.specs.Flavors.Program.{gnu_input}
-use Rattle.implib_link.specs.Gnu.OtherLibraries.{HoldsFields}
-use Rattle.implib_link.specs.Gnu.Program.{ClaimsNone, claimed_names, has_tables, is_table}
-use Rattle.implib_link.specs.Gnu.Program.{null_descriptor}
-use Rattle.implib_link.specs.Gnu.Rebased.{absolute_width}
+use Rattle.implib_link.specs.Flavors.Program.{gnu_input, ClaimsNone, claimed_names, has_tables}
+use Rattle.implib_link.specs.Flavors.Program.{is_table, null_descriptor}
+use Rattle.implib_link.specs.Gnu.Fields.{absolute_width}
 use Rattle.implib_link.specs.Tables.{Block, TableEntry, block_of_flavor}
 
 -- the objects of a DLL's library that are linked, and its entries
@@ -273,6 +271,11 @@ unfoldable pub BeginWithHead : MachineType → List Object → Block → Type 0
 BeginWithHead machine [] table = ⊥
 BeginWithHead machine (o ∷ objects) table =
     IsHead machine o objects table.dll × AreEntries machine objects table.entries
+
+-- each section of an object has the fields of its relocations, 4 bytes each, within its bytes
+abbrev pub HoldsFields : Object → Type 0
+HoldsFields o = AllByRecursion
+    (λ s. AllByRecursion (λ r. r.offset + 4 ≤ length s.bytes) s.relocations) o.sections
 
 -- A part: its objects are these, and the relocations of each are within its sections.
 pub record IsPart (machine : MachineType) (p : Part) : Type 0 where

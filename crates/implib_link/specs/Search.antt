@@ -1,16 +1,5 @@
 -- Archive search.
 pub mod Search
-pub mod Archives
-pub mod Msvc
-pub mod Closed
-pub mod Given
-pub mod Exists
-pub mod MsvcArchives
 pub mod NamedApart
-pub mod BothFlavors
-pub mod BothExists
-pub mod NoShorts
-pub mod Sweeps
+pub mod Libraries
 pub mod CommandLines
-pub mod Wanting
-pub mod Plainly

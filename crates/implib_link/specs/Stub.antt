@@ -3,20 +3,15 @@
 -- processors' rules.
 -- Addresses of code and of its targets count from the image's base.
 use Rattle.std.specs.Prelude.{◌≡◌, ℕ, ◌+◌, ◌-◌, ◌*◌, ◌/◌, ◌%◌, ◌^◌, ◌≤◌, ◌&&◌, ◌==◌, nat_lt, List}
-use Rattle.std.specs.Prelude.{[], ◌∷◌, ◌++◌, bytes_eq, drop, slice_get, take, Option, Some, None}
+use Rattle.std.specs.Prelude.{[], ◌∷◌, ◌++◌, bytes_eq, drop, take, Option, Some, None}
 use Rattle.std.specs.Prelude.{if◌then◌else◌}
-use Rattle.std.specs.List.{Contains}
-use Rattle.implib.specs.declared.coff.object.Relocation.{Relocation}
 use Rattle.implib.specs.declared.machine.MachineType.{MachineType}
 use Rattle.implib.specs.declared.machine.MachineType.TheVariants.{I386, ARMNT, AMD64, ARM64}
 use Rattle.implib.specs.Formats.Bytes.{u32_bytes}
 use Rattle.implib.specs.Formats.Constants.{amd64_rel32, arm64_pagebase_rel21, arm64_pageoffset_12l}
-use Rattle.implib.specs.Formats.Constants.{class_external, i386_dir32}
-use Rattle.implib.specs.Link.Linked.{IsDefinedOnce}
+use Rattle.implib.specs.Formats.Constants.{i386_dir32}
 use Rattle.implib.specs.Link.Load.{number_in}
-use Rattle.implib.specs.Formats.Object.{ASymbol, ObjectSection, ObjectSymbol}
-use Rattle.implib.specs.Link.Placement.{Bases, Placed}
-use Rattle.implib.specs.Link.Resolution.{target_address}
+use Rattle.implib.specs.Link.Placement.{Bases}
 
 -- the four bytes at an offset, as a number, and with another number in their place
 abbrev pub word_at : List ℕ → ℕ → ℕ
@@ -71,16 +66,6 @@ code_word ARM64 type image_base position target word =
     with_ldr ((image_base + target + ldr_immediate word) % 4096) word
     else word
 
--- the code of a placed object's section at an address, relocated
-abbrev pub code_relocated : MachineType → ℕ → List Placed → Placed → ℕ → List Relocation → List ℕ →
-    List ℕ
-code_relocated machine image_base linked p position [] bytes = bytes
-code_relocated machine image_base linked p position (r ∷ relocations) bytes =
-    code_relocated machine image_base linked p position relocations
-    (with_word bytes r.offset
-    (code_word machine r.kind image_base (position + r.offset)
-    (target_address linked p r.symbol) (word_at bytes r.offset)))
-
 -- a number of so many bits and steps, as a signed one, added to an address
 abbrev pub plus_signed : ℕ → ℕ → ℕ → ℕ → ℕ
 plus_signed width step n address =
@@ -110,30 +95,9 @@ jump_reads ARM64 address bytes =
 -- that all of it is below 2^32; ARM64, that the image's base and the address tables' are multiples
 -- of 8, as thunks are.
 -- ARMNT's stubs cannot: they are A32 code with a relative field where they load an address, so they
--- jump elsewhere (Gnu/A32).
+-- jump elsewhere.
 abbrev pub CanJump : MachineType → ℕ → Bases → Type 0
 CanJump I386 image_base bases = image_base + 2 ^ 31 ≤ 2 ^ 32
 CanJump ARMNT image_base bases = ⊥
 CanJump AMD64 image_base bases = Unit {0}
 CanJump ARM64 image_base bases = (image_base % 8 ≡ 0) × (bases.addresses % 8 ≡ 0)
-
--- A name is that of code which jumps through an entry: exactly one object defines it, once, at the
--- beginning of its first section, and wherever this section is placed below 2^31, the jump that it
--- begins with reads the entry.
-pub record JumpsThrough (machine : MachineType) (image_base : ℕ) (linked : List Placed)
-    (name : List ℕ) (entry : ℕ) : Type 0 where
-  pub once : IsDefinedOnce linked name
-  pub from : Placed
-  pub held : Contains linked from
-  pub symbol : ObjectSymbol
-  pub defined : Contains from.object.entries (ASymbol symbol)
-  pub named : symbol.name ≡ name
-  pub shared : symbol.class ≡ class_external
-  pub first : symbol.section ≡ 1
-  pub begins : symbol.value ≡ 0
-  pub code : ObjectSection
-  pub here : slice_get from.object.sections 0 ≡ Some code
-  pub jumps : (position : ℕ) → position + 16 ≤ 2 ^ 31 →
-      jump_reads machine (image_base + position)
-      (code_relocated machine image_base linked from position code.relocations code.bytes)
-      ≡ Some (image_base + entry)

@@ -18,8 +18,8 @@ use Rattle.implib_link.specs.Directory.{DirectoryAt, Imported}
 use Rattle.implib_link.specs.Flavors.LldImports.{dll_of_group, grouped}
 use Rattle.implib_link.specs.Flavors.Program.{FlavorInput, ask_in, dll_of, exports_chosen}
 use Rattle.implib_link.specs.Flavors.Program.{symbol_in}
-use Rattle.implib_link.specs.Gnu.Loaded.{HoldsAt}
-use Rattle.implib_link.specs.Gnu.Rebased.{table_places}
+use Rattle.implib_link.specs.Gnu.Writing.{HoldsAt}
+use Rattle.implib_link.specs.Gnu.Fields.{table_places}
 
 -- one entry of an address table: what it asks for, and its symbol, if it has one
 pub record TableEntry : Type 0 where

@@ -3,16 +3,10 @@
 
 pub mod archives;
 pub mod both_flavors;
-pub mod bounds;
 pub mod choices;
-pub mod closed;
 pub mod command_lines;
 pub mod image;
 pub mod lld;
-pub mod msvc_search;
-pub mod no_shorts;
-pub mod operands;
-pub mod other_libraries;
 pub mod other_names;
 pub mod packed;
 pub mod parts;

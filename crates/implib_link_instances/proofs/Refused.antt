@@ -3,4 +3,3 @@ pub mod Archives
 pub mod Code
 pub mod Links
 pub mod Searches
-pub mod Tables

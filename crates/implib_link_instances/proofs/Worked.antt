@@ -1,8 +1,6 @@
 -- What is worked by hand, computed.
-pub mod A32
 pub mod Aliases
 pub mod BothFlavors
-pub mod Bounds
 pub mod Calls
 pub mod Closed
 pub mod CommandLines
@@ -12,13 +10,7 @@ pub mod FlavorLines
 pub mod Flavors
 pub mod GnuPacked
 pub mod Lemmas
-pub mod LinkedCode
-pub mod LldPrograms
 pub mod Loads
-pub mod MsvcSearch
-pub mod Opened
-pub mod Operands
-pub mod OtherLibraries
 pub mod OtherNames
 pub mod Packed
 pub mod Parts
@@ -26,7 +18,6 @@ pub mod Plainly
 pub mod Programs
 pub mod Registered
 pub mod Search
-pub mod Sources
 pub mod Stored
 pub mod ThirdTexts
 pub mod Writing

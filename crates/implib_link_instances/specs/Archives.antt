@@ -1,5 +1,4 @@
 -- Searches in an archive's bytes and ways from these to calls, worked by hand.
 pub mod Files
 pub mod Worked
-pub mod WorkedBothWay
-pub mod WorkedLldWay
+pub mod WorkedWays

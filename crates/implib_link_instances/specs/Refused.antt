@@ -2,5 +2,3 @@
 pub mod Archives
 pub mod Code
 pub mod Links
-pub mod Searches
-pub mod Tables

@@ -3,7 +3,6 @@
 pub mod calls;
 pub mod closed;
 pub mod command_lines;
-pub mod exists;
 pub mod fields;
 pub mod files;
 pub mod in_bytes;

@@ -15,12 +15,12 @@ use Rattle.implib_dll_check.specs.Forwarding.{Arrives, Beside, Content, Holds, e
 use Rattle.implib_dll_check.specs.Forwarding.{is_stop, is_unknown, known_by, most_forwarders}
 use Rattle.implib_dll_check.specs.Imports.{is_lost, judged}
 use Rattle.implib_libraries.specs.FromDll.Laws.{found}
-use Rattle.implib_link.specs.Gnu.Calls.{CanBranch, DirectCallArrives, HasDirectCall, StubAt}
+use Rattle.implib_link.specs.Gnu.Fields.{CanBranch, DirectCallArrives, HasDirectCall, StubAt}
 use Rattle.implib_link.specs.Gnu.Fields.{DefinesIn, LinkedCode, placed_code}
-use Rattle.implib_link.specs.Gnu.Loaded.{HoldsAt, Writes}
+use Rattle.implib_link.specs.Gnu.Writing.{HoldsAt, Writes}
 use Rattle.implib_link.specs.Gnu.Moves.{AreInMemory}
-use Rattle.implib_link.specs.Gnu.Operands.{AllLead}
-use Rattle.implib_link.specs.Gnu.Reading.{ReadsAndWrites}
+use Rattle.implib_link.specs.Gnu.Fields.{AllLead}
+use Rattle.implib_link.specs.Gnu.Writing.{ReadsAndWrites}
 use Rattle.implib_link.specs.Tables.{AreSteady, AreTables, CanReadFrom, Table, TableEntry, Tables}
 use Rattle.implib_link.specs.Tables.{imported_by_table}
 use Rattle.implib_read.specs.Classes.{Imported}

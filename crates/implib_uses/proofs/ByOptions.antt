@@ -12,8 +12,7 @@ use Rattle.implib.specs.Renaming.{renamed}
 use Rattle.implib.proofs.Link.LinkedMembers.{members_among}
 use Rattle.implib.proofs.Members.Renaming.{renamed_twice}
 use Rattle.implib_link.specs.Flavors.Program.{IsMadeFor}
-use Rattle.implib_link.proofs.Parts.Members.{members_are_part, members_store_none}
-use Rattle.implib_link.proofs.Parts.Older.{older_held, older_part, older_stores_none}
+use Rattle.implib_link.proofs.Parts.Members.{members_are_part, members_store_none, older_held, older_part, older_stores_none}
 use Rattle.implib_rules.specs.ExportAs.{AreMadeFor, definition_made}
 use Rattle.implib_rules.specs.Library.{MembersFor}
 use Rattle.implib_rules.specs.Linked.{NamingView}

@@ -8,8 +8,7 @@ use Rattle.implib.specs.Members.ImportTables.{thunk_width}
 use Rattle.implib.specs.Link.Load.{Loads}
 use Rattle.implib.specs.Members.MemberSpec.{MemberView}
 use Rattle.implib.specs.Link.Placement.{placed_from}
-use Rattle.implib_link.specs.Gnu.Texts.{ask_stated, chosen_stated}
-use Rattle.implib_link.specs.Flavors.Texts.{LinkInFlavor, flavor_source}
+use Rattle.implib_link.specs.Flavors.Texts.{ask_stated, chosen_stated, LinkInFlavor, flavor_source}
 use Rattle.implib_link.specs.Flavors.Program.{OfLinker}
 use Rattle.implib.specs.declared.flavor.Flavor.TheVariants.{Gnu}
 use Rattle.implib_uses.specs.Uses.{ImportsJustThese}

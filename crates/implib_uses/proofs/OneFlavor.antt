@@ -14,21 +14,16 @@ use Rattle.implib.specs.Link.Linked.{EntriesAt, IsDefinedOnce}
 use Rattle.implib.specs.Link.LinkedMembers.{IsMade, LinkInput, chosen_exports, objects_in}
 use Rattle.implib.specs.Link.Placement.{Bases, Placed, placed_from}
 use Rattle.implib.specs.Members.ImportTables.{thunk_width}
+use Rattle.implib.proofs.Link.LinkedInputs.{gnu_inputs_linked}
 use Rattle.implib.proofs.Link.Ranges.{Among}
 use Rattle.implib_link.specs.Directory.{DirectoryAt, imported}
-use Rattle.implib_link.specs.Flavors.Program.{InputImports, IsProgram, LinksAmong, OfLinker, SymbolsAt, SymbolsGet, all_members, gnu_input, imp_symbols, imported_in, symbols_listed}
-use Rattle.implib_link.specs.Gnu.Loaded.{HoldsAt, Writes}
-use Rattle.implib_link.specs.Gnu.OtherLibraries.{LinksBeside, Run, ends_behind, members_from}
-use Rattle.implib_link.specs.Gnu.Program.{linked_symbols, thunks_before, null_descriptor, ClaimsNone, has_tables}
+use Rattle.implib_link.specs.Flavors.Program.{InputImports, IsProgram, LinksAmong, OfLinker, SymbolsAt, SymbolsGet, all_members, gnu_input, imp_symbols, imported_in, symbols_listed, linked_symbols, thunks_before, null_descriptor, ClaimsNone, has_tables}
+use Rattle.implib_link.specs.Gnu.Writing.{HoldsAt, Writes}
 use Rattle.implib_link.specs.Tables.{AreTables, AreTablesLoaded, IsInTable, Tables, block_of_flavor, imported_by_table, tables_at, Table, packed_tables, Block}
-use Rattle.implib_link.proofs.Flavors.GnuPrograms.{gnu_made, gnu_members, gnu_objects, gnu_thunks}
-use Rattle.implib_link.proofs.Flavors.Program.{program_links}
-use Rattle.implib_link.proofs.Gnu.OtherLibraries.{links_beside, programs_beside_none}
-use Rattle.implib_link.proofs.PackedTables.{packed_imports, entries_until}
-use Rattle.implib_link.proofs.Tables.{tables_can_be_written, tables_load}
-use Rattle.implib_link.proofs.TablesOfPrograms.{inputs_blocks, program_entry, program_tables, inputs_until}
+use Rattle.implib_link.proofs.Flavors.Program.{gnu_made, gnu_members, gnu_objects, gnu_thunks, program_links}
+use Rattle.implib_link.proofs.Tables.{packed_imports, entries_until, tables_can_be_written, tables_load, inputs_blocks, program_entry, program_tables, inputs_until}
 use Rattle.implib_uses.specs.OneFlavor.{AreImported, EachGets, IsOneFlavor, LinksOneFlavor, LoadsOneFlavor}
-use Rattle.implib_link.proofs.Gnu.Blocks.{table_sum}
+use Rattle.implib_link.proofs.Flavors.Block.{table_sum}
 use Rattle.implib_link.proofs.Search.Lists.{contains_among}
 use Rattle.std.proofs.lemmas.Option.{slice_get-map}
 use Rattle.std.specs.Option.{option_map}
@@ -97,23 +92,18 @@ module _ (machine : MachineType) (bases : Bases) (inputs : List LinkInput) (obje
   among : LinksAmong machine bases inputs objects
   among = program_links machine OfLinker bases (map gnu_input inputs) objects (gnu_made machine inputs made) program
 
-  abbrev run : Run
-  run = record { objects = []; imports = []; inputs = inputs }
-
-  beside : LinksBeside machine bases (record { objects = []; imports = []; inputs = inputs } ∷ []) objects
-  beside = links_beside machine bases (run ∷ []) objects (made, tt) (programs_beside_none machine bases inputs objects program)
-
   imports_of : (i : ℕ) (p : LinkInput) → slice_get inputs i ≡ Some p →
       InputImports machine (image_of machine bases (placed_from bases objects)) (placed_from bases objects) (bases.descriptors + 20 * i) (bases.addresses + thunk_width machine * thunks_before i inputs) (gnu_input p)
-  unfolding members_from ends_behind
-  imports_of i p at = (beside.members 0 run refl).imports i p at
+  imports_of i p at =
+      subst (λ n. InputImports machine image linked (bases.descriptors + 20 * i) (bases.addresses + thunk_width machine * n) (gnu_input p)) (gnu_thunks i inputs)
+      (among.imports i (gnu_input p) (slice_get-map gnu_input inputs i ∙ ap (option_map gnu_input) at))
 
   names_are : symbols_listed (all_members machine (map gnu_input inputs)) ≡ linked_symbols machine inputs
   names_are = ap symbols_listed (gnu_members machine inputs)
 
   pub links_here : LinksOneFlavor machine bases inputs objects
   links_here = record {
-    linked = beside.linked.0;
+    linked = gnu_inputs_linked machine inputs made;
     imports = λ i p at. are_imported machine image linked (bases.descriptors + 20 * i) (bases.addresses + thunk_width machine * thunks_before i inputs) p (imports_of i p at);
     directory = subst (DirectoryAt image (thunk_width machine) bases.descriptors) (imported_alike machine inputs) among.directory;
     targets = among.targets;

@@ -16,10 +16,10 @@ use Rattle.implib.specs.Link.LinkedMembers.{LinkInput, all_linked, chosen_export
 use Rattle.implib.specs.Link.Placement.{Bases, Placed, placed_from}
 use Rattle.implib.specs.Members.ImportTables.{thunk_width}
 use Rattle.implib_link.specs.Directory.{DirectoryAt, imported}
-use Rattle.implib_link.specs.Gnu.Loaded.{HoldsAt}
-use Rattle.implib_link.specs.Gnu.Program.{ClaimsNone, GetsAddress, has_tables, linked_symbols}
-use Rattle.implib_link.specs.Gnu.Program.{names_claimed_in, null_descriptor, thunks_before}
-use Rattle.implib_link.specs.Gnu.Program.{with_tables}
+use Rattle.implib_link.specs.Gnu.Writing.{HoldsAt}
+use Rattle.implib_link.specs.Flavors.Program.{ClaimsNone, GetsAddress, has_tables, linked_symbols}
+use Rattle.implib_link.specs.Flavors.Program.{names_claimed_in, null_descriptor, thunks_before}
+use Rattle.implib_link.specs.Flavors.Program.{with_tables}
 
 -- The chosen members of the DLLs and the linker's null descriptor are the objects with import
 -- tables; other objects are anywhere among them, and claim none of their symbols; no symbol is

@@ -19,7 +19,7 @@ use Rattle.implib.specs.Text.Position.{position_at}
 use Rattle.implib.specs.Text.Token.{Lexed, TokenView}
 use Rattle.implib.specs.Formats.Writer.{WriterState}
 use Rattle.implib_link.specs.Flavors.Program.{IsProgram}
-use Rattle.implib_link.specs.Gnu.Texts.{ask_stated, chosen_stated, link_input_of, source_of}
+use Rattle.implib_link.specs.Flavors.Texts.{ask_stated, chosen_stated, link_input_of, source_of}
 
 -- the definition of a DLL with one function
 abbrev pub one_export : List ℕ → List ℕ → DefinitionView

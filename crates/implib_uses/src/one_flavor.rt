@@ -9,7 +9,7 @@ ghost use Rattle.implib.specs.Members.ImportTables.{thunk_width};
 ghost use Rattle.implib.specs.declared.machine.MachineType.{MachineType};
 ghost use Rattle.implib_link.specs.Directory.{imported};
 ghost use Rattle.implib_link.specs.Flavors.Program.{IsProgram};
-ghost use Rattle.implib_link.specs.Gnu.Loaded.{Writes};
+ghost use Rattle.implib_link.specs.Gnu.Writing.{Writes};
 ghost use Rattle.implib_uses.specs.OneFlavor.{IsOneFlavor, LinksOneFlavor, LoadsOneFlavor};
 ghost use Rattle.std.specs.List.{AllByRecursion};
 ghost use Rattle.std.specs.Prelude.{◌≡◌, ℕ, List, length, map};

@@ -1,35 +1,138 @@
--- The objects of one DLL, in either flavour, link among others.
-use Rattle.std.proofs.Common.{◌≡◌, ℕ, ◌+◌, ◌%◌, ◌<◌, ◌^◌, Bool, true, false, List, [], ◌∷◌, ◌++◌, map, Some, None, refl, ap, sym, ◌∙◌, arith, subst, if◌then◌else◌}
-use Rattle.std.specs.List.{AllByRecursion, flat_map}
-use Rattle.std.proofs.lemmas.List.{append_assoc}
+-- Where the descriptors and the address tables of blocks are, and the null descriptor after them.
+use Rattle.std.proofs.Common.{◌≡◌, ℕ, suc, ◌+◌, ◌*◌, ◌-◌, List, [], ◌∷◌, ◌++◌, length, map, refl, ap, sym, ◌∙◌, subst, arith, false, Some, inl, inr, ◌%◌, ◌<◌, ◌^◌, Bool, true, None, if◌then◌else◌, zero}
+use Rattle.std.proofs.Math.Nat.{mul-add, mul-suc}
+use Rattle.std.proofs.lemmas.List.{append_assoc, map-append}
 use Rattle.implib.specs.declared.machine.MachineType.{MachineType}
+use Rattle.implib.specs.Definition.{ExportView}
+use Rattle.implib.specs.Link.Image.{Range, range_end}
+use Rattle.implib.specs.Link.Load.{BytesAt, LoadsStrictly, TextAt}
+use Rattle.implib.specs.Members.ImportTables.{thunk_width, zeros}
+use Rattle.implib.specs.Formats.Object.{Object}
+use Rattle.implib.specs.Link.Placement.{Bases, Placed, next_multiple, ends_after, placed_from}
+use Rattle.implib.proofs.Link.LinkedBlocks.{Block, blocks_objects}
+use Rattle.implib.proofs.Link.Linked.{LocatedFrom, ends_of_block, BlockLinks, aligned_block, all_of_stub, block_defined, block_definitions, block_links, block_targets, definitions-block, head_definition, rest_located}
+use Rattle.implib.proofs.Link.Placement.{AreAligned, aligned, descriptors_end, ends_of_all, ends_of_export, ends_of_exports, ends_of_head, export, head, tail, after_head, names-after}
+use Rattle.implib_link.specs.Flavors.Program.{null_descriptor, ClaimsNone, GetsAddress, claimed_names, names_claimed_in, Ending, IsFoundByName, OfLinker, OfMember, SymbolsAt, WhereMember, ask_in, descriptor_in, symbol_in}
+use Rattle.implib.specs.LibraryName.{NamesOfDll}
+use Rattle.std.specs.Prelude.{bytes_eq, slice_get}
+use Rattle.std.specs.List.{AllByRecursion, list_any, flat_map}
+use Rattle.implib.specs.Link.Linked.{IsDefinedOnce, AllFind, EntriesAt, FindsTarget, IsDefinedAt, undefined_names}
+use Rattle.implib.specs.Link.Resolution.{SymbolDefinition, definitions_of, defined_by, definitions}
+use Rattle.implib.proofs.Link.Ranges.{Among, among_first, among_later, among_back, among_front}
+use Rattle.std.proofs.lemmas.Bool.{cases_Bool}
+use Rattle.implib.specs.Members.Gnu.{archive_symbols, export_object, head_object, head_symbol, iname_symbol, tail_object}
 use Rattle.implib.specs.declared.flavor.Flavor.{Flavor}
 use Rattle.implib.specs.declared.flavor.Flavor.TheVariants.{Gnu, Msvc}
-use Rattle.implib.specs.Definition.{ExportView}
-use Rattle.implib.specs.Members.Gnu.{archive_symbols, head_symbol, iname_symbol}
-use Rattle.implib.specs.Link.Image.{Range, range_end}
 use Rattle.implib.specs.Import.{Ask, Name, Ordinal, imp_symbol}
-use Rattle.implib.specs.Members.ImportTables.{thunk_width}
 use Rattle.implib.specs.Formats.Layout.{HasNoNul, entries_of, name_text, object_of}
-use Rattle.implib.specs.Link.Linked.{AllFind, EntriesAt, FindsTarget, IsDefinedAt, undefined_names}
-use Rattle.implib.specs.Link.Load.{LoadsStrictly, TextAt}
 use Rattle.implib.specs.Members.Msvc.{short_import_symbols, short_import_symbol}
 use Rattle.implib.specs.Members.MsvcObjects.{descriptor, descriptor_symbol, null_descriptor_symbol, null_thunk, null_thunk_symbol}
-use Rattle.implib.specs.Formats.Object.{Object}
-use Rattle.implib.specs.Link.Placement.{Bases, Placed, next_multiple, placed_from}
-use Rattle.implib.specs.Link.Resolution.{SymbolDefinition, defined_by, definitions, definitions_of}
 use Rattle.implib.proofs.Link.Descriptors.{descriptor_loads}
-use Rattle.implib.proofs.Link.Linked.{BlockLinks, LocatedFrom, aligned_block, all_of_stub, block_defined, block_definitions, block_links, block_targets, definitions-block, ends_of_block, head_definition, rest_located}
-use Rattle.implib.proofs.Link.Placement.{AreAligned, after_head, ends_of_all, ends_of_export, ends_of_exports, ends_of_head, head, names-after}
-use Rattle.implib.proofs.Link.Ranges.{Among, among_back, among_first, among_later}
 use Rattle.implib.proofs.Link.Tables.{CanBeAsked}
 use Rattle.implib.proofs.Link.Thunks.{StrictTableAt}
-use Rattle.implib_link.specs.Flavors.Expansion.{Code, Constant, Data, Use, import_object, descriptor_symbol_by_name, stub_relocations_for}
-use Rattle.implib_link.specs.Flavors.Program.{Ending, IsFoundByName, OfLinker, OfMember, SymbolsAt, WhereMember, ask_in, descriptor_in, symbol_in}
-use Rattle.implib_link.specs.Flavors.SectionSymbols.{with_section_symbols}
+use Rattle.implib_link.specs.Flavors.Expansion.{Code, Constant, Data, Use, import_object, descriptor_symbol_by_name, stub_relocations_for, with_section_symbols}
 use Rattle.implib_link.proofs.Flavors.Expanded.{AreWide, AskFits, ends_of_asking, ends_of_descriptor, ends_of_null_thunk, placed-asking, placed-descriptor, placed-null_thunk, placed_asking, placed_descriptor, taken_descriptor, taken_null_thunk, wide_aligned, wide_asking, wide_descriptor, wide_next, wide_null_thunk, TableFrom, asking_stands, descriptor_stands, null_thunk_stands}
-use Rattle.implib.specs.LibraryName.{NamesOfDll}
-use Rattle.implib_link.proofs.Gnu.Beside.{LocatedBeside, zero_table, table_with}
+use Rattle.implib_link.proofs.Gnu.Filling.{LocatedBeside, zero_table, table_with}
+use Rattle.implib_link.specs.Directory.{DirectoryAt, Imported}
+use Rattle.implib_link.proofs.Gnu.Loaded.{times_none as plus_zero}
+
+-- objects after blocks
+pub objects_behind : (machine : MachineType) (blocks : List Block) (rest : List Object) →
+    blocks_objects machine blocks [] ++ rest ≡ blocks_objects machine blocks rest
+objects_behind machine [] rest = refl
+objects_behind machine (k ∷ blocks) rest =
+    ap (λ others. head machine k.dll ∷ others)
+    (append_assoc (map (export machine k.dll) k.exports) (tail machine k.dll ∷ blocks_objects machine blocks []) rest
+    ∙ ap (λ others. map (export machine k.dll) k.exports ++ tail machine k.dll ∷ others) (objects_behind machine blocks rest))
+
+-- the descriptors' end after a block
+pub descriptors_after : (machine : MachineType) (dll : NamesOfDll) (b : Bases) (es : List ExportView) →
+    b.descriptors + 20 ≡ (ends_of_block machine dll b es).descriptors
+descriptors_after machine dll b es = descriptors_end machine dll (ends_of_head machine dll b) es
+
+pub plus_twice : (a w m : ℕ) → a + w + m ≡ a + (m + w)
+plus_twice a w m = omega arith
+
+-- the address tables' end after a block's thunks and its null thunk
+pub addresses_after : (machine : MachineType) (dll : NamesOfDll) (b : Bases) (es : List ExportView) →
+    (ends_of_all machine dll b es).addresses ≡ b.addresses + thunk_width machine * (length es + 1)
+unfolding ends_of_exports
+addresses_after machine dll b [] = omega arith
+addresses_after machine dll b (e ∷ es) =
+    let later = addresses_after machine dll (ends_of_export machine dll b e) es in
+    let count : suc (length es) + 1 ≡ suc (length es + 1) = omega arith in
+    let product : thunk_width machine * (suc (length es) + 1) ≡ thunk_width machine * (length es + 1) + thunk_width machine =
+    ap (λ n. thunk_width machine * n) count ∙ mul-suc (thunk_width machine) (length es + 1) in
+    later ∙ plus_twice b.addresses (thunk_width machine) (thunk_width machine * (length es + 1)) ∙ ap (λ n. b.addresses + n) (sym product)
+
+-- the null descriptor is where the descriptors end
+pub null_located : (machine : MachineType) (linked : List Placed) (image : List Range) (b : Bases) → AreAligned b →
+    LocatedFrom machine linked image b (null_descriptor ∷ []) → BytesAt image b.descriptors (zeros 20)
+null_located machine linked image b even located =
+    let position : next_multiple 4 b.descriptors ≡ b.descriptors = aligned b.descriptors even.descriptors in
+    let none : b.descriptors - b.descriptors ≡ 0 = omega arith in
+    let all : List ℕ = zeros (next_multiple 4 b.descriptors - b.descriptors) ++ (zeros 20 ++ []) in
+    let same : all ≡ zeros 20 = rw (position, none) refl in
+    subst (BytesAt image b.descriptors) same located.descriptors
+
+pub plus_sum : (a n : ℕ) → a + 20 + 20 * n ≡ a + 20 * suc n
+plus_sum a n = omega arith
+
+pub table_sum : (a w n m : ℕ) → a + w * n + w * m ≡ a + w * (n + m)
+table_sum a w n m = let split : w * (n + m) ≡ w * n + w * m = mul-add w n m in omega arith
+
+-- Names that objects do not claim, and the address of a name that is defined once.
+
+claims_of : (name : List ℕ) (names : List (List ℕ)) → Among name names → (o : Object) → ClaimsNone names o → list_any (bytes_eq name) (claimed_names o) ≡ false
+unfolding Among
+claims_of name [] m o none = absurd m
+claims_of name (n ∷ names) (inl e) o none = subst (λ t. list_any (bytes_eq t) (claimed_names o) ≡ false) (sym e) none.0
+claims_of name (n ∷ names) (inr m) o none = claims_of name names m o none.1
+
+pub all_claim : (name : List ℕ) (names : List (List ℕ)) → Among name names → (objects : List Object) → AllByRecursion (ClaimsNone names) objects →
+    AllByRecursion (λ o. list_any (bytes_eq name) (claimed_names o) ≡ false) objects
+all_claim name names m [] none = tt
+all_claim name names m (o ∷ objects) none = (claims_of name names m o none.0, all_claim name names m objects none.1)
+
+pub once_of : (linked : List Placed) (ds : List SymbolDefinition) → ((d : SymbolDefinition) → Among d ds → definitions_of d.name linked ≡ d ∷ []) →
+    AllByRecursion (IsDefinedOnce linked) (map (λ (d : SymbolDefinition). d.name) ds)
+once_of linked [] only = tt
+once_of linked (d ∷ ds) only = ((d, only d (among_first d ds)), once_of linked ds (λ other m. only other (among_later other d ds m)))
+
+-- an undefined symbol has the address of the only definition of its name
+pub gets_address : (linked : List Placed) (name : List ℕ) (address : ℕ) →
+    definitions_of name linked ≡ record { name = name; address = Some address } ∷ [] → GetsAddress linked name address
+gets_address linked name address once p s held entry undefined named = rw (undefined, named, once) refl
+
+-- The names that the members claim: those that they are listed for.
+
+pub claimed_tail : (machine : MachineType) (dll : NamesOfDll) → claimed_names (tail machine dll) ≡ iname_symbol machine dll.linked ∷ []
+unfolding tail_object
+claimed_tail machine dll = refl
+
+pub claimed_head : (machine : MachineType) (dll : NamesOfDll) → claimed_names (head machine dll) ≡ head_symbol machine dll.linked ∷ []
+unfolding head_object
+claimed_head machine dll = refl
+
+pub claimed_export : (machine : MachineType) (dll : NamesOfDll) (e : ExportView) → claimed_names (export machine dll e) ≡ archive_symbols e
+unfolding export_object
+claimed_export machine dll e = elim (cases_Bool e.is_data) [ inl is ↦ rw is refl | inr is ↦ rw is refl ]
+
+pub claimed_after : (machine : MachineType) (dll : NamesOfDll) (es : List ExportView) (rest : List Object) →
+    flat_map claimed_names (after_head machine dll es rest) ≡ (flat_map archive_symbols es ++ iname_symbol machine dll.linked ∷ []) ++ flat_map claimed_names rest
+claimed_after machine dll [] rest = ap (λ names. names ++ flat_map claimed_names rest) (claimed_tail machine dll)
+claimed_after machine dll (e ∷ es) rest =
+    ap (λ names. names ++ flat_map claimed_names (after_head machine dll es rest)) (claimed_export machine dll e)
+    ∙ ap (λ names. archive_symbols e ++ names) (claimed_after machine dll es rest)
+    ∙ sym (append_assoc (archive_symbols e) (flat_map archive_symbols es ++ iname_symbol machine dll.linked ∷ []) (flat_map claimed_names rest))
+    ∙ ap (λ names. names ++ flat_map claimed_names rest) (sym (append_assoc (archive_symbols e) (flat_map archive_symbols es) (iname_symbol machine dll.linked ∷ [])))
+
+-- the names that placed objects claim are those of the objects
+pub claimed_placed : (b : Bases) (objects : List Object) → names_claimed_in (placed_from b objects) ≡ flat_map claimed_names objects
+claimed_placed b [] = refl
+claimed_placed b (o ∷ objects) = ap (λ names. claimed_names o ++ names) (claimed_placed (ends_after b o.sections) objects)
+
+-- The objects of one DLL, in either flavour, link among others.
 
 -- Where tables may begin, by what ends the directory: at multiples of 4, or of a thunk's width.
 abbrev pub AreEven : Ending → MachineType → Bases → Type 0
@@ -411,3 +514,191 @@ module _ (machine : MachineType) (dll : NamesOfDll) (linked : List Placed) (imag
   one_links ending Msvc es b rest fit suits even found null only located =
       msvc_links es b rest fit (even_wide machine ending b suits even) found (null_defined ending linked suits null) only located
   one_links ending Gnu es b rest fit suits even found null only located = gnu_links es b rest fit (even_aligned machine ending b even) only located
+
+-- The objects of several DLLs, each in its flavour, link among others.
+
+-- what a DLL's objects are made of
+pub record FlavorBlock : Type 0 where
+  pub flavor : Flavor
+  pub dll : NamesOfDll
+  pub exports : List ExportView
+
+-- the objects of DLLs, and others after them
+abbrev pub all_objects : MachineType → List FlavorBlock → List Object → List Object
+all_objects machine [] rest = rest
+all_objects machine (k ∷ blocks) rest = objects_of machine k.flavor k.dll k.exports (all_objects machine blocks rest)
+
+-- what is behind the objects of all DLLs
+abbrev pub rest_of : Ending → List Object
+rest_of OfLinker = null_descriptor ∷ []
+rest_of OfMember = []
+
+-- a block whose texts have no NUL, whose exports can be asked, and whose descriptor linkers find
+pub record CanLink (machine : MachineType) (ending : Ending) (k : FlavorBlock) : Type 0 where
+  pub dll : HasNoNul k.dll.text
+  pub exports : AllByRecursion (FitsIn k.flavor machine) k.exports
+  pub found : IsFoundByName k.flavor k.dll
+  pub suits : Suits ending k.flavor
+
+-- linkers of this kind take all members
+abbrev pub AllSuit : Ending → List FlavorBlock → Type 0
+AllSuit ending blocks = AllByRecursion (λ k. Suits ending k.flavor) blocks
+
+abbrev pub ends_one : MachineType → Bases → FlavorBlock → Bases
+ends_one machine b k = ends_in machine k.flavor k.dll b k.exports
+
+-- the ends after the objects of DLLs
+unfoldable pub ends_all : MachineType → Bases → List FlavorBlock → Bases
+ends_all machine b [] = b
+ends_all machine b (k ∷ blocks) = ends_all machine (ends_one machine b k) blocks
+
+unfoldable pub definitions_all : MachineType → Bases → List FlavorBlock → List SymbolDefinition
+definitions_all machine b [] = []
+definitions_all machine b (k ∷ blocks) = definitions_in machine k.flavor k.dll b k.exports ++ definitions_all machine (ends_one machine b k) blocks
+
+pub definitions-all : (machine : MachineType) (ending : Ending) (b : Bases) (blocks : List FlavorBlock) (rest : List Object) → AllSuit ending blocks → AreEven ending machine b →
+    definitions (placed_from b (all_objects machine blocks rest)) ≡ definitions_all machine b blocks ++ definitions (placed_from (ends_all machine b blocks) rest)
+unfolding definitions_all ends_all
+definitions-all machine ending b [] rest suit even = refl
+definitions-all machine ending b (k ∷ blocks) rest suit even =
+    let later : Bases = ends_one machine b k in
+    let own : List SymbolDefinition = definitions_in machine k.flavor k.dll b k.exports in
+    definitions-in machine ending k.flavor k.dll b k.exports (all_objects machine blocks rest) suit.0 even
+    ∙ ap (λ ds. own ++ ds) (definitions-all machine ending later blocks rest suit.1 (even_in machine ending k.flavor k.dll b k.exports suit.0 even))
+    ∙ sym (append_assoc own (definitions_all machine later blocks) (definitions (placed_from (ends_all machine later blocks) rest)))
+
+pub names-all : (machine : MachineType) (b : Bases) (blocks : List FlavorBlock) →
+    map (λ (d : SymbolDefinition). d.name) (definitions_all machine b blocks) ≡ flat_map (λ (k : FlavorBlock). symbols_of machine k.flavor k.dll k.exports) blocks
+unfolding definitions_all
+names-all machine b [] = refl
+names-all machine b (k ∷ blocks) =
+    let later : Bases = ends_one machine b k in
+    map-append (λ (d : SymbolDefinition). d.name) (definitions_in machine k.flavor k.dll b k.exports) (definitions_all machine later blocks)
+    ∙ ap (λ names. names ++ map (λ (d : SymbolDefinition). d.name) (definitions_all machine later blocks)) (names-in machine k.flavor k.dll b k.exports)
+    ∙ ap (λ rest. symbols_of machine k.flavor k.dll k.exports ++ rest) (names-all machine later blocks)
+
+-- The ends of one block.
+
+askings_descriptors : (machine : MachineType) (b : Bases) (es : List ExportView) → b.descriptors ≡ (ends_of_askings machine b es).descriptors
+unfolding ends_of_askings
+askings_descriptors machine b [] = refl
+askings_descriptors machine b (e ∷ es) = askings_descriptors machine (ends_of_asking machine b (ask_in Msvc machine e)) es
+
+pub descriptors_one : (machine : MachineType) (flavor : Flavor) (dll : NamesOfDll) (b : Bases) (es : List ExportView) → b.descriptors + 20 ≡ (ends_in machine flavor dll b es).descriptors
+descriptors_one machine Msvc dll b es = askings_descriptors machine (ends_of_descriptor dll b) es
+descriptors_one machine Gnu dll b es = descriptors_after machine dll b es
+
+askings_addresses : (machine : MachineType) (b : Bases) (es : List ExportView) → (ends_of_askings machine b es).addresses ≡ b.addresses + thunk_width machine * (length es + 1)
+unfolding ends_of_askings
+askings_addresses machine b [] = omega arith
+askings_addresses machine b (e ∷ es) =
+    let later = askings_addresses machine (ends_of_asking machine b (ask_in Msvc machine e)) es in
+    let count : suc (length es) + 1 ≡ suc (length es + 1) = omega arith in
+    let product : thunk_width machine * (suc (length es) + 1) ≡ thunk_width machine * (length es + 1) + thunk_width machine =
+    ap (λ n. thunk_width machine * n) count ∙ mul-suc (thunk_width machine) (length es + 1) in
+    later ∙ plus_twice b.addresses (thunk_width machine) (thunk_width machine * (length es + 1)) ∙ ap (λ n. b.addresses + n) (sym product)
+
+pub addresses_one : (machine : MachineType) (flavor : Flavor) (dll : NamesOfDll) (b : Bases) (es : List ExportView) →
+    (ends_in machine flavor dll b es).addresses ≡ b.addresses + thunk_width machine * (length es + 1)
+addresses_one machine Msvc dll b es = askings_addresses machine (ends_of_descriptor dll b) es
+addresses_one machine Gnu dll b es = addresses_after machine dll (ends_of_head machine dll b) es
+
+unfoldable pub BlocksIn : MachineType → List Placed → List Range → List Object → Bases → List FlavorBlock → Type 0
+BlocksIn machine linked image rest b [] = Unit {0}
+BlocksIn machine linked image rest b (k ∷ blocks) =
+    OneLinks machine linked image k.flavor k.dll k.exports b (all_objects machine blocks rest) × BlocksIn machine linked image rest (ends_one machine b k) blocks
+
+-- what is known of DLLs' objects among all that is linked, with other objects after them
+pub record EachIn (machine : MachineType) (linked : List Placed) (image : List Range) (b : Bases) (blocks : List FlavorBlock) (rest : List Object) : Type 0 where
+  pub imports : BlocksIn machine linked image rest b blocks
+  pub defined : AllByRecursion (IsDefinedAt linked) (undefined_names (placed_from (ends_all machine b blocks) rest)) →
+      AllByRecursion (IsDefinedAt linked) (undefined_names (placed_from b (all_objects machine blocks rest)))
+  pub targets : AllByRecursion (AllFind linked) (placed_from (ends_all machine b blocks) rest) →
+      AllByRecursion (AllFind linked) (placed_from b (all_objects machine blocks rest))
+  pub located : LocatedFrom machine linked image (ends_all machine b blocks) rest
+
+module _ (machine : MachineType) (ending : Ending) (linked : List Placed) (image : List Range) (rest : List Object)
+    (starts : AllByRecursion (λ r. 0 < r.start) image) (ends : AllByRecursion (λ r. range_end r < 2 ^ 31) image) (null : NullDefined ending linked) where
+  pub each_in : (blocks : List FlavorBlock) (b : Bases) → AllByRecursion (CanLink machine ending) blocks → AreEven ending machine b →
+      ((d : SymbolDefinition) → Among d (definitions_all machine b blocks) → definitions_of d.name linked ≡ d ∷ []) →
+      LocatedFrom machine linked image b (all_objects machine blocks rest) → EachIn machine linked image b blocks rest
+  unfolding definitions_all ends_all BlocksIn
+  each_in [] b fit even only located = record { imports = tt; defined = λ all. all; targets = λ all. all; located = located }
+  each_in (k ∷ blocks) b fit even only located =
+      let behind : List Object = all_objects machine blocks rest in
+      let later : Bases = ends_one machine b k in
+      let own : List SymbolDefinition = definitions_in machine k.flavor k.dll b k.exports in
+      let one = one_links machine k.dll linked image starts ends fit.0.dll ending k.flavor k.exports b behind fit.0.exports fit.0.suits even fit.0.found null
+      (λ d m. only d (among_front d own (definitions_all machine later blocks) m)) located in
+      let others = each_in blocks later fit.1 (even_in machine ending k.flavor k.dll b k.exports fit.0.suits even)
+      (λ d m. only d (among_back d own (definitions_all machine later blocks) m)) one.rest_located in
+      record {
+        imports = (one, others.imports);
+        defined = λ all. one.defined (others.defined all);
+        targets = λ all. one.targets (others.targets all);
+        located = others.located;
+      }
+
+-- the thunks of the first few blocks, with the null thunks that end them
+abbrev pub thunks_in : ℕ → List FlavorBlock → ℕ
+thunks_in zero blocks = 0
+thunks_in (suc i) [] = 0
+thunks_in (suc i) (k ∷ blocks) = length k.exports + 1 + thunks_in i blocks
+
+-- what is known of the i-th block
+pub nth_in : (machine : MachineType) (linked : List Placed) (image : List Range) (rest : List Object) (blocks : List FlavorBlock) (b : Bases) →
+    BlocksIn machine linked image rest b blocks → (i : ℕ) (k : FlavorBlock) → slice_get blocks i ≡ Some k →
+    (c : Bases) × ((c.descriptors ≡ b.descriptors + 20 * i) × ((c.addresses ≡ b.addresses + thunk_width machine * thunks_in i blocks)
+    × ((behind : List Object) × OneLinks machine linked image k.flavor k.dll k.exports c behind)))
+unfolding BlocksIn
+nth_in machine linked image rest [] b links i k is = cc
+nth_in machine linked image rest (q ∷ blocks) b links zero k is =
+    let same : q ≡ k = cc in (
+      b,
+      (
+        omega arith,
+        (
+          plus_zero b.addresses (thunk_width machine),
+          (all_objects machine blocks rest, subst (λ (x : FlavorBlock). OneLinks machine linked image x.flavor x.dll x.exports b (all_objects machine blocks rest)) same links.0),
+        ),
+      ),
+    )
+nth_in machine linked image rest (q ∷ blocks) b links (suc i) k is =
+    let later : Bases = ends_one machine b q in
+    let found = nth_in machine linked image rest blocks later links.1 i k is in
+    let at_descriptor : later.descriptors + 20 * i ≡ b.descriptors + 20 * suc i =
+    ap (λ n. n + 20 * i) (sym (descriptors_one machine q.flavor q.dll b q.exports)) ∙ plus_sum b.descriptors i in
+    let at_table : later.addresses + thunk_width machine * thunks_in i blocks ≡ b.addresses + thunk_width machine * (length q.exports + 1 + thunks_in i blocks) =
+    ap (λ n. n + thunk_width machine * thunks_in i blocks) (addresses_one machine q.flavor q.dll b q.exports)
+    ∙ table_sum b.addresses (thunk_width machine) (length q.exports + 1) (thunks_in i blocks) in
+    (found.0, (found.1.0 ∙ at_descriptor, (found.1.1.0 ∙ at_table, found.1.1.1)))
+
+-- what a block imports
+abbrev pub imported_of : MachineType → FlavorBlock → Imported
+imported_of machine k = record { dll = k.dll.text; asks = map (ask_in k.flavor machine) k.exports }
+
+-- blocks, and zeros after their descriptors, are a directory
+pub directory_in : (machine : MachineType) (linked : List Placed) (image : List Range) (rest : List Object) (blocks : List FlavorBlock) (b : Bases) →
+    BlocksIn machine linked image rest b blocks → BytesAt image (ends_all machine b blocks).descriptors (zeros 20) →
+    DirectoryAt image (thunk_width machine) b.descriptors (map (imported_of machine) blocks)
+unfolding BlocksIn DirectoryAt ends_all
+directory_in machine linked image rest [] b links null = null
+directory_in machine linked image rest (k ∷ blocks) b links null = (
+  links.0.loads,
+  subst (λ n. DirectoryAt image (thunk_width machine) n (map (imported_of machine) blocks)) (sym (descriptors_one machine k.flavor k.dll b k.exports))
+      (directory_in machine linked image rest blocks (ends_one machine b k) links.1 null),
+)
+
+-- the ends after blocks stay even
+pub even_all : (machine : MachineType) (ending : Ending) (b : Bases) (blocks : List FlavorBlock) → AllSuit ending blocks → AreEven ending machine b → AreEven ending machine (ends_all machine b blocks)
+unfolding ends_all
+even_all machine ending b [] suit even = even
+even_all machine ending b (k ∷ blocks) suit even = even_all machine ending (ends_one machine b k) blocks suit.1 (even_in machine ending k.flavor k.dll b k.exports suit.0 even)
+
+-- where the descriptors of blocks end
+pub descriptors_all : (machine : MachineType) (b : Bases) (blocks : List FlavorBlock) → (ends_all machine b blocks).descriptors ≡ b.descriptors + 20 * length blocks
+unfolding ends_all
+descriptors_all machine b [] = omega arith
+descriptors_all machine b (k ∷ blocks) =
+    descriptors_all machine (ends_one machine b k) blocks
+    ∙ ap (λ n. n + 20 * length blocks) (sym (descriptors_one machine k.flavor k.dll b k.exports)) ∙ plus_sum b.descriptors (length blocks)

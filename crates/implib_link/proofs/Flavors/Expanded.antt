@@ -16,11 +16,10 @@ use Rattle.implib.specs.Link.Placement.{Addresses, At, Bases, Descriptors, DllNa
 use Rattle.implib.proofs.Link.Linked.{contribution_located, same_order}
 use Rattle.implib.proofs.Link.Placement.{AreAligned, aligned, at_least, length-thunk_of}
 use Rattle.implib.proofs.Link.Thunks.{StrictThunkAt, length-address, name_located, ordinal_located, same_number, with_address-zeros}
-use Rattle.implib_link.specs.Flavors.Expansion.{Use, import_object, hint_and_name, relocations_asking, thunk_asking}
-use Rattle.implib_link.specs.Flavors.SectionSymbols.{with_section_symbols}
+use Rattle.implib_link.specs.Flavors.Expansion.{Use, import_object, hint_and_name, relocations_asking, thunk_asking, with_section_symbols}
 use Rattle.implib.specs.LibraryName.{NamesOfDll}
 use Rattle.implib_link.proofs.Gnu.Loaded.{plus_none, by_width}
-use Rattle.implib_link.proofs.Gnu.Beside.{LocatedBeside}
+use Rattle.implib_link.proofs.Gnu.Filling.{LocatedBeside}
 
 -- the ends of the directory and of the tables, these at multiples of a thunk's width
 pub record AreWide (machine : MachineType) (b : Bases) : Type 0 where

@@ -1,35 +1,402 @@
--- Short imports that lld took are imported, each at an entry of its own.
-use Rattle.std.proofs.Common.{◌≡◌, ℕ, zero, suc, ◌+◌, ◌*◌, ◌≤◌, List, [], ◌∷◌, ◌++◌, length, map, Some, refl, ap, sym, ◌∙◌, subst, inl, inr, arith}
-use Rattle.std.specs.Prelude.{bytes_eq, slice_get}
-use Rattle.std.specs.List.{AllByRecursion, Contains, IsDistinct, filter, filter_map, flat_map}
-use Rattle.std.proofs.lemmas.List.{append-nil, map-append}
-use Rattle.std.proofs.lemmas.List.Elements.{filter_map-append}
-use Rattle.implib.specs.declared.machine.MachineType.{MachineType}
-use Rattle.implib.specs.Formats.Layout.{HasNoNul}
+-- Grouping and sorting lose nothing, double nothing, and put nothing with another DLL.
+use Rattle.std.proofs.Common.{◌≡◌, ℕ, suc, ◌+◌, List, [], ◌∷◌, ◌++◌, Some, refl, ap, sym, ◌∙◌, subst, inl, inr, arith, true, ◌*◌, ◌-◌, ◌%◌, ◌^◌, ◌<◌, ◌≤◌, length, zero, map}
+use Rattle.std.specs.Prelude.{◌⊎◌, slice_get, bytes_eq}
+use Rattle.std.specs.List.{AllByRecursion, flat_map, Contains, IsDistinct, filter, filter_map}
+use Rattle.std.proofs.lemmas.Bool.{cases_Bool}
+use Rattle.std.proofs.lemmas.Slice.Eq.{bytes_eq-Decides}
 use Rattle.implib.specs.Formats.ShortImport.{ShortImport, ask_of_short_import}
-use Rattle.implib.specs.Import.{imp_symbol}
-use Rattle.implib.specs.Link.Image.{Range}
+use Rattle.implib.specs.Import.{imp_symbol, Ask, Name, Ordinal}
+use Rattle.implib.proofs.Link.Ranges.{Among, among_first, among_later, located_parts, range_located, all_among, among_back, among_front}
+use Rattle.implib_link.specs.Flavors.LldImports.{comes_first, dll_of_group, grouped, imp_symbols_of, in_small, is_of_group, put_in, put_into, ArePiecesAt, IsAskable, IsImportable, addresses_at, all_hints, all_names, built, built_bytes, descriptor_built, directory_built, directory_end, hint_and_text, hint_built, hints_at, hints_built, lookups_at, names_at, tables_built, thunk_built, thunks_built, thunks_until, IsImportedBy, IsLldProgram, LldLinks, entries_of_groups, group_entries, imported_by, imports_of_lld, placed_by_lld}
+use Rattle.implib_link.proofs.Search.ArchiveMembers.{times, times_both, distinct_from, few_from}
+use Rattle.std.proofs.Math.Nat.{mul-add}
+use Rattle.std.proofs.lemmas.List.{length-append, length-replicate, append-nil, map-append}
+use Rattle.implib.specs.declared.machine.MachineType.{MachineType}
+use Rattle.implib.specs.Formats.Bytes.{u16_bytes, u32_bytes}
+use Rattle.implib.specs.Link.Image.{AllApart, Range, range_end}
+use Rattle.implib.specs.Link.Load.{BytesAt}
+use Rattle.implib.specs.Members.ImportTables.{thunk_width, zeros}
+use Rattle.implib.proofs.Link.Descriptors.{LoadsFrom, descriptor_loads}
+use Rattle.implib.proofs.Link.Placement.{at_least, length-thunk_of}
+use Rattle.implib.proofs.Link.Thunks.{StrictTableAt, StrictThunkAt, length-address, length-u16, name_located, ordinal_located}
+use Rattle.implib_link.proofs.Search.Lists.{contains_among, all_from}
+use Rattle.implib_link.specs.Directory.{DirectoryAt, Imported}
+use Rattle.implib_link.proofs.Gnu.Stubs.{wide_thunk as some_bytes}
+use Rattle.implib_link.proofs.Gnu.Filling.{zero_table, table_with, bounds_of}
+use Rattle.implib_link.proofs.Gnu.Loaded.{by_width, times_none as nothing_before, times_next as next_entry, plus_none}
+use Rattle.std.proofs.lemmas.List.Elements.{filter_map-append}
+use Rattle.implib.specs.Formats.Layout.{HasNoNul}
 use Rattle.implib.specs.Link.Placement.{Addresses, At, Placed}
 use Rattle.implib.specs.Link.Resolution.{SymbolDefinition, defined_by_entry, definitions_of}
-use Rattle.implib.specs.Members.ImportTables.{thunk_width}
 use Rattle.implib.proofs.Link.Definitions.{only_definition}
-use Rattle.implib.proofs.Link.Descriptors.{LoadsFrom}
 use Rattle.implib.proofs.Link.LinkedMembers.{among_contains, among_map, all_at}
-use Rattle.implib.proofs.Link.Ranges.{Among, all_among, among_back, among_front}
-use Rattle.implib_link.specs.Directory.{Imported}
-use Rattle.implib_link.specs.Flavors.LldImports.{IsImportedBy, IsLldProgram, LldLinks, dll_of_group, entries_of_groups, group_entries, grouped, imp_symbols_of, imported_by, imports_of_lld, in_small, placed_by_lld}
-use Rattle.implib_link.specs.Flavors.LldTables.{IsAskable, IsImportable, thunks_until}
-use Rattle.implib_link.proofs.Flavors.LldGroups.{OneDll, grouped_all, grouped_holds, grouped_one, grouped_times, in_place}
-use Rattle.implib_link.proofs.Flavors.LldTables.{StandAt, directory_stands, pieces_stand}
-use Rattle.implib_link.proofs.Gnu.Blocks.{table_sum}
-use Rattle.implib_link.proofs.Gnu.OtherLibraries.{definitions_parts}
-use Rattle.implib_link.proofs.Gnu.Program.{gets_address}
-use Rattle.implib_link.proofs.Search.Counts.{distinct_from, few_from}
-use Rattle.implib_link.proofs.Search.Lists.{contains_among, all_from}
-use Rattle.implib_link.proofs.Gnu.Blocks.{plus_sum as next_row}
-use Rattle.implib_link.proofs.Gnu.Loaded.{times_none as nothing_before, times_next as next_entry, plus_none}
+use Rattle.implib_link.proofs.Flavors.Block.{table_sum, plus_sum as next_row, gets_address}
+use Rattle.implib_link.proofs.Gnu.Others.{definitions_parts}
 use Rattle.std.proofs.lemmas.Option.{slice_get-map}
 use Rattle.std.specs.Option.{option_map}
+
+-- the DLL of a group, by which groups differ
+abbrev pub key : List ShortImport → List ℕ
+key group = in_small (dll_of_group group)
+
+-- all of a group are of one DLL
+abbrev pub OneDll : List ShortImport → Type 0
+OneDll group = AllByRecursion (λ r. in_small r.dll ≡ key group) group
+
+-- Putting one in.
+
+pub put_all : (P : ShortImport → Type 0) (r : ShortImport) (group : List ShortImport) → P r → AllByRecursion P group → AllByRecursion P (put_in r group)
+unfolding put_in
+put_all P r [] own all = (own, tt)
+put_all P r (s ∷ group) own all =
+    elim (cases_Bool (comes_first s.symbol r.symbol)) [
+      | inl is ↦ rw is (all.0, put_all P r group own all.1)
+      | inr is ↦ rw is (own, (all.0, all.1))
+    ]
+
+put_key : (r : ShortImport) (group : List ShortImport) → in_small r.dll ≡ key group → key (put_in r group) ≡ in_small r.dll
+unfolding put_in
+put_key r [] same = refl
+put_key r (s ∷ group) same =
+    elim (cases_Bool (comes_first s.symbol r.symbol)) [
+      | inl is ↦ rw is (sym same)
+      | inr is ↦ rw is refl
+    ]
+
+put_one : (r : ShortImport) (group : List ShortImport) → in_small r.dll ≡ key group → OneDll group → OneDll (put_in r group)
+put_one r group same one =
+    subst (λ k. AllByRecursion (λ (s : ShortImport). in_small s.dll ≡ k) (put_in r group)) (sym (put_key r group same))
+    (put_all (λ (s : ShortImport). in_small s.dll ≡ in_small r.dll) r group refl (subst (λ k. AllByRecursion (λ (s : ShortImport). in_small s.dll ≡ k) group) (sym same) one))
+
+put_holds : (x r : ShortImport) (group : List ShortImport) → Among x (r ∷ group) → Among x (put_in r group)
+unfolding put_in Among
+put_holds x r [] m = m
+put_holds x r (s ∷ group) m =
+    elim (cases_Bool (comes_first s.symbol r.symbol)) [
+      | inl is ↦ rw is (behind (put_holds x r group) m)
+      | inr is ↦ rw is m
+    ]
+  where
+    behind : (Among x (r ∷ group) → Among x (put_in r group)) → Among x (r ∷ s ∷ group) → Among x (s ∷ put_in r group)
+    behind put (inl e) = inr (put (inl e))
+    behind put (inr (inl e)) = inl e
+    behind put (inr (inr m)) = inr (put (inr m))
+
+put_times : (name : List ℕ) (r : ShortImport) (group : List ShortImport) → times name (imp_symbols_of (put_in r group)) ≡ times name (imp_symbol r.symbol ∷ imp_symbols_of group)
+unfolding put_in times
+put_times name r [] = refl
+put_times name r (s ∷ group) =
+    elim (cases_Bool (comes_first s.symbol r.symbol)) [
+      | inl is ↦ (let later = put_times name r group in rw is (omega arith))
+      | inr is ↦ rw is refl
+    ]
+
+-- Putting one into groups.
+
+into_all : (P : ShortImport → Type 0) (r : ShortImport) (groups : List (List ShortImport)) → P r → AllByRecursion (AllByRecursion P) groups → AllByRecursion (AllByRecursion P) (put_into r groups)
+unfolding put_into
+into_all P r [] own all = ((own, tt), tt)
+into_all P r (group ∷ groups) own all =
+    elim (cases_Bool (is_of_group r group)) [
+      | inl is ↦ rw is (put_all P r group own all.0, all.1)
+      | inr is ↦ rw is (all.0, into_all P r groups own all.1)
+    ]
+
+into_one : (r : ShortImport) (groups : List (List ShortImport)) → AllByRecursion OneDll groups → AllByRecursion OneDll (put_into r groups)
+unfolding put_into
+into_one r [] one = ((refl, tt), tt)
+into_one r (group ∷ groups) one =
+    elim (cases_Bool (is_of_group r group)) [
+      | inl is ↦ rw is (put_one r group ((bytes_eq-Decides (in_small r.dll) (key group)).0 is) one.0, one.1)
+      | inr is ↦ rw is (one.0, into_one r groups one.1)
+    ]
+
+-- one is in some group
+pub InGroups : ShortImport → List (List ShortImport) → Type 0
+InGroups x [] = ⊥
+InGroups x (group ∷ groups) = Among x group ⊎ InGroups x groups
+
+into_own : (r : ShortImport) (groups : List (List ShortImport)) → InGroups r (put_into r groups)
+unfolding put_into InGroups
+into_own r [] = inl (among_first r [])
+into_own r (group ∷ groups) =
+    elim (cases_Bool (is_of_group r group)) [
+      | inl is ↦ rw is (inl (put_holds r r group (among_first r group)))
+      | inr is ↦ rw is (inr (into_own r groups))
+    ]
+
+into_other : (x r : ShortImport) (groups : List (List ShortImport)) → InGroups x groups → InGroups x (put_into r groups)
+unfolding put_into InGroups
+into_other x r [] m = absurd m
+into_other x r (group ∷ groups) m =
+    elim (cases_Bool (is_of_group r group)) [
+      | inl is ↦ rw is (elim m [ inl own ↦ inl (put_holds x r group (among_later x r group own)) | inr later ↦ inr later ])
+      | inr is ↦ rw is (elim m [ inl own ↦ inl own | inr later ↦ inr (into_other x r groups later) ])
+    ]
+
+into_times : (name : List ℕ) (r : ShortImport) (groups : List (List ShortImport)) →
+    times name (flat_map imp_symbols_of (put_into r groups)) ≡ times name (imp_symbol r.symbol ∷ flat_map imp_symbols_of groups)
+unfolding put_into times
+into_times name r [] = refl
+into_times name r (group ∷ groups) =
+    let others : List (List ℕ) = flat_map imp_symbols_of groups in
+    let split = times_both name (imp_symbols_of group) others in
+    elim (cases_Bool (is_of_group r group)) [
+      | inl is ↦ rw is (times_both name (imp_symbols_of (put_in r group)) others ∙ ap (λ n. n + times name others) (put_times name r group) ∙ sym (times_both name (imp_symbol r.symbol ∷ imp_symbols_of group) others))
+      | inr is ↦ rw is (
+          times_both name (imp_symbols_of group) (flat_map imp_symbols_of (put_into r groups))
+          ∙ ap (λ n. times name (imp_symbols_of group) + n) (into_times name r groups)
+          ∙ moved name (imp_symbol r.symbol) (imp_symbols_of group) others)
+    ]
+  where
+    moved : (name own : List ℕ) (xs ys : List (List ℕ)) → times name xs + times name (own ∷ ys) ≡ times name (own ∷ (xs ++ ys))
+    moved name own xs ys = (let both = times_both name xs ys in omega arith)
+
+-- All.
+
+pub grouped_all : (P : ShortImport → Type 0) (taken : List ShortImport) → AllByRecursion P taken → AllByRecursion (AllByRecursion P) (grouped taken)
+unfolding grouped
+grouped_all P [] all = tt
+grouped_all P (r ∷ taken) all = into_all P r (grouped taken) all.0 (grouped_all P taken all.1)
+
+pub grouped_one : (taken : List ShortImport) → AllByRecursion OneDll (grouped taken)
+unfolding grouped
+grouped_one [] = tt
+grouped_one (r ∷ taken) = into_one r (grouped taken) (grouped_one taken)
+
+pub grouped_holds : (x : ShortImport) (taken : List ShortImport) → Among x taken → InGroups x (grouped taken)
+unfolding grouped Among
+grouped_holds x [] m = absurd m
+grouped_holds x (r ∷ taken) (inl e) = subst (λ (y : ShortImport). InGroups y (put_into r (grouped taken))) (sym e) (into_own r (grouped taken))
+grouped_holds x (r ∷ taken) (inr m) = into_other x r (grouped taken) (grouped_holds x taken m)
+
+pub grouped_times : (name : List ℕ) (taken : List ShortImport) → times name (flat_map imp_symbols_of (grouped taken)) ≡ times name (imp_symbols_of taken)
+unfolding grouped times
+grouped_times name [] = refl
+grouped_times name (r ∷ taken) = (let later = grouped_times name taken in into_times name r (grouped taken) ∙ omega arith)
+
+-- Where one is.
+
+pub record PlaceIn (x : ShortImport) (group : List ShortImport) : Type 0 where
+  pub j : ℕ
+  pub is : slice_get group j ≡ Some x
+
+pub record Place (x : ShortImport) (groups : List (List ShortImport)) : Type 0 where
+  pub i : ℕ
+  pub group : List ShortImport
+  pub its_group : slice_get groups i ≡ Some group
+  pub j : ℕ
+  pub is : slice_get group j ≡ Some x
+
+place_in : (x : ShortImport) (group : List ShortImport) → Among x group → PlaceIn x group
+unfolding Among
+place_in x [] m = absurd m
+place_in x (r ∷ group) (inl e) = record { j = 0; is = ap Some (sym e) }
+place_in x (r ∷ group) (inr m) = (let later = place_in x group m in record { j = suc later.j; is = later.is })
+
+pub in_place : (x : ShortImport) (groups : List (List ShortImport)) → InGroups x groups → Place x groups
+unfolding InGroups
+in_place x [] m = absurd m
+in_place x (group ∷ groups) (inl own) = (let at = place_in x group own in record { i = 0; group = group; its_group = refl; j = at.j; is = at.is })
+in_place x (group ∷ groups) (inr later) = (let at = in_place x groups later in record { i = suc at.i; group = at.group; its_group = at.its_group; j = at.j; is = at.is })
+
+-- The tables that lld makes are a directory.
+
+-- DLLs from a descriptor on, whose address tables follow one another, and the null descriptor
+unfoldable pub StandAt : List Range → ℕ → ℕ → ℕ → List Imported → Type 0
+StandAt image width descriptor table [] = BytesAt image descriptor (zeros 20)
+StandAt image width descriptor table (i ∷ imports) =
+    LoadsFrom image width descriptor table i.dll i.asks × StandAt image width (descriptor + 20) (table + width * (length i.asks + 1)) imports
+
+pub directory_stands : (image : List Range) (width : ℕ) (imports : List Imported) (descriptor table : ℕ) → StandAt image width descriptor table imports → DirectoryAt image width descriptor imports
+unfolding StandAt DirectoryAt
+directory_stands image width [] descriptor table all = all
+directory_stands image width (i ∷ imports) descriptor table all =
+    (all.0.loads, directory_stands image width imports (descriptor + 20) (table + width * (length i.asks + 1)) all.1)
+
+-- Lengths.
+
+length_thunk : (machine : MachineType) (place : ℕ) (ask : Ask) → length (thunk_built machine place ask) ≡ thunk_width machine
+unfolding thunk_built
+length_thunk machine place (Ordinal n) = length-thunk_of machine n true
+length_thunk machine place (Name text hint) = length-address machine place
+
+-- a thunk more, for each width
+one_more : (machine : MachineType) (n : ℕ) → thunk_width machine + thunk_width machine * (n + 1) ≡ thunk_width machine * (suc n + 1)
+one_more machine n = by_width (λ w. w + w * (n + 1) ≡ w * (suc n + 1)) (omega arith) (omega arith) machine
+
+only_null : (machine : MachineType) → thunk_width machine ≡ thunk_width machine * 1
+only_null machine = by_width (λ w. w ≡ w * 1) refl refl machine
+
+length_thunks : (machine : MachineType) (place : ℕ) (asks : List Ask) → length (thunks_built machine place asks) ≡ thunk_width machine * (length asks + 1)
+unfolding thunks_built
+length_thunks machine place [] = length-replicate {A = ℕ} (thunk_width machine) 0 ∙ only_null machine
+length_thunks machine place (ask ∷ asks) =
+    let later : ℕ = place + length (hint_built ask) in
+    length-append (thunk_built machine place ask) (thunks_built machine later asks)
+    ∙ ap (λ n. n + length (thunks_built machine later asks)) (length_thunk machine place ask)
+    ∙ ap (λ n. thunk_width machine + n) (length_thunks machine later asks)
+    ∙ one_more machine (length asks)
+
+no_thunks : (machine : MachineType) → 0 ≡ thunk_width machine * 0
+no_thunks machine = by_width (λ w. 0 ≡ w * 0) refl refl machine
+
+length_tables : (machine : MachineType) (place : ℕ) (imports : List Imported) → length (tables_built machine place imports) ≡ thunk_width machine * thunks_until (length imports) imports
+unfolding tables_built
+length_tables machine place [] = no_thunks machine
+length_tables machine place (i ∷ imports) =
+    let later : ℕ = place + length (hints_built i.asks) in
+    length-append (thunks_built machine place i.asks) (tables_built machine later imports)
+    ∙ ap (λ n. n + length (tables_built machine later imports)) (length_thunks machine place i.asks)
+    ∙ ap (λ n. thunk_width machine * (length i.asks + 1) + n) (length_tables machine later imports)
+    ∙ sym (mul-add (thunk_width machine) (length i.asks + 1) (thunks_until (length imports) imports))
+
+length_descriptor : (lookups name addresses : ℕ) → length (descriptor_built lookups name addresses) ≡ 20
+unfolding descriptor_built u32_bytes
+length_descriptor lookups name addresses = refl
+
+length_directory : (machine : MachineType) (lookups name addresses : ℕ) (imports : List Imported) → length (directory_built machine lookups name addresses imports) ≡ 20 * (length imports + 1)
+unfolding directory_built
+length_directory machine lookups name addresses [] = refl
+length_directory machine lookups name addresses (i ∷ imports) =
+    let rest : List ℕ = directory_built machine (lookups + thunk_width machine * (length i.asks + 1)) (name + length (i.dll ++ 0 ∷ [])) (addresses + thunk_width machine * (length i.asks + 1)) imports in
+    let own : length (descriptor_built lookups name addresses) ≡ 20 = length_descriptor lookups name addresses in
+    let others : length rest ≡ 20 * (length imports + 1) = length_directory machine (lookups + thunk_width machine * (length i.asks + 1)) (name + length (i.dll ++ 0 ∷ [])) (addresses + thunk_width machine * (length i.asks + 1)) imports in
+    length-append (descriptor_built lookups name addresses) rest ∙ omega arith
+
+-- The pieces stand.
+
+small_number : (n : ℕ) → n < 2 ^ 31 → n ≡ (0 + (n + 0)) % 2 ^ 32
+small_number n small = omega arith
+
+module _ (machine : MachineType) (image : List Range) (starts : AllByRecursion (λ r. 0 < r.start) image) (ends : AllByRecursion (λ r. range_end r < 2 ^ 31) image) where
+  thunk_stands : (ask : Ask) (place a : ℕ) → IsAskable ask → BytesAt image a (thunk_built machine place ask) → BytesAt image place (hint_built ask) →
+      StrictThunkAt image (thunk_width machine) a ask
+  unfolding IsAskable thunk_built hint_built
+  thunk_stands (Ordinal n) place a askable located hint = ordinal_located machine image n a askable located
+  thunk_stands (Name text hint) place a askable located hint_located =
+      let own = located_parts image (hint_and_text text hint) (zeros (length (hint_and_text text hint) % 2)) place hint_located in
+      let long : 0 < length (hint_and_text text hint) = rw (length-append (u16_bytes hint) (text ++ 0 ∷ []), length-u16 hint) (omega arith) in
+      let small = bounds_of image starts ends (hint_and_text text hint) place own.0 long in
+      name_located machine image starts ends text hint place a askable.0 askable.1
+      (subst (λ n. BytesAt image a (u32_bytes n ++ zeros (thunk_width machine - 4))) (small_number place small.1) located) own.0
+
+  table_stands : (asks : List Ask) (place a : ℕ) → AllByRecursion IsAskable asks → BytesAt image a (thunks_built machine place asks) → BytesAt image place (hints_built asks) →
+      StrictTableAt image (thunk_width machine) a asks
+  unfolding thunks_built hints_built
+  table_stands [] place a askable located hints = zero_table machine image a located
+  table_stands (ask ∷ asks) place a askable located hints =
+      let later : ℕ = place + length (hint_built ask) in
+      let thunks = located_parts image (thunk_built machine place ask) (thunks_built machine later asks) a located in
+      let texts = located_parts image (hint_built ask) (hints_built asks) place hints in
+      let first = thunk_stands ask place a askable.0 thunks.0 texts.0 in
+      let rest = table_stands asks later (a + thunk_width machine) askable.1
+      (subst (λ n. BytesAt image (a + n) (thunks_built machine later asks)) (length_thunk machine place ask) thunks.1) texts.1 in
+      table_with image (thunk_width machine) a ask asks first rest
+
+  some_thunks : (place : ℕ) (asks : List Ask) → 0 < length (thunks_built machine place asks)
+  some_thunks place asks =
+      let width : 0 < thunk_width machine = some_bytes machine in
+      let long : length (thunks_built machine place asks) ≡ thunk_width machine * (length asks + 1) = length_thunks machine place asks in
+      let split : thunk_width machine * (length asks + 1) ≡ thunk_width machine * length asks + thunk_width machine * 1 = mul-add (thunk_width machine) (length asks) 1 in
+      let one : thunk_width machine ≡ thunk_width machine * 1 = only_null machine in
+      omega arith
+
+  descriptor_stands : (i : Imported) (descriptor lookups name addresses place : ℕ) → IsImportable i → BytesAt image descriptor (descriptor_built lookups name addresses) →
+      BytesAt image lookups (thunks_built machine place i.asks) → BytesAt image addresses (thunks_built machine place i.asks) → BytesAt image place (hints_built i.asks) →
+      BytesAt image name (i.dll ++ 0 ∷ []) → LoadsFrom image (thunk_width machine) descriptor addresses i.dll i.asks
+  unfolding descriptor_built
+  descriptor_stands i descriptor lookups name addresses place importable located lookup_table address_table hints text =
+      let long : 0 < length (i.dll ++ 0 ∷ []) = rw (length-append i.dll (0 ∷ [])) (omega arith) in
+      let lookups_small = bounds_of image starts ends (thunks_built machine place i.asks) lookups lookup_table (some_thunks place i.asks) in
+      let addresses_small = bounds_of image starts ends (thunks_built machine place i.asks) addresses address_table (some_thunks place i.asks) in
+      let name_small = bounds_of image starts ends (i.dll ++ 0 ∷ []) name text long in
+      descriptor_loads machine image starts ends descriptor lookups addresses name i.dll i.asks
+      (subst (λ n. BytesAt image descriptor (u32_bytes n ++ (zeros 4 ++ (zeros 4 ++ (u32_bytes ((0 + (name + 0)) % 2 ^ 32) ++ u32_bytes ((0 + (addresses + 0)) % 2 ^ 32))))))
+      (small_number lookups lookups_small.1)
+      (subst (λ n. BytesAt image descriptor (u32_bytes lookups ++ (zeros 4 ++ (zeros 4 ++ (u32_bytes n ++ u32_bytes ((0 + (addresses + 0)) % 2 ^ 32))))))
+      (small_number name name_small.1)
+      (subst (λ n. BytesAt image descriptor (u32_bytes lookups ++ (zeros 4 ++ (zeros 4 ++ (u32_bytes name ++ u32_bytes n)))))
+      (small_number addresses addresses_small.1) located)))
+      (table_stands i.asks place lookups importable.asks lookup_table hints)
+      (table_stands i.asks place addresses importable.asks address_table hints)
+      (record { no_nul = importable.name; located = text })
+
+  all_stand : (imports : List Imported) (descriptor lookups name addresses place : ℕ) → AllByRecursion IsImportable imports →
+      BytesAt image descriptor (directory_built machine lookups name addresses imports) → BytesAt image lookups (tables_built machine place imports) →
+      BytesAt image addresses (tables_built machine place imports) → BytesAt image place (all_hints imports) → BytesAt image name (all_names imports) →
+      StandAt image (thunk_width machine) descriptor addresses imports
+  unfolding StandAt directory_built tables_built all_hints all_names
+  all_stand [] descriptor lookups name addresses place importable directory lookup_tables address_tables hints names = directory
+  all_stand (i ∷ imports) descriptor lookups name addresses place importable directory lookup_tables address_tables hints names =
+      let next : ℕ = place + length (hints_built i.asks) in
+      let span : ℕ = thunk_width machine * (length i.asks + 1) in
+      let rows = located_parts image (descriptor_built lookups name addresses) (directory_built machine (lookups + span) (name + length (i.dll ++ 0 ∷ [])) (addresses + span) imports) descriptor directory in
+      let first = located_parts image (thunks_built machine place i.asks) (tables_built machine next imports) lookups lookup_tables in
+      let second = located_parts image (thunks_built machine place i.asks) (tables_built machine next imports) addresses address_tables in
+      let texts = located_parts image (hints_built i.asks) (all_hints imports) place hints in
+      let dlls = located_parts image (i.dll ++ 0 ∷ []) (all_names imports) name names in (
+        descriptor_stands i descriptor lookups name addresses place importable.0 rows.0 first.0 second.0 texts.0 dlls.0,
+        all_stand imports (descriptor + 20) (lookups + span) (name + length (i.dll ++ 0 ∷ [])) (addresses + span) next importable.1
+            (subst (λ n. BytesAt image (descriptor + n) (directory_built machine (lookups + span) (name + length (i.dll ++ 0 ∷ [])) (addresses + span) imports)) (length_descriptor lookups name addresses) rows.1)
+            (subst (λ n. BytesAt image (lookups + n) (tables_built machine next imports)) (length_thunks machine place i.asks) first.1)
+            (subst (λ n. BytesAt image (addresses + n) (tables_built machine next imports)) (length_thunks machine place i.asks) second.1)
+            texts.1 dlls.1,
+      )
+
+  pub pieces_stand : (descriptors lookups addresses hints names : ℕ) (imports : List Imported) → AllByRecursion IsImportable imports →
+      ArePiecesAt machine image descriptors lookups addresses hints names imports → StandAt image (thunk_width machine) descriptors addresses imports
+  pieces_stand descriptors lookups addresses hints names imports importable pieces =
+      all_stand imports descriptors lookups names addresses hints importable pieces.directory pieces.lookup_tables pieces.address_tables pieces.hint_names pieces.dll_names
+
+pub pieces_directory : (machine : MachineType) (image : List Range) (descriptors lookups addresses hints names : ℕ) (imports : List Imported) →
+    AllByRecursion (λ r. 0 < r.start) image → AllByRecursion (λ r. range_end r < 2 ^ 31) image → AllByRecursion IsImportable imports →
+    ArePiecesAt machine image descriptors lookups addresses hints names imports → DirectoryAt image (thunk_width machine) descriptors imports
+pieces_directory machine image descriptors lookups addresses hints names imports starts ends importable pieces =
+    directory_stands image (thunk_width machine) imports descriptors addresses
+    (pieces_stand machine image starts ends descriptors lookups addresses hints names imports importable pieces)
+
+-- One piece is five.
+
+step : (a n b : ℕ) → a ≤ b → n ≡ b - a → a + n ≡ b
+step a n b le is = omega arith
+
+pub built_pieces : (machine : MachineType) (base : ℕ) (imports : List Imported) (image : List Range) → AllApart image → Contains image (built machine base imports) →
+    ArePiecesAt machine image base (lookups_at machine base imports) (addresses_at machine base imports) (hints_at machine base imports) (names_at machine base imports) imports
+unfolding built_bytes
+built_pieces machine base imports image apart holds =
+    let lookups : ℕ = lookups_at machine base imports in
+    let addresses : ℕ = addresses_at machine base imports in
+    let hints : ℕ = hints_at machine base imports in
+    let names : ℕ = names_at machine base imports in
+    let rows : List ℕ = directory_built machine lookups names addresses imports in
+    let gap : List ℕ = zeros (lookups - directory_end base imports) in
+    let tables : List ℕ = tables_built machine hints imports in
+    let behind_second : List ℕ = all_hints imports ++ all_names imports in
+    let behind_first : List ℕ = tables ++ behind_second in
+    let behind_gap : List ℕ = tables ++ behind_first in
+    let whole : BytesAt image base (rows ++ (gap ++ behind_gap)) = range_located (built machine base imports) image (contains_among (built machine base imports) image holds) apart in
+    let first = located_parts image rows (gap ++ behind_gap) base whole in
+    let at_gap : BytesAt image (directory_end base imports) (gap ++ behind_gap) =
+    subst (λ n. BytesAt image (base + n) (gap ++ behind_gap)) (length_directory machine lookups names addresses imports) first.1 in
+    let second = located_parts image gap behind_gap (directory_end base imports) at_gap in
+    let at_lookups : BytesAt image lookups behind_gap =
+    subst (λ n. BytesAt image n behind_gap)
+    (step (directory_end base imports) (length gap) lookups (at_least (thunk_width machine) (directory_end base imports)) (length-replicate {A = ℕ} (lookups - directory_end base imports) 0)) second.1 in
+    let third = located_parts image tables behind_first lookups at_lookups in
+    let at_addresses : BytesAt image addresses behind_first = subst (λ n. BytesAt image (lookups + n) behind_first) (length_tables machine hints imports) third.1 in
+    let fourth = located_parts image tables behind_second addresses at_addresses in
+    let at_hints : BytesAt image hints behind_second = subst (λ n. BytesAt image (addresses + n) behind_second) (length_tables machine hints imports) fourth.1 in
+    let fifth = located_parts image (all_hints imports) (all_names imports) hints at_hints in
+    record {
+      directory = first.0;
+      lookup_tables = third.0;
+      address_tables = fourth.0;
+      hint_names = fifth.0;
+      dll_names = fifth.1;
+    }
+
+-- Short imports that lld took are imported, each at an entry of its own.
 
 pub get_map : {X Y : Type 0} (f : X → Y) (xs : List X) (i : ℕ) (x : X) → slice_get xs i ≡ Some x → slice_get (map f xs) i ≡ Some (f x)
 get_map f xs i x is = slice_get-map f xs i ∙ ap (option_map f) is

@@ -8,20 +8,14 @@ use Rattle.implib.specs.Import.{Ask, imp_symbol}
 use Rattle.implib.specs.Link.Image.{Range}
 use Rattle.implib.specs.Link.Placement.{Placed}
 use Rattle.implib.specs.Members.ImportTables.{thunk_width}
-use Rattle.implib_link.specs.Flavors.LldImports.{IsLldProgram, dll_of_group, grouped}
-use Rattle.implib_link.specs.Flavors.LldThunks.{BranchArrivesByThunk, IsThunk}
-use Rattle.implib_link.specs.Gnu.Fields.{LinkedCode}
+use Rattle.implib_link.specs.Flavors.LldImports.{IsLldProgram, dll_of_group, grouped, BranchArrivesByThunk, IsThunk}
+use Rattle.implib_link.specs.Gnu.Fields.{LinkedCode, CanBranch, AllLead, HasBranch}
 use Rattle.implib_link.specs.Gnu.Moves.{AreInMemory}
-use Rattle.implib_link.specs.Gnu.Calls.{CanBranch}
-use Rattle.implib_link.specs.Gnu.Operands.{AllLead, HasBranch}
-use Rattle.implib_link.specs.Gnu.Reading.{ReadsAndWrites}
+use Rattle.implib_link.specs.Gnu.Writing.{ReadsAndWrites}
 use Rattle.implib_link.specs.Tables.{AreSteady, AreTables, Block, CanReadFrom, Table, TableEntry, block_of_group, entry_of_short, tables_of_lld}
-use Rattle.implib_link.proofs.Flavors.LldGroups.{grouped_holds, in_place}
-use Rattle.implib_link.proofs.Flavors.LldImports.{get_map, only}
+use Rattle.implib_link.proofs.Flavors.LldImports.{grouped_holds, in_place, get_map, only}
 use Rattle.implib_link.proofs.Search.Lists.{contains_among}
-use Rattle.implib_link.proofs.TablesInMemory.{entry_leads, thunk_called_in_memory}
-use Rattle.implib_link.proofs.PackedTables.{HasEntry, block_entry, entries_until, packed_count, reads_further}
-use Rattle.implib_link.proofs.TablesOfPrograms.{lld_tables}
+use Rattle.implib_link.proofs.Tables.{entry_leads, thunk_called_in_memory, HasEntry, block_entry, entries_until, packed_count, reads_further, lld_tables}
 use Rattle.implib.proofs.Link.LinkedMembers.{all_at}
 
 module _ (machine : MachineType) (descriptors addresses : ℕ) (taken : List ShortImport) (image : List Range) (linked : List Placed)

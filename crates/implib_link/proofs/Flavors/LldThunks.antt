@@ -14,14 +14,12 @@ use Rattle.implib.specs.Link.Load.{BytesAt, number_in}
 use Rattle.implib.specs.Link.Placement.{Placed}
 use Rattle.implib.proofs.Link.LinkedMembers.{among_contains}
 use Rattle.implib.proofs.Link.Ranges.{among_first}
-use Rattle.implib_link.specs.Flavors.LldThunks.{IsThunk, ThunkArrives, placed_thunk, thunk_code, thunk_relocations, thunk_section}
-use Rattle.implib_link.specs.Gnu.Fields.{DefinesIn, LinkedCode, MeetsAlone, field_at, meets}
-use Rattle.implib_link.specs.Gnu.Operands.{AllLead, AreKept, InstructionArrives, IsOperand, Names, PairArrives}
+use Rattle.implib_link.specs.Flavors.LldImports.{IsThunk, ThunkArrives, placed_thunk, thunk_code, thunk_relocations, thunk_section}
+use Rattle.implib_link.specs.Gnu.Fields.{DefinesIn, LinkedCode, MeetsAlone, field_at, meets, AllLead, AreKept, InstructionArrives, IsOperand, Names, PairArrives}
 use Rattle.implib_link.specs.Stub.{adrp_immediate, bits_of, jump_reads, ldr_immediate, plus_signed, with_adrp, with_bits}
 use Rattle.implib_link.specs.Tables.{CanReadFrom}
-use Rattle.implib_link.proofs.Gnu.MovedCode.{four_of}
-use Rattle.implib_link.proofs.Gnu.OperandStubs.{arm64_jump}
-use Rattle.implib_link.proofs.Gnu.UsualCode.{pair_read}
+use Rattle.implib_link.proofs.Gnu.Fields.{four_of, pair_read}
+use Rattle.implib_link.proofs.Gnu.Operands.{arm64_jump}
 
 i386_jump : (address : ℕ) (field : List ℕ) → length field ≡ 4 → jump_reads I386 address (0xFF ∷ 0x25 ∷ (field ++ [])) ≡ Some (number_in field)
 i386_jump address field four = (let f = four_of field four in subst (λ xs. jump_reads I386 address (0xFF ∷ 0x25 ∷ (xs ++ [])) ≡ Some (number_in xs)) (sym f.is) refl)

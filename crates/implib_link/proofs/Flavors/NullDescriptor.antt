@@ -16,11 +16,10 @@ use Rattle.implib.specs.Link.Resolution.{SymbolDefinition, defined_by, definitio
 use Rattle.implib.proofs.Link.Definitions.{none_of, same_text}
 use Rattle.implib.proofs.Link.Placement.{aligned}
 use Rattle.implib.proofs.Link.Ranges.{Among}
-use Rattle.implib_link.specs.Gnu.Packed.{group_end, sections_end}
-use Rattle.implib_link.specs.Flavors.SectionSymbols.{with_section_symbols}
+use Rattle.implib_link.specs.Flavors.Program.{group_end, sections_end}
+use Rattle.implib_link.specs.Flavors.Expansion.{with_section_symbols}
 use Rattle.implib_link.proofs.Flavors.Expanded.{taken_null}
-use Rattle.implib_link.specs.Gnu.OtherLibraries.{ends_behind}
-use Rattle.implib_link.proofs.Gnu.Runs.{placed_parts}
+use Rattle.implib_link.proofs.Gnu.Packed.{ends_behind, placed_parts}
 use Rattle.implib_link.proofs.Search.Lists.{all_parts}
 
 -- whether a group is that of `.idata$3`

@@ -1,16 +1,28 @@
--- A program of DLLs in both flavours links.
-use Rattle.std.proofs.Common.{◌≡◌, ℕ, ◌+◌, ◌*◌, ◌-◌, ◌%◌, zero, suc, false, List, [], ◌∷◌, ◌++◌, length, map, Some, refl, ap, sym, ◌∙◌, arith, subst, inl, inr}
-use Rattle.std.specs.Prelude.{bytes_eq, not, option_map, slice_get}
-use Rattle.std.specs.List.{AllByRecursion, Contains, IsDistinct, filter, flat_map}
-use Rattle.std.proofs.lemmas.List.{append-nil, length-map}
-use Rattle.std.proofs.lemmas.List.Elements.{filter_map-append}
-use Rattle.std.proofs.lemmas.Option.{slice_get-map}
+-- The members and the null descriptor are a program by themselves.
+use Rattle.std.proofs.Common.{◌≡◌, true, List, [], ◌∷◌, ◌++◌, map, refl, ap, sym, ◌∙◌, subst, ℕ, Option, Some, zero, suc, ◌+◌, length, ◌*◌, ◌-◌, ◌%◌, false, arith, inl, inr, ◌^◌, ◌<◌, ◌≤◌}
+use Rattle.std.specs.Prelude.{not, bytes_eq, option_map, slice_get}
+use Rattle.std.specs.List.{AllByRecursion, filter, IsDistinct, Contains, flat_map}
 use Rattle.implib.specs.declared.machine.MachineType.{MachineType}
-use Rattle.implib.specs.declared.flavor.Flavor.{Flavor}
-use Rattle.implib.specs.declared.flavor.Flavor.TheVariants.{Gnu, Msvc}
 use Rattle.implib.specs.Definition.{ExportView}
 use Rattle.implib.specs.Members.Gnu.{export_object, head_object, tail_object}
-use Rattle.implib.specs.Link.Image.{Range, contributions, filled, image_of}
+use Rattle.implib.specs.Link.LinkedMembers.{IsMade, LinkInput, all_linked, objects_in, chosen_exports, linked_members}
+use Rattle.implib.specs.Formats.Object.{Object, object_in}
+use Rattle.implib.proofs.Link.LinkedBlocks.{Block, blocks_objects, linked_objects, each_located, ends, even as even_bases, group_located, starts}
+use Rattle.implib.proofs.Link.LinkedInputs.{block_of, gnu_inputs_objects}
+use Rattle.implib.proofs.Link.Placement.{export, head, tail, AreAligned, aligned}
+use Rattle.implib_link.specs.Flavors.Program.{has_tables, null_descriptor, AreEndedByLinker, AreProgramObjects, IsFoundByName, IsMadeFor, OfLinker, all_members, dll_names_in, gnu_input, symbols_listed, thunks_of, ClaimsNone, linked_symbols, thunks_before, AreClaimed, AreEnded, AreEndedByMember, Ending, FlavorInput, InputImports, OfMember, WhereMember, own_names, SymbolsAt, SymbolsGet, imp_symbols, ask_in, exports_chosen, imported_in, null_member, objects_taken, symbol_in, ProgramLinks, IsProgramOf, claimed_names, names_claimed_in, with_tables, HaveSame, group_end, sections_end, packed, packed_descriptors, packed_end}
+use Rattle.implib_link.proofs.Flavors.Block.{objects_behind, plus_sum, AreEven, NullDefined, OneLinks, behind_descriptor, objects_of, use_for, AllSuit, EachIn, even_all, rest_of, FlavorBlock, all_objects, definitions-all, definitions_all, descriptors_all, directory_in, each_in, ends_all, imported_of, names-all, nth_in, thunks_in, claimed_placed, all_claim, gets_address, once_of}
+use Rattle.implib.specs.LibraryName.{NamesOfDll, names_for, linked_dll}
+use Rattle.std.proofs.lemmas.List.{map-append, append-nil, length-map, length-replicate}
+use Rattle.std.proofs.lemmas.List.Elements.{filter_map-append}
+use Rattle.implib.specs.Members.MemberSpec.{MemberView}
+use Rattle.implib.proofs.Link.Linked.{all_append, LocatedFrom}
+use Rattle.implib.proofs.Link.LinkedMembers.{members_read, objects_are, among_map}
+use Rattle.implib_link.specs.FullNames.{full_name, object_by_full_names, sections_by_full_names, strings_of}
+use Rattle.implib.specs.declared.flavor.Flavor.TheVariants.{Gnu, Msvc}
+use Rattle.std.proofs.lemmas.Option.{slice_get-map}
+use Rattle.implib.specs.declared.flavor.Flavor.{Flavor}
+use Rattle.implib.specs.Link.Image.{Range, contributions, filled, image_of, IsAdmissible}
 use Rattle.implib.specs.Import.{Ask, Name, Ordinal, imp_symbol}
 use Rattle.implib.specs.Members.ImportTables.{thunk_width, zeros}
 use Rattle.implib.specs.Formats.Layout.{entries_of, name_text, object_of}
@@ -18,35 +30,171 @@ use Rattle.implib.specs.Link.Linked.{AllFind, IsDefinedAt, IsDefinedOnce, undefi
 use Rattle.implib.specs.Link.Load.{BytesAt}
 use Rattle.implib.specs.Members.Msvc.{short_import_symbol}
 use Rattle.implib.specs.Members.MsvcObjects.{descriptor, null_descriptor_symbol, null_thunk}
-use Rattle.implib.specs.Formats.Object.{Object}
 use Rattle.implib.specs.Link.Placement.{Addresses, Bases, Descriptors, DirectoryEnds, DllNames, Group, HintNames, Lookups, Placed, base_of, next_multiple, placed_from, same_group}
 use Rattle.implib.specs.Link.Resolution.{SymbolDefinition, definitions, definitions_of}
 use Rattle.implib.proofs.Link.Definitions.{not_same_turned, only_definition}
-use Rattle.implib.proofs.Link.Linked.{LocatedFrom}
-use Rattle.implib.proofs.Link.LinkedBlocks.{each_located, ends, even as even_bases, group_located, starts}
-use Rattle.implib.proofs.Link.LinkedMembers.{among_map}
-use Rattle.implib.proofs.Link.Placement.{AreAligned, aligned, export, tail}
 use Rattle.implib.proofs.Link.Ranges.{Among, all_among, among_first, among_later}
 use Rattle.implib_link.specs.Directory.{DirectoryAt}
-use Rattle.implib_link.specs.Flavors.Expansion.{import_object, expanded_in}
-use Rattle.implib_link.specs.Flavors.Program.{AreClaimed, AreEnded, AreEndedByLinker, AreEndedByMember, Ending, FlavorInput, InputImports, IsMadeFor, OfLinker, OfMember, WhereMember, own_names, SymbolsAt, SymbolsGet, imp_symbols, all_members, ask_in, exports_chosen, imported_in, null_member, objects_taken, symbol_in, symbols_listed, thunks_of, ProgramLinks, IsProgramOf, dll_names_in}
-use Rattle.implib_link.specs.Gnu.Packed.{group_end, sections_end}
-use Rattle.implib_link.specs.Gnu.Program.{claimed_names, has_tables, names_claimed_in, null_descriptor, with_tables, HaveSame}
-use Rattle.implib_link.specs.Flavors.SectionSymbols.{with_section_symbols}
-use Rattle.implib_link.proofs.Flavors.Block.{AreEven, NullDefined, OneLinks, behind_descriptor, objects_of, use_for}
-use Rattle.implib_link.proofs.Flavors.Blocks.{AllSuit, EachIn, even_all, rest_of, FlavorBlock, all_objects, definitions-all, definitions_all, descriptors_all, directory_in, each_in, ends_all, imported_of, names-all, nth_in, thunks_in}
-use Rattle.implib_link.proofs.Gnu.Claims.{claimed_placed}
-use Rattle.implib_link.proofs.Flavors.Claims.{all_claim_listed, claimed_with_null}
-use Rattle.implib_link.proofs.Flavors.Inputs.{block_in, inputs_link, inputs_objects, inputs_plainly, inputs_symbols, inputs_taken, null_object, objects_with_null}
+use Rattle.implib_link.specs.Flavors.Expansion.{import_object, expanded_in, Code, Constant, Data, Use, stub_for, stub_relocations_for, with_section_symbols}
+use Rattle.implib_link.proofs.Flavors.Inputs.{all_claim_listed, claimed_with_null, block_in, inputs_link, inputs_objects, inputs_plainly, inputs_symbols, inputs_taken, null_object, objects_with_null}
 use Rattle.implib_link.proofs.Flavors.NullDescriptor.{EndsNothing, all_insert, among_same, descriptors_end_same, finds_same, null_filled, null_once, others_same, undefined_same, group_same}
 use Rattle.implib_link.proofs.Gnu.Others.{contributions_kept, definitions_kept, placed_kept}
-use Rattle.implib_link.proofs.Gnu.Packed.{end_kept}
-use Rattle.implib_link.proofs.Gnu.Program.{all_claim, gets_address, once_of}
+use Rattle.implib_link.proofs.Gnu.Packed.{end_kept, admissible, packed_eights, AreWithin, IsSized, exports_sized, head_sized, tail_sized, thunk_size}
 use Rattle.implib_link.proofs.Search.Lists.{contains_among}
-use Rattle.implib_link.proofs.Flavors.Expanded.{taken_null}
-use Rattle.implib.specs.LibraryName.{NamesOfDll, linked_dll}
-use Rattle.implib_link.proofs.Gnu.Blocks.{plus_sum}
-use Rattle.implib_link.proofs.Gnu.Loaded.{times_none}
+use Rattle.implib_link.proofs.Flavors.Expanded.{taken_null, taken_descriptor}
+use Rattle.implib_link.proofs.Gnu.Loaded.{times_none, by_width}
+use Rattle.implib.specs.declared.machine.MachineType.TheVariants.{I386, ARMNT, AMD64, ARM64}
+
+pub head_has : (machine : MachineType) (dll : NamesOfDll) → has_tables (head machine dll) ≡ true
+unfolding has_tables head_object
+head_has machine dll = refl
+
+pub tail_has : (machine : MachineType) (dll : NamesOfDll) → has_tables (tail machine dll) ≡ true
+unfolding has_tables tail_object
+tail_has machine dll = refl
+
+pub export_has : (machine : MachineType) (dll : NamesOfDll) (e : ExportView) → has_tables (export machine dll e) ≡ true
+unfolding has_tables export_object
+export_has machine dll e = refl
+
+null_has : has_tables null_descriptor ≡ true
+unfolding has_tables
+null_has = refl
+
+-- each object of a list has tables
+abbrev AllHave : List Object → Type 0
+AllHave objects = AllByRecursion (λ o. has_tables o ≡ true) objects
+
+exports_have : (machine : MachineType) (dll : NamesOfDll) (es : List ExportView) (rest : List Object) → AllHave rest → AllHave (map (export machine dll) es ++ rest)
+exports_have machine dll [] rest all = all
+exports_have machine dll (e ∷ es) rest all = (export_has machine dll e, exports_have machine dll es rest all)
+
+blocks_have : (machine : MachineType) (blocks : List Block) (rest : List Object) → AllHave rest → AllHave (blocks_objects machine blocks rest)
+blocks_have machine [] rest all = all
+blocks_have machine (k ∷ blocks) rest all =
+    (head_has machine k.dll, exports_have machine k.dll k.exports _ (tail_has machine k.dll, blocks_have machine blocks rest all))
+
+pub all_kept : (objects : List Object) → AllHave objects → filter has_tables objects ≡ objects
+all_kept [] all = refl
+all_kept (o ∷ objects) all = rw all.0 (ap (λ others. o ∷ others) (all_kept objects all.1))
+
+pub none_left : (objects : List Object) → AllHave objects → filter (λ o. not (has_tables o)) objects ≡ []
+none_left [] all = refl
+none_left (o ∷ objects) all = rw all.0 (none_left objects all.1)
+
+pub members_have : (machine : MachineType) (inputs : List LinkInput) → AllByRecursion (IsMade machine) inputs →
+    AllByRecursion (λ o. has_tables o ≡ true) (objects_in (all_linked machine inputs) ++ null_descriptor ∷ [])
+members_have machine inputs made =
+    subst AllHave (sym (ap (λ members. members ++ null_descriptor ∷ []) (gnu_inputs_objects machine inputs made) ∙ objects_behind machine (map block_of inputs) (null_descriptor ∷ [])))
+    (blocks_have machine (map block_of inputs) (null_descriptor ∷ []) (null_has, tt))
+
+-- The members' sections have no names in a string table.
+
+-- an object's names are whole, whatever the string table
+abbrev HasWholeNames : Object → Type 0
+HasWholeNames o = (strings : Option (List ℕ)) → sections_by_full_names strings o.sections ≡ Some o.sections
+
+head_whole : (machine : MachineType) (dll : NamesOfDll) → HasWholeNames (head machine dll)
+unfolding head_object sections_by_full_names full_name
+head_whole machine dll strings = refl
+
+tail_whole : (machine : MachineType) (dll : NamesOfDll) → HasWholeNames (tail machine dll)
+unfolding tail_object sections_by_full_names full_name
+tail_whole machine dll strings = refl
+
+export_whole : (machine : MachineType) (dll : NamesOfDll) (e : ExportView) → HasWholeNames (export machine dll e)
+unfolding export_object sections_by_full_names full_name
+export_whole machine dll e strings = refl
+
+exports_whole : (machine : MachineType) (dll : NamesOfDll) (es : List ExportView) → AllByRecursion HasWholeNames (map (export machine dll) es)
+exports_whole machine dll [] = tt
+exports_whole machine dll (e ∷ es) = (export_whole machine dll e, exports_whole machine dll es)
+
+linked_whole : (machine : MachineType) (dll : NamesOfDll) (es : List ExportView) → AllByRecursion HasWholeNames (linked_objects machine dll es)
+linked_whole machine dll es =
+    (head_whole machine dll, all_append HasWholeNames (map (export machine dll) es) (tail machine dll ∷ []) (exports_whole machine dll es) (tail_whole machine dll, tt))
+
+same_by_full_names : (bytes : List ℕ) (o : Object) → HasWholeNames o → object_in bytes ≡ Some o → object_by_full_names bytes ≡ Some o
+unfolding object_by_full_names
+same_by_full_names bytes o whole read = rw (read, whole (strings_of bytes)) refl
+
+all_by_full_names : (members : List MemberView) (objects : List Object) → AllByRecursion HasWholeNames objects →
+    map (λ (m : MemberView). object_in m.bytes) members ≡ map Some objects → map (λ (m : MemberView). object_by_full_names m.bytes) members ≡ map Some objects
+all_by_full_names [] [] whole read = refl
+all_by_full_names [] (o ∷ objects) whole read = cc
+all_by_full_names (m ∷ members) [] whole read = cc
+all_by_full_names (m ∷ members) (o ∷ objects) whole read =
+    let first : object_in m.bytes ≡ Some o = cc in
+    let others : map (λ (m : MemberView). object_in m.bytes) members ≡ map Some objects = cc in
+    rw (same_by_full_names m.bytes o whole.0 first) (ap (λ read. Some o ∷ read) (all_by_full_names members objects whole.1 others))
+
+own_by_full_names : (machine : MachineType) (p : LinkInput) → IsMade machine p →
+    map (λ (m : MemberView). object_by_full_names m.bytes) (linked_members p.definition machine p.chosen) ≡ map Some (objects_in (linked_members p.definition machine p.chosen))
+own_by_full_names machine p made =
+    all_by_full_names (linked_members p.definition machine p.chosen) (objects_in (linked_members p.definition machine p.chosen))
+    (subst (AllByRecursion HasWholeNames) (sym (objects_are p.definition machine p.members p.chosen made))
+    (linked_whole machine (names_for Gnu p.definition) (chosen_exports p.definition p.chosen)))
+    (members_read p.definition machine p.members p.chosen made)
+
+pub members_by_full_names : (machine : MachineType) (inputs : List LinkInput) → AllByRecursion (IsMade machine) inputs →
+    map (λ (m : MemberView). object_by_full_names m.bytes) (all_linked machine inputs) ≡ map Some (objects_in (all_linked machine inputs))
+members_by_full_names machine [] made = refl
+members_by_full_names machine (p ∷ inputs) made =
+    let own : List MemberView = linked_members p.definition machine p.chosen in
+    map-append (λ (m : MemberView). object_by_full_names m.bytes) own (all_linked machine inputs)
+    ∙ ap (λ read. read ++ map (λ (m : MemberView). object_by_full_names m.bytes) (all_linked machine inputs)) (own_by_full_names machine p made.0)
+    ∙ ap (λ read. map Some (objects_in own) ++ read) (members_by_full_names machine inputs made.1)
+    ∙ sym (map-append Some (objects_in own) (objects_in (all_linked machine inputs)))
+    ∙ ap (map Some) (sym (filter_map-append (λ (m : MemberView). object_in m.bytes) own (all_linked machine inputs)))
+
+-- Programs of members for GNU's linker alone, in the words of definitions without a flavour.
+
+pub gnu_members : (machine : MachineType) (inputs : List LinkInput) → all_members machine (map gnu_input inputs) ≡ all_linked machine inputs
+gnu_members machine [] = refl
+gnu_members machine (p ∷ inputs) = ap (λ ms. linked_members p.definition machine p.chosen ++ ms) (gnu_members machine inputs)
+
+pub gnu_made : (machine : MachineType) (inputs : List LinkInput) → AllByRecursion (IsMade machine) inputs → AllByRecursion (IsMadeFor machine) (map gnu_input inputs)
+gnu_made machine [] made = tt
+gnu_made machine (p ∷ inputs) made = (made.0, gnu_made machine inputs made.1)
+
+gnu_alone : (inputs : List LinkInput) → AllByRecursion (λ p. p.flavor ≡ Gnu) (map gnu_input inputs)
+gnu_alone [] = tt
+gnu_alone (p ∷ inputs) = (refl, gnu_alone inputs)
+
+gnu_found : (inputs : List LinkInput) → AllByRecursion (λ p. IsFoundByName p.flavor (dll_names_in p)) (map gnu_input inputs)
+gnu_found [] = tt
+gnu_found (p ∷ inputs) = (tt, gnu_found inputs)
+
+pub gnu_thunks : (i : ℕ) (inputs : List LinkInput) → thunks_of i (map gnu_input inputs) ≡ thunks_before i inputs
+gnu_thunks zero inputs = refl
+gnu_thunks (suc i) [] = refl
+gnu_thunks (suc i) (p ∷ inputs) = ap (λ n. length (chosen_exports p.definition p.chosen) + 1 + n) (gnu_thunks i inputs)
+
+pub gnu_ended : (machine : MachineType) (inputs : List LinkInput) (objects : List Object) → filter has_tables objects ≡ objects_in (all_linked machine inputs) ++ null_descriptor ∷ [] →
+    AreEndedByLinker machine (map gnu_input inputs) objects
+gnu_ended machine inputs objects tables =
+    record { gnu = gnu_alone inputs; tables = tables ∙ ap (λ ms. objects_in ms ++ null_descriptor ∷ []) (sym (gnu_members machine inputs)) }
+
+-- the objects of a program
+pub gnu_objects : (machine : MachineType) (inputs : List LinkInput) (objects : List Object) → IsDistinct bytes_eq (linked_symbols machine inputs) →
+    filter has_tables objects ≡ objects_in (all_linked machine inputs) ++ null_descriptor ∷ [] → AllByRecursion (ClaimsNone (linked_symbols machine inputs)) (filter (λ o. not (has_tables o)) objects) →
+    AreProgramObjects machine OfLinker (map gnu_input inputs) objects
+gnu_objects machine inputs objects distinct tables others = record {
+  distinct = subst (λ ms. IsDistinct bytes_eq (symbols_listed ms)) (sym (gnu_members machine inputs)) distinct;
+  ended = gnu_ended machine inputs objects tables;
+  others = subst (λ ms. AllByRecursion (ClaimsNone (symbols_listed ms)) (filter (λ o. not (has_tables o)) objects)) (sym (gnu_members machine inputs)) others;
+  found = gnu_found inputs;
+}
+
+-- the members and the null descriptor are such objects by themselves
+pub members_are_objects : (machine : MachineType) (inputs : List LinkInput) → AllByRecursion (IsMade machine) inputs → IsDistinct bytes_eq (linked_symbols machine inputs) →
+    AreProgramObjects machine OfLinker (map gnu_input inputs) (objects_in (all_linked machine inputs) ++ null_descriptor ∷ [])
+members_are_objects machine inputs made distinct =
+    let objects : List Object = objects_in (all_linked machine inputs) ++ null_descriptor ∷ [] in
+    gnu_objects machine inputs objects distinct (all_kept objects (members_have machine inputs made))
+    (subst (AllByRecursion (ClaimsNone (linked_symbols machine inputs))) (sym (none_left objects (members_have machine inputs made))) tt)
+
+-- A program of DLLs in both flavours links.
 
 -- The objects of the members have no `.idata$3`.
 
@@ -465,3 +613,92 @@ module _ (machine : MachineType) (ending : Ending) (b : Bases) (inputs : List Fl
       rest_leaves : (kind : Ending) (c : Bases) → AllByRecursion (IsDefinedAt (placed_from b objects)) (undefined_names (placed_from c (rest_of kind)))
       rest_leaves OfLinker c = tt
       rest_leaves OfMember c = tt
+
+-- Packed placement of both flavours makes a program.
+
+-- Relocations are within their sections.
+
+stub_sized : (machine : MachineType) (use_kind : Use) → AreWithin (length (stub_for machine use_kind)) (stub_relocations_for machine use_kind)
+stub_sized I386 Code = (omega arith, tt)
+stub_sized ARMNT Code = (omega arith, tt)
+stub_sized AMD64 Code = (omega arith, tt)
+stub_sized ARM64 Code = (omega arith, (omega arith, tt))
+stub_sized machine Data = tt
+stub_sized machine Constant = tt
+
+field_within : (machine : MachineType) → 0 + 4 ≤ length (zeros (thunk_width machine))
+field_within machine =
+    let long : length (zeros (thunk_width machine)) ≡ thunk_width machine = length-replicate {A = ℕ} (thunk_width machine) 0 in
+    let size : 4 ≤ thunk_width machine = thunk_size machine in
+    omega arith
+
+asking_sized : (machine : MachineType) (dll : NamesOfDll) (symbol : List ℕ) (ask : Ask) (use_kind : Use) → IsSized (import_object machine dll.text symbol ask use_kind)
+unfolding import_object
+asking_sized machine dll symbol (Ordinal n) use_kind = (stub_sized machine use_kind, (tt, (tt, tt)))
+asking_sized machine dll symbol (Name text hint) use_kind = (stub_sized machine use_kind, ((field_within machine, tt), ((field_within machine, tt), (tt, tt))))
+
+askings_sized : (machine : MachineType) (dll : NamesOfDll) (es : List ExportView) (rest : List Object) → AllByRecursion IsSized rest → AllByRecursion IsSized (behind_descriptor machine dll es rest)
+unfolding with_section_symbols object_of null_thunk entries_of name_text
+askings_sized machine dll [] rest all = ((tt, (tt, tt)), all)
+askings_sized machine dll (e ∷ es) rest all = (asking_sized machine dll (short_import_symbol e) (ask_in Msvc machine e) (use_for e), askings_sized machine dll es rest all)
+
+descriptor_sized : (machine : MachineType) (dll : NamesOfDll) → IsSized (taken_descriptor machine dll)
+unfolding with_section_symbols object_of descriptor entries_of name_text
+descriptor_sized machine dll = ((omega arith, (omega arith, (omega arith, tt))), (tt, (tt, (tt, tt))))
+
+one_sized : (machine : MachineType) (flavor : Flavor) (dll : NamesOfDll) (es : List ExportView) (rest : List Object) → AllByRecursion IsSized rest → AllByRecursion IsSized (objects_of machine flavor dll es rest)
+one_sized machine Msvc dll es rest all = (descriptor_sized machine dll, askings_sized machine dll es rest all)
+one_sized machine Gnu dll es rest all = (head_sized machine dll, exports_sized machine dll es _ (tail_sized machine dll, all))
+
+pub all_sized : (machine : MachineType) (ending : Ending) (blocks : List FlavorBlock) → AllByRecursion IsSized (all_objects machine blocks (rest_of ending))
+all_sized machine OfLinker [] = ((tt, tt), tt)
+all_sized machine OfMember [] = tt
+all_sized machine ending (k ∷ blocks) = one_sized machine k.flavor k.dll k.exports (all_objects machine blocks (rest_of ending)) (all_sized machine ending blocks)
+
+null_sized : (machine : MachineType) → IsSized (taken_null machine)
+unfolding with_section_symbols object_of Rattle.implib.specs.Members.MsvcObjects.null_descriptor entries_of name_text
+null_sized machine = (tt, tt)
+
+pub kept_sized : (machine : MachineType) (ending : Ending) (inputs : List FlavorInput) (objects : List Object) → AllByRecursion (IsMadeFor machine) inputs →
+    AreEnded ending machine inputs objects → AllByRecursion IsSized (filter has_tables objects)
+kept_sized machine ending inputs objects made ended = kept_all machine ending inputs objects made ended IsSized (null_sized machine) (all_sized machine ending (map block_in inputs))
+
+-- multiples of 8 are multiples of a thunk's width
+of_eight : (machine : MachineType) (n : ℕ) → n % 8 ≡ 0 → n % thunk_width machine ≡ 0
+of_eight machine n even = by_width (λ w. n % w ≡ 0) (omega arith) even machine
+
+lookups_eights : (first : ℕ) (objects : List Object) → (packed first objects).lookups % 8 ≡ 0
+unfolding next_multiple
+lookups_eights first objects = omega arith
+
+first_even : (first : ℕ) → packed_descriptors first % 4 ≡ 0
+unfolding next_multiple
+first_even first = omega arith
+
+sum_even : (n m : ℕ) → n % 4 ≡ 0 → (n + 20 * m) % 4 ≡ 0
+sum_even n m even = omega arith
+
+pub packed_objects : (machine : MachineType) (ending : Ending) (first : ℕ) (inputs : List FlavorInput) (objects : List Object) → AllByRecursion (IsMadeFor machine) inputs →
+    AreProgramObjects machine ending inputs objects → 0 < first → packed_end first objects < 2 ^ 31 → IsProgramOf machine ending (packed first objects) inputs objects
+packed_objects machine OfLinker first inputs objects made held above below = record {
+  held = held;
+  admissible = admissible machine first objects (kept_sized machine OfLinker inputs objects made held.ended) above below;
+  lookups = tt;
+  addresses = tt;
+  follows = tt;
+}
+packed_objects machine OfMember first inputs objects made held above below =
+    let base : ℕ = packed_descriptors first in
+    let ends_at : group_end Descriptors base objects ≡ base + 20 * length inputs = directory_end machine inputs objects made held.ended base (first_even first) in
+    let whole : group_end Descriptors base objects % 4 ≡ 0 = ap (λ n. n % 4) ends_at ∙ sum_even base (length inputs) (first_even first) in
+    record {
+      held = held;
+      admissible = admissible machine first objects (kept_sized machine OfMember inputs objects made held.ended) above below;
+      lookups = of_eight machine (packed first objects).lookups (lookups_eights first objects);
+      addresses = of_eight machine (packed first objects).addresses (packed_eights first objects);
+      follows = aligned (group_end Descriptors base objects) whole;
+    }
+
+pub packed_admissible : (machine : MachineType) (ending : Ending) (first : ℕ) (inputs : List FlavorInput) (objects : List Object) → AllByRecursion (IsMadeFor machine) inputs →
+    AreEnded ending machine inputs objects → 0 < first → packed_end first objects < 2 ^ 31 → IsAdmissible machine (packed first objects) objects
+packed_admissible machine ending first inputs objects made ended above below = admissible machine first objects (kept_sized machine ending inputs objects made ended) above below

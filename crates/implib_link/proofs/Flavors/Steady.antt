@@ -1,27 +1,265 @@
--- The import tables of both flavours have no base relocations.
-use Rattle.std.proofs.Common.{◌≡◌, ℕ, List, [], ◌∷◌, map, refl, inl, inr}
-use Rattle.std.specs.List.{AllByRecursion}
+-- The import tables of both flavours without the address tables: what a loader reads that writes there.
+use Rattle.std.proofs.Common.{◌≡◌, ℕ, suc, ◌+◌, ◌*◌, ◌<◌, ◌^◌, List, [], ◌∷◌, ◌++◌, length, map, refl, ap, sym, ◌∙◌, subst, arith, ◌⊎◌, false, None, inl, inr, zero, Some, codes, ◌-◌, ◌%◌}
+use Rattle.std.specs.List.{AllByRecursion, filter, list_any}
+use Rattle.std.proofs.lemmas.List.{length-map, append-nil, append_cancel_left, append_assoc}
 use Rattle.implib.specs.declared.machine.MachineType.{MachineType}
-use Rattle.implib.specs.declared.flavor.Flavor.{Flavor}
 use Rattle.implib.specs.declared.flavor.Flavor.TheVariants.{Gnu, Msvc}
+use Rattle.implib.specs.declared.flavor.Flavor.{Flavor}
 use Rattle.implib.specs.Definition.{ExportView}
+use Rattle.implib.specs.Formats.Layout.{HasNoNul, entries_of, name_text, object_of}
+use Rattle.implib.specs.Formats.Object.{Object, ObjectSection, ASymbol}
 use Rattle.implib.specs.Import.{Ask, Name, Ordinal}
-use Rattle.implib.specs.Formats.Layout.{entries_of, name_text, object_of}
+use Rattle.implib.specs.Link.Image.{Range, contributions, filled, range_end, IsAdmissible, image_of}
+use Rattle.implib.specs.Link.Load.{BytesAt}
+use Rattle.implib.specs.Link.Placement.{Addresses, Bases, Placed, next_multiple, placed_from, At, SectionAddress, Unplaced, end_after, ends_after, group_named, section_address_of, section_addresses_of, Descriptors, DirectoryEnds, DllNames, Group, HintNames, Lookups, base_of, same_group}
+use Rattle.implib.specs.Link.Resolution.{SymbolDefinition, definitions, definitions_of, defined_by, first_address}
+use Rattle.implib.specs.Members.Gnu.{head_object, export_object, relocations_of_thunk, tail_object}
+use Rattle.implib.specs.Members.ImportTables.{thunk_width, zeros}
 use Rattle.implib.specs.Members.Msvc.{short_import_symbol}
-use Rattle.implib.specs.Members.MsvcObjects.{descriptor, null_descriptor, null_thunk}
-use Rattle.implib.specs.Formats.Object.{Object}
-use Rattle.implib.specs.Link.Placement.{Bases, placed_from}
-use Rattle.implib_link.specs.Flavors.Expansion.{Use, import_object}
-use Rattle.implib_link.specs.Flavors.Program.{AreEnded, Ending, FlavorInput, IsMadeFor, OfLinker, OfMember, ask_in}
-use Rattle.implib_link.specs.Flavors.SectionSymbols.{with_section_symbols}
-use Rattle.implib_link.specs.Gnu.Rebased.{table_places}
-use Rattle.implib_link.proofs.Flavors.Block.{behind_descriptor, objects_of, use_for}
-use Rattle.implib_link.proofs.Flavors.Blocks.{FlavorBlock, all_objects, rest_of}
-use Rattle.implib_link.proofs.Flavors.Expanded.{taken_descriptor, taken_null}
-use Rattle.implib_link.proofs.Flavors.Inputs.{block_in}
-use Rattle.implib_link.proofs.Flavors.Program.{kept_all}
-use Rattle.implib_link.proofs.Gnu.Steady.{AllSteady, all_steady, exports_steady, head_steady, relative_steady, tables_none, tail_steady}
+use Rattle.implib.specs.Members.MsvcObjects.{descriptor, null_thunk, null_descriptor}
+use Rattle.implib.proofs.Link.Placement.{export, head, tail}
+use Rattle.implib.proofs.Link.Ranges.{Among, among_back, among_front}
+use Rattle.implib_link.specs.Flavors.Expansion.{Use, import_object, with_section_symbols}
+use Rattle.implib_link.specs.Flavors.Program.{Ending, OfLinker, OfMember, ask_in, has_tables, is_table, AreEnded, FlavorInput, IsMadeFor, exports_chosen, imported_in, thunks_of, IsProgramOf, group_end, sections_end}
+use Rattle.implib_link.proofs.Gnu.Filling.{LocatedBeside, block_beside, rest_beside, descriptor_beside, table_bounds, DescriptorBeside, DirectoryBeside, avoids_addresses, beside_of, keeps_beside, descriptors_beside, directory_ends_beside, dll_names_beside, ends_beside, hint_names_beside, lookups_beside, starts_beside, all_filled, can_run, left_alike, runs_once}
+use Rattle.implib_link.proofs.Flavors.Block.{AreEven, FitsIn, Suits, behind_descriptor, definitions-in, definitions_in, ends_in, even_aligned, even_in, even_wide, objects_of, use_for, askings_stand, AllSuit, BlocksIn, CanLink, FlavorBlock, addresses_one, all_objects, descriptors_one, ends_all, ends_one, imported_of, rest_of, thunks_in, definitions-all, definitions_all, table_sum}
+use Rattle.implib_link.proofs.Flavors.Expanded.{AreWide, ends_of_descriptor, wide_descriptor, descriptor_stands, taken_descriptor, taken_null}
 use Rattle.implib.specs.LibraryName.{NamesOfDll}
+use Rattle.implib_link.proofs.Gnu.Loaded.{Keeps, memory_can_be_read, memory_read, thunks_asked}
+use Rattle.std.proofs.lemmas.Bool.{cases_Bool}
+use Rattle.implib.specs.declared.coff.object.Relocation.{Relocation}
+use Rattle.implib.specs.declared.machine.MachineType.TheVariants.{I386, ARMNT, AMD64, ARM64}
+use Rattle.implib.specs.Formats.Constants.{image_relative, class_external}
+use Rattle.implib_link.specs.Gnu.Fields.{absolute_width, places_at, table_places, table_places_in, LinkedCode}
+use Rattle.implib_link.proofs.Gnu.Others.{no_group}
+use Rattle.implib_link.proofs.Search.Lists.{all_from, none_among}
+use Rattle.implib_link.proofs.Flavors.Inputs.{block_in, inputs_link, objects_behind}
+use Rattle.implib_link.proofs.Flavors.Program.{kept_all, definitions_are, each, even, null_there, only, program_links, stand, suit, thunks_are, imported_are as imports_same, all_sized}
+use Rattle.implib_link.specs.Directory.{DirectoryAt, Imported}
+use Rattle.implib_link.specs.Gnu.Writing.{Writes, ReadsAndWrites, AreAlike, WritesAsItGoes}
+use Rattle.implib.proofs.Link.LinkedBlocks.{ends, starts}
+use Rattle.implib_link.specs.Gnu.Moves.{AreInMemory}
+use Rattle.implib_link.proofs.Gnu.FieldsInMemory.{rests}
+use Rattle.std.proofs.lemmas.Grind.{flat_map-append}
+use Rattle.implib_link.proofs.Gnu.Packed.{ends_behind, end_behind, placed_parts, fills_objects, span}
+use Rattle.implib_link.proofs.Flavors.NullDescriptor.{group_end-append}
+
+module _ (machine : MachineType) (dll : NamesOfDll) (linked : List Placed) (beside : List Range)
+    (starts : AllByRecursion (λ r. 0 < r.start) beside) (ends : AllByRecursion (λ r. range_end r < 2 ^ 31) beside) where
+  -- one DLL's members for Microsoft's linker
+  msvc_beside : (es : List ExportView) (b : Bases) (rest : List Object) → HasNoNul dll.text → AllByRecursion (FitsIn Msvc machine) es → AreWide machine b → (0 < b.addresses) → (b.addresses < 2 ^ 31) →
+      LocatedBeside machine linked beside b (objects_of machine Msvc dll es rest) →
+      DescriptorBeside beside (thunk_width machine) b.descriptors b.addresses (record { dll = dll.text; asks = map (ask_in Msvc machine) es })
+      × LocatedBeside machine linked beside (ends_in machine Msvc dll b es) rest
+  msvc_beside es b rest dll_text fit even above below located =
+      let one = descriptor_stands machine dll linked beside starts ends b (behind_descriptor machine dll es rest) even located in
+      let tables = askings_stand machine dll linked beside starts ends dll_text es (ends_of_descriptor dll b) rest fit (wide_descriptor machine dll b even) one.behind in (
+        descriptor_beside machine beside starts ends b.descriptors b.lookups (next_multiple 2 b.hint_names) b.addresses dll.text (map (ask_in Msvc machine) es) dll_text above below
+            one.bytes tables.lookups.plain one.name,
+        tables.behind,
+      )
+
+  -- one DLL's members in a flavour
+  one_beside : (ending : Ending) (flavor : Flavor) (es : List ExportView) (b : Bases) (rest : List Object) → HasNoNul dll.text → AllByRecursion (FitsIn flavor machine) es → Suits ending flavor → AreEven ending machine b → (0 < b.addresses) → (b.addresses < 2 ^ 31) →
+      ((d : SymbolDefinition) → Among d (definitions_in machine flavor dll b es) → definitions_of d.name linked ≡ d ∷ []) →
+      LocatedBeside machine linked beside b (objects_of machine flavor dll es rest) →
+      DescriptorBeside beside (thunk_width machine) b.descriptors b.addresses (record { dll = dll.text; asks = map (ask_in flavor machine) es })
+      × LocatedBeside machine linked beside (ends_in machine flavor dll b es) rest
+  unfolding FitsIn
+  one_beside ending Msvc es b rest dll_text fit suits even above below only located = msvc_beside es b rest dll_text fit (even_wide machine ending b suits even) above below located
+  one_beside ending Gnu es b rest dll_text fit suits even above below only located = (
+    block_beside machine dll es b rest linked beside starts ends dll_text fit (even_aligned machine ending b even) only located above below,
+    rest_beside machine dll es b rest linked beside starts ends dll_text fit (even_aligned machine ending b even) only located,
+  )
+
+-- The objects of several DLLs, and zeros after their descriptors.
+module _ (machine : MachineType) (ending : Ending) (rest : List Object) (linked : List Placed) (image beside : List Range)
+    (image_starts : AllByRecursion (λ r. 0 < r.start) image) (image_ends : AllByRecursion (λ r. range_end r < 2 ^ 31) image)
+    (starts : AllByRecursion (λ r. 0 < r.start) beside) (ends : AllByRecursion (λ r. range_end r < 2 ^ 31) beside) where
+  pub all_beside : (blocks : List FlavorBlock) (b : Bases) → AllByRecursion (CanLink machine ending) blocks → AreEven ending machine b →
+      ((d : SymbolDefinition) → Among d (definitions (placed_from b (all_objects machine blocks rest))) → definitions_of d.name linked ≡ d ∷ []) →
+      BlocksIn machine linked image rest b blocks → LocatedBeside machine linked beside b (all_objects machine blocks rest) →
+      (LocatedBeside machine linked beside (ends_all machine b blocks) rest → BytesAt beside (ends_all machine b blocks).descriptors (zeros 20)) →
+      DirectoryBeside beside (thunk_width machine) b.descriptors b.addresses (map (imported_of machine) blocks)
+  unfolding DirectoryBeside BlocksIn ends_all
+  all_beside [] b fit even only links located null = null located
+  all_beside (k ∷ blocks) b fit even only links located null =
+      let es : List ExportView = k.exports in
+      let behind : List Object = all_objects machine blocks rest in
+      let last : Bases = ends_one machine b k in
+      let own : List SymbolDefinition = definitions_in machine k.flavor k.dll b k.exports in
+      let are : definitions (placed_from b (objects_of machine k.flavor k.dll es behind)) ≡ own ++ definitions (placed_from last behind) = definitions-in machine ending k.flavor k.dll b es behind fit.0.suits even in
+      let every : (d : SymbolDefinition) → Among d (own ++ definitions (placed_from last behind)) → definitions_of d.name linked ≡ d ∷ [] = λ d m. only d (subst (Among d) (sym are) m) in
+      let bounds = table_bounds machine image image_starts image_ends (map (ask_in k.flavor machine) es) links.0.loads.plain.addresses links.0.loads.plain.address_table in
+      let begins : links.0.loads.plain.addresses ≡ b.addresses = links.0.table_located in
+      let one = one_beside machine k.dll linked beside starts ends ending k.flavor es b behind fit.0.dll fit.0.exports fit.0.suits even
+      (subst (λ n. 0 < n) begins bounds.0) (subst (λ n. n < 2 ^ 31) begins bounds.1)
+      (λ d m. every d (among_front d own (definitions (placed_from last behind)) m)) located in
+      let others = all_beside blocks last fit.1 (even_in machine ending k.flavor k.dll b es fit.0.suits even)
+      (λ d m. every d (among_back d own (definitions (placed_from last behind)) m)) links.1 one.1 null in
+      let table : last.addresses ≡ b.addresses + thunk_width machine * (length (map (ask_in k.flavor machine) es) + 1) =
+      addresses_one machine k.flavor k.dll b es ∙ ap (λ n. b.addresses + thunk_width machine * (n + 1)) (sym (length-map es (ask_in k.flavor machine))) in (
+        one.0,
+        subst (λ n. DirectoryBeside beside (thunk_width machine) (b.descriptors + 20) n (map (imported_of machine) blocks)) table
+            (subst (λ n. DirectoryBeside beside (thunk_width machine) n last.addresses (map (imported_of machine) blocks)) (sym (descriptors_one machine k.flavor k.dll b es)) others),
+      )
+
+-- How long the address tables are: an object behind those of DLLs, in the same group, is where they end.
+
+abbrev behind_tables : Object
+behind_tables = record {
+  machine = 0;
+  time = 0;
+  optional_header_size = 0;
+  characteristics = 0;
+  sections = record { name = codes ".idata$5"; flags = 0; bytes = []; relocations = [] } ∷ [];
+  entries = ASymbol (record { name = []; value = 0; section = 1; kind = 0; class = class_external }) ∷ [];
+}
+
+abbrev at_address : ℕ → List SymbolDefinition
+at_address n = record { name = []; address = Some n } ∷ []
+
+one_address : (n m : ℕ) → at_address n ≡ at_address m → n ≡ m
+one_address n m same = let both : Some n ≡ Some m = ap first_address same in cc
+
+begins_at : (b : Bases) → definitions (placed_from b (behind_tables ∷ [])) ≡ at_address b.addresses
+unfolding next_multiple
+begins_at b = let same : b.addresses + (1 - b.addresses % 1) % 1 + 0 ≡ b.addresses = omega arith in ap at_address same
+
+objects_split : (machine : MachineType) (blocks : List FlavorBlock) (rest : List Object) → all_objects machine blocks rest ≡ all_objects machine blocks [] ++ rest
+objects_split machine [] rest = refl
+objects_split machine (k ∷ blocks) rest =
+    sym (objects_behind machine k.flavor k.dll k.exports (all_objects machine blocks rest))
+    ∙ ap (λ os. objects_of machine k.flavor k.dll k.exports [] ++ os) (objects_split machine blocks rest)
+    ∙ sym (append_assoc (objects_of machine k.flavor k.dll k.exports []) (all_objects machine blocks []) rest)
+    ∙ ap (λ os. os ++ rest) (objects_behind machine k.flavor k.dll k.exports (all_objects machine blocks []))
+
+addresses_all : (machine : MachineType) (b : Bases) (blocks : List FlavorBlock) → (ends_all machine b blocks).addresses ≡ b.addresses + thunk_width machine * thunks_in (length blocks) blocks
+unfolding ends_all
+addresses_all machine b [] = omega arith
+addresses_all machine b (k ∷ blocks) =
+    addresses_all machine (ends_one machine b k) blocks
+    ∙ ap (λ n. n + thunk_width machine * thunks_in (length blocks) blocks) (addresses_one machine k.flavor k.dll b k.exports)
+    ∙ table_sum b.addresses (thunk_width machine) (length k.exports + 1) (thunks_in (length blocks) blocks)
+
+tables_end : (machine : MachineType) (ending : Ending) (blocks : List FlavorBlock) (b : Bases) → AllSuit ending blocks → AreEven ending machine b →
+    group_end Addresses b.addresses (all_objects machine blocks (rest_of ending)) ≡ b.addresses + thunk_width machine * thunks_in (length blocks) blocks
+unfolding group_end sections_end
+tables_end machine ending blocks b suit even =
+    let own : List Object = all_objects machine blocks [] in
+    let defined : List SymbolDefinition = definitions_all machine b blocks in
+    let last : Bases = ends_behind b own in
+    let parts : definitions (placed_from b (all_objects machine blocks (behind_tables ∷ []))) ≡ defined ++ at_address last.addresses =
+    ap (λ os. definitions (placed_from b os)) (objects_split machine blocks (behind_tables ∷ []))
+    ∙ ap definitions (placed_parts b own (behind_tables ∷ []))
+    ∙ flat_map-append defined_by (placed_from b own) (placed_from last (behind_tables ∷ []))
+    ∙ ap (λ ds. ds ++ definitions (placed_from last (behind_tables ∷ []))) (definitions-all machine ending b blocks [] suit even ∙ append-nil defined)
+    ∙ ap (λ ds. defined ++ ds) (begins_at last) in
+    let whole : definitions (placed_from b (all_objects machine blocks (behind_tables ∷ []))) ≡ defined ++ at_address (ends_all machine b blocks).addresses =
+    definitions-all machine ending b blocks (behind_tables ∷ []) suit even ∙ ap (λ ds. defined ++ ds) (begins_at (ends_all machine b blocks)) in
+    let ends : last.addresses ≡ (ends_all machine b blocks).addresses =
+    one_address last.addresses (ends_all machine b blocks).addresses (append_cancel_left defined (at_address last.addresses) (at_address (ends_all machine b blocks).addresses) (sym parts ∙ whole)) in
+    rest_behind ending ∙ sym (end_behind Addresses b own) ∙ ends ∙ addresses_all machine b blocks
+  where
+    rest_behind : (ending : Ending) → group_end Addresses b.addresses (all_objects machine blocks (rest_of ending)) ≡ group_end Addresses b.addresses (all_objects machine blocks [])
+    rest_behind OfLinker = ap (group_end Addresses b.addresses) (objects_split machine blocks (rest_of OfLinker)) ∙ group_end-append Addresses b.addresses (all_objects machine blocks []) (rest_of OfLinker)
+    rest_behind OfMember = refl
+
+all_long : (machine : MachineType) (linked : List Placed) (ending : Ending) (blocks : List FlavorBlock) (b : Bases) → AllSuit ending blocks → AreEven ending machine b →
+    length (filled b.addresses (contributions machine linked Addresses (placed_from b (all_objects machine blocks (rest_of ending))))) ≡ thunk_width machine * thunks_in (length blocks) blocks
+unfolding span
+all_long machine linked ending blocks b suit even =
+    let objects : List Object = all_objects machine blocks (rest_of ending) in
+    let ends : b.addresses + length (filled b.addresses (contributions machine linked Addresses (placed_from b objects))) ≡ group_end Addresses b.addresses objects =
+    (fills_objects machine linked Addresses b objects (all_sized machine ending blocks)).ends in
+    let end = tables_end machine ending blocks b suit even in
+    omega arith
+
+-- The import tables have no base relocations: members for GNU's linker.
+
+-- none of the relocations stores an address whole
+abbrev pub NoneAbsolute : MachineType → List Relocation → Type 0
+NoneAbsolute machine relocations = AllByRecursion (λ r. absolute_width machine r.kind ≡ None) relocations
+
+-- a section is of no group of the import tables, or none of its relocations stores an address whole
+abbrev pub IsSteady : MachineType → ObjectSection → Type 0
+IsSteady machine s = (group_named s.name ≡ None) ⊎ NoneAbsolute machine s.relocations
+
+abbrev pub AllSteady : MachineType → Object → Type 0
+AllSteady machine o = AllByRecursion (IsSteady machine) o.sections
+
+none_placed : (machine : MachineType) (address : ℕ) (relocations : List Relocation) → NoneAbsolute machine relocations → places_at machine address relocations ≡ []
+none_placed machine address [] all = refl
+none_placed machine address (r ∷ relocations) all = rw all.0 (none_placed machine address relocations all.1)
+
+one_none : (machine : MachineType) (address : SectionAddress) (addresses : List SectionAddress) (s : ObjectSection) (sections : List ObjectSection) → NoneAbsolute machine s.relocations →
+    table_places_in machine addresses sections ≡ [] → table_places_in machine (address ∷ addresses) (s ∷ sections) ≡ []
+one_none machine Unplaced addresses s sections all rest = rest
+one_none machine (At group address) addresses s sections all rest = rw (none_placed machine address s.relocations all) rest
+
+first_none : (machine : MachineType) (b : Bases) (s : ObjectSection) (addresses : List SectionAddress) (sections : List ObjectSection) → IsSteady machine s → table_places_in machine addresses sections ≡ [] →
+    table_places_in machine (section_address_of b s ∷ addresses) (s ∷ sections) ≡ []
+first_none machine b s addresses sections (inl none) rest = rw none rest
+first_none machine b s addresses sections (inr all) rest = one_none machine (section_address_of b s) addresses s sections all rest
+
+sections_none : (machine : MachineType) (b : Bases) (sections : List ObjectSection) → AllByRecursion (IsSteady machine) sections →
+    table_places_in machine (section_addresses_of b sections) sections ≡ []
+sections_none machine b [] all = refl
+sections_none machine b (s ∷ sections) all =
+    let later : Bases = end_after b (section_address_of b s) (length s.bytes) in
+    first_none machine b s (section_addresses_of later sections) sections all.0 (sections_none machine later sections all.1)
+
+pub tables_none : (machine : MachineType) (b : Bases) (objects : List Object) → AllByRecursion (AllSteady machine) objects → table_places machine (placed_from b objects) ≡ []
+tables_none machine b [] all = refl
+tables_none machine b (o ∷ objects) all = rw (sections_none machine b o.sections all.0) (tables_none machine (ends_after b o.sections) objects all.1)
+
+-- Objects without import tables are steady.
+
+others_steady : (machine : MachineType) (sections : List ObjectSection) → list_any is_table sections ≡ false → AllByRecursion (IsSteady machine) sections
+others_steady machine sections none = all_from (IsSteady machine) sections (λ s held. inl (no_group s.name (none_among is_table s sections held none)))
+
+pub all_steady : (machine : MachineType) (objects : List Object) → AllByRecursion (AllSteady machine) (filter has_tables objects) → AllByRecursion (AllSteady machine) objects
+unfolding has_tables
+all_steady machine [] all = tt
+all_steady machine (o ∷ objects) all =
+    elim (cases_Bool (list_any is_table o.sections)) [
+      | inl is ↦ let kept : AllSteady machine o × AllByRecursion (AllSteady machine) (filter has_tables objects) = rw is at all in (kept.0, all_steady machine objects kept.1)
+      | inr none ↦ (others_steady machine o.sections none, all_steady machine objects (rw none at all))
+    ]
+
+-- Members are steady.
+
+pub relative_steady : (machine : MachineType) → absolute_width machine (image_relative machine) ≡ None
+relative_steady I386 = refl
+relative_steady ARMNT = refl
+relative_steady AMD64 = refl
+relative_steady ARM64 = refl
+
+pub head_steady : (machine : MachineType) (dll : NamesOfDll) → AllSteady machine (head machine dll)
+unfolding head_object
+head_steady machine dll =
+    let one = relative_steady machine in
+    (inl refl, (inl refl, (inl refl, (inr (one, (one, (one, tt))), (inr tt, (inr tt, tt))))))
+
+pub tail_steady : (machine : MachineType) (dll : NamesOfDll) → AllSteady machine (tail machine dll)
+unfolding tail_object
+tail_steady machine dll = (inl refl, (inl refl, (inl refl, (inr tt, (inr tt, (inr tt, tt))))))
+
+thunk_steady : (machine : MachineType) (e : ExportView) → NoneAbsolute machine (relocations_of_thunk machine e)
+unfolding relocations_of_thunk
+thunk_steady machine e = elim (cases_Bool e.no_name) [ inl is ↦ rw is tt | inr is ↦ rw is (relative_steady machine, tt) ]
+
+export_steady : (machine : MachineType) (dll : NamesOfDll) (e : ExportView) → AllSteady machine (export machine dll e)
+unfolding export_object
+export_steady machine dll e =
+    (inl refl, (inl refl, (inl refl, (inr (relative_steady machine, tt), (inr (thunk_steady machine e), (inr (thunk_steady machine e), (inr tt, tt)))))))
+
+pub exports_steady : (machine : MachineType) (dll : NamesOfDll) (es : List ExportView) (rest : List Object) → AllByRecursion (AllSteady machine) rest →
+    AllByRecursion (AllSteady machine) (map (export machine dll) es ++ rest)
+exports_steady machine dll [] rest all = all
+exports_steady machine dll (e ∷ es) rest all = (export_steady machine dll e, exports_steady machine dll es rest all)
+
+-- The import tables of both flavours have no base relocations.
 
 asking_steady : (machine : MachineType) (dll : NamesOfDll) (symbol : List ℕ) (ask : Ask) (use_kind : Use) → AllSteady machine (import_object machine dll.text symbol ask use_kind)
 unfolding import_object
@@ -58,3 +296,132 @@ pub program_tables_none : (machine : MachineType) (ending : Ending) (bases : Bas
 program_tables_none machine ending bases inputs objects made ended =
     tables_none machine bases objects (all_steady machine objects
     (kept_all machine ending inputs objects made ended (AllSteady machine) (null_steady machine) (blocks_steady machine ending (map block_in inputs))))
+
+-- A loader that writes as it goes loads a program, as one that reads first.
+
+keeps_twice : (first second third : List Range) → Keeps first second → Keeps second third → Keeps first third
+unfolding Keeps
+keeps_twice first second third one two a byte is = two a byte (one a byte is)
+
+-- Whatever the flavours: the tables that a loader reads are beside the address tables, in memory that keeps the image.
+module _ (machine : MachineType) (b : Bases) (objects : List Object) (admissible : IsAdmissible machine b objects) (imports : List Imported)
+    (long : length (filled b.addresses (contributions machine (placed_from b objects) Addresses (placed_from b objects))) ≡ thunk_width machine * thunks_asked (length imports) imports)
+    (directory : DirectoryBeside (beside_of machine b objects admissible) (thunk_width machine) b.descriptors b.addresses imports)
+    (gives : List ℕ → Ask → List ℕ) (wide : (dll : List ℕ) (ask : Ask) → length (gives dll ask) ≡ thunk_width machine)
+    (memory : List Range) (keeps : Keeps (image_of machine b (placed_from b objects)) memory) where
+  abbrev beside : List Range
+  beside = beside_of machine b objects admissible
+
+  abbrev high : ℕ
+  high = b.addresses + thunk_width machine * thunks_asked (length imports) imports
+
+  kept : Keeps beside memory
+  kept = keeps_twice beside (image_of machine b (placed_from b objects)) memory (keeps_beside machine b objects admissible) keeps
+
+  pub run_once : (found : List Imported) (after : List Range) → WritesAsItGoes (thunk_width machine) gives b.descriptors memory found after →
+      (found ≡ imports) × (after ≡ all_filled (thunk_width machine) gives b.addresses imports memory)
+  run_once found after runs =
+      runs_once beside b.addresses high (thunk_width machine) (avoids_addresses machine b objects admissible high (omega arith)) gives wide imports found b.descriptors b.addresses memory after kept
+      (omega arith) (omega arith) directory runs
+
+  pub run_can : WritesAsItGoes (thunk_width machine) gives b.descriptors memory imports (all_filled (thunk_width machine) gives b.addresses imports memory)
+  run_can =
+      can_run beside b.addresses high (thunk_width machine) (avoids_addresses machine b objects admissible high (omega arith)) gives wide imports b.descriptors b.addresses memory kept
+      (omega arith) (omega arith) directory
+
+  run_alike : (written : List Range) → Writes (image_of machine b (placed_from b objects)) (thunk_width machine) gives b.descriptors imports written →
+      AreAlike (all_filled (thunk_width machine) gives b.addresses imports memory) (written ++ memory)
+  run_alike written writes =
+      left_alike beside (image_of machine b (placed_from b objects)) (keeps_beside machine b objects admissible) (thunk_width machine) gives wide imports b.descriptors b.addresses written memory directory writes
+
+  -- and so it leaves what one does that reads first
+  pub run_reads : (n : ℕ) → length imports ≡ n → DirectoryAt (image_of machine b (placed_from b objects)) (thunk_width machine) b.descriptors imports → (found : List Imported) (after : List Range) →
+      WritesAsItGoes (thunk_width machine) gives b.descriptors memory found after →
+      (found ≡ imports) × ((written : List Range) × (ReadsAndWrites memory (thunk_width machine) gives n b.descriptors written × AreAlike after (written ++ memory)))
+  run_reads n count is_directory found after runs =
+      let once = run_once found after runs in
+      let reader = memory_can_be_read (image_of machine b (placed_from b objects)) memory keeps (thunk_width machine) gives b.descriptors imports is_directory in
+      let read = memory_read (image_of machine b (placed_from b objects)) memory keeps (thunk_width machine) gives (length imports) b.descriptors imports reader.0 is_directory reader.1 in (
+        once.0,
+        (
+          reader.0,
+          (
+            subst (λ k. ReadsAndWrites memory (thunk_width machine) gives k b.descriptors reader.0) count reader.1,
+            subst (λ m. AreAlike m (reader.0 ++ memory)) (sym once.1) (run_alike reader.0 read.1),
+          ),
+        ),
+      )
+
+-- A loader that writes as it goes loads a program, as one that reads first.
+
+thunks_same : (machine : MachineType) (i : ℕ) (inputs : List FlavorInput) → thunks_asked i (map (imported_in machine) inputs) ≡ thunks_of i inputs
+thunks_same machine zero inputs = refl
+thunks_same machine (suc i) [] = refl
+thunks_same machine (suc i) (p ∷ inputs) =
+    ap (λ n. n + 1 + thunks_asked i (map (imported_in machine) inputs)) (length-map (exports_chosen p) (ask_in p.flavor machine))
+    ∙ ap (λ n. length (exports_chosen p) + 1 + n) (thunks_same machine i inputs)
+
+module _ (machine : MachineType) (ending : Ending) (b : Bases) (inputs : List FlavorInput) (objects : List Object) (made : AllByRecursion (IsMadeFor machine) inputs) (program : IsProgramOf machine ending b inputs objects) where
+  abbrev linked : List Placed
+  linked = placed_from b objects
+
+  abbrev dlls : List FlavorBlock
+  dlls = map block_in inputs
+
+  group_of : (group : Group) → same_group group DirectoryEnds ≡ false →
+      BytesAt (beside_of machine b objects program.admissible) (base_of group b) (filled (base_of group b) (contributions machine linked group linked)) →
+      BytesAt (beside_of machine b objects program.admissible) (base_of group b) (filled (base_of group b) (contributions machine linked group (placed_from b (all_objects machine dlls (rest_of ending)))))
+  group_of group other located =
+      subst (λ cs. BytesAt (beside_of machine b objects program.admissible) (base_of group b) (filled (base_of group b) cs)) ((stand machine ending b inputs objects made program).contributed group other) located
+
+  located : LocatedBeside machine linked (beside_of machine b objects program.admissible) b (all_objects machine dlls (rest_of ending))
+  located = record {
+    descriptors = group_of Descriptors refl (descriptors_beside machine b objects program.admissible);
+    lookups = group_of Lookups refl (lookups_beside machine b objects program.admissible);
+    hint_names = group_of HintNames refl (hint_names_beside machine b objects program.admissible);
+    dll_names = group_of DllNames refl (dll_names_beside machine b objects program.admissible);
+  }
+
+  pub program_beside : DirectoryBeside (beside_of machine b objects program.admissible) (thunk_width machine) b.descriptors b.addresses (map (imported_in machine) inputs)
+  program_beside =
+      subst (DirectoryBeside (beside_of machine b objects program.admissible) (thunk_width machine) b.descriptors b.addresses) (imports_same machine inputs)
+      (all_beside machine ending (rest_of ending) linked (image_of machine b linked) (beside_of machine b objects program.admissible) (starts machine b objects program.admissible) (ends machine b objects program.admissible)
+      (starts_beside machine b objects program.admissible) (ends_beside machine b objects program.admissible) dlls b
+      (inputs_link machine ending inputs made program.held.found (suit machine ending b inputs objects made program)) (even machine ending b inputs objects made program)
+      (λ d m. only machine ending b inputs objects made program d (subst (Among d) (definitions_are machine ending b inputs objects made program) m))
+      (each machine ending b inputs objects made program).imports located
+      (λ last. null_there machine ending b inputs objects made program (beside_of machine b objects program.admissible) (directory_ends_beside machine b objects program.admissible) last.descriptors))
+
+  -- the address tables' length
+  pub table_filled : length (filled b.addresses (contributions machine (placed_from b objects) Addresses (placed_from b objects))) ≡ thunk_width machine * thunks_of (length inputs) inputs
+  table_filled =
+      ap (λ cs. length (filled b.addresses cs)) ((stand machine ending b inputs objects made program).contributed Addresses refl)
+      ∙ all_long machine linked ending dlls b (suit machine ending b inputs objects made program) (even machine ending b inputs objects made program)
+      ∙ ap (λ n. thunk_width machine * n) (ap (λ n. thunks_in n dlls) (length-map inputs block_in) ∙ thunks_are (length inputs) inputs)
+
+  pub program_long : length (filled b.addresses (contributions machine (placed_from b objects) Addresses (placed_from b objects)))
+      ≡ thunk_width machine * thunks_asked (length (map (imported_in machine) inputs)) (map (imported_in machine) inputs)
+  program_long =
+      table_filled
+      ∙ ap (λ n. thunk_width machine * n)
+      (sym (ap (λ n. thunks_asked n (map (imported_in machine) inputs)) (length-map inputs (imported_in machine)) ∙ thunks_same machine (length inputs) inputs))
+
+module _ (machine : MachineType) (ending : Ending) (image_base : ℕ) (b : Bases) (inputs : List FlavorInput) (objects : List Object) (codes : List LinkedCode) (targets : LinkedCode → ℕ → ℕ) (memory : List Range)
+    (gives : List ℕ → Ask → List ℕ) (made : AllByRecursion (IsMadeFor machine) inputs) (program : IsProgramOf machine ending b inputs objects)
+    (at : AreInMemory machine image_base (image_of machine b (placed_from b objects)) (placed_from b objects) codes targets memory)
+    (wide_given : (dll : List ℕ) (ask : Ask) → length (gives dll ask) ≡ thunk_width machine) where
+  keeps_program : Keeps (image_of machine b (placed_from b objects)) memory
+  keeps_program = (rests machine image_base (image_of machine b (placed_from b objects)) (placed_from b objects) codes targets memory at (program_tables_none machine ending b inputs objects made program.held.ended)).image_kept
+
+  pub writer_loads : (found : List Imported) (after : List Range) → WritesAsItGoes (thunk_width machine) gives b.descriptors memory found after →
+      (found ≡ map (imported_in machine) inputs) × ((written : List Range) × (ReadsAndWrites memory (thunk_width machine) gives (length inputs) b.descriptors written × AreAlike after (written ++ memory)))
+  writer_loads =
+      run_reads machine b objects program.admissible (map (imported_in machine) inputs) (program_long machine ending b inputs objects made program) (program_beside machine ending b inputs objects made program) gives wide_given
+      memory keeps_program (length inputs) (length-map inputs (imported_in machine)) (program_links machine ending b inputs objects made program).directory
+
+  pub writer_ends : (after : List Range) × WritesAsItGoes (thunk_width machine) gives b.descriptors memory (map (imported_in machine) inputs) after
+  writer_ends = (
+    all_filled (thunk_width machine) gives b.addresses (map (imported_in machine) inputs) memory,
+    run_can machine b objects program.admissible (map (imported_in machine) inputs) (program_long machine ending b inputs objects made program) (program_beside machine ending b inputs objects made program) gives wide_given
+        memory keeps_program,
+  )

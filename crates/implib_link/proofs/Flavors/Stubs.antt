@@ -1,43 +1,53 @@
--- Stubs of both flavours jump through their own entries.
-use Rattle.std.proofs.Common.{◌≡◌, ℕ, zero, suc, ◌+◌, ◌*◌, ◌^◌, ◌<◌, Bool, true, false, List, [], ◌∷◌, length, map, Some, refl, ap, sym, ◌∙◌, subst, inl, inr, if◌then◌else◌, arith}
-use Rattle.std.specs.Prelude.{option_map, slice_get}
-use Rattle.std.specs.List.{AllByRecursion, flat_map}
+-- Placed code that defines the name of an export of code is its stub.
+use Rattle.std.proofs.Common.{◌≡◌, ℕ, List, Option, None, Some, refl, sym, ◌∙◌, subst, zero, suc, ◌+◌, ◌*◌, Bool, true, false, [], ◌∷◌, length, map, ap, inl, inr, if◌then◌else◌, arith, ◌≤◌}
+use Rattle.std.specs.Prelude.{slice_get, option_map}
 use Rattle.std.specs.Option.{option_and_then}
-use Rattle.std.proofs.lemmas.Option.{slice_get-map}
+use Rattle.implib.specs.Formats.Object.{ASymbol, Entry, ObjectSection, ObjectSymbol, section_numbered, Object}
+use Rattle.std.specs.List.{AllByRecursion, flat_map, Contains}
 use Rattle.implib.specs.declared.machine.MachineType.{MachineType}
 use Rattle.implib.specs.declared.flavor.Flavor.{Flavor}
 use Rattle.implib.specs.declared.flavor.Flavor.TheVariants.{Gnu, Msvc}
 use Rattle.implib.specs.Formats.Constants.{align_4bytes, class_external, cnt_code, mem_execute_read}
 use Rattle.implib.specs.Definition.{ExportView}
 use Rattle.implib.specs.Members.Gnu.{archive_symbols, relocations_of_stub, section, stub_bytes, stub_relocations, text_name}
-use Rattle.implib.specs.Link.Image.{Range, image_of}
 use Rattle.implib.specs.Import.{Ask, Name, Ordinal}
 use Rattle.implib.specs.Members.ImportTables.{thunk_width}
 use Rattle.implib.specs.Link.Linked.{IsDefinedOnce}
-use Rattle.implib.specs.Link.Load.{TableAt}
 use Rattle.implib.specs.Members.Msvc.{short_import_symbols, short_import_symbol}
-use Rattle.implib.specs.Formats.Object.{ASymbol, Object}
 use Rattle.implib.specs.Link.Placement.{Bases, Placed, placed_from}
-use Rattle.implib.specs.Link.Resolution.{symbol_address, target_address}
+use Rattle.implib.specs.Link.Resolution.{symbol_address, target_address, definitions_of}
 use Rattle.implib.proofs.Link.Linked.{address_found}
-use Rattle.implib.proofs.Link.LinkedBlocks.{ends, starts}
-use Rattle.implib.proofs.Link.LinkedMembers.{among_contains, among_map}
+use Rattle.implib.proofs.Link.LinkedMembers.{among_map}
 use Rattle.implib.proofs.Link.Placement.{AreAligned, after_head, aligned_head, ends_of_head, placed-head, placed_export}
 use Rattle.implib.proofs.Link.Ranges.{Among, all_among, among_first, among_front, among_later, among_flat}
 use Rattle.implib_link.specs.Flavors.Expansion.{Code, Constant, Data, Use, import_object}
-use Rattle.implib_link.specs.Flavors.Program.{Ending, FlavorInput, IsCode, IsMadeFor, all_members, ask_in, exports_chosen, symbol_in, symbols_listed, thunks_of, IsProgramOf, dll_names_in}
-use Rattle.implib_link.specs.Gnu.Program.{has_tables}
-use Rattle.implib_link.specs.Stub.{CanJump, JumpsThrough}
-use Rattle.implib_link.proofs.Gnu.Blocks.{table_sum}
-use Rattle.implib_link.proofs.Flavors.Block.{AreEven, Suits, behind_descriptor, ends_in, ends_of_askings, even_aligned, even_in, even_wide, objects_of, symbols_of, use_for}
-use Rattle.implib_link.proofs.Flavors.Blocks.{AllSuit, FlavorBlock, addresses_one, all_objects, ends_one, rest_of, thunks_in}
+use Rattle.implib_link.specs.Flavors.Program.{Ending, FlavorInput, IsCode, IsMadeFor, all_members, ask_in, exports_chosen, symbol_in, symbols_listed, IsProgramOf, dll_names_in, thunks_of, has_tables}
+use Rattle.implib_link.proofs.Flavors.Block.{table_sum, AreEven, Suits, behind_descriptor, ends_in, ends_of_askings, even_aligned, even_in, even_wide, objects_of, symbols_of, use_for, AllSuit, FlavorBlock, addresses_one, all_objects, ends_one, thunks_in, rest_of}
 use Rattle.implib_link.proofs.Flavors.Inputs.{block_in, inputs_symbols}
-use Rattle.implib_link.proofs.Flavors.Program.{even, placed_among, program_links, suit, thunks_are}
+use Rattle.implib_link.proofs.Flavors.Program.{even, program_links, suit, placed_among, thunks_are}
 use Rattle.implib_link.proofs.Gnu.Loaded.{times_next, times_none}
-use Rattle.implib_link.proofs.Search.Lists.{among_at, among_filter}
-use Rattle.implib_link.proofs.Gnu.Stubs.{behind_exports, code_bytes, code_defined, code_here, code_relocations, export_placed, first_sum, jump_by, later_sum, target_is, thunk_below, wide_thunk}
+use Rattle.implib_link.proofs.Search.Lists.{among_at, among_filter, contains_among}
+use Rattle.implib_link.proofs.Gnu.Stubs.{behind_exports, code_bytes, code_defined, code_here, code_relocations, export_placed, first_sum, later_sum, target_is}
 use Rattle.implib_link.proofs.Flavors.Expanded.{AreWide, ends_of_asking, ends_of_descriptor, placed-asking, placed-descriptor, placed-null_thunk, placed_asking, wide_asking, wide_descriptor}
 use Rattle.implib.specs.LibraryName.{NamesOfDll}
+use Rattle.std.proofs.lemmas.Option.{slice_get-map}
+use Rattle.implib_link.specs.Gnu.Fields.{Defines, PlacedCode, StubAt}
+use Rattle.implib_link.proofs.Gnu.Others.{one_definer}
+
+pub found_entry : (f : Entry → Option ℕ) (o : Option Entry) (a : ℕ) → option_and_then f o ≡ Some a → (x : Entry) × ((o ≡ Some x) × (f x ≡ Some a))
+found_entry f None a is = cc
+found_entry f (Some x) a is = (x, (refl, is))
+
+pub same_section : (sections : List ObjectSection) (n : ℕ) (first second : ObjectSection) → n ≡ 1 → section_numbered sections n ≡ Some first → slice_get sections 0 ≡ Some second → first ≡ second
+same_section sections n first second one numbered at =
+    let own : section_numbered sections 1 ≡ Some first = subst (λ k. section_numbered sections k ≡ Some first) one numbered in
+    let both : Some first ≡ Some second = sym own ∙ at in
+    cc
+
+pub symbol_of_entry : (t u : ObjectSymbol) → ASymbol t ≡ ASymbol u → t ≡ u
+symbol_of_entry t u same = cc
+
+-- Stubs of both flavours jump through their own entries.
 
 -- Each export's object is placed, with its entry where the addresses have come to.
 
@@ -221,38 +231,37 @@ name_once machine ending bases inputs objects i j p e made program input chosen 
     all_among (IsDefinedOnce (placed_from bases objects)) (symbol_in p.flavor e) (symbols_listed (all_members machine inputs)) (name_listed machine inputs i j p e made input chosen is)
     (program_links machine ending bases inputs objects made program).listed
 
-pub stubs_jump : (machine : MachineType) (ending : Ending) (image_base : ℕ) (bases : Bases) (inputs : List FlavorInput) (objects : List Object) (i j : ℕ) (p : FlavorInput) (e : ExportView) →
-    AllByRecursion (IsMadeFor machine) inputs → IsProgramOf machine ending bases inputs objects → CanJump machine image_base bases → slice_get inputs i ≡ Some p →
-    slice_get (exports_chosen p) j ≡ Some e → IsCode p.flavor e →
-    JumpsThrough machine image_base (placed_from bases objects) (symbol_in p.flavor e) (bases.addresses + thunk_width machine * thunks_of i inputs + thunk_width machine * j)
-stubs_jump machine ending image_base bases inputs objects i j p e made program can input chosen is =
+-- In a program of both flavours, placed code that defines the name of an export of code is its stub.
+
+pub stub_at : (machine : MachineType) (ending : Ending) (bases : Bases) (inputs : List FlavorInput) (objects : List Object) (i j : ℕ) (p : FlavorInput) (e : ExportView) (d : PlacedCode) (t : ObjectSymbol) →
+    AllByRecursion (IsMadeFor machine) inputs → IsProgramOf machine ending bases inputs objects → slice_get inputs i ≡ Some p → slice_get (exports_chosen p) j ≡ Some e → IsCode p.flavor e →
+    Contains (placed_from bases objects) d.from → section_numbered d.from.object.sections d.number ≡ Some d.code → Defines d t → t.name ≡ symbol_in p.flavor e →
+    StubAt machine (placed_from bases objects) d t (bases.addresses + thunk_width machine * thunks_of i inputs + thunk_width machine * j)
+stub_at machine ending bases inputs objects i j p e d t made program input chosen is d_from d_section defines named =
     let linked : List Placed = placed_from bases objects in
-    let image : List Range = image_of machine bases linked in
-    let all = program_links machine ending bases inputs objects made program in
-    let one = all.imports i p input in
-    let table : ℕ = bases.addresses + thunk_width machine * thunks_of i inputs in
+    let symbol : List ℕ = symbol_in p.flavor e in
+    let entry : ℕ = bases.addresses + thunk_width machine * thunks_of i inputs + thunk_width machine * j in
     let found = all_placed machine ending (rest_of ending) (map block_in inputs) bases (suit machine ending bases inputs objects made program) (even machine ending bases inputs objects made program) i j (block_in p) e (slice_get-map block_in inputs i ∙ ap (option_map block_in) input) chosen in
     let own : Placed = placed_in machine p.flavor (dll_names_in p) found.0 e in
-    let kept = placed_among machine ending bases inputs objects made program own found.1.0 in
-    let entry_is : found.0.addresses ≡ table + thunk_width machine * j =
-    found.1.1 ∙ ap (λ n. bases.addresses + thunk_width machine * n + thunk_width machine * j) (thunks_are i inputs) in
-    let code = code_in machine p.flavor (dll_names_in p) linked found.0 e (table + thunk_width machine * j) is entry_is in
-    let small : table + thunk_width machine * j < 2 ^ 31 =
-    thunk_below image (starts machine bases objects program.admissible) (ends machine bases objects program.admissible) (thunk_width machine) (wide_thunk machine)
-    (map (ask_in p.flavor machine) (exports_chosen p)) table j (ask_in p.flavor machine e)
-    (subst (λ n. TableAt image (thunk_width machine) n (map (ask_in p.flavor machine) (exports_chosen p))) one.table_located one.loads.plain.address_table)
-    (slice_get-map (ask_in p.flavor machine) (exports_chosen p) j ∙ ap (option_map (ask_in p.flavor machine)) chosen) in
+    let own_symbol : ObjectSymbol = record { name = symbol; value = 0; section = 1; kind = 0; class = class_external } in
+    let own_held : Among own linked = among_filter (λ (q : Placed). has_tables q.object) own linked (placed_among machine ending bases inputs objects made program own found.1.0) in
+    let entry_is : found.0.addresses ≡ entry = found.1.1 ∙ ap (λ n. bases.addresses + thunk_width machine * n + thunk_width machine * j) (thunks_are i inputs) in
+    let code = code_in machine p.flavor (dll_names_in p) linked found.0 e entry is entry_is in
+    let once = name_once machine ending bases inputs objects i j p e made program input chosen is in
+    let most : length (definitions_of symbol linked) ≤ 1 = rw once.1 (omega arith) in
+    let d_linked : Among d.from linked = contains_among d.from linked d_from in
+    let one = one_definer symbol linked d.from own t own_symbol most d_linked (contains_among (ASymbol t) d.from.object.entries defines.held) defines.external named own_held code.defined refl refl in
+    let t_is : t ≡ own_symbol = symbol_of_entry t own_symbol one.1 in
+    let first : d.number ≡ 1 = sym defines.here ∙ ap (λ (x : ObjectSymbol). x.section) t_is in
+    let numbered : section_numbered own.object.sections d.number ≡ Some d.code =
+    subst (λ (x : Placed). section_numbered x.object.sections d.number ≡ Some d.code) one.0 d_section in
+    let code_is = same_section own.object.sections d.number d.code (section text_name (cnt_code + align_4bytes + mem_execute_read) (stub_bytes machine) (stub_relocations machine 2)) first numbered code.here in
+    let at = found_entry (symbol_address linked own) (slice_get own.object.entries 2) entry code.found in
     record {
-      once = name_once machine ending bases inputs objects i j p e made program input chosen is;
-      from = own;
-      held = among_contains own linked (among_filter (λ (q : Placed). has_tables q.object) own linked kept);
-      symbol = record { name = symbol_in p.flavor e; value = 0; section = 1; kind = 0; class = class_external };
-      defined = among_contains _ _ code.defined;
-      named = refl;
-      shared = refl;
-      first = refl;
-      begins = refl;
-      code = section text_name (cnt_code + align_4bytes + mem_execute_read) (stub_bytes machine) (stub_relocations machine 2);
-      here = code.here;
-      jumps = λ place near. jump_by machine image_base bases (thunks_of i inputs) j place linked own can near small code.target;
+      bytes = ap (λ (x : ObjectSection). x.bytes) code_is;
+      relocations = ap (λ (x : ObjectSection). x.relocations) code_is;
+      begins = ap (λ (x : ObjectSymbol). x.value) t_is;
+      symbol = at.0;
+      held = subst (λ (x : Placed). slice_get x.object.entries 2 ≡ Some at.0) (sym one.0) at.1.0;
+      placed = subst (λ (x : Placed). symbol_address linked x at.0 ≡ Some entry) (sym one.0) at.1.1;
     }

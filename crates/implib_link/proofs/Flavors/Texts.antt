@@ -25,8 +25,7 @@ use Rattle.implib.proofs.Members.Asked.{asks_for_words}
 use Rattle.implib.proofs.Link.LinkedMembers.{all_at}
 use Rattle.implib.proofs.Text.SymbolNames.{parsed_lacks}
 use Rattle.implib_link.specs.Flavors.Program.{Ending, FlavorInput, InputImports, IsMadeFor, SymbolsAt, SymbolsGet, ask_in, descriptor_in, dll_names_in, exports_chosen, symbol_in, thunks_of, IsProgramOf}
-use Rattle.implib_link.specs.Flavors.Texts.{FlavorSource, FlavorTextLinks, FlavorTextsLink, IsFlavorSource, input_parsed, input_of}
-use Rattle.implib_link.specs.Gnu.Texts.{Stated, ask_stated, chosen_stated, stated}
+use Rattle.implib_link.specs.Flavors.Texts.{FlavorSource, FlavorTextLinks, FlavorTextsLink, IsFlavorSource, input_parsed, input_of, Stated, ask_stated, chosen_stated, stated}
 use Rattle.implib_link.proofs.Flavors.Program.{program_links}
 use Rattle.implib_link.proofs.Gnu.Texts.{all_chosen, all_filter, chosen_renamed, stated_ask, statements_are}
 use Rattle.implib.specs.LibraryName.{NamesOfDll, names_for}

@@ -1,31 +1,112 @@
--- There are addresses for the symbols of placed code, and there is memory at any base.
-use Rattle.std.proofs.Common.{◌≡◌, ℕ, zero, suc, ◌+◌, ◌*◌, ◌/◌, ◌%◌, ◌^◌, ◌<◌, ◌≤◌, ◌⊎◌, Bool, true, false, List, [], ◌∷◌, ◌++◌, length, map, Option, None, Some, refl, ap, sym, ◌∙◌, subst, inl, inr, arith, true≢false}
-use Rattle.std.specs.Prelude.{◌&&◌, ◌==◌, bytes_eq, if◌then◌else◌, nat_le, nat_lt, slice_get}
-use Rattle.std.specs.List.{AllByRecursion, Contains, flat_map, list_any}
-use Rattle.std.proofs.lemmas.Bool.{and_from, and_parts, cases_Bool, eq-eqb, eqb-true, false_from_ne_true, or_parts}
-use Rattle.std.proofs.lemmas.Slice.Eq.{bytes_eq-Decides}
+-- Code at another base: a base relocation changes its own field, and nothing else.
+use Rattle.std.proofs.Common.{◌≡◌, ℕ, ◌+◌, ◌<◌, ◌≤◌, Bool, true, false, List, [], ◌∷◌, ◌++◌, map, None, Some, refl, sym, ◌∙◌, subst, inl, inr, arith, zero, suc, ◌*◌, ◌/◌, ◌%◌, ◌^◌, ◌⊎◌, length, Option, ap, true≢false}
+use Rattle.std.specs.Prelude.{◌==◌, if◌then◌else◌, nat_le, nat_lt, ◌&&◌, bytes_eq, slice_get}
+use Rattle.std.specs.List.{AllByRecursion, flat_map, list_any, Contains}
+use Rattle.std.proofs.lemmas.Bool.{and_parts, cases_Bool, leb-true, ltb-true, and_from, eq-eqb, eqb-true, false_from_ne_true, or_parts}
+use Rattle.std.proofs.lemmas.List.Folds.{list_any-append}
+use Rattle.implib.specs.declared.coff.object.Relocation.{Relocation}
 use Rattle.implib.specs.declared.machine.MachineType.{MachineType}
 use Rattle.implib.specs.declared.machine.MachineType.TheVariants.{I386, ARMNT, AMD64, ARM64}
-use Rattle.implib.specs.declared.coff.object.Relocation.{Relocation}
 use Rattle.implib.specs.Formats.Constants.{i386_dir32}
+use Rattle.implib.specs.Link.Image.{AllApart, AreApart, Range, is_in, byte_at, range_end}
+use Rattle.implib.proofs.Link.LinkedMembers.{among_map, among_contains}
+use Rattle.implib.proofs.Link.Ranges.{Among, all_among, among_back, among_front, is_in_from, range_located}
+use Rattle.implib_link.specs.Gnu.Fields.{amd64_addr64, arm64_addr64, field_width, Place, absolute_width, amd64_addr32, arm64_addr32, covers, places_at, Defines, PlacedCode, Resolves, IsRebased, moved_number}
+use Rattle.std.proofs.lemmas.Slice.Eq.{bytes_eq-Decides}
 use Rattle.implib.specs.Formats.File.{is_defined_external}
 use Rattle.implib.specs.Formats.Object.{ASymbol, Auxiliary, Entry, ObjectSymbol}
-use Rattle.implib.specs.Link.Image.{AllApart, AreApart, Range, byte_at, is_in, range_end}
 use Rattle.implib.specs.Link.Load.{BytesAt, NumberAt, number_in}
 use Rattle.implib.specs.Link.Placement.{Placed}
 use Rattle.implib.specs.Link.Resolution.{is_undefined_external, symbol_address}
-use Rattle.implib.proofs.Link.LinkedMembers.{among_contains, among_map}
-use Rattle.implib.proofs.Link.Ranges.{Among, all_among, among_back, among_front, is_in_from, range_located}
-use Rattle.implib_link.specs.Gnu.Calls.{Defines, PlacedCode, Resolves, amd64_addr64, arm64_addr64}
 use Rattle.implib_link.specs.Gnu.Choices.{ArePlacesApart, DefineOnce}
-use Rattle.implib_link.specs.Gnu.Rebased.{IsRebased, Place, absolute_width, amd64_addr32, arm64_addr32, covers, moved_number, places_at}
-use Rattle.implib_link.proofs.Gnu.Keeps.{Keeps, bytes_kept}
-use Rattle.implib_link.proofs.Gnu.Loaded.{kept_outside}
-use Rattle.implib_link.proofs.Gnu.Memory.{byte_front}
-use Rattle.implib_link.proofs.Gnu.Moved.{covered_bounds}
+use Rattle.implib_link.proofs.Gnu.Loaded.{Keeps, bytes_kept, kept_outside, byte_front}
 use Rattle.implib_link.proofs.Search.Lists.{among_at, among_either, contains_among, all_parts}
 use Rattle.implib.proofs.Link.Definitions.{same_text}
 use Rattle.implib.proofs.Link.Linked.{all_append}
+
+pub places_from : (machine : MachineType) (position : ℕ) (rs : List Relocation) → AllByRecursion (λ (p : Place). position ≤ p.address) (places_at machine position rs)
+places_from machine position [] = tt
+places_from machine position (r ∷ rs) =
+    elim (absolute_width machine r.kind) as (λ o. absolute_width machine r.kind ≡ o → AllByRecursion (λ (p : Place). position ≤ p.address) (places_at machine position (r ∷ rs))) [
+      | None ↦ λ is. rw is (places_from machine position rs)
+      | Some width ↦ λ is. rw is (omega arith, places_from machine position rs)
+    ] refl
+
+pub covered_bounds : (a : ℕ) (p : Place) → covers a p ≡ true → (p.address ≤ a) × (a < p.address + p.width)
+covered_bounds a p covered =
+    let parts = and_parts (nat_le p.address a) (nat_lt a (p.address + p.width)) covered in
+    (leb-true p.address a parts.0, ltb-true a (p.address + p.width) parts.1)
+
+pub covering : (a low high : ℕ) (ps : List Place) → AllByRecursion (λ (p : Place). low ≤ p.address) ps → AllByRecursion (λ (p : Place). p.address + p.width ≤ high) ps → list_any (covers a) ps ≡ true →
+    (low ≤ a) × (a < high)
+covering a low high [] from below covered = cc
+covering a low high (p ∷ ps) from below covered =
+    elim (cases_Bool (covers a p)) [
+      | inl is ↦
+          let bounds = covered_bounds a p is in
+          let first : low ≤ p.address = from.0 in
+          let last : p.address + p.width ≤ high = below.0 in
+          let above : p.address ≤ a = bounds.0 in
+          let under : a < p.address + p.width = bounds.1 in
+          (omega arith, omega arith)
+      | inr is ↦ covering a low high ps from.1 below.1 (rw is at covered)
+    ]
+
+pub none_covers : {X : Type 0} (f : X → List Place) (a : ℕ) (xs : List X) → ((d : X) → Among d xs → list_any (covers a) (f d) ≡ false) → list_any (covers a) (flat_map f xs) ≡ false
+unfolding Among
+none_covers f a [] each = refl
+none_covers f a (d ∷ xs) each =
+    list_any-append (covers a) (f d) (flat_map f xs)
+    ∙ rw (each d (inl refl), none_covers f a xs (λ x m. each x (inr m))) refl
+
+none_narrow : (width most : ℕ) → None ≡ Some width → width ≤ most
+none_narrow width most is = cc
+
+choice_narrow : (b whole : Bool) (width : ℕ) → (if b then Some 8 else if whole then Some 4 else None) ≡ Some width → width ≤ (if b then 8 else 4)
+choice_narrow true whole width is = let same : 8 ≡ width = cc in omega arith
+choice_narrow false true width is = let same : 4 ≡ width = cc in omega arith
+choice_narrow false false width is = none_narrow width 4 is
+
+i386_narrow : (b : Bool) (width : ℕ) → (if b then Some 4 else None) ≡ Some width → width ≤ 4
+i386_narrow true width is = let same : 4 ≡ width = cc in omega arith
+i386_narrow false width is = none_narrow width 4 is
+
+-- what a base relocation changes is in the field
+pub narrow : (machine : MachineType) (type width : ℕ) → absolute_width machine type ≡ Some width → width ≤ field_width machine type
+narrow I386 type width is = i386_narrow (type == i386_dir32) width is
+narrow ARMNT type width is = none_narrow width 8 is
+narrow AMD64 type width is = choice_narrow (type == amd64_addr64) (type == amd64_addr32) width is
+narrow ARM64 type width is = choice_narrow (type == arm64_addr64) (type == arm64_addr32) width is
+
+-- a relocation that stores an address whole has its place
+pub among_place : (machine : MachineType) (position : ℕ) (r : Relocation) (width : ℕ) (rs : List Relocation) → absolute_width machine r.kind ≡ Some width → Among r rs →
+    Among (record { address = position + r.offset; width = width }) (places_at machine position rs)
+unfolding Among
+among_place machine position r width [] is m = absurd m
+among_place machine position r width (y ∷ rs) is (inl same) =
+    subst (λ (x : Relocation). Among (record { address = position + r.offset; width = width }) (places_at machine position (x ∷ rs))) same (rw is (inl refl))
+among_place machine position r width (y ∷ rs) is (inr m) =
+    let later = among_place machine position r width rs is m in
+    elim (absolute_width machine y.kind) as (λ o. absolute_width machine y.kind ≡ o → Among (record { address = position + r.offset; width = width }) (places_at machine position (y ∷ rs))) [
+      | None ↦ λ none. rw none later
+      | Some other ↦ λ some. rw some (inr later)
+    ] refl
+
+pub apart_back : (xs ys : List Range) → AllApart (xs ++ ys) → AllApart ys
+apart_back [] ys apart = apart
+apart_back (x ∷ xs) ys apart = apart_back xs ys apart.1
+
+pub one_code : {X : Type 0} (f : X → Range) (a : ℕ) (c d : X) (xs : List X) → AllApart (map f xs) → Among c xs → Among d xs → is_in a (f c) ≡ true → is_in a (f d) ≡ true → c ≡ d
+unfolding Among
+one_code f a c d [] apart m n first second = absurd m
+one_code f a c d (x ∷ xs) apart (inl same) (inl other) first second = same ∙ sym other
+one_code f a c d (x ∷ xs) apart (inl same) (inr n) first second =
+    absurd (all_among (AreApart (f x)) (f d) (map f xs) (among_map f d xs n) apart.0 a (subst (λ y. is_in a (f y) ≡ true) same first) second)
+one_code f a c d (x ∷ xs) apart (inr m) (inl other) first second =
+    absurd (all_among (AreApart (f x)) (f c) (map f xs) (among_map f c xs m) apart.0 a (subst (λ y. is_in a (f y) ≡ true) other second) first)
+one_code f a c d (x ∷ xs) apart (inr m) (inr n) first second = one_code f a c d xs apart.1 m n first second
+
+-- There are addresses for the symbols of placed code, and there is memory at any base.
 
 -- Where code defines a name.
 

@@ -1,23 +1,117 @@
--- Fields of relocations: which of them meet bytes, and what they hold at another base.
-use Rattle.std.proofs.Common.{◌≡◌, ℕ, zero, suc, ◌+◌, ◌-◌, ◌/◌, ◌%◌, ◌^◌, ◌<◌, ◌≤◌, ◌⊎◌, Bool, true, false, List, [], ◌∷◌, ◌++◌, take, drop, None, Some, refl, ap, sym, ◌∙◌, subst, inl, inr, arith}
-use Rattle.std.specs.Prelude.{◌==◌, if◌then◌else◌, cond, nat_lt, slice_get}
-use Rattle.std.specs.List.{filter, list_any}
-use Rattle.std.proofs.lemmas.Bool.{and_from, and_parts, cases_Bool, eqb-true, false_from_ne_true, lt-ltb, ltb-true}
+-- Parts of instructions, and pages at two bases that differ by whole ones.
+use Rattle.std.proofs.Common.{◌≡◌, ℕ, suc, ◌+◌, ◌-◌, ◌/◌, ◌%◌, ◌^◌, List, [], ◌∷◌, ◌++◌, length, Some, refl, sym, subst, arith, ◌≤◌, ap, ◌∙◌, inr, zero, ◌<◌, ◌⊎◌, Bool, true, false, take, drop, None, inl, ◌*◌, map, Option}
+use Rattle.implib.specs.declared.machine.MachineType.TheVariants.{I386, ARMNT, AMD64, ARM64}
+use Rattle.implib.specs.Link.Image.{Range, range_end, byte_at}
+use Rattle.implib.specs.Link.Load.{BytesAt, number_in}
+use Rattle.implib_link.specs.Stub.{jump_reads, page, adrp_immediate, ldr_immediate, plus_signed, bits_of, with_adrp, with_bits, word_at}
+use Rattle.std.specs.List.{AllByRecursion, Contains, flat_map, list_any, filter}
 use Rattle.implib.specs.declared.coff.object.Relocation.{Relocation}
 use Rattle.implib.specs.declared.machine.MachineType.{MachineType}
-use Rattle.implib.specs.declared.machine.MachineType.TheVariants.{I386, ARMNT, AMD64, ARM64}
-use Rattle.implib.specs.Formats.Constants.{amd64_rel32, i386_dir32}
-use Rattle.implib.specs.Link.Image.{Range, byte_at}
-use Rattle.implib.specs.Link.Load.{BytesAt}
-use Rattle.implib.proofs.Link.Ranges.{Among}
-use Rattle.implib_link.specs.Gnu.Calls.{amd64_addr64, arm64_addr64, field_width, i386_rel32}
-use Rattle.implib_link.specs.Gnu.Fields.{FieldHolds, MeetsAlone, meets}
-use Rattle.implib_link.specs.Gnu.Moves.{ArePaged}
-use Rattle.implib_link.specs.Gnu.Rebased.{Place, absolute_width, amd64_addr32, arm64_addr32, covers, moved_number, places_at}
-use Rattle.implib_link.specs.Stub.{adrp_immediate, ldr_immediate, page}
-use Rattle.implib_link.proofs.Gnu.Moved.{covered_bounds, narrow}
-use Rattle.implib_link.proofs.Gnu.MovedCode.{apart_same}
-use Rattle.implib_link.proofs.Search.Lists.{passes as among_filter, among_filter as filter_among, any_of}
+use Rattle.implib.specs.Link.Placement.{Placed}
+use Rattle.implib.proofs.Link.LinkedMembers.{among_contains}
+use Rattle.implib.proofs.Link.Ranges.{among_flat, Among}
+use Rattle.implib_link.specs.Gnu.Fields.{AreLinkedBeside, IsRelocated, LinkedCode, range_of_code, ranges_of_codes, amd64_addr64, arm64_addr64, field_width, i386_rel32, FieldHolds, MeetsAlone, meets, HasInstructions, IsAside, moved_by, field_at, placed_code, HasOffsetField, HasPageField, Names, PairArrives, Place, absolute_width, covers, table_places, amd64_addr32, arm64_addr32, moved_number, places_at}
+use Rattle.implib_link.specs.Gnu.Moves.{AreMoved, AreInMemory, ArePaged, CanBeMoved, places_of_code}
+use Rattle.implib_link.proofs.Gnu.Choices.{PlaceIn, all_widths, can_rebase, places_apart, places_in, places_widths, among_place, apart_back, places_from, covered_bounds, narrow}
+use Rattle.implib_link.proofs.Search.Lists.{contains_among, passes as among_filter, among_filter as filter_among, any_of}
+use Rattle.std.specs.Prelude.{◌==◌, if◌then◌else◌, cond, nat_lt, slice_get}
+use Rattle.std.proofs.lemmas.Bool.{and_from, and_parts, cases_Bool, eqb-true, false_from_ne_true, lt-ltb, ltb-true, ltb-false}
+use Rattle.implib.specs.Formats.Constants.{amd64_rel32, i386_dir32, arm64_pagebase_rel21, arm64_pageoffset_12l}
+use Rattle.implib.specs.Formats.Bytes.{u32_bytes}
+use Rattle.std.proofs.lemmas.List.{append-nil, drop-drop, drop_at, length-append}
+use Rattle.std.proofs.lemmas.List.Elements.{filter-append}
+use Rattle.std.proofs.lemmas.List.Folds.{list_any-append}
+
+pub joined : (memory : List Range) (xs ys : List ℕ) (a : ℕ) → BytesAt memory a xs → BytesAt memory (a + length xs) ys → BytesAt memory a (xs ++ ys)
+unfolding BytesAt
+joined memory [] ys a first second = let plain : a + 0 ≡ a = omega arith in subst (λ n. BytesAt memory n ys) plain second
+joined memory (x ∷ xs) ys a first second =
+    let further : a + suc (length xs) ≡ a + 1 + length xs = omega arith in
+    (first.0, joined memory xs ys (a + 1) first.1 (subst (λ n. BytesAt memory n ys) further second))
+
+-- four bytes
+pub record Four (bytes : List ℕ) : Type 0 where
+  pub a : ℕ
+  pub b : ℕ
+  pub c : ℕ
+  pub d : ℕ
+  pub is : bytes ≡ a ∷ b ∷ c ∷ d ∷ []
+
+pub four_of : (bytes : List ℕ) → length bytes ≡ 4 → Four bytes
+four_of [] four = absurd (omega arith)
+four_of (a ∷ []) four = absurd (omega arith)
+four_of (a ∷ b ∷ []) four = absurd (omega arith)
+four_of (a ∷ b ∷ c ∷ []) four = absurd (omega arith)
+four_of (a ∷ b ∷ c ∷ d ∷ []) four = record { a = a; b = b; c = c; d = d; is = refl }
+four_of (a ∷ b ∷ c ∷ d ∷ e ∷ rest) four = absurd (omega arith)
+
+pub jump_field : (address : ℕ) (field : List ℕ) → length field ≡ 4 → jump_reads I386 address (0xFF ∷ 0x25 ∷ (field ++ 0x90 ∷ 0x90 ∷ [])) ≡ Some (number_in field)
+jump_field address field four = let f = four_of field four in subst (λ xs. jump_reads I386 address (0xFF ∷ 0x25 ∷ (xs ++ 0x90 ∷ 0x90 ∷ [])) ≡ Some (number_in xs)) (sym f.is) refl
+
+pages_move : (a b u v : ℕ) → (a + u + (2 ^ 21 - (a + v) % 2 ^ 21)) % 2 ^ 21 ≡ (b + u + (2 ^ 21 - (b + v) % 2 ^ 21)) % 2 ^ 21
+pages_move a b u v = omega arith
+
+split_page : (base rest n : ℕ) → base % 4096 ≡ rest → page (base + n) ≡ base / 4096 + (rest + n) / 4096
+split_page base rest n is = omega arith
+
+pub apart_same : (from to position target : ℕ) → from % 4096 ≡ to % 4096 →
+    (page (from + target) + (2 ^ 21 - page (from + position) % 2 ^ 21)) % 2 ^ 21 ≡ (page (to + target) + (2 ^ 21 - page (to + position) % 2 ^ 21)) % 2 ^ 21
+apart_same from to position target pages =
+    let k : ℕ = to % 4096 in
+    rw (split_page from k target pages, split_page from k position pages, split_page to k target refl, split_page to k position refl)
+    (pages_move (from / 4096) (to / 4096) ((k + target) / 4096) ((k + position) / 4096))
+
+-- There is memory of a linked program at any base that it can be moved to.
+
+module _ (machine : MachineType) (image_base : ℕ) (targets : LinkedCode → ℕ → ℕ) where
+  below_end : (c : LinkedCode) → length c.bytes ≡ length c.code.bytes → (ps : List Place) → AllByRecursion (λ (p : Place). p.address + p.width ≤ c.position + length c.code.bytes) ps →
+      AllByRecursion (λ (p : Place). p.address + p.width ≤ range_end (range_of_code c)) ps
+  below_end c size [] below = tt
+  below_end c size (p ∷ ps) below = let end : p.address + p.width ≤ c.position + length c.code.bytes = below.0 in (omega arith, below_end c size ps below.1)
+
+  all_in_code : (codes : List LinkedCode) → AllByRecursion (λ (c : LinkedCode). IsRelocated machine image_base (targets c) c.position c.code c.bytes) codes →
+      AllByRecursion (λ (c : LinkedCode). AllByRecursion (λ (p : Place). p.address + p.width ≤ c.position + length c.code.bytes) (places_of_code machine c)) codes →
+      AllByRecursion (λ (c : LinkedCode). AllByRecursion (PlaceIn (range_of_code c)) (places_of_code machine c)) codes
+  all_in_code [] relocated within = tt
+  all_in_code (c ∷ codes) relocated within = (
+    places_in (range_of_code c) (places_of_code machine c) (places_from machine c.position c.code.relocations) (below_end c relocated.0.size (places_of_code machine c) within.0),
+    all_in_code codes relocated.1 within.1,
+  )
+
+-- where its code stores an address whole, there is a place
+pub code_places : (machine : MachineType) (codes : List LinkedCode) (c : LinkedCode) (r : Relocation) (width : ℕ) → Contains codes c → Contains c.code.relocations r → absolute_width machine r.kind ≡ Some width →
+    Contains (flat_map (places_of_code machine) codes) (record { address = c.position + r.offset; width = width })
+code_places machine codes c r width held m is =
+    among_contains (record { address = c.position + r.offset; width = width }) (flat_map (places_of_code machine) codes)
+    (among_flat (places_of_code machine) c codes (record { address = c.position + r.offset; width = width }) (contains_among c codes held)
+    (among_place machine c.position r width c.code.relocations is (contains_among r c.code.relocations m)))
+
+-- at the places where its code stores addresses whole
+pub moved_exists : (machine : MachineType) (from to : ℕ) (image : List Range) (linked : List Placed) (codes : List LinkedCode) (targets : LinkedCode → ℕ → ℕ) → table_places machine linked ≡ [] →
+    AreLinkedBeside machine from image linked codes targets → CanBeMoved machine codes → (memory : List Range) × AreMoved machine from to image linked codes targets (flat_map (places_of_code machine) codes) memory
+moved_exists machine from to image linked codes targets none beside can =
+    let ranges : List Range = ranges_of_codes codes in
+    let places : List Place = flat_map (places_of_code machine) codes in
+    let rebased = can_rebase from to (image ++ ranges) places
+    (places_apart range_of_code (places_of_code machine) codes (all_in_code machine from targets codes beside.relocated can.within) can.apart (apart_back image ranges beside.apart))
+    (all_widths (places_of_code machine) (λ c. places_widths machine c.position c.code.relocations) codes) in (
+      rebased.0,
+      record {
+        beside = beside;
+        within = can.within;
+        needed = λ c r width address entry held m is symbol own. code_places machine codes c r width held m is;
+        only = λ a byte is covered. ap (λ ps. list_any (covers a) (ps ++ flat_map (places_of_code machine) codes)) none ∙ covered;
+        rebased = rebased.1;
+      },
+    )
+
+pub moved_memory_exists : (machine : MachineType) (from to : ℕ) (image : List Range) (linked : List Placed) (codes : List LinkedCode) (targets : LinkedCode → ℕ → ℕ) → table_places machine linked ≡ [] →
+    AreLinkedBeside machine from image linked codes targets → CanBeMoved machine codes → ArePaged machine from to → (memory : List Range) × AreInMemory machine to image linked codes targets memory
+moved_memory_exists machine from to image linked codes targets none beside can paged =
+    let moved = moved_exists machine from to image linked codes targets none beside can in
+    (moved.0, inr (from, (flat_map (places_of_code machine) codes, (paged, moved.1))))
+
+-- Fields of relocations: which of them meet bytes, and what they hold at another base.
 
 -- Lists by their places.
 
@@ -237,3 +331,200 @@ holds_steady ARM64 type from to position target old new none paged holds = recor
   page_of = λ is. ((holds.page_of is).0, (holds.page_of is).1 ∙ page_moves from to position target (adrp_immediate (old 4)) paged);
   offset_of = λ is eight. ((holds.offset_of is eight).0, (holds.offset_of is eight).1 ∙ offset_moves from to target (ldr_immediate (old 4)) paged);
 }
+
+-- What the relocated stubs read.
+
+pub number-u32 : (n : ℕ) → number_in (u32_bytes n) ≡ n % 2 ^ 32
+unfolding u32_bytes
+number-u32 n = omega arith
+
+-- ARM64: `adrp` has the entry's page relative to its own, `ldr` the entry's offset in its page.
+
+-- the immediates lead to the entry
+pub pages_add : (here there : ℕ) → here < there + 2 ^ 20 → there < here + 2 ^ 20 →
+    plus_signed 21 4096 ((there + (2 ^ 21 - here % 2 ^ 21)) % 2 ^ 21) (here * 4096) ≡ there * 4096
+pages_add here there near far =
+    let field : ℕ = (there + (2 ^ 21 - here % 2 ^ 21)) % 2 ^ 21 in
+    elim (cases_Bool (nat_lt field (2 ^ 20))) [
+      | inl is ↦ let low = ltb-true field (2 ^ 20) is in rw is (omega arith)
+      | inr is ↦ let high = ltb-false field (2 ^ 20) is in rw is (omega arith)
+    ]
+
+pub near_pages : (image_base position entry : ℕ) → position + 16 ≤ 2 ^ 31 → entry < 2 ^ 31 →
+    (page (image_base + position) < page (image_base + entry) + 2 ^ 20) × (page (image_base + entry) < page (image_base + position) + 2 ^ 20)
+near_pages image_base position entry near small = (omega arith, omega arith)
+
+pub whole_eights : (n : ℕ) → n % 8 ≡ 0 → n % 4096 / 8 * 8 ≡ n % 4096
+whole_eights n even = omega arith
+
+pub page_and_offset : (n : ℕ) → page n * 4096 + n % 4096 ≡ n
+page_and_offset n = omega arith
+
+pub sum_of_eights : (image_base entry : ℕ) → image_base % 8 ≡ 0 → entry % 8 ≡ 0 → (image_base + entry) % 8 ≡ 0
+sum_of_eights image_base entry first second = omega arith
+
+-- The usual calls and loads through a pointer are cases of instructions with an operand, and of pages and offsets.
+
+-- Relocations aside meet no part of the instructions.
+
+aside_misses : (machine : MachineType) (offset count inner size : ℕ) (r : Relocation) → IsAside machine offset count r → offset ≤ inner → inner + size ≤ offset + count → meets machine inner size r ≡ false
+aside_misses machine offset count inner size r aside from to =
+    false_from_ne_true (meets machine inner size r) (λ met.
+    let bounds = meets_bounds machine inner size r met in
+    let low : r.offset < inner + size = bounds.0 in
+    let high : inner < r.offset + field_width machine r.kind = bounds.1 in
+    elim aside [ inl before ↦ omega arith | inr after ↦ omega arith ])
+
+aside_none : (machine : MachineType) (offset count inner size : ℕ) (rs : List Relocation) → AllByRecursion (IsAside machine offset count) rs → offset ≤ inner → inner + size ≤ offset + count →
+    filter (meets machine inner size) rs ≡ []
+aside_none machine offset count inner size [] aside from to = refl
+aside_none machine offset count inner size (r ∷ rs) aside from to = rw (aside_misses machine offset count inner size r aside.0 from to) (aside_none machine offset count inner size rs aside.1 from to)
+
+aside_any : (machine : MachineType) (offset count inner size : ℕ) (rs : List Relocation) → AllByRecursion (IsAside machine offset count) rs → offset ≤ inner → inner + size ≤ offset + count →
+    list_any (meets machine inner size) rs ≡ false
+aside_any machine offset count inner size [] aside from to = refl
+aside_any machine offset count inner size (r ∷ rs) aside from to = rw (aside_misses machine offset count inner size r aside.0 from to) (aside_any machine offset count inner size rs aside.1 from to)
+
+module _ (machine : MachineType) (c : LinkedCode) (offset : ℕ) (name bytes : List ℕ) (relocations : ℕ → List Relocation) (has : HasInstructions machine (placed_code c) offset name bytes relocations) where
+  abbrev own : List Relocation
+  own = map (moved_by offset) (relocations has.index)
+
+  -- what meets a part of the instructions is theirs
+  pub own_met : (inner size : ℕ) → offset ≤ inner → inner + size ≤ offset + length bytes → filter (meets machine inner size) c.code.relocations ≡ filter (meets machine inner size) own
+  own_met inner size from to =
+      let p : Relocation → Bool = meets machine inner size in
+      let first : filter p has.before ≡ [] = aside_none machine offset (length bytes) inner size has.before has.aside_before from to in
+      let last : filter p has.behind ≡ [] = aside_none machine offset (length bytes) inner size has.behind has.aside_behind from to in
+      ap (filter p) has.relocated ∙ filter-append p has.before (own ++ has.behind) ∙ ap (λ xs. xs ++ filter p (own ++ has.behind)) first
+      ∙ filter-append p own has.behind ∙ ap (λ xs. filter p own ++ xs) last ∙ append-nil (filter p own)
+
+  pub own_any : (inner size : ℕ) → offset ≤ inner → inner + size ≤ offset + length bytes → list_any (meets machine inner size) own ≡ false → list_any (meets machine inner size) c.code.relocations ≡ false
+  own_any inner size from to none =
+      let p : Relocation → Bool = meets machine inner size in
+      let first : list_any p has.before ≡ false = aside_any machine offset (length bytes) inner size has.before has.aside_before from to in
+      let last : list_any p has.behind ≡ false = aside_any machine offset (length bytes) inner size has.behind has.aside_behind from to in
+      ap (list_any p) has.relocated ∙ list_any-append p has.before (own ++ has.behind) ∙ rw first (list_any-append p own has.behind ∙ rw (none, last) refl)
+
+  pub own_names : Names c.from has.index name
+  own_names = record { symbol = has.symbol; target = has.target; undefined = has.undefined; named = has.named }
+
+  pub own_code : drop offset c.code.bytes ≡ bytes ++ has.back
+  own_code = ap (drop offset) has.instructions ∙ drop_at has.front (bytes ++ has.back) offset has.here
+
+  pub own_inside : offset + length bytes ≤ length c.code.bytes
+  own_inside =
+      let here : length has.front ≡ offset = has.here in
+      let size : length c.code.bytes ≡ length has.front + length (bytes ++ has.back) = ap length has.instructions ∙ length-append has.front (bytes ++ has.back) in
+      let more : length (bytes ++ has.back) ≡ length bytes + length has.back = length-append bytes has.back in
+      omega arith
+
+pub one_met : (machine : MachineType) (inner size : ℕ) (r : Relocation) → r.offset < inner + size → inner < r.offset + field_width machine r.kind → filter (meets machine inner size) (r ∷ []) ≡ r ∷ []
+one_met machine inner size r low high = rw (meets_from machine inner size r low high) refl
+
+-- ARM64's two fields, at the beginning of the instructions and 4 bytes on.
+
+pair_met : (offset index : ℕ) → filter (meets ARM64 offset 4) (map (moved_by offset) (record { offset = 0; symbol = index; kind = arm64_pagebase_rel21 } ∷ record { offset = 4; symbol = index; kind = arm64_pageoffset_12l } ∷ []))
+    ≡ record { offset = offset; symbol = index; kind = arm64_pagebase_rel21 } ∷ []
+pair_met offset index =
+    let first : Relocation = record { offset = offset + 0; symbol = index; kind = arm64_pagebase_rel21 } in
+    let second : Relocation = record { offset = offset + 4; symbol = index; kind = arm64_pageoffset_12l } in
+    let plain : offset + 0 ≡ offset = omega arith in
+    let misses : meets ARM64 offset 4 second ≡ false = false_from_ne_true (meets ARM64 offset 4 second) (λ met. let bounds = meets_bounds ARM64 offset 4 second met in let low : offset + 4 < offset + 4 = bounds.0 in omega arith) in
+    rw (meets_from ARM64 offset 4 first (omega arith) (omega arith), misses) (ap (λ (n : ℕ). record { offset = n; symbol = index; kind = arm64_pagebase_rel21 } ∷ []) plain)
+
+offset_met : (offset index : ℕ) → filter (meets ARM64 (offset + 4) 4) (map (moved_by offset) (record { offset = 0; symbol = index; kind = arm64_pagebase_rel21 } ∷ record { offset = 4; symbol = index; kind = arm64_pageoffset_12l } ∷ []))
+    ≡ record { offset = offset + 4; symbol = index; kind = arm64_pageoffset_12l } ∷ []
+offset_met offset index =
+    let first : Relocation = record { offset = offset + 0; symbol = index; kind = arm64_pagebase_rel21 } in
+    let second : Relocation = record { offset = offset + 4; symbol = index; kind = arm64_pageoffset_12l } in
+    let misses : meets ARM64 (offset + 4) 4 first ≡ false =
+    false_from_ne_true (meets ARM64 (offset + 4) 4 first) (λ met. let bounds = meets_bounds ARM64 (offset + 4) 4 first met in let high : offset + 4 < offset + 0 + 4 = bounds.1 in omega arith) in
+    rw (misses, meets_from ARM64 (offset + 4) 4 second (omega arith) (omega arith)) refl
+
+module _ (c : LinkedCode) (offset : ℕ) (name : List ℕ) (a b d e f g h i : ℕ) (rest : List ℕ)
+    (has : HasInstructions ARM64 (placed_code c) offset name (a ∷ b ∷ d ∷ e ∷ f ∷ g ∷ h ∷ i ∷ rest)
+    (λ index. record { offset = 0; symbol = index; kind = arm64_pagebase_rel21 } ∷ record { offset = 4; symbol = index; kind = arm64_pageoffset_12l } ∷ [])) where
+  abbrev rs : ℕ → List Relocation
+  rs index = record { offset = 0; symbol = index; kind = arm64_pagebase_rel21 } ∷ record { offset = 4; symbol = index; kind = arm64_pageoffset_12l } ∷ []
+
+  abbrev code : List ℕ
+  code = a ∷ b ∷ d ∷ e ∷ f ∷ g ∷ h ∷ i ∷ rest
+
+  first_is : field_at c.code.bytes offset 4 ≡ number_in (a ∷ b ∷ d ∷ e ∷ [])
+  first_is = ap (λ xs. number_in (take 4 xs)) (own_code ARM64 c offset name code rs has)
+
+  second_is : field_at c.code.bytes (offset + 4) 4 ≡ number_in (f ∷ g ∷ h ∷ i ∷ [])
+  second_is = ap (λ xs. number_in (take 4 xs)) (sym (drop-drop 4 offset c.code.bytes) ∙ ap (drop 4) (own_code ARM64 c offset name code rs has))
+
+  long : offset + 8 ≤ length c.code.bytes
+  long = let end : offset + length (a ∷ b ∷ d ∷ e ∷ f ∷ g ∷ h ∷ i ∷ rest) ≤ length c.code.bytes = own_inside ARM64 c offset name code rs has in omega arith
+
+  page_has : adrp_immediate (number_in (a ∷ b ∷ d ∷ e ∷ [])) ≡ 0 → HasPageField c offset name
+  page_has empty =
+      let end = long in
+      record {
+        field = record {
+          symbol = has.index;
+          alone = own_met ARM64 c offset name code rs has offset 4 (omega arith) (omega arith) ∙ pair_met offset has.index;
+          inside = omega arith;
+          names = own_names ARM64 c offset name code rs has;
+        };
+        empty = ap adrp_immediate first_is ∙ empty;
+      }
+
+  offset_has : bits_of 30 2 (number_in (f ∷ g ∷ h ∷ i ∷ [])) ≡ 3 → ldr_immediate (number_in (f ∷ g ∷ h ∷ i ∷ [])) ≡ 0 → HasOffsetField c (offset + 4) name
+  offset_has eight empty =
+      let end = long in
+      record {
+        field = record {
+          symbol = has.index;
+          alone = own_met ARM64 c offset name code rs has (offset + 4) 4 (omega arith) (omega arith) ∙ offset_met offset has.index;
+          inside = omega arith;
+          names = own_names ARM64 c offset name code rs has;
+        };
+        eight = ap (bits_of 30 2) second_is ∙ eight;
+        empty = ap ldr_immediate second_is ∙ empty;
+      }
+
+-- Calls and loads.
+
+-- What instructions with the two fields read, and others behind them, by their rule.
+abbrev pub ReadsPair : (ℕ → List ℕ → Option ℕ) → ℕ → ℕ → List ℕ → Type 0
+ReadsPair reads page_code load_code behind =
+    (address : ℕ) (adrp load : List ℕ) → length adrp ≡ 4 → length load ≡ 4 → with_adrp 0 (number_in adrp) ≡ page_code → with_bits 10 12 0 (number_in load) ≡ load_code →
+    reads address (adrp ++ (load ++ behind)) ≡ Some (plus_signed 21 4096 (adrp_immediate (number_in adrp)) (page address * 4096) + ldr_immediate (number_in load))
+
+pub record PairRead (reads : ℕ → List ℕ → Option ℕ) (image_base : ℕ) (memory : List Range) (address : ℕ) (behind bytes : List ℕ) : Type 0 where
+  pub code : List ℕ
+  pub there : BytesAt memory address code
+  pub whole : length code ≡ 8 + length behind
+  pub entry : ℕ
+  pub leads : reads (image_base + address) code ≡ Some (image_base + entry)
+  pub located : BytesAt memory entry bytes
+
+pub pair_read : (reads : ℕ → List ℕ → Option ℕ) (page_code load_code : ℕ) (behind : List ℕ) → ReadsPair reads page_code load_code behind →
+    (image_base : ℕ) (linked : List Placed) (memory : List Range) (address old_adrp old_load : ℕ) (name bytes : List ℕ) → with_adrp 0 old_adrp ≡ page_code → with_bits 10 12 0 old_load ≡ load_code →
+    PairArrives image_base linked memory address (address + 4) old_adrp old_load name bytes → BytesAt memory (address + 8) behind → PairRead reads image_base memory address behind bytes
+pair_read reads page_code load_code behind rule image_base linked memory address old_adrp old_load name bytes is_adrp is_load x there =
+    let adrp : List ℕ = x.adrp_there.bytes in
+    let load : List ℕ = x.load_there.bytes in
+    let first : length adrp ≡ 4 = x.adrp_there.count in
+    let second : length load ≡ 4 = x.load_there.count in
+    let load_place : address + 4 ≡ address + length adrp = omega arith in
+    let place : address + 8 ≡ address + length adrp + length load = omega arith in
+    record {
+      code = adrp ++ (load ++ behind);
+      there = joined memory adrp (load ++ behind) address x.adrp_there.located
+          (joined memory load behind (address + length adrp) (subst (λ a. BytesAt memory a load) load_place x.load_there.located) (subst (λ a. BytesAt memory a behind) place there));
+      whole = omega (arith, length-append adrp (load ++ behind), length-append load behind);
+      entry = x.entry;
+      leads = rule (image_base + address) adrp load first second (ap (with_adrp 0) x.adrp_there.value ∙ x.is_adrp ∙ is_adrp) (ap (with_bits 10 12 0) x.load_there.value ∙ x.is_load ∙ is_load)
+          ∙ ap Some (ap (λ n. plus_signed 21 4096 (adrp_immediate n) (page (image_base + address) * 4096) + ldr_immediate (number_in load)) x.adrp_there.value
+          ∙ ap (λ n. plus_signed 21 4096 (adrp_immediate x.adrp) (page (image_base + address) * 4096) + ldr_immediate n) x.load_there.value ∙ x.leads);
+      located = x.located;
+    }
+
+-- Pages and offsets by any registers.
+
+pub read_word : (xs : List ℕ) → length xs ≡ 4 → word_at xs 0 ≡ number_in xs
+read_word xs four = let f = four_of xs four in subst (λ ys. word_at ys 0 ≡ number_in ys) (sym f.is) refl

@@ -15,16 +15,12 @@ use Rattle.implib.specs.Link.Placement.{Placed}
 use Rattle.implib.specs.Link.Resolution.{is_undefined_external, symbol_address}
 use Rattle.implib.proofs.Link.LinkedMembers.{among_contains, among_map}
 use Rattle.implib.proofs.Link.Ranges.{Among, all_among, among_back, is_in_from, range_located}
-use Rattle.implib_link.specs.Gnu.Calls.{field_width}
-use Rattle.implib_link.specs.Gnu.Fields.{AreLinkedBeside, DefinesIn, FieldHolds, IsRelocated, LinkedCode, MeetsAlone, field_at, meets, range_of_code, ranges_of_codes}
+use Rattle.implib_link.specs.Gnu.Fields.{field_width, AreLinkedBeside, DefinesIn, FieldHolds, IsRelocated, LinkedCode, MeetsAlone, field_at, meets, range_of_code, ranges_of_codes, Place, absolute_width, covers, moved_number, table_places}
 use Rattle.implib_link.specs.Gnu.Moves.{AreInMemory, AreMoved, ArePaged, absolute_places, places_of_code}
-use Rattle.implib_link.specs.Gnu.Rebased.{Place, absolute_width, covers, moved_number, table_places}
 use Rattle.implib_link.specs.Gnu.Stored.{AreFurtherHeld, AreStoredInMemory, StoresAreMoved}
 use Rattle.implib_link.proofs.Gnu.Fields.{alone_among, alone_same, covering_one, get_drop, get_take, holds_moved, holds_steady, located_each, located_from, meets_bounds, meets_from, meeting, whole_width}
-use Rattle.implib_link.proofs.Gnu.Keeps.{Keeps}
-use Rattle.implib_link.proofs.Gnu.Loaded.{kept_outside}
-use Rattle.implib_link.proofs.Gnu.Memory.{Covers, byte_front, code_untouched, holder, not_in_both}
-use Rattle.implib_link.proofs.Gnu.Moved.{apart_back, covering, none_covers, one_code, places_from}
+use Rattle.implib_link.proofs.Gnu.Loaded.{Keeps, kept_outside, Covers, byte_front, code_untouched, holder, not_in_both}
+use Rattle.implib_link.proofs.Gnu.Choices.{apart_back, covering, none_covers, one_code, places_from}
 
 -- What memory has of a program at a base, wherever its code was linked for: the image, the bytes of code where no field
 -- stores an address whole, and in such fields of the tables' symbols the number, moved.

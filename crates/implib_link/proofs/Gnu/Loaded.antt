@@ -1,19 +1,229 @@
--- What a loader writes is at the entries of the address tables, and nowhere else.
-use Rattle.std.proofs.Common.{◌≡◌, ℕ, zero, suc, ◌+◌, ◌*◌, ◌-◌, ◌≤◌, true, false, List, [], ◌∷◌, ◌++◌, length, map, Some, refl, ap, sym, ◌∙◌, subst, arith}
+-- The memory of a loaded program: what was written, the image, and code beside it, which the loader leaves as it is.
+use Rattle.std.proofs.Common.{◌≡◌, ℕ, ◌+◌, ◌^◌, ◌<◌, ◌≤◌, true, false, List, [], ◌∷◌, ◌++◌, length, Some, refl, sym, subst, inl, inr, arith, ap, ◌∙◌, zero, suc, ◌*◌, ◌-◌, map}
 use Rattle.std.specs.Prelude.{nat_le, nat_lt, slice_get, slice_index}
 use Rattle.std.specs.List.{AllByRecursion, list_any}
+use Rattle.std.proofs.lemmas.Bool.{and_parts, cases_Bool, false_from_ne_true, leb-true, ltb-false, ltb-true, or_parts}
+use Rattle.implib.specs.Import.{Ask, Name, Ordinal}
+use Rattle.implib.specs.Link.Image.{AllApart, AreApart, Range, byte_at, is_in, range_end}
+use Rattle.implib.specs.Link.Load.{BytesAt, TableAt, LoadsStrictly, NumberAt, TextAt, ThunkAsksFor, ThunkAt, WholeTableAt}
+use Rattle.implib.proofs.Link.Linked.{all_append}
+use Rattle.implib.proofs.Link.Loading.{number_once, table_led_to, text_led_to}
+use Rattle.implib.proofs.Link.Ranges.{Among, address_bounds, all_among, among_back, located_parts, is_in_from}
+use Rattle.implib_link.specs.Directory.{DirectoryAt, Imported, FindsBy, StopsAt, WalkFinds}
+use Rattle.implib_link.specs.Gnu.Writing.{Writes, entries_written, ReadsAndWrites}
+use Rattle.implib.specs.Members.ImportTables.{zeros, thunk_width}
 use Rattle.std.proofs.Math.Nat.{mul-suc, mul-zero}
-use Rattle.std.proofs.lemmas.Bool.{and_parts, false_from_ne_true, ltb-true, or_parts}
 use Rattle.std.proofs.lemmas.List.{append_assoc, get_or_at, length-append}
-use Rattle.implib.specs.Link.Image.{Range, byte_at, is_in, range_end}
-use Rattle.implib.specs.Import.{Ask}
-use Rattle.implib.specs.Link.Load.{BytesAt}
-use Rattle.implib.proofs.Link.Ranges.{is_in_from}
-use Rattle.implib_link.specs.Directory.{Imported}
-use Rattle.implib_link.specs.Gnu.Loaded.{entries_written}
 use Rattle.implib.specs.declared.machine.MachineType.{MachineType}
 use Rattle.implib.specs.declared.machine.MachineType.TheVariants.{I386, ARMNT, AMD64, ARM64}
-use Rattle.implib.specs.Members.ImportTables.{thunk_width}
+
+-- a range is where an image has bytes
+abbrev pub Covers : List Range → Range → Type 0
+Covers image r = (a : ℕ) → is_in a r ≡ true → (byte : ℕ) × (byte_at image a ≡ Some byte)
+
+-- the bounds of an address in a range
+pub within_bounds : (a : ℕ) (r : Range) → is_in a r ≡ true → (r.start ≤ a) × (a < range_end r)
+within_bounds a r within =
+    let parts = and_parts (nat_le r.start a) (nat_lt a (range_end r)) within in
+    (leb-true r.start a parts.0, ltb-true a (range_end r) parts.1)
+
+pub byte_within : (image : List Range) (bytes : List ℕ) (a x : ℕ) → BytesAt image a bytes → a ≤ x → x < a + length bytes → (byte : ℕ) × (byte_at image x ≡ Some byte)
+unfolding BytesAt
+byte_within image [] a x located from below = absurd (omega arith)
+byte_within image (b ∷ bytes) a x located from below =
+    elim (cases_Bool (nat_lt a x)) [
+      | inl is ↦ let later = ltb-true a x is in byte_within image bytes (a + 1) x located.1 (omega arith) (omega arith)
+      | inr is ↦ let here = ltb-false a x is in
+          let same : a ≡ x = omega arith in
+          (b, subst (λ n. byte_at image n ≡ Some b) same located.0)
+    ]
+
+pub byte_first : (image : List Range) (bytes : List ℕ) (a : ℕ) → BytesAt image a bytes → 0 < length bytes → (byte : ℕ) × (byte_at image a ≡ Some byte)
+byte_first image bytes a located long = byte_within image bytes a a located (omega arith) (omega arith)
+
+-- What a loader writes is where the image has bytes.
+
+entries_cover : (image : List Range) (width : ℕ) (gives : Ask → List ℕ) → ((ask : Ask) → length (gives ask) ≡ width) → (asks : List Ask) (a : ℕ) → TableAt image width a asks →
+    AllByRecursion (Covers image) (entries_written width a gives asks)
+unfolding TableAt entries_written
+entries_cover image width gives wide [] a table = tt
+entries_cover image width gives wide (ask ∷ asks) a table = (
+  λ x within.
+      let bounds = within_bounds x (record { start = a; bytes = gives ask }) within in
+      let from : a ≤ x = bounds.0 in
+      let below : x < a + length (gives ask) = bounds.1 in
+      let long : length (gives ask) ≡ width = wide ask in
+      let count : length table.0.located.bytes ≡ width = table.0.located.count in
+      byte_within image table.0.located.bytes a x table.0.located.located from (omega arith),
+  entries_cover image width gives wide asks (a + width) table.1,
+)
+
+pub written_covers : (image : List Range) (width : ℕ) (gives : List ℕ → Ask → List ℕ) → ((dll : List ℕ) (ask : Ask) → length (gives dll ask) ≡ width) → (imports : List Imported) (descriptor : ℕ) (written : List Range) →
+    DirectoryAt image width descriptor imports → Writes image width gives descriptor imports written → AllByRecursion (Covers image) written
+unfolding DirectoryAt Writes
+written_covers image width gives wide [] descriptor written directory writes = subst (AllByRecursion (Covers image)) (sym writes) tt
+written_covers image width gives wide (i ∷ imports) descriptor written directory (table, (field, (behind, (is, later)))) =
+    let same : directory.0.plain.addresses ≡ table = number_once image 4 (descriptor + 16) directory.0.plain.addresses table directory.0.plain.addresses_field field in
+    let first = entries_cover image width (gives i.dll) (wide i.dll) i.asks table (subst (λ n. TableAt image width n i.asks) same directory.0.plain.address_table) in
+    subst (AllByRecursion (Covers image)) (sym is)
+    (all_append (Covers image) (entries_written width table (gives i.dll) i.asks) behind first (written_covers image width gives wide imports (descriptor + 20) behind directory.1 later))
+
+-- an address at which a loaded image has a byte is below its end
+pub loaded_below : (image written : List Range) (a b : ℕ) → AllByRecursion (λ r. 0 < r.start) image → AllByRecursion (λ r. range_end r < 2 ^ 31) image → AllByRecursion (Covers image) written →
+    byte_at (written ++ image) a ≡ Some b → a < 2 ^ 31
+loaded_below image [] a b low high covers is = (address_bounds image a b low high is).1
+loaded_below image (r ∷ written) a b low high covers is =
+    elim (cases_Bool (is_in a r)) [
+      | inl within ↦ let byte = covers.0 a within in (address_bounds image a byte.0 low high byte.1).1
+      | inr outside ↦ loaded_below image written a b low high covers.1 (rw outside at is)
+    ]
+
+-- So nothing is written into code.
+
+pub holder : (ranges : List Range) (a b : ℕ) → byte_at ranges a ≡ Some b → (r : Range) × (Among r ranges × (is_in a r ≡ true))
+unfolding Among
+holder [] a b is = cc
+holder (r ∷ ranges) a b is =
+    elim (cases_Bool (is_in a r)) [
+      | inl within ↦ (r, (inl refl, within))
+      | inr outside ↦ let later = holder ranges a b (rw outside at is) in (later.0, (inr later.1.0, later.1.1))
+    ]
+
+pub not_in_both : (xs ys : List Range) (r s : Range) (a : ℕ) → AllApart (xs ++ ys) → Among r xs → Among s ys → is_in a r ≡ true → is_in a s ≡ true → ⊥
+unfolding Among
+not_in_both [] ys r s a apart m n first second = absurd m
+not_in_both (x ∷ xs) ys r s a apart (inl e) n first second =
+    all_among (AreApart x) s (xs ++ ys) (among_back s xs ys n) apart.0 a (subst (λ (y : Range). is_in a y ≡ true) e first) second
+not_in_both (x ∷ xs) ys r s a apart (inr m) n first second = not_in_both xs ys r s a apart.1 m n first second
+
+pub code_untouched : (image codes written : List Range) (r : Range) (a : ℕ) → AllByRecursion (Covers image) written → AllApart (image ++ codes) → Among r codes → is_in a r ≡ true →
+    list_any (is_in a) written ≡ false
+code_untouched image codes [] r a covers apart m within = refl
+code_untouched image codes (w ∷ written) r a covers apart m within =
+    let outside : is_in a w ≡ false = false_from_ne_true (is_in a w) (λ touched.
+    let byte = covers.0 a touched in
+    let found = holder image a byte.0 byte.1 in
+    not_in_both image codes found.0 r a apart found.1.0 m found.1.1 within) in
+    rw outside (code_untouched image codes written r a covers.1 apart m within)
+
+-- Bytes of the loaded image are those of memory.
+
+pub byte_front : (xs ys : List Range) (a b : ℕ) → byte_at xs a ≡ Some b → byte_at (xs ++ ys) a ≡ Some b
+byte_front [] ys a b is = cc
+byte_front (x ∷ xs) ys a b is =
+    elim (cases_Bool (is_in a x)) [
+      | inl within ↦ rw within (rw within at is)
+      | inr outside ↦ rw outside (byte_front xs ys a b (rw outside at is))
+    ]
+
+-- A directory has one reading.
+
+-- the null descriptor stops a walk
+null_stops : (image : List Range) (address : ℕ) → BytesAt image address (zeros 20) → NumberAt image 4 (address + 12) 0
+null_stops image address null =
+    let front = located_parts image (zeros 12) (zeros 8) address null in
+    let name = located_parts image (zeros 4) (zeros 4) (address + 12) front.1 in
+    record { bytes = zeros 4; located = name.0; count = refl; value = refl }
+
+pub directory_walk : (image : List Range) (width address : ℕ) (imports : List Imported) → DirectoryAt image width address imports → WalkFinds image width address imports
+unfolding DirectoryAt WalkFinds
+directory_walk image width address [] null = inl (null_stops image address null)
+directory_walk image width address (i ∷ imports) directory = (
+  record {
+    name = directory.0.plain.name;
+    name_field = directory.0.plain.name_field;
+    has_name = directory.0.has_name;
+    name_text = directory.0.plain.name_text;
+    addresses = directory.0.plain.addresses;
+    addresses_field = directory.0.plain.addresses_field;
+    has_addresses = directory.0.has_addresses;
+    table = directory.0.plain.lookups;
+    table_field = inl directory.0.plain.lookups_field;
+    thunks = directory.0.plain.lookup_table;
+  },
+  directory_walk image width (address + 20) imports directory.1,
+)
+
+pub nonzero : (n m : ℕ) → n ≡ m → 0 < n → m ≡ 0 → ⊥
+nonzero n m same above none = omega arith
+
+pub same_imports : (first second : Imported) (firsts seconds : List Imported) → first.dll ≡ second.dll → first.asks ≡ second.asks → firsts ≡ seconds →
+    first ∷ firsts ≡ second ∷ seconds
+same_imports first second firsts seconds dll asks others =
+    ap (λ d. record { dll = d; asks = first.asks } ∷ firsts) dll
+    ∙ ap (λ a. record { dll = second.dll; asks = a } ∷ firsts) asks
+    ∙ ap (λ rest. second ∷ rest) others
+
+-- no walk goes on at the null descriptor, and none stops at another
+null_ends_once : (image : List Range) (width address : ℕ) (i : Imported) → BytesAt image address (zeros 20) → FindsBy image width address i → ⊥
+null_ends_once image width address i null step =
+    nonzero step.name 0 (number_once image 4 (address + 12) step.name 0 step.name_field (null_stops image address null)) step.has_name refl
+
+stops_once : (image : List Range) (width address : ℕ) (i : Imported) → LoadsStrictly image width address i.dll i.asks → StopsAt image address → ⊥
+stops_once image width address i loads (inl no_name) =
+    nonzero loads.plain.name 0 (number_once image 4 (address + 12) loads.plain.name 0 loads.plain.name_field no_name) loads.has_name refl
+stops_once image width address i loads (inr no_addresses) =
+    nonzero loads.plain.addresses 0 (number_once image 4 (address + 16) loads.plain.addresses 0 loads.plain.addresses_field no_addresses) loads.has_addresses refl
+
+-- both tables ask for the same
+same_asks : (image : List Range) (width address : ℕ) (i j : Imported) → LoadsStrictly image width address i.dll i.asks → FindsBy image width address j → i.asks ≡ j.asks
+same_asks image width address i j strict step = elim step.table_field [
+  | inl field ↦
+      table_led_to image width address strict.plain.lookups step.table i.asks j.asks strict.plain.lookups_field field strict.plain.lookup_table step.thunks
+  | inr field ↦
+      table_led_to image width (address + 16) strict.plain.addresses step.table i.asks j.asks strict.plain.addresses_field field strict.plain.address_table step.thunks
+]
+
+pub walk_once : (image : List Range) (width address : ℕ) (imports others : List Imported) →
+    DirectoryAt image width address imports → WalkFinds image width address others → imports ≡ others
+unfolding DirectoryAt WalkFinds
+walk_once image width address [] [] directory walk = refl
+walk_once image width address [] (j ∷ others) directory walk = absurd (null_ends_once image width address j directory walk.0)
+walk_once image width address (i ∷ imports) [] directory walk = absurd (stops_once image width address i directory.0 walk)
+walk_once image width address (i ∷ imports) (j ∷ others) directory walk =
+    same_imports i j imports others
+    (text_led_to image (address + 12) directory.0.plain.name walk.0.name i.dll j.dll directory.0.plain.name_field walk.0.name_field directory.0.plain.name_text
+    walk.0.name_text)
+    (same_asks image width address i j directory.0 walk.0)
+    (walk_once image width (address + 20) imports others directory.1 walk.1)
+
+-- A loader that reads an image walks its directory once, and writes what the law of loaded programs speaks of.
+
+module _ (image : List Range) (width : ℕ) (gives : List ℕ → Ask → List ℕ) where
+  one_more : (found : Imported) (others : List Imported) (n : ℕ) → length others ≡ n → length (found ∷ others) ≡ suc n
+  one_more found others n same = omega arith
+
+  -- what is read is found by a walk, and what is written is what a loader of it writes
+  found_by : (n address : ℕ) (written : List Range) → ReadsAndWrites image width gives n address written →
+      (found : List Imported) × ((length found ≡ n) × (WalkFinds image width address found × Writes image width gives address found written))
+  unfolding ReadsAndWrites WalkFinds Writes
+  found_by zero address written reads = ([], (refl, (reads.0, reads.1)))
+  found_by (suc n) address written (found, (step, (behind, (is, reads)))) =
+      let later = found_by n (address + 20) behind reads in
+      (found ∷ later.0, (one_more found later.0 n later.1.0, ((step, later.1.1.0), (step.addresses, (step.addresses_field, (behind, (is, later.1.1.1)))))))
+
+  -- what a walk finds can be read and written
+  walk_writes : (address : ℕ) (found : List Imported) → WalkFinds image width address found → (written : List Range) × ReadsAndWrites image width gives (length found) address written
+  unfolding ReadsAndWrites WalkFinds
+  walk_writes address [] walk = ([], (walk, refl))
+  walk_writes address (found ∷ others) walk =
+      let later = walk_writes (address + 20) others walk.1 in
+      (entries_written width walk.0.addresses (gives found.dll) found.asks ++ later.0, (found, (walk.0, (later.0, (refl, later.1)))))
+
+  pub directory_read : (n address : ℕ) (imports : List Imported) (written : List Range) → DirectoryAt image width address imports → ReadsAndWrites image width gives n address written →
+      (n ≡ length imports) × Writes image width gives address imports written
+  directory_read n address imports written directory reads =
+      let found = found_by n address written reads in
+      let same : imports ≡ found.0 = walk_once image width address imports found.0 directory found.1.1.0 in (
+        sym found.1.0 ∙ sym (ap length same),
+        subst (λ (is : List Imported). Writes image width gives address is written) (sym same) found.1.1.1,
+      )
+
+  pub directory_can_be_read : (address : ℕ) (imports : List Imported) → DirectoryAt image width address imports →
+      (written : List Range) × ReadsAndWrites image width gives (length imports) address written
+  directory_can_be_read address imports directory = walk_writes address imports (directory_walk image width address imports directory)
+
+-- What a loader writes is at the entries of the address tables, and nowhere else.
 
 -- Ranges in front of others.
 
@@ -121,3 +331,115 @@ pub mapped_at : {X Y : Type 0} (f : X → Y) (xs : List X) (i : ℕ) (y : Y) →
 mapped_at f [] i y is = cc
 mapped_at f (x ∷ xs) zero y is = let same : f x ≡ y = cc in (x, (refl, same))
 mapped_at f (x ∷ xs) (suc i) y is = mapped_at f xs i y is
+
+-- Memory that keeps the bytes of an image has all that is found in the image.
+
+-- each byte of an image is in memory
+unfoldable pub Keeps : List Range → List Range → Type 0
+Keeps image memory = (a byte : ℕ) → byte_at image a ≡ Some byte → byte_at memory a ≡ Some byte
+
+module _ (image memory : List Range) (keeps : Keeps image memory) where
+  pub bytes_kept : (bytes : List ℕ) (a : ℕ) → BytesAt image a bytes → BytesAt memory a bytes
+  unfolding BytesAt Keeps
+  bytes_kept [] a located = tt
+  bytes_kept (b ∷ bytes) a located = (keeps a b located.0, bytes_kept bytes (a + 1) located.1)
+
+  pub number_kept : (width a n : ℕ) → NumberAt image width a n → NumberAt memory width a n
+  number_kept width a n number = record { bytes = number.bytes; located = bytes_kept number.bytes a number.located; count = number.count; value = number.value }
+
+  pub text_kept : (a : ℕ) (text : List ℕ) → TextAt image a text → TextAt memory a text
+  text_kept a text found = record { no_nul = found.no_nul; located = bytes_kept (text ++ 0 ∷ []) a found.located }
+
+  asks_kept : (width thunk : ℕ) (ask : Ask) → ThunkAsksFor image width thunk ask → ThunkAsksFor memory width thunk ask
+  unfolding ThunkAsksFor
+  asks_kept width thunk (Ordinal n) asks = asks
+  asks_kept width thunk (Name text hint) asks = (asks.0, number_kept 2 _ hint asks.1, text_kept _ text asks.2)
+
+  pub thunk_kept : (width a : ℕ) (ask : Ask) → ThunkAt image width a ask → ThunkAt memory width a ask
+  thunk_kept width a ask found = record { thunk = found.thunk; located = number_kept width a found.thunk found.located; not_zero = found.not_zero; asks = asks_kept width found.thunk ask found.asks }
+
+  pub table_kept : (width : ℕ) (asks : List Ask) (a : ℕ) → TableAt image width a asks → TableAt memory width a asks
+  unfolding TableAt
+  table_kept width [] a found = number_kept width a 0 found
+  table_kept width (ask ∷ asks) a found = (thunk_kept width a ask found.0, table_kept width asks (a + width) found.1)
+
+  whole_kept : (width : ℕ) (asks : List Ask) (a : ℕ) → WholeTableAt image width a asks → WholeTableAt memory width a asks
+  unfolding WholeTableAt
+  whole_kept width [] a found = tt
+  whole_kept width (ask ∷ asks) a found = (
+    record { thunk = found.0.thunk; located = number_kept width a found.0.thunk found.0.located; whole = found.0.whole },
+    whole_kept width asks (a + width) found.1,
+  )
+
+  loads_kept : (width a : ℕ) (dll : List ℕ) (asks : List Ask) → LoadsStrictly image width a dll asks → LoadsStrictly memory width a dll asks
+  loads_kept width a dll asks loads = record {
+    plain = record {
+      lookups = loads.plain.lookups;
+      lookups_field = number_kept 4 a loads.plain.lookups loads.plain.lookups_field;
+      lookup_table = table_kept width asks loads.plain.lookups loads.plain.lookup_table;
+      name = loads.plain.name;
+      name_field = number_kept 4 (a + 12) loads.plain.name loads.plain.name_field;
+      name_text = text_kept loads.plain.name dll loads.plain.name_text;
+      addresses = loads.plain.addresses;
+      addresses_field = number_kept 4 (a + 16) loads.plain.addresses loads.plain.addresses_field;
+      address_table = table_kept width asks loads.plain.addresses loads.plain.address_table;
+    };
+    time = number_kept 4 (a + 4) 0 loads.time;
+    forwarder = number_kept 4 (a + 8) 0 loads.forwarder;
+    has_lookups = loads.has_lookups;
+    has_name = loads.has_name;
+    has_addresses = loads.has_addresses;
+    whole_lookups = whole_kept width asks loads.plain.lookups loads.whole_lookups;
+    whole_addresses = whole_kept width asks loads.plain.addresses loads.whole_addresses;
+  }
+
+  pub directory_kept : (width a : ℕ) (imports : List Imported) → DirectoryAt image width a imports → DirectoryAt memory width a imports
+  unfolding DirectoryAt
+  directory_kept width a [] directory = bytes_kept _ a directory
+  directory_kept width a (i ∷ imports) directory = (loads_kept width a i.dll i.asks directory.0, directory_kept width (a + 20) imports directory.1)
+
+  -- what a loader writes that walks the directory in memory is what one writes that walks it in the image
+  writes_back : (width : ℕ) (gives : List ℕ → Ask → List ℕ) (imports : List Imported) (a : ℕ) (written : List Range) → DirectoryAt image width a imports → Writes memory width gives a imports written →
+      Writes image width gives a imports written
+  unfolding DirectoryAt Writes
+  writes_back width gives [] a written directory writes = writes
+  writes_back width gives (i ∷ imports) a written directory (table, (field, (behind, (is, later)))) =
+      let own : ℕ = directory.0.plain.addresses in
+      let same : own ≡ table = number_once memory 4 (a + 16) own table (number_kept 4 (a + 16) own directory.0.plain.addresses_field) field in
+      (table, (subst (NumberAt image 4 (a + 16)) same directory.0.plain.addresses_field, (behind, (is, writes_back width gives imports (a + 20) behind directory.1 later))))
+
+  pub memory_read : (width : ℕ) (gives : List ℕ → Ask → List ℕ) (n a : ℕ) (imports : List Imported) (written : List Range) → DirectoryAt image width a imports → ReadsAndWrites memory width gives n a written →
+      (n ≡ length imports) × Writes image width gives a imports written
+  memory_read width gives n a imports written directory reads =
+      let read = directory_read memory width gives n a imports written (directory_kept width a imports directory) reads in
+      (read.0, writes_back width gives imports a written directory read.1)
+
+  pub memory_can_be_read : (width : ℕ) (gives : List ℕ → Ask → List ℕ) (a : ℕ) (imports : List Imported) → DirectoryAt image width a imports →
+      (written : List Range) × ReadsAndWrites memory width gives (length imports) a written
+  memory_can_be_read width gives a imports directory = directory_can_be_read memory width gives a imports (directory_kept width a imports directory)
+
+  pub keeps_written : (written : List Range) → Keeps (written ++ image) (written ++ memory)
+  unfolding Keeps
+  keeps_written [] a byte is = keeps a byte is
+  keeps_written (r ∷ written) a byte is =
+      elim (cases_Bool (is_in a r)) [
+        | inl within ↦ rw within (rw within at is)
+        | inr outside ↦ rw outside (keeps_written written a byte (rw outside at is))
+      ]
+
+  writes_once : (width : ℕ) (gives : List ℕ → Ask → List ℕ) (imports : List Imported) (a : ℕ) (first second : List Range) → Writes image width gives a imports first → Writes image width gives a imports second → first ≡ second
+  unfolding Writes
+  writes_once width gives [] a first second one two = one ∙ sym two
+  writes_once width gives (i ∷ imports) a first second (table, (field, (behind, (is, later)))) (other, (other_field, (other_behind, (other_is, other_later)))) =
+      is
+      ∙ ap (λ n. entries_written width n (gives i.dll) i.asks ++ behind) (number_once image 4 (a + 16) table other field other_field)
+      ∙ ap (λ rest. entries_written width other (gives i.dll) i.asks ++ rest) (writes_once width gives imports (a + 20) behind other_behind later other_later)
+      ∙ sym other_is
+
+  -- a loader that is handed the imports writes what one does that reads them in memory
+  pub memory_reads : (width : ℕ) (gives : List ℕ → Ask → List ℕ) (a : ℕ) (imports : List Imported) (written : List Range) → DirectoryAt image width a imports → Writes image width gives a imports written →
+      ReadsAndWrites memory width gives (length imports) a written
+  memory_reads width gives a imports written directory writes =
+      let found = memory_can_be_read width gives a imports directory in
+      subst (ReadsAndWrites memory width gives (length imports) a)
+      (writes_once width gives imports a found.0 written (memory_read width gives (length imports) a imports found.0 directory found.1).1 writes) found.1

@@ -8,7 +8,7 @@ use Rattle.std.proofs.lemmas.Option.{slice_get_within}
 use Rattle.implib.specs.declared.coff.object.Relocation.{Relocation}
 use Rattle.implib.specs.declared.machine.MachineType.{MachineType}
 use Rattle.implib.specs.declared.machine.MachineType.TheVariants.{I386, ARMNT, AMD64, ARM64}
-use Rattle.implib.specs.Formats.Constants.{amd64_rel32, arm64_pagebase_rel21, arm64_pageoffset_12l}
+use Rattle.implib.specs.Formats.Constants.{amd64_rel32, arm64_pagebase_rel21, arm64_pageoffset_12l, i386_dir32}
 use Rattle.implib.specs.Formats.Object.{ASymbol, ObjectSymbol}
 use Rattle.implib.specs.Link.Image.{Range}
 use Rattle.implib.specs.Link.Load.{BytesAt, NumberAt, number_in}
@@ -17,19 +17,15 @@ use Rattle.implib.specs.Link.Resolution.{definitions_of}
 use Rattle.implib.specs.Members.ImportTables.{thunk_width}
 use Rattle.implib.proofs.Link.LinkedMembers.{among_contains}
 use Rattle.implib.proofs.Link.Ranges.{Among, all_among}
-use Rattle.implib_link.specs.Gnu.Calls.{CanBranch, amd64_addr64, field_width}
-use Rattle.implib_link.specs.Gnu.Fields.{DefinesIn, FieldHolds, LinkedCode, MeetsAlone, field_at, meets}
-use Rattle.implib_link.specs.Gnu.Operands.{AllLead, AllLeadTo, BranchArrives, HasBranch, HasInstruction, HasOffsetField, HasOperand, HasPageField, HasPointer, InstructionArrives, IsBranch, IsOperand, IsPointer, Names, OperandArrives, PairArrives, PointerArrives, branch_leads, operand_leads, BranchStays, branch_rest}
-use Rattle.implib_link.specs.Gnu.Rebased.{absolute_width, amd64_addr32}
-use Rattle.implib_link.specs.Stub.{adrp_immediate, bits_of, ldr_immediate, page, plus_signed, with_bits}
+use Rattle.implib_link.specs.Gnu.Fields.{CanBranch, amd64_addr64, field_width, DefinesIn, FieldHolds, LinkedCode, MeetsAlone, field_at, meets, AllLead, AllLeadTo, BranchArrives, HasBranch, HasInstruction, HasOffsetField, HasOperand, HasPageField, HasPointer, InstructionArrives, IsBranch, IsOperand, IsPointer, Names, OperandArrives, PairArrives, PointerArrives, branch_leads, operand_leads, BranchStays, branch_rest, StubAt, placed_code, DirectCallArrives, HasDirectCall, HasInstructions, arm64_branch26, direct_bytes, direct_leads, direct_relocations, i386_rel32, absolute_width, amd64_addr32, StubArrives}
+use Rattle.implib_link.specs.Stub.{adrp_immediate, bits_of, ldr_immediate, page, plus_signed, with_bits, jump_reads, with_adrp, word_at}
 use Rattle.implib_link.proofs.Gnu.CallReads.{CanReach}
-use Rattle.implib_link.proofs.Gnu.Fields.{alone_same, alone_within, get_drop, get_front, meeting, meets_bounds, meets_from}
-use Rattle.implib_link.proofs.Gnu.FieldsInMemory.{Rests, Settles, bytes_there, field_there, own_end, settled_in_tables, steady_there}
-use Rattle.implib_link.proofs.Gnu.Jumps.{near_pages, page_and_offset, pages_add, sum_of_eights, whole_eights}
-use Rattle.implib_link.proofs.Gnu.Memory.{Covers}
-use Rattle.implib_link.proofs.Gnu.MovedCode.{joined}
-use Rattle.implib_link.proofs.Gnu.Program.{gets_address}
+use Rattle.implib_link.proofs.Gnu.Fields.{alone_same, alone_within, get_drop, get_front, meeting, meets_bounds, meets_from, near_pages, page_and_offset, pages_add, sum_of_eights, whole_eights, ReadsPair, pair_read, one_met, own_any, own_code, own_met, own_names, read_word, joined, four_of, jump_field, own_inside}
+use Rattle.implib_link.proofs.Gnu.FieldsInMemory.{Rests, Settles, bytes_there, field_there, own_end, settled_in_tables, steady_there, part_there}
+use Rattle.implib_link.proofs.Gnu.Loaded.{Covers}
+use Rattle.implib_link.proofs.Flavors.Block.{gets_address}
 use Rattle.implib_link.proofs.Search.Lists.{among_at, contains_among}
+use Rattle.implib.specs.Members.Gnu.{stub_bytes, stub_relocations}
 
 -- Numbers relative to the end of an instruction.
 
@@ -399,3 +395,203 @@ pub all_lead : (machine : MachineType) (image_base : ℕ) (image : List Range) (
 all_lead machine image_base image linked codes targets memory at written covers_it name bytes entry once small can located =
     all_lead_to machine image_base image linked codes targets memory at written covers_it name bytes entry once small can located name
     (settled_by machine image_base image linked codes targets memory at written covers_it name bytes entry once small can located)
+
+-- The stub of an export in memory jumps through the entry.
+
+amd64_jump : (address : ℕ) (field : List ℕ) → length field ≡ 4 → jump_reads AMD64 address (0xFF ∷ 0x25 ∷ (field ++ 0x90 ∷ 0x90 ∷ [])) ≡ Some (plus_signed 32 1 (number_in field) (address + 6))
+amd64_jump address field four =
+    let f = four_of field four in
+    subst (λ xs. jump_reads AMD64 address (0xFF ∷ 0x25 ∷ (xs ++ 0x90 ∷ 0x90 ∷ [])) ≡ Some (plus_signed 32 1 (number_in xs) (address + 6))) (sym f.is) refl
+
+pub arm64_jump : ReadsPair (jump_reads ARM64) 0x9000_0010 0xF940_0210 (0 ∷ 2 ∷ 0x1F ∷ 0xD6 ∷ [])
+arm64_jump address adrp load four also is_adrp is_load =
+    let f = four_of adrp four in
+    let g = four_of load also in
+    rw (f.is, g.is) (rw (ap (λ xs. with_adrp 0 (number_in xs)) (sym f.is) ∙ is_adrp, ap (λ xs. with_bits 10 12 0 (number_in xs)) (sym g.is) ∙ is_load) refl)
+
+-- bytes of a stub that its relocations leave
+stub_part : (machine : MachineType) (image_base : ℕ) (image : List Range) (linked : List Placed) (codes : List LinkedCode) (targets : LinkedCode → ℕ → ℕ) (memory : List Range)
+    (at : Rests machine image_base image linked codes targets memory) (written : List Range) (covers_it : AllByRecursion (Covers image) written) (d : LinkedCode) (held : Contains codes d)
+    (relocations : List Relocation) (offset count : ℕ) (bytes : List ℕ) → take count (drop offset d.code.bytes) ≡ bytes → d.code.relocations ≡ relocations →
+    list_any (meets machine offset count) relocations ≡ false → BytesAt (written ++ memory) (d.position + offset) bytes
+stub_part machine image_base image linked codes targets memory at written covers_it d held relocations offset count bytes is own none =
+    subst (BytesAt (written ++ memory) (d.position + offset)) is
+    (part_there machine image_base image linked codes targets memory at written covers_it d (contains_among d codes held) offset count
+    (subst (λ rs. list_any (meets machine offset count) rs ≡ false) (sym own) none))
+
+x86_jumps : (memory : List Range) (position : ℕ) (name bytes : List ℕ) (machine : MachineType) (image_base : ℕ) (linked : List Placed) → length (stub_bytes machine) ≡ 8 →
+    (x : InstructionArrives machine image_base linked memory (position + 0) (0xFF ∷ 0x25 ∷ []) [] name bytes) → BytesAt memory (position + 6) (0x90 ∷ 0x90 ∷ []) →
+    jump_reads machine (image_base + position) (0xFF ∷ 0x25 ∷ (x.field ++ 0x90 ∷ 0x90 ∷ [])) ≡ Some (image_base + x.entry) → StubArrives machine image_base memory position bytes
+x86_jumps memory position name bytes machine image_base linked size x tail reads =
+    let four : length x.field ≡ 4 = x.four in
+    let plain : position + 0 ≡ position = omega arith in
+    let long : length (0xFF ∷ 0x25 ∷ (x.field ++ [])) ≡ 6 = omega (arith, length-append x.field []) in
+    let place : position + 6 ≡ position + length (0xFF ∷ 0x25 ∷ (x.field ++ [])) = omega arith in
+    let whole : length (0xFF ∷ 0x25 ∷ (x.field ++ 0x90 ∷ 0x90 ∷ [])) ≡ 8 = omega (arith, length-append x.field (0x90 ∷ 0x90 ∷ [])) in
+    let f = four_of x.field x.four in
+    let same : (0xFF ∷ 0x25 ∷ (x.field ++ [])) ++ 0x90 ∷ 0x90 ∷ [] ≡ 0xFF ∷ 0x25 ∷ (x.field ++ 0x90 ∷ 0x90 ∷ []) =
+    subst (λ xs. (0xFF ∷ 0x25 ∷ (xs ++ [])) ++ 0x90 ∷ 0x90 ∷ [] ≡ 0xFF ∷ 0x25 ∷ (xs ++ 0x90 ∷ 0x90 ∷ [])) (sym f.is) refl in
+    record {
+      code = 0xFF ∷ 0x25 ∷ (x.field ++ 0x90 ∷ 0x90 ∷ []);
+      there = subst (BytesAt memory position) same
+          (joined memory (0xFF ∷ 0x25 ∷ (x.field ++ [])) (0x90 ∷ 0x90 ∷ []) position (subst (λ a. BytesAt memory a (0xFF ∷ 0x25 ∷ (x.field ++ []))) plain x.there) (subst (λ a. BytesAt memory a (0x90 ∷ 0x90 ∷ [])) place tail));
+      whole = whole ∙ sym size;
+      entry = x.entry;
+      reads = reads;
+      located = x.located;
+    }
+
+pub stub_arrives : (machine : MachineType) (image_base : ℕ) (image : List Range) (linked : List Placed) (codes : List LinkedCode) (targets : LinkedCode → ℕ → ℕ) (memory : List Range)
+    (at : Rests machine image_base image linked codes targets memory) (written : List Range) (covers_it : AllByRecursion (Covers image) written) (name bytes : List ℕ) (entry : ℕ) →
+    definitions_of name linked ≡ record { name = name; address = Some entry } ∷ [] → entry < 2 ^ 31 → CanReach machine image_base entry → BytesAt (written ++ memory) entry bytes →
+    (d : LinkedCode) (t : ObjectSymbol) → Contains codes d → StubAt machine linked (placed_code d) t entry → StubArrives machine image_base (written ++ memory) d.position bytes
+stub_arrives I386 image_base image linked codes targets memory at written covers_it name bytes entry once small can located d t held stub =
+    let x = instruction_at I386 image_base image linked codes targets memory at written covers_it name bytes entry once small can located d 0 (0xFF ∷ 0x25 ∷ []) (0 ∷ 0 ∷ 0 ∷ 0 ∷ []) [] i386_dir32 2 held
+    (subst (λ rs. MeetsAlone I386 rs 0 6 (record { offset = 2; symbol = 2; kind = i386_dir32 })) (sym stub.relocations) refl) refl
+    (subst (λ xs. take 6 (drop 0 xs) ≡ 0xFF ∷ 0x25 ∷ 0 ∷ 0 ∷ 0 ∷ 0 ∷ []) (sym stub.bytes) refl) (refl, refl) (settled_in_tables I386 image_base image linked codes targets memory at d 2 entry stub.symbol held stub.held stub.placed) in
+    x86_jumps (written ++ memory) d.position name bytes I386 image_base linked refl x
+    (stub_part I386 image_base image linked codes targets memory at written covers_it d held (stub_relocations I386 2) 6 2 (0x90 ∷ 0x90 ∷ []) (subst (λ xs. take 2 (drop 6 xs) ≡ 0x90 ∷ 0x90 ∷ []) (sym stub.bytes) refl) stub.relocations refl)
+    (jump_field (image_base + d.position) x.field x.four ∙ x.leads)
+stub_arrives ARMNT image_base image linked codes targets memory at written covers_it name bytes entry once small can located d t held stub = absurd can
+stub_arrives AMD64 image_base image linked codes targets memory at written covers_it name bytes entry once small can located d t held stub =
+    let x = instruction_at AMD64 image_base image linked codes targets memory at written covers_it name bytes entry once small can located d 0 (0xFF ∷ 0x25 ∷ []) (0 ∷ 0 ∷ 0 ∷ 0 ∷ []) [] amd64_rel32 2 held
+    (subst (λ rs. MeetsAlone AMD64 rs 0 6 (record { offset = 2; symbol = 2; kind = amd64_rel32 })) (sym stub.relocations) refl) refl
+    (subst (λ xs. take 6 (drop 0 xs) ≡ 0xFF ∷ 0x25 ∷ 0 ∷ 0 ∷ 0 ∷ 0 ∷ []) (sym stub.bytes) refl) (0, (omega arith, (refl, refl))) (settled_in_tables AMD64 image_base image linked codes targets memory at d 2 entry stub.symbol held stub.held stub.placed) in
+    let place : image_base + d.position + 6 ≡ image_base + (d.position + 0 + 2) + 4 + 0 = omega arith in
+    x86_jumps (written ++ memory) d.position name bytes AMD64 image_base linked refl x
+    (stub_part AMD64 image_base image linked codes targets memory at written covers_it d held (stub_relocations AMD64 2) 6 2 (0x90 ∷ 0x90 ∷ []) (subst (λ xs. take 2 (drop 6 xs) ≡ 0x90 ∷ 0x90 ∷ []) (sym stub.bytes) refl) stub.relocations refl)
+    (amd64_jump (image_base + d.position) x.field x.four ∙ ap (λ a. Some (plus_signed 32 1 (number_in x.field) a)) place ∙ x.leads)
+stub_arrives ARM64 image_base image linked codes targets memory at written covers_it name bytes entry once small can located d t held stub =
+    let size : length d.code.bytes ≡ 12 = ap length stub.bytes in
+    let page_code : field_at d.code.bytes 0 4 ≡ 0x9000_0010 = ap (λ xs. field_at xs 0 4) stub.bytes in
+    let load_code : field_at d.code.bytes 4 4 ≡ 0xF940_0210 = ap (λ xs. field_at xs 4 4) stub.bytes in
+    let x : PairArrives image_base linked (written ++ memory) (d.position + 0) (d.position + 4) (field_at d.code.bytes 0 4) (field_at d.code.bytes 4 4) name bytes =
+    pair_at image_base image linked codes targets memory at written covers_it name bytes entry once small can located d d 0 4 2 2 held held
+    (subst (λ rs. MeetsAlone ARM64 rs 0 4 (record { offset = 0; symbol = 2; kind = arm64_pagebase_rel21 })) (sym stub.relocations) refl) (omega arith)
+    (subst (λ rs. MeetsAlone ARM64 rs 4 4 (record { offset = 4; symbol = 2; kind = arm64_pageoffset_12l })) (sym stub.relocations) refl) (omega arith)
+    (ap adrp_immediate page_code) (ap (bits_of 30 2) load_code) (ap ldr_immediate load_code)
+    (settled_in_tables ARM64 image_base image linked codes targets memory at d 2 entry stub.symbol held stub.held stub.placed) (settled_in_tables ARM64 image_base image linked codes targets memory at d 2 entry stub.symbol held stub.held stub.placed) in
+    let branch = stub_part ARM64 image_base image linked codes targets memory at written covers_it d held (stub_relocations ARM64 2) 8 4 (0 ∷ 2 ∷ 0x1F ∷ 0xD6 ∷ [])
+    (subst (λ xs. take 4 (drop 8 xs) ≡ 0 ∷ 2 ∷ 0x1F ∷ 0xD6 ∷ []) (sym stub.bytes) refl) stub.relocations refl in
+    let plain : d.position + 0 ≡ d.position = omega arith in
+    let read = pair_read (jump_reads ARM64) 0x9000_0010 0xF940_0210 (0 ∷ 2 ∷ 0x1F ∷ 0xD6 ∷ []) arm64_jump image_base linked (written ++ memory) d.position (field_at d.code.bytes 0 4) (field_at d.code.bytes 4 4) name bytes
+    (ap (with_adrp 0) page_code) (ap (with_bits 10 12 0) load_code)
+    (subst (λ a. PairArrives image_base linked (written ++ memory) a (d.position + 4) (field_at d.code.bytes 0 4) (field_at d.code.bytes 4 4) name bytes) plain x) branch in
+    record { code = read.code; there = read.there; whole = read.whole; entry = read.entry; reads = read.leads; located = read.located }
+
+-- Calls by a name arrive, through the stub that defines it.
+
+-- a call through a stub that arrives
+by_stub : (machine : MachineType) (image_base : ℕ) (memory : List Range) (address stub : ℕ) (instruction bytes : List ℕ) → BytesAt memory address instruction → length instruction ≡ length (direct_bytes machine) →
+    direct_leads machine (image_base + address) instruction ≡ Some (image_base + stub) → StubArrives machine image_base memory stub bytes → DirectCallArrives machine image_base memory address bytes
+by_stub machine image_base memory address stub instruction bytes here whole leads arrives = record {
+  instruction = instruction;
+  here = here;
+  whole = whole;
+  stub = stub;
+  leads = leads;
+  jumps = arrives;
+}
+
+-- I386's and AMD64's call.
+
+module _ (machine : MachineType) (c : LinkedCode) (offset type : ℕ) (name : List ℕ) (wide : field_width machine type ≡ 4)
+    (has : HasInstructions machine (placed_code c) offset name (0xE8 ∷ 0 ∷ 0 ∷ 0 ∷ 0 ∷ []) (λ index. record { offset = 1; symbol = index; kind = type } ∷ [])) where
+  abbrev rs : ℕ → List Relocation
+  rs index = record { offset = 1; symbol = index; kind = type } ∷ []
+
+  abbrev code : List ℕ
+  code = 0xE8 ∷ 0 ∷ 0 ∷ 0 ∷ 0 ∷ []
+
+  call_field : field_at c.code.bytes (offset + 1) 4 ≡ 0
+  call_field = ap (λ xs. number_in (take 4 xs)) (sym (drop-drop 1 offset c.code.bytes) ∙ ap (drop 1) (own_code machine c offset name code rs has))
+
+  call_alone : MeetsAlone machine c.code.relocations (offset + 1) (field_width machine type) (record { offset = offset + 1; symbol = has.index; kind = type })
+  call_alone =
+      let four : field_width machine type ≡ 4 = wide in
+      let r : Relocation = record { offset = offset + 1; symbol = has.index; kind = type } in
+      own_met machine c offset name code rs has (offset + 1) (field_width machine type) (omega arith) (omega arith) ∙ one_met machine (offset + 1) (field_width machine type) r (omega arith) (omega arith)
+
+  call_branch : IsBranch machine type 0 0 → HasBranch machine c (offset + 1) 0 name
+  call_branch counts =
+      let end : offset + 5 ≤ length c.code.bytes = own_inside machine c offset name code rs has in
+      let four : field_width machine type ≡ 4 = wide in
+      record {
+        type = type;
+        field = record { symbol = has.index; alone = call_alone; inside = omega arith; names = own_names machine c offset name code rs has };
+        counts = subst (IsBranch machine type 0) (sym call_field) counts;
+        within = omega arith;
+      }
+
+  call_head : take 1 (drop offset c.code.bytes) ≡ 0xE8 ∷ []
+  call_head = ap (take 1) (own_code machine c offset name code rs has)
+
+  call_clear : list_any (meets machine offset 1) c.code.relocations ≡ false
+  call_clear =
+      let r : Relocation = record { offset = offset + 1; symbol = has.index; kind = type } in
+      let misses : meets machine offset 1 r ≡ false =
+      false_from_ne_true (meets machine offset 1 r) (λ met. let bounds = meets_bounds machine offset 1 r met in let low : offset + 1 < offset + 1 = bounds.0 in omega arith) in
+      own_any machine c offset name code rs has offset 1 (omega arith) (omega arith) (rw misses refl)
+
+rel32_call : (address : ℕ) (field : List ℕ) → length field ≡ 4 → direct_leads AMD64 address (0xE8 ∷ field) ≡ Some (plus_signed 32 1 (number_in field) (address + 5))
+rel32_call address field four =
+    let f = four_of field four in subst (λ xs. direct_leads AMD64 address (0xE8 ∷ xs) ≡ Some (plus_signed 32 1 (number_in xs) (address + 5))) (sym f.is) refl
+
+-- ARM64's.
+
+still_branch : (n : ℕ) → with_bits 0 26 0 n ≡ with_bits 0 26 0 0x9400_0000 → bits_of 26 6 n ≡ 0x25
+still_branch n same = omega arith
+
+arm64_leads : (address : ℕ) (xs : List ℕ) (n : ℕ) → word_at xs 0 ≡ n → bits_of 26 6 n ≡ 0x25 → direct_leads ARM64 address xs ≡ Some (plus_signed 26 4 (bits_of 0 26 n) address)
+arm64_leads address xs n is branch = rw (is, branch) refl
+
+x86_by_name : (machine : MachineType) (image_base : ℕ) (memory : List Range) (position offset stub : ℕ) (bytes : List ℕ) → length (direct_bytes machine) ≡ 5 →
+    ((address : ℕ) (field : List ℕ) → length field ≡ 4 → direct_leads machine address (0xE8 ∷ field) ≡ Some (plus_signed 32 1 (number_in field) (address + 5))) →
+    BytesAt memory (position + offset) (0xE8 ∷ []) → (x : BranchArrives machine image_base memory (position + (offset + 1)) 0 stub) →
+    Some (plus_signed 32 1 x.number (image_base + (position + (offset + 1)) + 4 + 0)) ≡ Some (image_base + stub) → StubArrives machine image_base memory stub bytes →
+    DirectCallArrives machine image_base memory (position + offset) bytes
+x86_by_name machine image_base memory position offset stub bytes size reads head x leads arrives =
+    let field : List ℕ = x.there.bytes in
+    let four : length x.there.bytes ≡ 4 = x.there.count in
+    let field_place : position + (offset + 1) ≡ position + offset + 1 = omega arith in
+    let end : image_base + (position + offset) + 5 ≡ image_base + (position + (offset + 1)) + 4 + 0 = omega arith in
+    let long : length (0xE8 ∷ x.there.bytes) ≡ 5 = omega arith in
+    by_stub machine image_base memory (position + offset) stub (0xE8 ∷ field) bytes (joined memory (0xE8 ∷ []) field (position + offset) head (subst (λ a. BytesAt memory a field) field_place x.there.located)) (long ∙ sym size)
+    (reads (image_base + (position + offset)) field four ∙ ap (λ n. Some (plus_signed 32 1 n (image_base + (position + offset) + 5))) x.there.value
+    ∙ ap (λ a. Some (plus_signed 32 1 x.number a)) end ∙ leads) arrives
+
+pub direct_arrives : (machine : MachineType) (image_base : ℕ) (image : List Range) (linked : List Placed) (codes : List LinkedCode) (targets : LinkedCode → ℕ → ℕ) (memory : List Range)
+    (at : Rests machine image_base image linked codes targets memory) (written : List Range) (covers_it : AllByRecursion (Covers image) written) (c : LinkedCode) (offset stub : ℕ) (name bytes : List ℕ) →
+    Contains codes c → HasDirectCall machine (placed_code c) offset name → ((index : ℕ) → Names c.from index name → targets c index ≡ stub) → stub < 2 ^ 31 → CanBranch machine (c.position + offset) stub →
+    StubArrives machine image_base (written ++ memory) stub bytes → DirectCallArrives machine image_base (written ++ memory) (c.position + offset) bytes
+direct_arrives I386 image_base image linked codes targets memory at written covers_it c offset stub name bytes held has taken small can arrives =
+    let x : BranchArrives I386 image_base (written ++ memory) (c.position + (offset + 1)) 0 stub =
+    branch_reaches I386 image_base image linked codes targets memory at written covers_it c (offset + 1) 0 stub name held (call_branch I386 c offset i386_rel32 name refl has (refl, refl)) taken small tt in
+    x86_by_name I386 image_base (written ++ memory) c.position offset stub bytes refl rel32_call
+    (subst (BytesAt (written ++ memory) (c.position + offset)) (call_head I386 c offset i386_rel32 name refl has)
+    (part_there I386 image_base image linked codes targets memory at written covers_it c (contains_among c codes held) offset 1 (call_clear I386 c offset i386_rel32 name refl has))) x x.leads arrives
+direct_arrives ARMNT image_base image linked codes targets memory at written covers_it c offset stub name bytes held has taken small can arrives = absurd can
+direct_arrives AMD64 image_base image linked codes targets memory at written covers_it c offset stub name bytes held has taken small can arrives =
+    let x : BranchArrives AMD64 image_base (written ++ memory) (c.position + (offset + 1)) 0 stub =
+    branch_reaches AMD64 image_base image linked codes targets memory at written covers_it c (offset + 1) 0 stub name held (call_branch AMD64 c offset amd64_rel32 name refl has (0, (omega arith, (refl, refl)))) taken small tt in
+    x86_by_name AMD64 image_base (written ++ memory) c.position offset stub bytes refl rel32_call
+    (subst (BytesAt (written ++ memory) (c.position + offset)) (call_head AMD64 c offset amd64_rel32 name refl has)
+    (part_there AMD64 image_base image linked codes targets memory at written covers_it c (contains_among c codes held) offset 1 (call_clear AMD64 c offset amd64_rel32 name refl has))) x x.leads arrives
+direct_arrives ARM64 image_base image linked codes targets memory at written covers_it c offset stub name bytes held has taken small can arrives =
+    let own : ℕ → List Relocation = direct_relocations ARM64 in
+    let code : List ℕ = direct_bytes ARM64 in
+    let r : Relocation = record { offset = offset + 0; symbol = has.index; kind = arm64_branch26 } in
+    let here : offset + 0 ≡ offset = omega arith in
+    let alone : MeetsAlone ARM64 c.code.relocations offset 4 (record { offset = offset; symbol = has.index; kind = arm64_branch26 }) =
+    own_met ARM64 c offset name code own has offset 4 (omega arith) (omega arith) ∙ one_met ARM64 offset 4 r (omega arith) (omega arith) ∙ ap (λ (k : ℕ). record { offset = k; symbol = has.index; kind = arm64_branch26 } ∷ []) here in
+    let end : offset + 4 ≤ length c.code.bytes = own_inside ARM64 c offset name code own has in
+    let old : field_at c.code.bytes offset 4 ≡ 0x9400_0000 = ap (λ xs. number_in (take 4 xs)) (own_code ARM64 c offset name code own has) in
+    let found = steady_there ARM64 image_base image linked codes targets memory at written covers_it c (contains_among c codes held) offset arm64_branch26 has.index alone (omega arith) refl in
+    let target : targets c has.index ≡ stub = taken has.index (own_names ARM64 c offset name code own has) in
+    let holds : FieldHolds ARM64 arm64_branch26 image_base (c.position + offset) stub (field_at c.code.bytes offset) found.0 =
+    subst (λ n. FieldHolds ARM64 arm64_branch26 image_base (c.position + offset) n (field_at c.code.bytes offset) found.0) target found.1.1 in
+    let both = holds.branch refl (ap (bits_of 0 26) old) can.2 can.3 in
+    let word : word_at found.1.0.bytes 0 ≡ found.0 4 = read_word found.1.0.bytes found.1.0.count ∙ found.1.0.value in
+    by_stub ARM64 image_base (written ++ memory) (c.position + offset) stub found.1.0.bytes bytes found.1.0.located found.1.0.count
+    (arm64_leads (image_base + (c.position + offset)) found.1.0.bytes (found.0 4) word (still_branch (found.0 4) (both.0 ∙ ap (with_bits 0 26 0) old))
+    ∙ ap Some (words_lead image_base (c.position + offset) stub can.0 can.1 can.2 can.3 (bits_of 0 26 (found.0 4)) both.1)) arrives

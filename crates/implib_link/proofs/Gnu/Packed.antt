@@ -1,19 +1,97 @@
--- Packed placement is admissible.
-use Rattle.std.proofs.Common.{◌≡◌, ℕ, ◌+◌, ◌-◌, ◌%◌, ◌^◌, ◌<◌, ◌≤◌, true, false, List, [], ◌∷◌, ◌++◌, length, Option, Some, None, refl, ap, sym, ◌∙◌, subst, inl, inr, arith}
-use Rattle.std.specs.Prelude.{if◌then◌else◌, nat_le, nat_lt}
+-- Relocations leave the lengths of sections as they are.
+use Rattle.std.proofs.Common.{◌≡◌, ℕ, ◌+◌, ◌-◌, ◌%◌, ◌^◌, ◌≤◌, List, [], ◌∷◌, ◌++◌, length, map, take, drop, ◌∙◌, inl, inr, arith, ◌<◌, true, false, Option, Some, None, refl, ap, sym, subst}
+use Rattle.std.specs.Prelude.{◌==◌, if◌then◌else◌, nat_le, nat_lt}
 use Rattle.std.specs.List.{AllByRecursion, filter, list_any}
-use Rattle.std.proofs.lemmas.Bool.{and_parts, cases_Bool, leb-true, ltb-true, or_parts}
-use Rattle.std.proofs.lemmas.List.{append_assoc, length-append, length-replicate}
+use Rattle.std.proofs.lemmas.Bool.{cases_Bool, and_parts, leb-true, ltb-true, or_parts}
+use Rattle.std.proofs.lemmas.List.{length-append, length-drop, length-take-le, append_assoc, length-replicate}
+use Rattle.implib.specs.declared.coff.object.Relocation.{Relocation}
 use Rattle.implib.specs.declared.machine.MachineType.{MachineType}
-use Rattle.implib.specs.Link.Image.{AllApart, AreApart, Contribution, IsAdmissible, IsBase, Range, contribution_at, contributions, contributions_in, filled, image_of, range_end, range_of, relocated}
-use Rattle.implib.specs.Members.ImportTables.{zeros}
-use Rattle.implib.specs.Formats.Object.{Object, ObjectSection}
-use Rattle.implib.specs.Link.Placement.{Addresses, Bases, Descriptors, DirectoryEnds, DllNames, Group, HintNames, Lookups, Placed, alignment, base_of, end_after, ends_after, group_named, next_multiple, address_after, section_address_of, placed_from, section_addresses_of, same_group, with_base}
-use Rattle.implib.proofs.Link.Placement.{at_least}
-use Rattle.implib_link.specs.Gnu.Packed.{end_with, group_end, packed, packed_addresses, packed_descriptors, packed_directory_ends, packed_dll_names, packed_end, packed_hint_names, packed_lookups, sections_end}
-use Rattle.implib_link.specs.Gnu.Program.{has_tables, is_table}
+use Rattle.implib.specs.declared.machine.MachineType.TheVariants.{I386, ARMNT, AMD64, ARM64}
+use Rattle.implib.specs.Formats.Bytes.{u32_bytes}
+use Rattle.implib.specs.Formats.Constants.{image_relative}
+use Rattle.implib.specs.Definition.{ExportView}
+use Rattle.implib.specs.Members.Gnu.{export_object, head_object, relocations_of_stub, relocations_of_thunk, stub, tail_object, thunk}
+use Rattle.implib.specs.Link.Image.{relocated, with_address, AllApart, AreApart, Contribution, IsAdmissible, IsBase, Range, contribution_at, contributions, contributions_in, contributions_of, filled, image_of, range_end, range_of}
+use Rattle.implib.specs.Members.ImportTables.{thunk_width, zeros}
+use Rattle.implib.specs.Formats.Object.{Object, u32_at, ObjectSection}
+use Rattle.implib.specs.Link.Placement.{Placed, Addresses, Bases, Descriptors, DirectoryEnds, DllNames, Group, HintNames, Lookups, alignment, base_of, end_after, ends_after, group_named, next_multiple, address_after, section_address_of, placed_from, section_addresses_of, same_group, with_base}
+use Rattle.implib.specs.Link.Resolution.{target_address}
+use Rattle.implib.proofs.Link.Placement.{export, head, length-thunk, tail, at_least}
+use Rattle.implib.specs.LibraryName.{NamesOfDll}
+use Rattle.implib_link.proofs.Gnu.Loaded.{by_width}
+use Rattle.implib_link.specs.Flavors.Program.{end_with, group_end, packed, packed_addresses, packed_descriptors, packed_directory_ends, packed_dll_names, packed_end, packed_hint_names, packed_lookups, sections_end, has_tables, is_table}
 use Rattle.implib_link.proofs.Gnu.Others.{contributions_kept, no_group}
-use Rattle.implib_link.proofs.Gnu.Sized.{AreWithin, IsSized, length-relocated}
+use Rattle.std.proofs.lemmas.Grind.{flat_map-append}
+use Rattle.implib.specs.Link.Load.{BytesAt}
+use Rattle.implib.proofs.Link.Linked.{LocatedFrom}
+use Rattle.implib.proofs.Link.Ranges.{located_parts}
+
+-- the relocations of so many bytes are within them
+abbrev pub AreWithin : ℕ → List Relocation → Type 0
+AreWithin size relocations = AllByRecursion (λ r. r.offset + 4 ≤ size) relocations
+
+-- each section of an object has its relocations within its bytes
+abbrev pub IsSized : Object → Type 0
+IsSized o = AllByRecursion (λ s. AreWithin (length s.bytes) s.relocations) o.sections
+
+length-with_address : (bytes : List ℕ) (offset address : ℕ) → offset + 4 ≤ length bytes → length (with_address bytes offset address) ≡ length bytes
+unfolding with_address u32_bytes
+length-with_address bytes offset address within =
+    let value : ℕ = (u32_at bytes offset + address) % 2 ^ 32 in
+    let front : length (take offset bytes) ≡ offset = length-take-le offset bytes (omega arith) in
+    let back : length (drop (offset + 4) bytes) ≡ length bytes - (offset + 4) = length-drop (offset + 4) bytes in
+    length-append (take offset bytes) (u32_bytes value ++ drop (offset + 4) bytes) ∙ omega arith
+
+pub length-relocated : (machine : MachineType) (linked : List Placed) (p : Placed) (relocations : List Relocation) (bytes : List ℕ) (size : ℕ) →
+    AreWithin size relocations → length bytes ≡ size → length (relocated machine linked p relocations bytes) ≡ size
+length-relocated machine linked p [] bytes size within long = long
+length-relocated machine linked p (r ∷ relocations) bytes size within long =
+    let here : r.offset + 4 ≤ size = within.0 in
+    elim (cases_Bool (r.kind == image_relative machine)) [
+      | inl is ↦ rw is (length-relocated machine linked p relocations (with_address bytes r.offset (target_address linked p r.symbol)) size within.1
+          (length-with_address bytes r.offset (target_address linked p r.symbol) (omega arith) ∙ long))
+      | inr is ↦ rw is (length-relocated machine linked p relocations bytes size within.1 long)
+    ]
+
+-- The members' objects are sized.
+
+pub thunk_size : (machine : MachineType) → 4 ≤ thunk_width machine
+thunk_size machine = by_width (λ w. 4 ≤ w) (omega arith) (omega arith) machine
+
+hint_within : (machine : MachineType) (e : ExportView) (size : ℕ) → 4 ≤ size → AreWithin size (relocations_of_thunk machine e)
+unfolding relocations_of_thunk
+hint_within machine e size long = elim (cases_Bool e.no_name) [ inl is ↦ rw is tt | inr is ↦ rw is (omega arith, tt) ]
+
+thunk_within : (machine : MachineType) (e : ExportView) → AreWithin (length (thunk machine e)) (relocations_of_thunk machine e)
+thunk_within machine e =
+    let long : length (thunk machine e) ≡ thunk_width machine = length-thunk machine e in
+    let size : 4 ≤ thunk_width machine = thunk_size machine in
+    hint_within machine e (length (thunk machine e)) (omega arith)
+
+stub_within : (machine : MachineType) (e : ExportView) → AreWithin (length (stub machine e)) (relocations_of_stub machine e)
+unfolding relocations_of_stub stub
+stub_within I386 e = elim (cases_Bool e.is_data) [ inl is ↦ rw is tt | inr is ↦ rw is (omega arith, tt) ]
+stub_within ARMNT e = elim (cases_Bool e.is_data) [ inl is ↦ rw is tt | inr is ↦ rw is (omega arith, tt) ]
+stub_within AMD64 e = elim (cases_Bool e.is_data) [ inl is ↦ rw is tt | inr is ↦ rw is (omega arith, tt) ]
+stub_within ARM64 e = elim (cases_Bool e.is_data) [ inl is ↦ rw is tt | inr is ↦ rw is (omega arith, (omega arith, tt)) ]
+
+pub head_sized : (machine : MachineType) (dll : NamesOfDll) → IsSized (head machine dll)
+unfolding head_object
+head_sized machine dll = (tt, (tt, (tt, ((omega arith, (omega arith, (omega arith, tt))), (tt, (tt, tt))))))
+
+pub tail_sized : (machine : MachineType) (dll : NamesOfDll) → IsSized (tail machine dll)
+unfolding tail_object
+tail_sized machine dll = (tt, (tt, (tt, (tt, (tt, (tt, tt))))))
+
+pub export_sized : (machine : MachineType) (dll : NamesOfDll) (e : ExportView) → IsSized (export machine dll e)
+unfolding export_object
+export_sized machine dll e = (stub_within machine e, (tt, (tt, ((omega arith, tt), (thunk_within machine e, (thunk_within machine e, (tt, tt)))))))
+
+pub exports_sized : (machine : MachineType) (dll : NamesOfDll) (es : List ExportView) (rest : List Object) → AllByRecursion IsSized rest → AllByRecursion IsSized (map (export machine dll) es ++ rest)
+exports_sized machine dll [] rest all = all
+exports_sized machine dll (e ∷ es) rest all = (export_sized machine dll e, exports_sized machine dll es rest all)
+
+-- Packed placement is admissible.
 
 -- Groups do not touch one another.
 
@@ -59,62 +137,82 @@ end_of_sections group b (s ∷ sections) =
 unfoldable pub span : ℕ → List Contribution → ℕ
 span base cs = base + length (filled base cs)
 
-span_nil : (base : ℕ) → span base [] ≡ base
-unfolding span
-span_nil base = omega arith
+-- contributions fill from a base to an end, from which on those behind them are filled in
+pub record Fills (base : ℕ) (cs : List Contribution) (end : ℕ) : Type 0 where
+  pub ends : span base cs ≡ end
+  pub behind : (rest : List Contribution) → filled base (cs ++ rest) ≡ filled base cs ++ filled end rest
 
-span_next : (base : ℕ) (c : Contribution) (cs : List Contribution) → base ≤ c.address → span base (c ∷ cs) ≡ span (c.address + length c.bytes) cs
+fills_none : (base : ℕ) → Fills base [] base
 unfolding span
-span_next base c cs low =
+fills_none base = record { ends = omega arith; behind = λ rest. refl }
+
+fills_one : (base end : ℕ) (c : Contribution) → base ≤ c.address → c.address + length c.bytes ≡ end → Fills base (c ∷ []) end
+unfolding span
+fills_one base end c low is =
     let padding : List ℕ = zeros (c.address - base) in
     let padded : length padding ≡ c.address - base = length-replicate {A = ℕ} (c.address - base) 0 in
-    let all : length (padding ++ (c.bytes ++ filled (c.address + length c.bytes) cs)) ≡ length padding + length (c.bytes ++ filled (c.address + length c.bytes) cs) =
-    length-append padding (c.bytes ++ filled (c.address + length c.bytes) cs) in
-    let rest : length (c.bytes ++ filled (c.address + length c.bytes) cs) ≡ length c.bytes + length (filled (c.address + length c.bytes) cs) =
-    length-append c.bytes (filled (c.address + length c.bytes) cs) in
-    omega arith
+    let all : length (padding ++ (c.bytes ++ [])) ≡ length padding + length (c.bytes ++ []) = length-append padding (c.bytes ++ []) in
+    let own : length (c.bytes ++ []) ≡ length c.bytes + 0 = length-append c.bytes [] in
+    record {
+      ends = omega arith;
+      behind = λ rest. ap (λ n. padding ++ (c.bytes ++ filled n rest)) is
+          ∙ ap (λ bytes. padding ++ bytes) (sym (append_assoc c.bytes [] (filled end rest)))
+          ∙ sym (append_assoc padding (c.bytes ++ []) (filled end rest));
+    }
+
+fills_both : (base middle end : ℕ) (front back : List Contribution) → Fills base front middle → Fills middle back end → Fills base (front ++ back) end
+unfolding span
+fills_both base middle end front back one two =
+    let sum : length (filled base front ++ filled middle back) ≡ length (filled base front) + length (filled middle back) = length-append (filled base front) (filled middle back) in
+    let first : base + length (filled base front) ≡ middle = one.ends in
+    let second : middle + length (filled middle back) ≡ end = two.ends in
+    record {
+      ends = ap (λ bytes. base + length bytes) (one.behind back) ∙ omega arith;
+      behind = λ rest. ap (filled base) (append_assoc front back rest)
+          ∙ one.behind (back ++ rest)
+          ∙ ap (λ bytes. filled base front ++ bytes) (two.behind rest)
+          ∙ sym (append_assoc (filled base front) (filled middle back) (filled end rest))
+          ∙ ap (λ bytes. bytes ++ filled end rest) (sym (one.behind back));
+    }
 
 module _ (machine : MachineType) (linked : List Placed) (group : Group) where
-  span_section : (p : Placed) (b : Bases) (s : ObjectSection) (named : Option Group) (cs : List Contribution) → AreWithin (length s.bytes) s.relocations →
-      span (base_of group b) (contribution_at group (address_after b s.flags named) (relocated machine linked p s.relocations s.bytes) ++ cs) ≡ span (end_with group (base_of group b) s named) cs
-  span_section p b s None cs within = refl
-  span_section p b s (Some other) cs within =
+  fills_section : (p : Placed) (b : Bases) (s : ObjectSection) (named : Option Group) → AreWithin (length s.bytes) s.relocations →
+      Fills (base_of group b) (contribution_at group (address_after b s.flags named) (relocated machine linked p s.relocations s.bytes)) (end_with group (base_of group b) s named)
+  fills_section p b s None within = fills_none (base_of group b)
+  fills_section p b s (Some other) within =
       elim (cases_Bool (same_group group other)) [
         | inl is ↦
-            let bytes : List ℕ = relocated machine linked p s.relocations s.bytes in
             let position : ℕ = next_multiple (alignment s.flags) (base_of group b) in
-            let long : length bytes ≡ length s.bytes = length-relocated machine linked p s.relocations s.bytes (length s.bytes) within refl in
             rw (is, same_base group other b is) (
-            span_next (base_of group b) (record { address = position; bytes = bytes }) cs (at_least (alignment s.flags) (base_of group b))
-            ∙ ap (λ n. span (position + n) cs) long)
-        | inr is ↦ rw is refl
+            fills_one (base_of group b) (position + length s.bytes) (record { address = position; bytes = relocated machine linked p s.relocations s.bytes })
+            (at_least (alignment s.flags) (base_of group b))
+            (ap (λ n. position + n) (length-relocated machine linked p s.relocations s.bytes (length s.bytes) within refl)))
+        | inr is ↦ rw is (fills_none (base_of group b))
       ]
 
-  span_sections : (p : Placed) (b : Bases) (sections : List ObjectSection) (cs : List Contribution) → AllByRecursion (λ s. AreWithin (length s.bytes) s.relocations) sections →
-      span (base_of group b) (contributions_in machine linked p group (section_addresses_of b sections) sections ++ cs) ≡ span (sections_end group (base_of group b) sections) cs
+  fills_sections : (p : Placed) (b : Bases) (sections : List ObjectSection) → AllByRecursion (λ s. AreWithin (length s.bytes) s.relocations) sections →
+      Fills (base_of group b) (contributions_in machine linked p group (section_addresses_of b sections) sections) (sections_end group (base_of group b) sections)
   unfolding sections_end
-  span_sections p b [] cs sized = refl
-  span_sections p b (s ∷ sections) cs sized =
+  fills_sections p b [] sized = fills_none (base_of group b)
+  fills_sections p b (s ∷ sections) sized =
       let later : Bases = end_after b (section_address_of b s) (length s.bytes) in
-      let own : List Contribution = contribution_at group (section_address_of b s) (relocated machine linked p s.relocations s.bytes) in
-      let others : List Contribution = contributions_in machine linked p group (section_addresses_of later sections) sections in
-      ap (span (base_of group b)) (append_assoc own others cs)
-      ∙ span_section p b s (group_named s.name) (others ++ cs) sized.0
-      ∙ ap (λ n. span n (others ++ cs)) (sym (end_of_section group b s (group_named s.name)))
-      ∙ span_sections p later sections cs sized.1
-      ∙ ap (λ n. span (sections_end group n sections) cs) (end_of_section group b s (group_named s.name))
+      let end : base_of group later ≡ end_with group (base_of group b) s (group_named s.name) = end_of_section group b s (group_named s.name) in
+      fills_both (base_of group b) (end_with group (base_of group b) s (group_named s.name)) (sections_end group (end_with group (base_of group b) s (group_named s.name)) sections)
+      (contribution_at group (section_address_of b s) (relocated machine linked p s.relocations s.bytes)) (contributions_in machine linked p group (section_addresses_of later sections) sections)
+      (fills_section p b s (group_named s.name) sized.0)
+      (subst (λ n. Fills n (contributions_in machine linked p group (section_addresses_of later sections) sections) (sections_end group n sections)) end (fills_sections p later sections sized.1))
 
-  pub span_objects : (b : Bases) (objects : List Object) → AllByRecursion IsSized objects →
-      span (base_of group b) (contributions machine linked group (placed_from b objects)) ≡ group_end group (base_of group b) objects
+  pub fills_objects : (b : Bases) (objects : List Object) → AllByRecursion IsSized objects →
+      Fills (base_of group b) (contributions machine linked group (placed_from b objects)) (group_end group (base_of group b) objects)
   unfolding group_end
-  span_objects b [] sized = span_nil (base_of group b)
-  span_objects b (o ∷ objects) sized =
+  fills_objects b [] sized = fills_none (base_of group b)
+  fills_objects b (o ∷ objects) sized =
       let p : Placed = record { object = o; section_addresses = section_addresses_of b o.sections } in
-      let others : List Contribution = contributions machine linked group (placed_from (ends_after b o.sections) objects) in
-      span_sections p b o.sections others sized.0
-      ∙ ap (λ n. span n others) (sym (end_of_sections group b o.sections))
-      ∙ span_objects (ends_after b o.sections) objects sized.1
-      ∙ ap (λ n. group_end group n objects) (end_of_sections group b o.sections)
+      let later : Bases = ends_after b o.sections in
+      fills_both (base_of group b) (sections_end group (base_of group b) o.sections) (group_end group (sections_end group (base_of group b) o.sections) objects)
+      (contributions_of machine linked group p) (contributions machine linked group (placed_from later objects))
+      (fills_sections p b o.sections sized.0)
+      (subst (λ n. Fills n (contributions machine linked group (placed_from later objects)) (group_end group n objects)) (end_of_sections group b o.sections) (fills_objects later objects sized.1))
 
 -- objects without tables end nothing later
 end_without : (group : Group) (n : ℕ) (sections : List ObjectSection) → list_any is_table sections ≡ false → sections_end group n sections ≡ n
@@ -241,7 +339,7 @@ module _ (machine : MachineType) (first : ℕ) (objects : List Object) (sized : 
   group_span : (group : Group) → span (base_of group bases) (contributions machine linked group linked) ≡ group_end group (base_of group bases) objects
   group_span group =
       ap (span (base_of group bases)) (contributions_kept machine linked group bases objects)
-      ∙ span_objects machine linked group bases (filter has_tables objects) sized
+      ∙ (fills_objects machine linked group bases (filter has_tables objects) sized).ends
       ∙ sym (end_kept group (base_of group bases) objects)
 
   -- a group's range, and the others after the next base
@@ -294,3 +392,66 @@ module _ (machine : MachineType) (first : ℕ) (objects : List Object) (sized : 
 pub packed_eights : (first : ℕ) (objects : List Object) → (packed first objects).addresses % 8 ≡ 0
 unfolding next_multiple
 packed_eights first objects = omega arith
+
+-- Objects after others, of which is known only that their relocations are within their sections.
+
+-- the ends after objects that are placed one after another
+unfoldable pub ends_behind : Bases → List Object → Bases
+ends_behind b [] = b
+ends_behind b (o ∷ objects) = ends_behind (ends_after b o.sections) objects
+
+pub placed_parts : (b : Bases) (front rest : List Object) → placed_from b (front ++ rest) ≡ placed_from b front ++ placed_from (ends_behind b front) rest
+unfolding ends_behind
+placed_parts b [] rest = refl
+placed_parts b (o ∷ front) rest =
+    ap (λ others. record { object = o; section_addresses = section_addresses_of b o.sections } ∷ others) (placed_parts (ends_after b o.sections) front rest)
+
+-- the end of a group after objects
+pub end_behind : (group : Group) (b : Bases) (objects : List Object) → base_of group (ends_behind b objects) ≡ group_end group (base_of group b) objects
+unfolding ends_behind group_end
+end_behind group b [] = refl
+end_behind group b (o ∷ objects) =
+    end_behind group (ends_after b o.sections) objects
+    ∙ ap (λ n. group_end group n objects) (end_of_sections group b o.sections)
+
+-- what is filled in of a group, in two parts
+module _ (machine : MachineType) (linked : List Placed) (image : List Range) (b : Bases) (front rest : List Object) (sized : AllByRecursion IsSized front) where
+  abbrev own : Group → List Contribution
+  own group = contributions machine linked group (placed_from b front)
+
+  abbrev later : Group → List Contribution
+  later group = contributions machine linked group (placed_from (ends_behind b front) rest)
+
+  parts : (group : Group) → BytesAt image (base_of group b) (filled (base_of group b) (contributions machine linked group (placed_from b (front ++ rest)))) →
+      BytesAt image (base_of group b) (filled (base_of group b) (own group))
+      × BytesAt image (base_of group (ends_behind b front)) (filled (base_of group (ends_behind b front)) (later group))
+  unfolding span
+  parts group located =
+      let base : ℕ = base_of group b in
+      let fills : Fills base (own group) (group_end group base front) = fills_objects machine linked group b front sized in
+      let split : filled base (contributions machine linked group (placed_from b (front ++ rest))) ≡ filled base (own group) ++ filled (base_of group (ends_behind b front)) (later group) =
+      ap (λ ps. filled base (contributions machine linked group ps)) (placed_parts b front rest)
+      ∙ ap (filled base) (flat_map-append (contributions_of machine linked group) (placed_from b front) (placed_from (ends_behind b front) rest))
+      ∙ fills.behind (later group)
+      ∙ ap (λ n. filled base (own group) ++ filled n (later group)) (sym (end_behind group b front)) in
+      let found = located_parts image (filled base (own group)) (filled (base_of group (ends_behind b front)) (later group)) base (subst (BytesAt image base) split located) in
+      let end : base + length (filled base (own group)) ≡ base_of group (ends_behind b front) = fills.ends ∙ sym (end_behind group b front) in
+      (found.0, subst (λ n. BytesAt image n (filled (base_of group (ends_behind b front)) (later group))) end found.1)
+
+  pub located_front : LocatedFrom machine linked image b (front ++ rest) → LocatedFrom machine linked image b front
+  located_front located = record {
+    descriptors = (parts Descriptors located.descriptors).0;
+    lookups = (parts Lookups located.lookups).0;
+    addresses = (parts Addresses located.addresses).0;
+    hint_names = (parts HintNames located.hint_names).0;
+    dll_names = (parts DllNames located.dll_names).0;
+  }
+
+  pub located_behind : LocatedFrom machine linked image b (front ++ rest) → LocatedFrom machine linked image (ends_behind b front) rest
+  located_behind located = record {
+    descriptors = (parts Descriptors located.descriptors).1;
+    lookups = (parts Lookups located.lookups).1;
+    addresses = (parts Addresses located.addresses).1;
+    hint_names = (parts HintNames located.hint_names).1;
+    dll_names = (parts DllNames located.dll_names).1;
+  }

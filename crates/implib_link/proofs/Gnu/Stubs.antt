@@ -1,15 +1,10 @@
 -- Stubs jump through their own entries.
-use Rattle.std.proofs.Common.{◌≡◌, ℕ, zero, suc, ◌+◌, ◌*◌, ◌%◌, ◌^◌, ◌<◌, ◌≤◌, false, List, [], ◌∷◌, length, Some, refl, ap, sym, ◌∙◌, subst, arith}
+use Rattle.std.proofs.Common.{◌≡◌, ℕ, zero, suc, ◌+◌, ◌*◌, ◌<◌, false, List, [], ◌∷◌, Some, refl, ap, sym, ◌∙◌, subst, arith}
 use Rattle.std.specs.Prelude.{slice_get}
-use Rattle.std.specs.List.{AllByRecursion}
 use Rattle.implib.specs.declared.machine.MachineType.{MachineType}
-use Rattle.implib.specs.declared.machine.MachineType.TheVariants.{I386, ARMNT, AMD64, ARM64}
 use Rattle.implib.specs.Formats.Constants.{align_4bytes, cnt_code, mem_execute_read, class_external}
 use Rattle.implib.specs.Definition.{ExportView}
 use Rattle.implib.specs.Members.Gnu.{export_object, relocations_of_stub, section, stub, stub_bytes, stub_relocations, text_name}
-use Rattle.implib.specs.Link.Image.{Range, range_end}
-use Rattle.implib.specs.Import.{Ask}
-use Rattle.implib.specs.Link.Load.{BytesAt, TableAt}
 use Rattle.implib.specs.Members.ImportTables.{thunk_width}
 use Rattle.implib.specs.Formats.Object.{ASymbol, Object}
 use Rattle.implib.specs.Link.Placement.{Bases, Placed, placed_from}
@@ -17,9 +12,7 @@ use Rattle.implib.specs.Link.Resolution.{SymbolDefinition, address_or_zero, firs
 use Rattle.implib.proofs.Link.Linked.{address_found}
 use Rattle.implib.proofs.Link.LinkedBlocks.{even}
 use Rattle.implib.proofs.Link.Placement.{AreAligned, after_head, aligned_after, ends_of_all, ends_of_export, ends_of_exports, placed-export, placed-tail, placed_export}
-use Rattle.implib.proofs.Link.Ranges.{Among, address_bounds, among_first, among_later}
-use Rattle.implib_link.specs.Stub.{CanJump, code_relocated, jump_reads}
-use Rattle.implib_link.proofs.Gnu.Jumps.{amd64_jumps, arm64_jumps, i386_jumps}
+use Rattle.implib.proofs.Link.Ranges.{Among, among_first, among_later}
 use Rattle.implib_link.proofs.Gnu.Loaded.{times_next, times_none, by_width}
 use Rattle.implib.specs.LibraryName.{NamesOfDll}
 
@@ -66,24 +59,6 @@ later_sum c a b w m is same = is ∙ ap (λ n. n + w * m) same
 
 -- Entries are below 2^31.
 
-byte_below : (image : List Range) → AllByRecursion (λ r. 0 < r.start) image → AllByRecursion (λ r. range_end r < 2 ^ 31) image → (a : ℕ) (bytes : List ℕ) → 0 < length bytes →
-    BytesAt image a bytes → a < 2 ^ 31
-unfolding BytesAt
-byte_below image low high a [] long located = absurd (omega arith)
-byte_below image low high a (byte ∷ bytes) long located = (address_bounds image a byte low high located.0).1
-
-pub thunk_below : (image : List Range) → AllByRecursion (λ r. 0 < r.start) image → AllByRecursion (λ r. range_end r < 2 ^ 31) image → (width : ℕ) → 0 < width → (asks : List Ask) (a j : ℕ) (ask : Ask) →
-    TableAt image width a asks → slice_get asks j ≡ Some ask → a + width * j < 2 ^ 31
-unfolding TableAt
-thunk_below image low high width wide [] a j ask table is = cc
-thunk_below image low high width wide (x ∷ asks) a zero ask table is =
-    let count : length table.0.located.bytes ≡ width = table.0.located.count in
-    let below : a < 2 ^ 31 = byte_below image low high a table.0.located.bytes (omega arith) table.0.located.located in
-    let same : a ≡ a + width * 0 = times_none a width in
-    subst (λ n. n < 2 ^ 31) same below
-thunk_below image low high width wide (x ∷ asks) a (suc j) ask table is =
-    subst (λ n. n < 2 ^ 31) (times_next a width j) (thunk_below image low high width wide asks (a + width) j ask table.1 is)
-
 pub wide_thunk : (machine : MachineType) → 0 < thunk_width machine
 wide_thunk machine = by_width (λ w. 0 < w) (omega arith) (omega arith) machine
 
@@ -112,21 +87,6 @@ pub target_is : (machine : MachineType) (dll : NamesOfDll) (linked : List Placed
 target_is machine dll linked b e entry is same =
     let plain : b.addresses + 0 ≡ b.addresses = omega arith in
     ap address_or_zero (address_found machine dll linked b e is) ∙ plain ∙ same
-
-eights : (a n m : ℕ) → a % 8 ≡ 0 → (a + 8 * n + 8 * m) % 8 ≡ 0
-eights a n m even = omega arith
-
--- by the machine's instructions
-pub jump_by : (machine : MachineType) (image_base : ℕ) (bases : Bases) (n m position : ℕ) (linked : List Placed) (p : Placed) → CanJump machine image_base bases →
-    position + 16 ≤ 2 ^ 31 → bases.addresses + thunk_width machine * n + thunk_width machine * m < 2 ^ 31 →
-    target_address linked p 2 ≡ bases.addresses + thunk_width machine * n + thunk_width machine * m →
-    jump_reads machine (image_base + position) (code_relocated machine image_base linked p position (stub_relocations machine 2) (stub_bytes machine))
-    ≡ Some (image_base + (bases.addresses + thunk_width machine * n + thunk_width machine * m))
-jump_by I386 image_base bases n m position linked p can near small target = i386_jumps image_base position _ linked p can small target
-jump_by ARMNT image_base bases n m position linked p can near small target = absurd can
-jump_by AMD64 image_base bases n m position linked p can near small target = amd64_jumps image_base position _ linked p near small target
-jump_by ARM64 image_base bases n m position linked p can near small target =
-    arm64_jumps image_base position _ linked p near small can.0 (eights bases.addresses n m can.1) target
 
 pub same_address : (name : List ℕ) (a b : ℕ) (ds : List SymbolDefinition) → ds ≡ record { name = name; address = Some a } ∷ [] → ds ≡ record { name = name; address = Some b } ∷ [] → a ≡ b
 same_address name a b ds first second =

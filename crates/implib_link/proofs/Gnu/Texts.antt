@@ -14,7 +14,7 @@ use Rattle.implib.specs.Library.{LibraryView}
 use Rattle.implib.specs.Link.LinkedMembers.{chosen_exports}
 use Rattle.implib.specs.Renaming.{renamed}
 use Rattle.implib.proofs.Members.Renaming.{renamed_twice}
-use Rattle.implib_link.specs.Gnu.Texts.{Stated, chosen_stated, stated}
+use Rattle.implib_link.specs.Flavors.Texts.{Stated, chosen_stated, stated}
 use Rattle.implib_link.proofs.Search.Lists.{all_from, kept_from, passing}
 use Rattle.implib.proofs.Link.Ranges.{all_among}
 use Rattle.implib.proofs.Link.LinkedMembers.{all_at}

@@ -15,21 +15,17 @@ use Rattle.implib.proofs.Link.LinkedMembers.{among_map}
 use Rattle.implib.proofs.Link.Ranges.{all_among, among_back}
 use Rattle.implib_link.specs.Image.Files.{DataDirectory, LoadsFile, MappedFile, WritesFrom}
 use Rattle.implib_link.specs.Image.Laws.{HasTable, IsFileOf, IsInDirectory, thunks_with_nulls}
-use Rattle.implib_link.specs.Gnu.Fields.{AreLinkedBeside, DefinesIn, LinkedCode, range_of_code, ranges_of_codes}
-use Rattle.implib_link.specs.Gnu.Loaded.{Writes}
-use Rattle.implib_link.specs.Gnu.Operands.{AllLead, AreKept}
-use Rattle.implib_link.specs.Gnu.Reading.{ReadsAndWrites}
+use Rattle.implib_link.specs.Gnu.Fields.{AreLinkedBeside, DefinesIn, LinkedCode, range_of_code, ranges_of_codes, AllLead, AreKept}
+use Rattle.implib_link.specs.Gnu.Writing.{Writes, ReadsAndWrites}
 use Rattle.implib_link.specs.Gnu.Stored.{AreFurtherHeld, HoldAddress}
 use Rattle.implib_link.specs.Tables.{AreSteady, AreTables, AreTablesLoaded, Block, CanReadFrom, IsInTable, Table, TableEntry, Tables, imported_by_table, packed_tables}
 use Rattle.implib_link.proofs.Gnu.Fields.{located_each}
 use Rattle.implib_link.proofs.Gnu.FieldsInMemory.{Rests, StoredRests, part_there, same_pages}
-use Rattle.implib_link.proofs.Gnu.Keeps.{Keeps, bytes_kept, keeps_written, memory_can_be_read, memory_read, number_kept}
-use Rattle.implib_link.proofs.Gnu.Memory.{Covers, byte_front, within_bounds, written_covers}
+use Rattle.implib_link.proofs.Gnu.Loaded.{Keeps, bytes_kept, keeps_written, memory_can_be_read, memory_read, number_kept, Covers, byte_front, within_bounds, written_covers}
 use Rattle.implib_link.proofs.Gnu.Operands.{all_lead}
-use Rattle.implib_link.proofs.Gnu.Stored.{holds_address, settled_by_code}
+use Rattle.implib_link.proofs.StoredInMemory.{holds_address, settled_by_code}
 use Rattle.implib_link.proofs.Search.Lists.{contains_among, all_parts}
-use Rattle.implib_link.proofs.Tables.{tables_load}
-use Rattle.implib_link.proofs.TablesInMemory.{entry_in, entry_reached, written_read}
+use Rattle.implib_link.proofs.Tables.{tables_load, entry_in, entry_reached, written_read}
 
 -- Memory that has the bytes of ranges.
 

@@ -22,18 +22,14 @@ use Rattle.implib.proofs.Link.Linked.{LocatedFrom}
 use Rattle.implib.proofs.Link.Placement.{AreAligned, aligned_thunk}
 use Rattle.implib.proofs.Link.Ranges.{Among, among_back, among_first, among_front, among_later, located_parts}
 use Rattle.implib.proofs.Link.Thunks.{StrictTableAt}
-use Rattle.implib_link.specs.Gnu.OtherLibraries.{ends_behind}
-use Rattle.implib_link.specs.Gnu.Packed.{sections_end}
+use Rattle.implib_link.specs.Flavors.Program.{sections_end}
 use Rattle.implib_link.specs.Parts.{AreEntries, IsHead, Row, ask_of, begins, dll_text, entry_name, has_none, is_empty, is_field, is_in_group, leads_to, named_bytes, names_entry, only_section, row_in, row_of, sections_of}
 use Rattle.implib_link.specs.Tables.{TableEntry}
-use Rattle.implib_link.proofs.Gnu.Packed.{end_of_sections}
-use Rattle.implib_link.proofs.Gnu.Runs.{located_behind}
-use Rattle.implib_link.proofs.Gnu.Sized.{IsSized}
-use Rattle.implib_link.proofs.Parts.Sections.{none_ends, one_address, one_ends, one_is}
-use Rattle.implib_link.proofs.Parts.Texts.{ended_is, named_located, null_located, only_located, thunk_located, field_is}
+use Rattle.implib_link.proofs.Gnu.Packed.{end_of_sections, ends_behind, located_behind, IsSized}
+use Rattle.implib_link.proofs.Parts.Texts.{none_ends, one_address, one_ends, one_is, ended_is, named_located, null_located, only_located, thunk_located, field_is}
 use Rattle.implib_link.proofs.Gnu.Loaded.{plus_none, times_next, times_none}
 use Rattle.implib_link.proofs.Flavors.Program.{later_even}
-use Rattle.implib_link.proofs.Gnu.Beside.{zero_table, table_with}
+use Rattle.implib_link.proofs.Gnu.Filling.{zero_table, table_with}
 
 -- The address of a symbol in the only section of a group.
 module _ (group : Group) (o : Object) (b : Bases) (s : ObjectSection) (is : only_section group o ≡ Some s) (even : base_of group b % 4 ≡ 0) where

@@ -1,43 +1,62 @@
 -- What is linked of a definition for GNU's linker is a part, and parts that store no address whole are steady.
-use Rattle.std.proofs.Common.{◌≡◌, ℕ, ◌+◌, ◌*◌, ◌-◌, ◌%◌, ◌/◌, ◌^◌, ◌<◌, true, false, List, [], ◌∷◌, ◌++◌, codes, map, Option, Some, None, refl, ap, sym, ◌∙◌, subst, inl, inr, arith}
-use Rattle.std.specs.Prelude.{◌||◌, Bool, bytes_eq, not, slice_get, take}
-use Rattle.std.specs.List.{AllByRecursion, filter_map, list_all, list_any}
+use Rattle.std.proofs.Common.{◌≡◌, ℕ, ◌+◌, ◌*◌, ◌-◌, ◌%◌, ◌/◌, ◌^◌, ◌<◌, true, false, List, [], ◌∷◌, ◌++◌, codes, map, Option, Some, None, refl, ap, sym, ◌∙◌, subst, inl, inr, arith, ◌≤◌, zero, suc, length}
+use Rattle.std.specs.Prelude.{◌||◌, Bool, bytes_eq, not, slice_get, take, if◌then◌else◌, ◌&&◌, ◌==◌}
+use Rattle.std.specs.List.{AllByRecursion, filter_map, list_all, list_any, Contains, cons_option}
 use Rattle.std.proofs.lemmas.List.{append_assoc}
-use Rattle.std.proofs.lemmas.Bool.{and_from, cases_Bool, lt-ltb}
+use Rattle.std.proofs.lemmas.Bool.{and_from, cases_Bool, lt-ltb, ltb-true, and_parts, eqb-true}
 use Rattle.implib.specs.declared.coff.object.Place.TheVariants.{Section, Undefined}
 use Rattle.implib.specs.declared.coff.object.Relocation.{Relocation}
 use Rattle.implib.specs.declared.machine.MachineType.{MachineType}
 use Rattle.implib.specs.declared.machine.MachineType.TheVariants.{I386, ARMNT, AMD64, ARM64}
 use Rattle.implib.specs.Definition.{ExportView}
 use Rattle.implib.specs.Formats.Bytes.{u16_bytes}
-use Rattle.implib.specs.Formats.Constants.{class_external, class_static, image_relative}
-use Rattle.implib.specs.Formats.Layout.{HasNoNul}
-use Rattle.implib.specs.Formats.Object.{Entry, Object, ObjectSection}
-use Rattle.implib.specs.Formats.Writer.{AddedSymbol, all_entries, written_object}
-use Rattle.implib.specs.Import.{Name, Ordinal, expected_ask, imp_symbol, name_asked}
+use Rattle.implib.specs.Formats.Constants.{class_external, class_static, image_relative, align_4bytes, cnt_code, mem_execute_read}
+use Rattle.implib.specs.Formats.Layout.{HasNoNul, Fits, encoded, encoded_size}
+use Rattle.implib.specs.Formats.Object.{Entry, Object, ObjectSection, object_in, ASymbol, Auxiliary, ObjectSymbol, section_numbered}
+use Rattle.implib.specs.Formats.Writer.{AddedSymbol, all_entries, written_object, WriterState, layout_of}
+use Rattle.implib.specs.Import.{Name, Ordinal, expected_ask, imp_symbol, name_asked, holds, public_exports}
 use Rattle.implib.specs.LibraryName.{NamesOfDll, names_for}
 use Rattle.implib.specs.declared.flavor.Flavor.TheVariants.{Gnu}
-use Rattle.implib.specs.Link.LinkedMembers.{IsMade, LinkInput, chosen_exports}
+use Rattle.implib.specs.Link.LinkedMembers.{IsMade, LinkInput, chosen_exports, objects_in}
 use Rattle.implib.specs.Link.Load.{number_in}
-use Rattle.implib.specs.Link.Placement.{Addresses, Bases, Lookups, placed_from}
-use Rattle.implib.specs.Members.Gnu.{added, code_symbol, export_object, head_object, head_symbol, hint_name, hint_name_symbol, iname_symbol, relocations_of_thunk, tail_object, thunk}
+use Rattle.implib.specs.Link.Placement.{Addresses, Bases, Lookups, placed_from, Placed, SectionAddress, section_addresses_of}
+use Rattle.implib.specs.Members.Gnu.{added, code_symbol, export_object, head_object, head_symbol, hint_name, hint_name_symbol, iname_symbol, relocations_of_thunk, tail_object, thunk, relocations_of_stub, section, stub, stub_bytes, stub_relocations, text_name}
 use Rattle.implib.specs.Members.ImportTables.{relocation, thunk_width, zeros}
-use Rattle.implib.specs.Members.OlderSymbols.{object_with}
+use Rattle.implib.specs.Members.OlderSymbols.{object_with, AreOlderMembersOf, numbered_older_specs, older_object, older_refusal, older_renamed_refusal, older_spec, older_specs, older_specs_of, older_symbol}
 use Rattle.implib.proofs.Formats.Symbols.{before_nul-ended}
 use Rattle.implib.proofs.Link.Definitions.{same_text}
 use Rattle.implib.proofs.Link.Linked.{all_append}
-use Rattle.implib.proofs.Link.LinkedMembers.{dll_free, exports_fit, objects_are}
+use Rattle.implib.proofs.Link.LinkedMembers.{dll_free, exports_fit, objects_are, all_at, among_contains, among_map, among_reverse}
 use Rattle.implib.proofs.Link.Placement.{after_head, head, tail}
 use Rattle.implib.proofs.Link.Tables.{CanBeAsked}
-use Rattle.implib_link.specs.Gnu.OtherLibraries.{HoldsFields}
-use Rattle.implib_link.specs.Gnu.Program.{is_table, null_descriptor}
-use Rattle.implib_link.specs.Gnu.Rebased.{absolute_width}
-use Rattle.implib_link.specs.Parts.{AreEntries, BeginWithHead, IsEntry, IsPart, IsProgramOfParts, IsTail, Part, ask_of, begins, dll_text, entry_name, hint_and_name, is_field, is_whole, named_bytes, names_entry, objects_of_parts, ordinal_with, own_bytes, part_of, row_in, stores_none}
-use Rattle.implib_link.specs.Tables.{AreSteady, TableEntry}
-use Rattle.implib_link.proofs.Gnu.Others.{no_group}
-use Rattle.implib_link.proofs.Gnu.Steady.{AllSteady, IsSteady, NoneAbsolute, all_steady, tables_none, relative_steady}
-use Rattle.implib_link.proofs.Gnu.Sized.{export_sized, head_sized, tail_sized}
-use Rattle.implib_link.proofs.Search.Lists.{all_from, each_of}
+use Rattle.implib_link.specs.Flavors.Program.{is_table, null_descriptor}
+use Rattle.implib_link.specs.Gnu.Fields.{absolute_width, Defines, PlacedCode, StubAt}
+use Rattle.implib_link.specs.Parts.{AreEntries, BeginWithHead, HoldsFields, IsEntry, IsPart, IsProgramOfParts, IsTail, Part, ask_of, begins, dll_text, entry_name, hint_and_name, is_field, is_whole, named_bytes, names_entry, objects_of_parts, ordinal_with, own_bytes, part_of, row_in, stores_none, older_linked, older_numbered, older_part_of, is_in_group, leads_to}
+use Rattle.implib_link.specs.Tables.{AreSteady, TableEntry, Table, tables_at}
+use Rattle.implib_link.proofs.Gnu.Others.{no_group, one_definer}
+use Rattle.implib_link.proofs.Flavors.Steady.{AllSteady, IsSteady, NoneAbsolute, all_steady, tables_none, relative_steady}
+use Rattle.implib_link.proofs.Gnu.Packed.{export_sized, head_sized, tail_sized}
+use Rattle.implib_link.proofs.Search.Lists.{all_from, each_of, none_among, contains_among}
+use Rattle.std.specs.Option.{option_map}
+use Rattle.implib.specs.Fault.{MemberTooLong}
+use Rattle.implib.specs.Members.GnuMembers.{alias_specs, head_spec, tail_spec}
+use Rattle.implib.specs.Members.MemberSpec.{MemberSpec, file_size, member_of}
+use Rattle.implib.specs.Members.Members.{is_too_long, length_refusal}
+use Rattle.implib.specs.Members.NameRules.{definition_names_refusal}
+use Rattle.implib.specs.Renaming.{renamed}
+use Rattle.implib.proofs.Formats.ObjectReading.{object_in-encoded}
+use Rattle.implib.proofs.Formats.WriterLayout.{object_of-layout_of}
+use Rattle.implib.proofs.Link.Ranges.{Among, among_back, among_first, among_front, among_later}
+use Rattle.implib.proofs.Members.GnuObjects.{Fits-head_object, Fits-older_object, Fits-tail_object}
+use Rattle.implib.proofs.Members.NotRefused.{Sound, first_none, if_none, linked_free_by_names, name_asked_free, short_enough, sound_by_names, text_free_by_names}
+use Rattle.implib.specs.Formats.File.{is_defined_external}
+use Rattle.implib.specs.Link.Resolution.{SymbolDefinition, address_in, defined_by_entry, definitions_of, is_undefined_external, symbol_address}
+use Rattle.implib_link.proofs.Flavors.LldImports.{get_map}
+use Rattle.implib_link.proofs.Flavors.Stubs.{symbol_of_entry}
+use Rattle.implib_link.proofs.Tables.{entries_until, packed_at}
+use Rattle.implib_link.proofs.Parts.Heads.{group_address}
+use Rattle.implib_link.proofs.Parts.Programs.{defined_once, entry_placed, kept_is_linked}
+use Rattle.implib_link.proofs.Gnu.Loaded.{plus_none}
 
 -- The object of an export, whose last symbols are these, and such objects with the tail.
 
@@ -298,3 +317,253 @@ members_store_none machine p made =
     let dll : NamesOfDll = names_for Gnu p.definition in
     let es : List ExportView = chosen_exports p.definition p.chosen in
     part_stores_none machine dll (λ e. []) (part_of machine p).objects es (members_objects machine p made)
+
+-- What is linked of a definition whose members have older symbols: members of it, and a part.
+
+-- what a writer wrote reads as what it holds
+held_reads : (h : WriterState) → Fits (layout_of h) → encoded_size (layout_of h) ≤ 0xFFFF_FFFF → object_in (encoded (layout_of h)) ≡ Some (written_object h)
+held_reads h fits short =
+    let below : encoded_size (layout_of h) < 2 ^ 32 = omega arith in
+    object_in-encoded (layout_of h) fits below ∙ ap Some (object_of-layout_of h)
+
+-- the specification of each export is among those of the definition
+numbered_among : (machine : MachineType) (dll : List ℕ) (exports : List ExportView) (start n : ℕ) (e : ExportView) → slice_get exports n ≡ Some e →
+    Among (older_spec machine dll (start + n) e) (numbered_older_specs machine dll start exports)
+numbered_among machine dll [] start n e is = cc
+numbered_among machine dll (x ∷ exports) start zero e is =
+    let same : x ≡ e = cc in
+    let position : start ≡ start + 0 = omega arith in
+    among_front _ (older_specs_of machine dll start x) (numbered_older_specs machine dll (start + 1) exports)
+    (among_back _ (alias_specs machine dll start x) (older_spec machine dll start x ∷ [])
+    (subst (λ y. Among (older_spec machine dll (start + 0) y) (older_spec machine dll start x ∷ [])) same
+    (subst (λ n. Among (older_spec machine dll n x) (older_spec machine dll start x ∷ [])) position (among_first _ []))))
+numbered_among machine dll (x ∷ exports) start (suc n) e is =
+    let position : start + 1 + n ≡ start + suc n = omega arith in
+    among_back _ (older_specs_of machine dll start x) (numbered_older_specs machine dll (start + 1) exports)
+    (subst (λ n. Among (older_spec machine dll n e) (numbered_older_specs machine dll (start + 1) exports)) position (numbered_among machine dll exports (start + 1) n e is))
+
+-- the further symbol of each export
+abbrev pub further : ExportView → List AddedSymbol
+further e = added (older_symbol e.name) (Section 5) class_external ∷ []
+
+abbrev pub name_by : (ExportView → Bool) → ExportView → List ℕ
+name_by older e = if older e then older_symbol e.name else imp_symbol e.name
+
+-- each of the two names is at the entry
+both_named : (machine : MachineType) (dll : NamesOfDll) (older : ExportView → Bool) (e : ExportView) → names_entry (exported machine dll (further e) e) (Some (name_by older e)) ≡ true
+both_named machine dll older e =
+    elim (cases_Bool (older e)) [
+      | inl is ↦ rw is (ap (list_any (bytes_eq (older_symbol e.name))) (names_are machine dll (further e) e) ∙ rw (same_text (older_symbol e.name)) refl)
+      | inr is ↦ rw is (ap (list_any (bytes_eq (imp_symbol e.name))) (names_are machine dll (further e) e) ∙ rw (same_text (imp_symbol e.name)) refl)
+    ]
+
+module _ (machine : MachineType) (p : LinkInput) (made : AreOlderMembersOf p.definition machine p.members) where
+  abbrev dll : NamesOfDll
+  dll = names_for Gnu p.definition
+
+  abbrev exports : List ExportView
+  exports = public_exports (renamed p.definition)
+
+  abbrev specs : List MemberSpec
+  specs = older_specs (renamed p.definition) machine
+
+  refusals : (definition_names_refusal (renamed p.definition) machine Gnu ≡ None) × (length_refusal specs ≡ None)
+  unfolding older_refusal older_renamed_refusal
+  refusals = first_none (definition_names_refusal (renamed p.definition) machine Gnu) (length_refusal specs) made.accepted
+
+  free : holds 0 dll.linked ≡ false
+  free = linked_free_by_names p.definition machine Gnu refusals.0
+
+  text_free : holds 0 dll.text ≡ false
+  text_free = text_free_by_names p.definition machine Gnu refusals.0
+
+  sound : AllByRecursion Sound exports
+  sound = sound_by_names p.definition machine Gnu refusals.0 made.ordinals
+
+  size_of : (s : MemberSpec) → Among s specs → file_size s.contents ≤ 0xFFFF_FFFF
+  size_of s m = short_enough s (none_among is_too_long s specs m (if_none (list_any is_too_long specs) MemberTooLong None refusals.1).0)
+
+  tail_among : Among (tail_spec machine dll) specs
+  tail_among = among_first _ _
+
+  head_among : Among (head_spec machine dll.linked) specs
+  head_among = among_later _ _ _ (among_first _ _)
+
+  export_among : (n : ℕ) (e : ExportView) → slice_get exports n ≡ Some e → Among (older_spec machine dll.linked n e) specs
+  export_among n e is =
+      let position : 0 + n ≡ n = omega arith in
+      among_later _ _ _ (among_later _ _ _ (among_reverse _ _
+      (subst (λ m. Among (older_spec machine dll.linked m e) (numbered_older_specs machine dll.linked 0 exports)) position (numbered_among machine dll.linked exports 0 n e is))))
+
+  tail_reads : object_in (member_of (tail_spec machine dll)).bytes ≡ Some (tail machine dll)
+  unfolding tail_spec
+  tail_reads = held_reads (tail_object machine dll) (Fits-tail_object machine dll free) (size_of (tail_spec machine dll) tail_among)
+
+  head_reads : object_in (member_of (head_spec machine dll.linked)).bytes ≡ Some (head machine dll)
+  unfolding head_spec
+  head_reads = held_reads (head_object machine dll.linked) (Fits-head_object machine dll.linked free) (size_of (head_spec machine dll.linked) head_among)
+
+  export_reads : (n : ℕ) (e : ExportView) → slice_get exports n ≡ Some e → object_in (member_of (older_spec machine dll.linked n e)).bytes ≡ Some (exported machine dll (further e) e)
+  unfolding older_spec older_object
+  export_reads n e is =
+      let good = all_at Sound exports n e sound is in
+      held_reads (older_object machine dll.linked e) (Fits-older_object machine dll.linked e free good.name good.filled) (size_of (older_spec machine dll.linked n e) (export_among n e is))
+
+  fit : (n : ℕ) (e : ExportView) → slice_get exports n ≡ Some e → CanBeAsked machine e
+  fit n e is = (let good = all_at Sound exports n e sound is in record { ordinal = ltb-true e.ordinal 0x1_0000 good.ordinal; name = name_asked_free machine e good })
+
+  -- what is linked after the head
+  abbrev behind : List ℕ → List MemberSpec
+  behind ns = filter_map (older_numbered machine dll.linked exports) ns ++ tail_spec machine dll ∷ []
+
+  -- what is known of chosen exports
+  record AreChosen (ns : List ℕ) : Type 0 where
+    objects : objects_in (map member_of (behind ns)) ≡ after_by machine dll further (filter_map (slice_get exports) ns)
+    held : AllByRecursion (Contains p.members) (map member_of (behind ns))
+    asked : AllByRecursion (CanBeAsked machine) (filter_map (slice_get exports) ns)
+
+  held_by : (s : MemberSpec) → Among s specs → Contains p.members (member_of s)
+  held_by s m = subst (λ ms. Contains ms (member_of s)) (sym made.made) (among_contains (member_of s) (map member_of specs) (among_map member_of s specs m))
+
+  one_more : (n : ℕ) (ns : List ℕ) (found : Option ExportView) → slice_get exports n ≡ found → AreChosen ns →
+      (objects_in (map member_of (cons_option (option_map (older_spec machine dll.linked n) found) (filter_map (older_numbered machine dll.linked exports) ns) ++ tail_spec machine dll ∷ []))
+      ≡ after_by machine dll further (cons_option found (filter_map (slice_get exports) ns)))
+      × (AllByRecursion (Contains p.members) (map member_of (cons_option (option_map (older_spec machine dll.linked n) found) (filter_map (older_numbered machine dll.linked exports) ns) ++ tail_spec machine dll ∷ []))
+      × AllByRecursion (CanBeAsked machine) (cons_option found (filter_map (slice_get exports) ns)))
+  one_more n ns None is rest = (rest.objects, (rest.held, rest.asked))
+  one_more n ns (Some e) is rest = (
+    ap (λ o. cons_option o (objects_in (map member_of (behind ns)))) (export_reads n e is) ∙ ap (λ os. exported machine dll (further e) e ∷ os) rest.objects,
+    ((held_by (older_spec machine dll.linked n e) (export_among n e is), rest.held), (fit n e is, rest.asked)),
+  )
+
+  all_chosen : (ns : List ℕ) → AreChosen ns
+  all_chosen [] = record { objects = ap (λ o. cons_option o []) tail_reads; held = (held_by (tail_spec machine dll) tail_among, tt); asked = tt }
+  all_chosen (n ∷ ns) =
+      let found = one_more n ns (slice_get exports n) refl (all_chosen ns) in
+      record { objects = found.0; held = found.1.0; asked = found.1.1 }
+
+  pub older_held : AllByRecursion (Contains p.members) (older_linked p.definition machine p.chosen)
+  older_held = (held_by (head_spec machine dll.linked) head_among, (all_chosen p.chosen).held)
+
+  pub older_objects : objects_in (older_linked p.definition machine p.chosen) ≡ head machine dll ∷ after_by machine dll further (chosen_exports p.definition p.chosen)
+  older_objects = ap (λ o. cons_option o (objects_in (map member_of (behind p.chosen)))) head_reads ∙ ap (λ os. head machine dll ∷ os) (all_chosen p.chosen).objects
+
+  pub older_part : (older : ExportView → Bool) → IsPart machine (older_part_of machine older p)
+  older_part older =
+      part_is machine dll further (name_by older) (both_named machine dll older) (objects_in (older_linked p.definition machine p.chosen)) (chosen_exports p.definition p.chosen) older_objects text_free (all_chosen p.chosen).asked
+
+  pub older_stores_none : (older : ExportView → Bool) → list_all (stores_none machine) (older_part_of machine older p).objects ≡ true
+  older_stores_none older = part_stores_none machine dll further (objects_in (older_linked p.definition machine p.chosen)) (chosen_exports p.definition p.chosen) older_objects
+
+-- The code of a member's export is the stub of its entry, beside libraries of any makers.
+
+-- an external that an object defines is a definition
+definition_held : (addresses : List SectionAddress) (s : ObjectSymbol) (entries : List Entry) → is_defined_external s ≡ true → Among (ASymbol s) entries →
+    Among (record { name = s.name; address = address_in addresses s.section s.value }) (filter_map (defined_by_entry addresses) entries)
+unfolding Among
+definition_held addresses s [] external m = absurd m
+definition_held addresses s (x ∷ entries) external (inl same) = subst (λ y. Among (record { name = s.name; address = address_in addresses s.section s.value }) (filter_map (defined_by_entry addresses) (y ∷ entries))) same (rw external (inl refl))
+definition_held addresses s (Auxiliary bytes ∷ entries) external (inr m) = definition_held addresses s entries external m
+definition_held addresses s (ASymbol t ∷ entries) external (inr m) =
+    let later = definition_held addresses s entries external m in
+    elim (cases_Bool (is_defined_external t)) [ inl is ↦ rw is (inr later) | inr other ↦ rw other later ]
+
+-- An object has the stub of its entry under a name, at the beginning of its first section.
+abbrev named_code : List ℕ → ObjectSymbol
+named_code name = record { name = name; value = 0; section = 1; kind = 0; class = class_external }
+
+abbrev stub_section : MachineType → ObjectSection
+stub_section machine = section text_name (cnt_code + align_4bytes + mem_execute_read) (stub_bytes machine) (stub_relocations machine 2)
+
+record HasStub (machine : MachineType) (o : Object) (name : List ℕ) : Type 0 where
+  defined : Among (ASymbol (named_code name)) o.entries
+  code : slice_get o.sections 0 ≡ Some (stub_section machine)
+  entry : leads_to Addresses o (slice_get o.entries 2) ≡ true
+
+-- a symbol at the entry has its address
+entry_found : (linked : List Placed) (o : Object) (b : Bases) → ((number value : ℕ) → is_in_group Addresses (section_numbered o.sections number) ≡ true → address_in (section_addresses_of b o.sections) number value ≡ Some (b.addresses + value)) →
+    (found : Option Entry) → leads_to Addresses o found ≡ true →
+    (x : Entry) × ((found ≡ Some x) × (symbol_address linked (record { object = o; section_addresses = section_addresses_of b o.sections }) x ≡ Some b.addresses))
+entry_found linked o b place None led = cc
+entry_found linked o b place (Some (Auxiliary bytes)) led = cc
+entry_found linked o b place (Some (ASymbol x)) led =
+    let first = and_parts (not (is_undefined_external x)) ((x.value == 0) && is_in_group Addresses (section_numbered o.sections x.section)) led in
+    let second = and_parts (x.value == 0) (is_in_group Addresses (section_numbered o.sections x.section)) first.1 in
+    let here : address_in (section_addresses_of b o.sections) x.section x.value ≡ Some b.addresses =
+    place x.section x.value second.1 ∙ ap (λ n. Some (b.addresses + n)) (eqb-true x.value 0 second.0) ∙ ap Some (plus_none b.addresses) in
+    elim (cases_Bool (is_undefined_external x)) [
+      | inl left ↦ let none : false ≡ true = rw left at first.0 in cc
+      | inr own ↦ (ASymbol x, (refl, rw own here))
+    ]
+
+module _ (machine : MachineType) (bases : Bases) (parts : List Part) (objects : List Object) (are : AllByRecursion (IsPart machine) parts) (program : IsProgramOfParts machine bases parts objects) where
+  abbrev linked : List Placed
+  linked = placed_from bases objects
+
+  stub_of_part : (i j : ℕ) (x : Table) (p : Part) (o : Object) (e : TableEntry) (name : List ℕ) (d : PlacedCode) (t : ObjectSymbol) → slice_get parts i ≡ Some p → slice_get p.objects (suc j) ≡ Some o →
+      slice_get p.table.entries j ≡ Some e → HasStub machine o name → slice_get (tables_at machine bases objects (map (λ (q : Part). q.table) parts)).tables i ≡ Some x →
+      Contains linked d.from → section_numbered d.from.object.sections d.number ≡ Some d.code → Defines d t → t.name ≡ name → StubAt machine linked d t (x.address + thunk_width machine * j)
+  stub_of_part i j x p o e name d t own_part own_object own_entry stub own_table d_from d_section defines named =
+      let packed = packed_at (thunk_width machine) (map (λ (q : Part). q.table) parts) bases.addresses i x own_table in
+      let table_is : bases.addresses + thunk_width machine * entries_until i (map (λ (q : Part). q.table) parts) ≡ x.address = ap (λ (y : Table). y.address) packed.1.1 in
+      let place = entry_placed machine bases parts objects are program i j p o e own_part own_object own_entry in
+      let own : Placed = record { object = o; section_addresses = section_addresses_of place.bases o.sections } in
+      let symbol : ObjectSymbol = named_code name in
+      let definition : SymbolDefinition = record { name = name; address = address_in own.section_addresses 1 0 } in
+      let once : definitions_of name linked ≡ definition ∷ [] = defined_once machine bases parts objects are program own definition place.held (definition_held own.section_addresses symbol o.entries refl stub.defined) in
+      let most : length (definitions_of name linked) ≤ 1 = rw once (omega arith) in
+      let one = one_definer name linked d.from own t symbol most (contains_among d.from linked d_from) (contains_among (ASymbol t) d.from.object.entries defines.held) defines.external named
+      (kept_is_linked machine bases parts objects are program own place.held) stub.defined refl refl in
+      let t_is : t ≡ symbol = symbol_of_entry t symbol one.1 in
+      let first : d.number ≡ 1 = sym defines.here ∙ ap (λ (y : ObjectSymbol). y.section) t_is in
+      let numbered : section_numbered o.sections 1 ≡ Some d.code = subst (λ n. section_numbered o.sections n ≡ Some d.code) first (subst (λ (y : Placed). section_numbered y.object.sections d.number ≡ Some d.code) one.0 d_section) in
+      let both : Some d.code ≡ Some (stub_section machine) = sym numbered ∙ stub.code in
+      let code_is : d.code ≡ stub_section machine = cc in
+      let at = entry_found linked o place.bases (group_address Addresses o place.bases place.section place.only place.aligned.addresses) (slice_get o.entries 2) stub.entry in
+      let entry_is : place.bases.addresses ≡ x.address + thunk_width machine * j = place.addresses ∙ ap (λ n. n + thunk_width machine * j) table_is in
+      record {
+        bytes = ap (λ (y : ObjectSection). y.bytes) code_is;
+        relocations = ap (λ (y : ObjectSection). y.relocations) code_is;
+        begins = ap (λ (y : ObjectSymbol). y.value) t_is;
+        symbol = at.0;
+        held = subst (λ (y : Placed). slice_get y.object.entries 2 ≡ Some at.0) (sym one.0) at.1.0;
+        placed = subst (λ (y : Placed). symbol_address linked y at.0 ≡ Some (x.address + thunk_width machine * j)) (sym one.0) (at.1.1 ∙ ap Some entry_is);
+      }
+
+-- The object of an export of code has its stub.
+
+has_stub_by : (machine : MachineType) (names : NamesOfDll) (more : List AddedSymbol) (e : ExportView) → HasStub machine (exported machine names more (record e { is_data = false })) e.name
+unfolding stub relocations_of_stub
+has_stub_by machine names more e = record { defined = among_later _ _ _ (among_first _ _); code = refl; entry = refl }
+
+has_stub : (machine : MachineType) (dll : NamesOfDll) (more : List AddedSymbol) (e : ExportView) → e.is_data ≡ false → HasStub machine (exported machine dll more e) e.name
+has_stub machine dll more e is = subst (λ b. HasStub machine (exported machine dll more (record e { is_data = b })) e.name) (sym is) (has_stub_by machine dll more e)
+
+after_get : (machine : MachineType) (dll : NamesOfDll) (more : ExportView → List AddedSymbol) (es : List ExportView) (j : ℕ) (e : ExportView) → slice_get es j ≡ Some e → slice_get (after_by machine dll more es) j ≡ Some (exported machine dll (more e) e)
+after_get machine dll more [] j e is = cc
+after_get machine dll more (x ∷ es) zero e is = let same : x ≡ e = cc in ap (λ y. Some (exported machine dll (more y) y)) same
+after_get machine dll more (x ∷ es) (suc j) e is = after_get machine dll more es j e is
+
+pub stub_beside : (machine : MachineType) (bases : Bases) (parts : List Part) (objects : List Object) (i j : ℕ) (x : Table) (p : LinkInput) (e : ExportView) (d : PlacedCode) (t : ObjectSymbol) →
+    AllByRecursion (IsPart machine) parts → IsProgramOfParts machine bases parts objects → IsMade machine p → slice_get parts i ≡ Some (part_of machine p) →
+    slice_get (tables_at machine bases objects (map (λ (q : Part). q.table) parts)).tables i ≡ Some x → slice_get (chosen_exports p.definition p.chosen) j ≡ Some e → e.is_data ≡ false →
+    Contains (placed_from bases objects) d.from → section_numbered d.from.object.sections d.number ≡ Some d.code → Defines d t → t.name ≡ e.name →
+    StubAt machine (placed_from bases objects) d t (x.address + thunk_width machine * j)
+stub_beside machine bases parts objects i j x p e d t are program made own_part own_table chosen is =
+    let dll : NamesOfDll = names_for Gnu p.definition in
+    let es : List ExportView = chosen_exports p.definition p.chosen in
+    let object_is : slice_get (part_of machine p).objects (suc j) ≡ Some (exported machine dll [] e) = ap (λ os. slice_get os (suc j)) (members_objects machine p made) ∙ after_get machine dll (λ e. []) es j e chosen in
+    stub_of_part machine bases parts objects are program i j x (part_of machine p) (exported machine dll [] e) (record { ask = expected_ask machine e; symbol = Some (imp_symbol e.name) }) e.name d t own_part object_is
+    (get_map (λ (y : ExportView). record { ask = expected_ask machine y; symbol = Some (imp_symbol y.name) }) es j e chosen) (has_stub machine dll [] e is) own_table
+
+pub older_stub_beside : (machine : MachineType) (bases : Bases) (parts : List Part) (objects : List Object) (i j : ℕ) (x : Table) (p : LinkInput) (older : ExportView → Bool) (e : ExportView) (d : PlacedCode) (t : ObjectSymbol) →
+    AllByRecursion (IsPart machine) parts → IsProgramOfParts machine bases parts objects → AreOlderMembersOf p.definition machine p.members → slice_get parts i ≡ Some (older_part_of machine older p) →
+    slice_get (tables_at machine bases objects (map (λ (q : Part). q.table) parts)).tables i ≡ Some x → slice_get (chosen_exports p.definition p.chosen) j ≡ Some e → e.is_data ≡ false →
+    Contains (placed_from bases objects) d.from → section_numbered d.from.object.sections d.number ≡ Some d.code → Defines d t → t.name ≡ e.name →
+    StubAt machine (placed_from bases objects) d t (x.address + thunk_width machine * j)
+older_stub_beside machine bases parts objects i j x p older e d t are program made own_part own_table chosen is =
+    let dll : NamesOfDll = names_for Gnu p.definition in
+    let es : List ExportView = chosen_exports p.definition p.chosen in
+    let object_is : slice_get (older_part_of machine older p).objects (suc j) ≡ Some (exported machine dll (further e) e) = ap (λ os. slice_get os (suc j)) (older_objects machine p made) ∙ after_get machine dll further es j e chosen in
+    stub_of_part machine bases parts objects are program i j x (older_part_of machine older p) (exported machine dll (further e) e) (record { ask = expected_ask machine e; symbol = Some (name_by older e) }) e.name d t own_part object_is
+    (get_map (λ (y : ExportView). record { ask = expected_ask machine y; symbol = Some (name_by older y) }) es j e chosen) (has_stub machine dll (further e) e is) own_table

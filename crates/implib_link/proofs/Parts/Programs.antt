@@ -1,16 +1,24 @@
--- Programs of parts have import tables.
-use Rattle.std.proofs.Common.{◌≡◌, ℕ, zero, suc, ◌+◌, ◌*◌, ◌^◌, ◌<◌, false, List, [], ◌∷◌, ◌++◌, length, map, Some, refl, ap, sym, ◌∙◌, subst, inl, inr, arith, ◌⊎◌}
-use Rattle.std.specs.Prelude.{◌&&◌, bytes_eq, not, slice_get}
+-- A program of members for GNU's linker is one of parts.
+use Rattle.std.proofs.Common.{◌≡◌, List, [], ◌∷◌, ◌++◌, map, refl, ap, sym, ◌∙◌, subst, ℕ, zero, suc, ◌+◌, ◌*◌, ◌^◌, ◌<◌, false, length, Some, inl, inr, arith, ◌⊎◌}
+use Rattle.std.specs.Prelude.{bytes_eq, not, ◌&&◌, slice_get}
 use Rattle.std.specs.List.{AllByRecursion, IsDistinct, filter, filter_map, flat_map}
-use Rattle.std.proofs.lemmas.Bool.{cases_Bool}
 use Rattle.std.proofs.lemmas.Grind.{flat_map-append}
 use Rattle.std.proofs.lemmas.List.{append-nil, append_assoc, map-append}
+use Rattle.std.proofs.lemmas.List.Elements.{filter_map-append}
 use Rattle.implib.specs.declared.machine.MachineType.{MachineType}
+use Rattle.implib.specs.Formats.Object.{Object, object_in, ASymbol, Auxiliary, Entry}
+use Rattle.implib.specs.Link.LinkedMembers.{IsMade, LinkInput, all_linked, linked_members, objects_in}
+use Rattle.implib.specs.Link.Placement.{Bases, placed_from, Addresses, Descriptors, DllNames, Group, HintNames, Lookups, Placed, SectionAddress, base_of, ends_after, section_addresses_of}
+use Rattle.implib.specs.Members.MemberSpec.{MemberView}
+use Rattle.implib_link.specs.Flavors.Program.{IsProgram, OfLinker, all_members, gnu_input, symbols_listed, ClaimsNone, claimed_names, has_tables, names_claimed_in, null_descriptor, claimed_name, is_reference, is_shared}
+use Rattle.implib_link.specs.Parts.{IsProgramOfParts, Part, names_of_parts, objects_of_parts, part_of, BeginWithHead, HoldsFields, IsPart}
+use Rattle.implib_link.proofs.Flavors.Program.{gnu_made, gnu_members, program_links}
+use Rattle.implib_link.proofs.Flavors.Block.{claimed_placed, plus_sum, null_located, table_sum, all_claim}
+use Rattle.implib_link.proofs.Gnu.Others.{placed_kept, contributions_kept, defined_is_claimed, definitions_kept}
+use Rattle.std.proofs.lemmas.Bool.{cases_Bool}
 use Rattle.implib.specs.Formats.File.{is_defined_external}
-use Rattle.implib.specs.Formats.Object.{ASymbol, Auxiliary, Entry, Object}
 use Rattle.implib.specs.Link.Image.{Range, contributions, filled, image_of, range_end}
 use Rattle.implib.specs.Link.Load.{BytesAt, NumberAt}
-use Rattle.implib.specs.Link.Placement.{Addresses, Bases, Descriptors, DllNames, Group, HintNames, Lookups, Placed, SectionAddress, base_of, ends_after, placed_from, section_addresses_of}
 use Rattle.implib.specs.Link.Resolution.{SymbolDefinition, defined_by, defined_by_entry, definitions, definitions_of}
 use Rattle.implib.specs.Members.ImportTables.{thunk_width, zeros}
 use Rattle.implib.proofs.Link.Definitions.{only_definition}
@@ -20,19 +28,46 @@ use Rattle.implib.proofs.Link.LinkedMembers.{among_map}
 use Rattle.implib.proofs.Link.Placement.{AreAligned}
 use Rattle.implib.proofs.Link.Ranges.{Among, among_back, among_flat}
 use Rattle.implib_link.specs.Directory.{DirectoryAt}
-use Rattle.implib_link.specs.Gnu.OtherLibraries.{HoldsFields, ends_behind}
-use Rattle.implib_link.specs.Gnu.Program.{claimed_name, claimed_names, has_tables, is_reference, is_shared, null_descriptor}
-use Rattle.implib_link.specs.Parts.{BeginWithHead, IsPart, IsProgramOfParts, Part, names_of_parts, objects_of_parts}
 use Rattle.implib_link.specs.Tables.{AreTables, Block, TableEntry, tables_at}
-use Rattle.implib_link.proofs.Gnu.Blocks.{plus_sum}
-use Rattle.implib_link.proofs.Gnu.Blocks.{null_located, table_sum}
 use Rattle.implib_link.proofs.Gnu.Loaded.{times_none as plus_zero}
-use Rattle.implib_link.proofs.Gnu.Others.{contributions_kept, defined_is_claimed, definitions_kept, placed_kept}
-use Rattle.implib_link.proofs.Gnu.Program.{all_claim}
-use Rattle.implib_link.proofs.Gnu.Runs.{located_behind, placed_parts}
-use Rattle.implib_link.proofs.PackedTables.{are_packed, entries_until, imported_by_block}
+use Rattle.implib_link.proofs.Gnu.Packed.{ends_behind, located_behind, placed_parts}
+use Rattle.implib_link.proofs.Tables.{are_packed, entries_until, imported_by_block}
 use Rattle.implib_link.proofs.Search.Lists.{among_filter}
 use Rattle.implib_link.proofs.Parts.Heads.{IsEntryPlaced, PartLinks, part_links}
+
+abbrev parts_of : MachineType → List LinkInput → List Part
+parts_of machine inputs = map (part_of machine) inputs
+
+members_objects : (machine : MachineType) (inputs : List LinkInput) → objects_in (all_linked machine inputs) ≡ objects_of_parts (map (part_of machine) inputs)
+members_objects machine [] = refl
+members_objects machine (p ∷ inputs) =
+    filter_map-append (λ (m : MemberView). object_in m.bytes) (linked_members p.definition machine p.chosen) (all_linked machine inputs)
+    ∙ ap (λ os. objects_in (linked_members p.definition machine p.chosen) ++ os) (members_objects machine inputs)
+
+module _ (machine : MachineType) (bases : Bases) (inputs : List LinkInput) (objects : List Object) (made : AllByRecursion (IsMade machine) inputs) (program : IsProgram machine bases inputs objects) where
+  tables_are : filter has_tables objects ≡ objects_of_parts (parts_of machine inputs) ++ null_descriptor ∷ []
+  tables_are =
+      program.held.ended.tables
+      ∙ ap (λ ms. objects_in ms ++ null_descriptor ∷ []) (gnu_members machine inputs)
+      ∙ ap (λ os. os ++ null_descriptor ∷ []) (members_objects machine inputs)
+
+  names_are : symbols_listed (all_members machine (map gnu_input inputs)) ≡ names_of_parts (parts_of machine inputs)
+  names_are =
+      sym (program_links machine OfLinker bases (map gnu_input inputs) objects (gnu_made machine inputs made) program).claimed
+      ∙ ap names_claimed_in (placed_kept bases objects ∙ ap (placed_from bases) tables_are)
+      ∙ claimed_placed bases (objects_of_parts (parts_of machine inputs) ++ null_descriptor ∷ [])
+      ∙ flat_map-append claimed_names (objects_of_parts (parts_of machine inputs)) (null_descriptor ∷ [])
+      ∙ append-nil (names_of_parts (parts_of machine inputs))
+
+  pub program_of_parts : IsProgramOfParts machine bases (map (part_of machine) inputs) objects
+  program_of_parts = record {
+    tables = tables_are;
+    distinct = subst (IsDistinct bytes_eq) names_are program.held.distinct;
+    others = subst (λ names. AllByRecursion (ClaimsNone names) (filter (λ o. not (has_tables o)) objects)) names_are program.held.others;
+    admissible = program.admissible;
+  }
+
+-- Programs of parts have import tables.
 
 -- Names of definitions are among those that objects claim, in their order.
 

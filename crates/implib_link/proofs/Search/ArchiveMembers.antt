@@ -1,32 +1,361 @@
--- The members of a library for GNU's linker: which of an export's a name finds, and what they are read as.
-use Rattle.std.proofs.Common.{◌≡◌, ℕ, ◌+◌, ◌≤◌, true, false, List, [], ◌∷◌, length, Some, refl, ap, sym, ◌∙◌, subst, inl, inr, arith}
-use Rattle.std.specs.Prelude.{slice_get}
-use Rattle.std.specs.List.{list_any}
-use Rattle.std.proofs.lemmas.Bool.{cases_Bool, false_from_ne_true}
+-- What a linker takes of the members for GNU's linker.
+use Rattle.std.proofs.Common.{◌≡◌, ℕ, zero, suc, ◌+◌, Bool, length, true, List, [], ◌∷◌, ◌++◌, Option, Some, None, refl, ap, sym, ◌∙◌, subst, inl, inr, ◌⊎◌, arith, map, ◌≤◌, false, if◌then◌else◌}
+use Rattle.std.specs.Prelude.{bytes_eq, slice_get, reverse, IsPermutation}
+use Rattle.std.specs.List.{filter, filter_map, list_any, AllByRecursion, IsDistinct, flat_map, sum_by}
+use Rattle.std.proofs.lemmas.Bool.{cases_Bool, false_from_ne_true, or_parts}
+use Rattle.std.proofs.lemmas.List.{append_assoc, length-append, append-nil, map-append, reverse-append}
 use Rattle.implib.specs.declared.machine.MachineType.{MachineType}
 use Rattle.implib.specs.Definition.{ExportView}
-use Rattle.implib.specs.Members.Gnu.{archive_symbols, export_object, weak_name}
-use Rattle.implib.specs.Members.GnuMembers.{alias_specs, gnu_specs, numbered_specs, numbered_specs_of}
-use Rattle.implib.specs.Members.WeakExternal.{weak_spec, weak_object}
+use Rattle.implib.specs.Members.Gnu.{archive_symbols, export_object, head_object, head_symbol, iname_symbol, tail_object, weak_address_name, weak_name}
 use Rattle.implib.specs.Import.{imp_symbol, is_alias}
+use Rattle.implib.specs.Link.LinkedMembers.{numbered_spec, chosen_exports}
+use Rattle.std.specs.Option.{option_map}
+use Rattle.implib.specs.Members.MemberSpec.{MemberSpec, member_of, MemberView}
+use Rattle.implib.specs.Members.GnuMembers.{export_spec, head_spec, numbered_specs, numbered_specs_of, tail_spec, alias_specs, gnu_specs}
+use Rattle.implib.proofs.Link.Placement.{export, head, tail}
+use Rattle.implib.proofs.Link.Ranges.{Among, among_back, among_first, among_front, among_later, among_flat}
+use Rattle.implib_link.specs.Search.Search.{is_wanted, undefined_in, numbers_passing, Library, symbols_of_export, first_listed, is_listed_for, IsLibrary, exports_of, is_weak_entry, symbols_of_library, exports_wanted}
+use Rattle.implib_link.proofs.Search.Lists.{among_any, among_either, any_among, any_from, any_of, kept_into, kept_from, distinct_apart, distinct_later, listed_is, none_among, contains_among}
+use Rattle.implib.specs.LibraryName.{NamesOfDll, linked_name, names_for}
+use Rattle.std.proofs.lemmas.Option.{same_Some}
+use Rattle.std.proofs.lemmas.Grind.{flat_map-append}
+use Rattle.implib.specs.Members.WeakExternal.{weak_spec, weak_object}
+use Rattle.implib.specs.declared.flavor.Flavor.TheVariants.{Gnu}
 use Rattle.implib.specs.Formats.Layout.{encoded_size, object_of}
-use Rattle.implib.specs.Members.MemberSpec.{MemberSpec, MemberView}
 use Rattle.implib.specs.Members.Members.{is_too_long}
 use Rattle.implib.specs.Formats.Object.{object_in}
-use Rattle.implib.proofs.Link.LinkedMembers.{among_reverse, linked_free, export_reads, head_reads, not_long, sound, tail_reads, all_at}
+use Rattle.implib.proofs.Link.LinkedMembers.{among_reverse, linked_free, export_reads, head_reads, not_long, sound, tail_reads, all_at, among_contains}
 use Rattle.implib.proofs.Members.MsvcObjects.{Fits-weak_object}
 use Rattle.implib.proofs.Members.NotRefused.{Sound, short_enough}
 use Rattle.implib.proofs.Formats.ObjectReading.{object_in-encoded}
-use Rattle.implib.proofs.Link.Placement.{export, head, tail}
-use Rattle.implib.proofs.Link.Ranges.{Among, among_first, among_later}
-use Rattle.implib_link.specs.Search.Archives.{IsLibrary, Library, exports_of, is_weak_entry, symbols_of_export}
-use Rattle.implib_link.specs.Search.Search.{first_listed, is_listed_for}
-use Rattle.implib_link.proofs.Search.ArchiveGroups.{IsWithin, export_group, export_of, head_of, tail_of, weak_address_of, weak_of}
-use Rattle.implib_link.proofs.Search.Search.{address_listed, listed_export, numbered_in, only_one}
-use Rattle.implib_link.proofs.Search.Lists.{listed_is, among_any, any_among, none_among}
-use Rattle.implib.specs.LibraryName.{NamesOfDll, linked_name, names_for}
-use Rattle.implib.specs.declared.flavor.Flavor.TheVariants.{Gnu}
-use Rattle.std.proofs.lemmas.Option.{same_Some}
+use Rattle.std.proofs.lemmas.List.Sorted.{sum_by-IsPermutation, Contains-permutation, IsPermutation-reverse}
+use Rattle.std.proofs.lemmas.List.Sums.{sum_by-append}
+use Rattle.std.proofs.lemmas.Slice.Eq.{bytes_eq-Decides}
+use Rattle.implib.proofs.Link.LinkedBlocks.{linked_symbols}
+
+-- What specifications there are.
+
+-- one export's specifications are among those of all
+pub numbered_in : (machine : MachineType) (dll : List ℕ) (exports : List ExportView) (start n : ℕ) (e : ExportView) (p : MemberSpec) → slice_get exports n ≡ Some e →
+    Among p (numbered_specs_of machine dll (start + n) e) → Among p (numbered_specs machine dll start exports)
+numbered_in machine dll [] start n e p is held = cc
+numbered_in machine dll (x ∷ exports) start zero e p is held =
+    let same : e ≡ x = cc in
+    let position : start + 0 ≡ start = omega arith in
+    among_front p (numbered_specs_of machine dll start x) (numbered_specs machine dll (start + 1) exports)
+    (subst (λ n. Among p (numbered_specs_of machine dll n x)) position (subst (λ y. Among p (numbered_specs_of machine dll (start + 0) y)) same held))
+numbered_in machine dll (x ∷ exports) start (suc n) e p is held =
+    let position : start + suc n ≡ start + 1 + n = omega arith in
+    among_back p (numbered_specs_of machine dll start x) (numbered_specs machine dll (start + 1) exports)
+    (numbered_in machine dll exports (start + 1) n e p is (subst (λ n. Among p (numbered_specs_of machine dll n e)) position held))
+
+-- The numbers of wanted exports.
+
+pub number_wanted : (wanted : List (List ℕ)) (exports : List ExportView) (start n : ℕ) (e : ExportView) → slice_get exports n ≡ Some e → is_wanted wanted e ≡ true →
+    Among (start + n) (numbers_passing (is_wanted wanted) start exports)
+unfolding Among
+number_wanted wanted [] start n e is want = cc
+number_wanted wanted (x ∷ exports) start zero e is want =
+    let same : e ≡ x = cc in
+    let position : start + 0 ≡ start = omega arith in
+    rw (subst (λ y. is_wanted wanted y ≡ true) same want) (inl position)
+number_wanted wanted (x ∷ exports) start (suc n) e is want =
+    let position : start + 1 + n ≡ start + suc n = omega arith in
+    let later : Among (start + suc n) (numbers_passing (is_wanted wanted) (start + 1) exports) =
+    subst (λ n. Among n (numbers_passing (is_wanted wanted) (start + 1) exports)) position (number_wanted wanted exports (start + 1) n e is want) in
+    elim (cases_Bool (is_wanted wanted x)) [ inl here ↦ rw here (inr later) | inr none ↦ rw none later ]
+
+pub wanted_number : (wanted : List (List ℕ)) (exports : List ExportView) (start k : ℕ) → Among k (numbers_passing (is_wanted wanted) start exports) →
+    (n : ℕ) × (e : ExportView) × (k ≡ start + n) × (slice_get exports n ≡ Some e) × (is_wanted wanted e ≡ true)
+unfolding Among
+wanted_number wanted [] start k held = absurd held
+wanted_number wanted (x ∷ exports) start k held =
+    elim (cases_Bool (is_wanted wanted x)) [
+      | inl here ↦
+          let either : Among k (start ∷ numbers_passing (is_wanted wanted) (start + 1) exports) = rw here at held in
+          elim either [
+            | inl is ↦ let position : start ≡ start + 0 = omega arith in (0, x, is ∙ position, refl, here)
+            | inr behind ↦ next (wanted_number wanted exports (start + 1) k behind)
+          ]
+      | inr none ↦ next (wanted_number wanted exports (start + 1) k (rw none at held))
+    ]
+  where
+    next : ((n : ℕ) × (e : ExportView) × (k ≡ start + 1 + n) × (slice_get exports n ≡ Some e) × (is_wanted wanted e ≡ true)) →
+        (n : ℕ) × (e : ExportView) × (k ≡ start + n) × (slice_get (x ∷ exports) n ≡ Some e) × (is_wanted wanted e ≡ true)
+    next later = let position : start + 1 + later.0 ≡ start + suc later.0 = omega arith in (suc later.0, later.1, later.2 ∙ position, later.3, later.4)
+
+pub at_end : {X : Type 0} (front : List X) (x : X) (behind : List X) → slice_get (front ++ x ∷ behind) (length front) ≡ Some x
+at_end [] x behind = refl
+at_end (y ∷ front) x behind = at_end front x behind
+
+pub passing_chosen : (test : ExportView → Bool) (front exports : List ExportView) → filter_map (slice_get (front ++ exports)) (numbers_passing test (length front) exports) ≡ filter test exports
+passing_chosen test front [] = refl
+passing_chosen test front (e ∷ exports) =
+    let later : filter_map (slice_get (front ++ e ∷ exports)) (numbers_passing test (length front + 1) exports) ≡ filter test exports =
+    subst (λ (all : List ExportView). filter_map (slice_get all) (numbers_passing test (length front + 1) exports) ≡ filter test exports) (append_assoc front (e ∷ []) exports)
+    (subst (λ n. filter_map (slice_get ((front ++ e ∷ []) ++ exports)) (numbers_passing test n exports) ≡ filter test exports) (length-append front (e ∷ [])) (passing_chosen test (front ++ e ∷ []) exports)) in
+    elim (cases_Bool (test e)) [
+      | inl is ↦ rw (is, at_end front e exports) (ap (λ es. e ∷ es) later)
+      | inr is ↦ rw is later
+    ]
+
+pub some_export : (test : ExportView → Bool) (number : ℕ) (exports : List ExportView) (n : ℕ) (chosen : List ℕ) → numbers_passing test number exports ≡ n ∷ chosen → (e : ExportView) × (Among e exports × (test e ≡ true))
+some_export test number [] n chosen is = cc
+some_export test number (e ∷ exports) n chosen is =
+    elim (cases_Bool (test e)) [
+      | inl passes ↦ (e, (among_first e exports, passes))
+      | inr fails ↦ let later = some_export test (number + 1) exports n chosen (rw fails at is) in (later.0, (among_later later.0 e exports later.1.0, later.1.1))
+    ]
+
+-- a name of some names is wanted
+pub wants : (wanted names : List (List ℕ)) (name : List ℕ) → Among name names → Among name wanted → list_any (λ n. list_any (bytes_eq n) wanted) names ≡ true
+wants wanted names name held want = any_from (λ n. list_any (bytes_eq n) wanted) name names held (among_any name wanted want)
+
+pub wanted_name : (wanted names : List (List ℕ)) → list_any (λ n. list_any (bytes_eq n) wanted) names ≡ true → (name : List ℕ) × Among name names × Among name wanted
+wanted_name wanted names is = let by = any_of (λ n. list_any (bytes_eq n) wanted) names is in (by.0, by.1, any_among by.0 wanted by.2)
+
+-- The specifications of chosen exports.
+
+pub member_spec_chosen : (machine : MachineType) (dll : List ℕ) (exports : List ExportView) (chosen : List ℕ) (n : ℕ) (e : ExportView) → Among n chosen →
+    slice_get exports n ≡ Some e → Among (export_spec machine dll n e) (filter_map (numbered_spec machine dll exports) chosen)
+member_spec_chosen machine dll exports chosen n e held is = kept_into (numbered_spec machine dll exports) chosen (export_spec machine dll n e) n held (ap (option_map (export_spec machine dll n)) is)
+
+-- a specification of a chosen export
+abbrev pub Chosen : MachineType → List ℕ → List ExportView → List ℕ → MemberSpec → Type 0
+Chosen machine dll exports chosen p =
+    (n : ℕ) × (e : ExportView) × Among n chosen × (slice_get exports n ≡ Some e) × (p ≡ export_spec machine dll n e)
+
+mapped_some : {X Y : Type 0} (f : X → Y) (o : Option X) (y : Y) → option_map f o ≡ Some y → (x : X) × (o ≡ Some x) × (y ≡ f x)
+mapped_some f None y is = cc
+mapped_some f (Some x) y is = (x, refl, sym (same_Some (f x) y is))
+
+pub chosen_member_spec : (machine : MachineType) (dll : List ℕ) (exports : List ExportView) (chosen : List ℕ) (p : MemberSpec) →
+    Among p (filter_map (numbered_spec machine dll exports) chosen) → Chosen machine dll exports chosen p
+chosen_member_spec machine dll exports chosen p held =
+    let from = kept_from (numbered_spec machine dll exports) chosen p held in
+    let e = mapped_some (export_spec machine dll from.0) (slice_get exports from.0) p from.2 in
+    (from.0, e.0, from.1, e.1, e.2)
+
+-- What the members leave to others, claim, and are listed for.
+
+pub left_tail : (machine : MachineType) (dll : NamesOfDll) → undefined_in (tail machine dll) ≡ []
+unfolding undefined_in tail_object
+left_tail machine dll = refl
+
+pub left_head : (machine : MachineType) (dll : NamesOfDll) → undefined_in (head machine dll) ≡ iname_symbol machine dll.linked ∷ []
+unfolding undefined_in head_object
+left_head machine dll = refl
+
+pub left_export : (machine : MachineType) (dll : NamesOfDll) (e : ExportView) → undefined_in (export machine dll e) ≡ head_symbol machine dll.linked ∷ []
+unfolding undefined_in export_object
+left_export machine dll e = elim (cases_Bool e.is_data) [ inl is ↦ rw is refl | inr is ↦ rw is refl ]
+
+pub listed_export : (machine : MachineType) (dll : List ℕ) (n : ℕ) (e : ExportView) → (member_of (export_spec machine dll n e)).symbols ≡ archive_symbols e
+unfolding export_spec
+listed_export machine dll n e = refl
+
+pub address_listed : (e : ExportView) → Among (imp_symbol e.name) (archive_symbols e)
+unfolding Among
+address_listed e = elim (cases_Bool e.is_data) [ inl is ↦ rw is (inl refl) | inr is ↦ rw is (inr (inl refl)) ]
+
+pub only_one : {X : Type 0} (x y : X) → Among x (y ∷ []) → x ≡ y
+unfolding Among
+only_one x y (inl e) = e
+only_one x y (inr nothing) = absurd nothing
+
+pub in_nothing : {X : Type 0} (x : X) → Among x [] → ⊥
+unfolding Among
+in_nothing x held = held
+
+-- What is linked of chosen exports.
+
+-- numbers are of exactly the wanted exports
+pub record AreWanted (exports : List ExportView) (wanted : List (List ℕ)) (chosen : List ℕ) : Type 0 where
+  pub only : (k : ℕ) → Among k chosen → (e : ExportView) × (slice_get exports k ≡ Some e) × (is_wanted wanted e ≡ true)
+  pub all : (k : ℕ) (e : ExportView) → slice_get exports k ≡ Some e → is_wanted wanted e ≡ true → Among k chosen
+
+pub numbers_are_wanted : (exports : List ExportView) (wanted : List (List ℕ)) → AreWanted exports wanted (numbers_passing (is_wanted wanted) 0 exports)
+numbers_are_wanted exports wanted = record {
+  only = λ k held.
+      let found = wanted_number wanted exports 0 k held in
+      let same : 0 + found.0 ≡ found.0 = omega arith in
+      (found.1, subst (λ n. slice_get exports n ≡ Some found.1) (sym (found.2 ∙ same)) found.3, found.4);
+  all = λ k e is want.
+      let same : 0 + k ≡ k = omega arith in
+      subst (λ n. Among n (numbers_passing (is_wanted wanted) 0 exports)) same (number_wanted wanted exports 0 k e is want);
+}
+
+abbrev member_specs_linked : MachineType → NamesOfDll → List ExportView → List ℕ → List MemberSpec
+member_specs_linked machine dll exports chosen = head_spec machine dll.linked ∷ (filter_map (numbered_spec machine dll.linked exports) chosen ++ tail_spec machine dll ∷ [])
+
+pub member_spec_linked : (machine : MachineType) (dll : NamesOfDll) (exports : List ExportView) (chosen : List ℕ) (p : MemberSpec) → Among p (member_specs_linked machine dll exports chosen) →
+    (p ≡ head_spec machine dll.linked) ⊎ ((p ≡ tail_spec machine dll) ⊎ Chosen machine dll.linked exports chosen p)
+unfolding Among
+member_spec_linked machine dll exports chosen p (inl e) = inl e
+member_spec_linked machine dll exports chosen p (inr held) =
+    elim (among_either p (filter_map (numbered_spec machine dll.linked exports) chosen) (tail_spec machine dll ∷ []) held) [
+      | inl own ↦ inr (inr (chosen_member_spec machine dll.linked exports chosen p own))
+      | inr last ↦ inr (inl (only_one p (tail_spec machine dll) last))
+    ]
+
+-- An archive as groups of members: the tail and the head of each library, and the members of each export. No symbol
+-- is listed in two groups, so the first member of a name is found in the name's own group.
+
+-- Groups in general: members, and the symbols that they are listed for.
+pub record Group : Type 0 where
+  pub members : List MemberView
+  pub symbols : List (List ℕ)
+
+-- the members of a group are listed for no other symbols
+abbrev pub IsWithin : Group → Type 0
+IsWithin g = (m : MemberView) (name : List ℕ) → Among m g.members → Among name m.symbols → Among name g.symbols
+
+abbrev pub members_of_groups : List Group → List MemberView
+members_of_groups groups = flat_map (λ (g : Group). g.members) groups
+
+abbrev pub symbols_of_groups : List Group → List (List ℕ)
+symbols_of_groups groups = flat_map (λ (g : Group). g.symbols) groups
+
+-- a name that no member is listed for is looked up after
+pub first_behind : (name : List ℕ) (members rest : List MemberView) → first_listed members name ≡ None → first_listed (members ++ rest) name ≡ first_listed rest name
+first_behind name [] rest none = refl
+first_behind name (m ∷ members) rest none =
+    elim (cases_Bool (is_listed_for name m)) [
+      | inl is ↦ (let found : Some m ≡ None = rw is at none in cc)
+      | inr other ↦ rw other (first_behind name members rest (rw other at none))
+    ]
+
+pub first_here : (name : List ℕ) (members rest : List MemberView) (m : MemberView) → first_listed members name ≡ Some m → first_listed (members ++ rest) name ≡ Some m
+first_here name [] rest m found = cc
+first_here name (x ∷ members) rest m found =
+    elim (cases_Bool (is_listed_for name x)) [
+      | inl is ↦ rw is (rw is at found)
+      | inr other ↦ rw other (first_here name members rest m (rw other at found))
+    ]
+
+-- what is found among some members, or nothing
+pub found_or_not : (name : List ℕ) (members : List MemberView) → (first_listed members name ≡ None) ⊎ ((m : MemberView) × (first_listed members name ≡ Some m))
+found_or_not name members = by (first_listed members name) refl
+  where
+    by : (o : Option MemberView) → first_listed members name ≡ o → (first_listed members name ≡ None) ⊎ ((m : MemberView) × (first_listed members name ≡ Some m))
+    by None is = inl is
+    by (Some m) is = inr (m, is)
+
+-- what is found in a name's own group is found first of all
+pub first_in_group : (name : List ℕ) (groups : List Group) (g : Group) (m : MemberView) → AllByRecursion IsWithin groups → IsDistinct bytes_eq (symbols_of_groups groups) →
+    Among g groups → Among name g.symbols → first_listed g.members name ≡ Some m → first_listed (members_of_groups groups) name ≡ Some m
+unfolding Among
+first_in_group name [] g m within distinct held is found = absurd held
+first_in_group name (x ∷ groups) g m within distinct (inl e) is found =
+    first_here name x.members (members_of_groups groups) m (subst (λ (y : Group). first_listed y.members name ≡ Some m) e found)
+first_in_group name (x ∷ groups) g m within distinct (inr held) is found =
+    elim (found_or_not name x.members) [
+      | inl none ↦
+          first_behind name x.members (members_of_groups groups) none
+          ∙ first_in_group name groups g m within.1 (distinct_later x.symbols (symbols_of_groups groups) distinct) held is found
+      | inr here ↦
+          let there = listed_is x.members name here.0 here.1 in
+          absurd (distinct_apart x.symbols (symbols_of_groups groups) name distinct (within.0 here.0 name there.0 there.1) (among_flat (λ (y : Group). y.symbols) g groups name held is))
+    ]
+
+-- what is found at all is found in some group
+pub group_of_first : (name : List ℕ) (groups : List Group) (m : MemberView) → first_listed (members_of_groups groups) name ≡ Some m →
+    (g : Group) × Among g groups × (first_listed g.members name ≡ Some m)
+unfolding Among
+group_of_first name [] m found = cc
+group_of_first name (x ∷ groups) m found =
+    elim (found_or_not name x.members) [
+      | inl none ↦
+          let later = group_of_first name groups m (sym (first_behind name x.members (members_of_groups groups) none) ∙ found) in
+          (later.0, inr later.1, later.2)
+      | inr here ↦
+          let same : here.0 ≡ m = (let e : Some here.0 ≡ Some m = sym (first_here name x.members (members_of_groups groups) here.0 here.1) ∙ found in cc) in
+          (x, inl refl, here.1 ∙ ap Some same)
+    ]
+
+-- The groups of libraries.
+module _ (machine : MachineType) where
+  abbrev pub tail_of : Library → MemberView
+  tail_of l = member_of (tail_spec machine (names_for Gnu l.definition))
+
+  abbrev pub head_of : Library → MemberView
+  head_of l = member_of (head_spec machine (linked_name l.definition))
+
+  abbrev pub export_of : Library → ℕ → ExportView → MemberView
+  export_of l n e = member_of (export_spec machine (linked_name l.definition) n e)
+
+  -- the weak externals of an export: of its name, and of its address
+  abbrev pub weak_of : Library → ℕ → ExportView → MemberView
+  weak_of l n e = member_of (weak_spec machine (weak_name (linked_name l.definition) n) e.name e.alias_target)
+
+  abbrev pub weak_address_of : Library → ℕ → ExportView → MemberView
+  weak_address_of l n e =
+      member_of (weak_spec machine (weak_address_name (linked_name l.definition) n) (imp_symbol e.name) (imp_symbol e.alias_target))
+
+  abbrev pub export_group : Library → ℕ → ExportView → Group
+  export_group l n e = record {
+    members = map member_of (reverse (numbered_specs_of machine (linked_name l.definition) n e));
+    symbols = symbols_of_export e;
+  }
+
+  unfoldable pub export_groups : Library → ℕ → List ExportView → List Group
+  export_groups l start [] = []
+  export_groups l start (e ∷ exports) = export_groups l (start + 1) exports ++ export_group l start e ∷ []
+
+  pub members_of_exports : (l : Library) (start : ℕ) (exports : List ExportView) →
+      map member_of (reverse (numbered_specs machine (linked_name l.definition) start exports)) ≡ members_of_groups (export_groups l start exports)
+  unfolding export_groups
+  members_of_exports l start [] = refl
+  members_of_exports l start (e ∷ exports) =
+      let dll : NamesOfDll = names_for Gnu l.definition in
+      let own : List MemberSpec = numbered_specs_of machine dll.linked start e in
+      let later : List MemberSpec = numbered_specs machine dll.linked (start + 1) exports in
+      ap (map member_of) (reverse-append own later)
+      ∙ map-append member_of (reverse later) (reverse own)
+      ∙ ap (λ ms. ms ++ map member_of (reverse own)) (members_of_exports l (start + 1) exports)
+      ∙ ap (λ ms. members_of_groups (export_groups l (start + 1) exports) ++ ms) (sym (append-nil (map member_of (reverse own))))
+      ∙ sym (flat_map-append (λ (g : Group). g.members) (export_groups l (start + 1) exports) (export_group l start e ∷ []))
+
+  pub symbols_of_exports : (l : Library) (start : ℕ) (exports : List ExportView) →
+      symbols_of_groups (export_groups l start exports) ≡ flat_map symbols_of_export (reverse exports)
+  unfolding export_groups
+  symbols_of_exports l start [] = refl
+  symbols_of_exports l start (e ∷ exports) =
+      flat_map-append (λ (g : Group). g.symbols) (export_groups l (start + 1) exports) (export_group l start e ∷ [])
+      ∙ ap (λ names. names ++ (symbols_of_export e ++ [])) (symbols_of_exports l (start + 1) exports)
+      ∙ sym (flat_map-append symbols_of_export (reverse exports) (e ∷ []))
+      ∙ ap (flat_map symbols_of_export) (sym (reverse-append (e ∷ []) exports))
+
+  pub export_group_is : (l : Library) (exports : List ExportView) (start : ℕ) (g : Group) → Among g (export_groups l start exports) →
+      (n : ℕ) × (e : ExportView) × (slice_get exports n ≡ Some e) × (g ≡ export_group l (start + n) e)
+  unfolding Among export_groups
+  export_group_is l [] start g held = absurd held
+  export_group_is l (x ∷ exports) start g held =
+      elim (among_either g (export_groups l (start + 1) exports) (export_group l start x ∷ []) held) [
+        | inl behind ↦
+            let later = export_group_is l exports (start + 1) g behind in
+            let position : start + 1 + later.0 ≡ start + suc later.0 = omega arith in
+            (suc later.0, later.1, later.2, later.3 ∙ ap (λ n. export_group l n later.1) position)
+        | inr last ↦ elim last [
+          | inl e ↦ (let position : start ≡ start + 0 = omega arith in (0, x, refl, e ∙ ap (λ n. export_group l n x) position))
+          | inr nothing ↦ absurd nothing
+        ]
+      ]
+
+  pub group_is_export : (l : Library) (exports : List ExportView) (start n : ℕ) (e : ExportView) → slice_get exports n ≡ Some e → Among (export_group l (start + n) e) (export_groups l start exports)
+  unfolding Among export_groups
+  group_is_export l [] start n e is = cc
+  group_is_export l (x ∷ exports) start zero e is =
+      let same : e ≡ x = cc in
+      let position : start + 0 ≡ start = omega arith in
+      among_back _ (export_groups l (start + 1) exports) (export_group l start x ∷ [])
+      (inl (ap (λ n. export_group l n e) position ∙ ap (export_group l start) same))
+  group_is_export l (x ∷ exports) start (suc n) e is =
+      let position : start + 1 + n ≡ start + suc n = omega arith in
+      among_front _ (export_groups l (start + 1) exports) (export_group l start x ∷ [])
+      (subst (λ k. Among (export_group l k e) (export_groups l (start + 1) exports)) position (group_is_export l exports (start + 1) n e is))
+
+-- The members of a library for GNU's linker: which of an export's a name finds, and what they are read as.
 
 -- The names of one export.
 
@@ -197,3 +526,142 @@ module _ (machine : MachineType) where
   pub export_entries : (dll : NamesOfDll) (e : ExportView) → list_any is_weak_entry (export machine dll e).entries ≡ false
   unfolding export_object
   export_entries dll e = elim (cases_Bool e.is_data) [ inl is ↦ rw is refl | inr is ↦ rw is refl ]
+
+-- How often a name is in a list: names differ exactly where each is there once at most. So names that differ do so in
+-- any order, and where some are left out.
+
+one_if : Bool → ℕ
+one_if test = if test then 1 else 0
+
+unfoldable pub times : List ℕ → List (List ℕ) → ℕ
+unfolding one_if
+times name [] = 0
+times name (x ∷ xs) = one_if (bytes_eq name x) + times name xs
+
+pub times_both : (name : List ℕ) (xs ys : List (List ℕ)) → times name (xs ++ ys) ≡ times name xs + times name ys
+unfolding times
+times_both name [] ys = omega arith
+times_both name (x ∷ xs) ys = (let behind = times_both name xs ys in omega arith)
+
+none_there : (name : List ℕ) (xs : List (List ℕ)) → AllByRecursion (λ other. bytes_eq name other ≡ false) xs → times name xs ≡ 0
+unfolding times one_if
+none_there name [] none = refl
+none_there name (x ∷ xs) none = (let behind = none_there name xs none.1 in rw none.0 (omega arith))
+
+there_none : (name : List ℕ) (xs : List (List ℕ)) → times name xs ≤ 0 → AllByRecursion (λ other. bytes_eq name other ≡ false) xs
+unfolding times one_if
+there_none name [] few = tt
+there_none name (x ∷ xs) few =
+    elim (cases_Bool (bytes_eq name x)) [
+      | inl is ↦ (let some : 1 + times name xs ≤ 0 = rw is at few in absurd (none_below (times name xs) some))
+      | inr other ↦ (other, there_none name xs (as_few (times name xs) (rw other at few)))
+    ]
+  where
+    as_few : (n : ℕ) → 0 + n ≤ 0 → n ≤ 0
+    as_few n few = omega arith
+
+    none_below : (n : ℕ) → 1 + n ≤ 0 → ⊥
+    none_below n less = omega arith
+
+pub none_times : (name : List ℕ) (names : List (List ℕ)) → list_any (bytes_eq name) names ≡ false → times name names ≡ 0
+unfolding times one_if
+none_times name [] none = refl
+none_times name (x ∷ names) none =
+    let parts = or_parts (bytes_eq name x) (list_any (bytes_eq name) names) none in
+    let behind = none_times name names parts.1 in
+    rw parts.0 (omega arith)
+
+pub few_from : (xs : List (List ℕ)) → IsDistinct bytes_eq xs → (name : List ℕ) → times name xs ≤ 1
+unfolding times one_if IsDistinct
+few_from [] distinct name = omega arith
+few_from (x ∷ xs) distinct name =
+    elim (cases_Bool (bytes_eq name x)) [
+      | inl is ↦
+          let none : times name xs ≡ 0 = subst (λ n. times n xs ≡ 0) (sym ((bytes_eq-Decides name x).0 is)) (none_there x xs distinct.0) in
+          rw (is, none) (omega arith)
+      | inr other ↦ (let behind = few_from xs distinct.1 name in rw other (omega arith))
+    ]
+
+pub distinct_from : (xs : List (List ℕ)) → ((name : List ℕ) → times name xs ≤ 1) → IsDistinct bytes_eq xs
+unfolding times one_if IsDistinct
+distinct_from [] few = tt
+distinct_from (x ∷ xs) few =
+    let own : bytes_eq x x ≡ true = (bytes_eq-Decides x x).1 refl in
+    let once : 1 + times x xs ≤ 1 = (let all = few x in rw own at all) in (
+      there_none x xs (fewer (times x xs) once),
+      distinct_from xs (λ name. (let all = few name in behind (one_if (bytes_eq name x)) (times name xs) all)),
+    )
+  where
+    fewer : (n : ℕ) → 1 + n ≤ 1 → n ≤ 0
+    fewer n less = omega arith
+
+    behind : (n m : ℕ) → n + m ≤ 1 → m ≤ 1
+    behind n m less = omega arith
+
+-- the names that a function gives of the elements of a list
+pub times_flat : {X : Type 0} (f : X → List (List ℕ)) (name : List ℕ) (xs : List X) → times name (flat_map f xs) ≡ sum_by (λ x. times name (f x)) xs
+unfolding times
+times_flat f name [] = refl
+times_flat f name (x ∷ xs) =
+    let both : times name (f x ++ flat_map f xs) ≡ times name (f x) + times name (flat_map f xs) = times_both name (f x) (flat_map f xs) in
+    let behind : times name (flat_map f xs) ≡ sum_by (λ y. times name (f y)) xs = times_flat f name xs in
+    let sums : sum_by (λ y. times name (f y)) (x ∷ xs) ≡ 0 + times name (f x) + sum_by (λ y. times name (f y)) xs = sum_by-append (λ y. times name (f y)) (x ∷ []) xs in
+    omega arith
+
+pub times_moved : {X : Type 0} (f : X → List (List ℕ)) (name : List ℕ) (xs ys : List X) → IsPermutation xs ys → times name (flat_map f ys) ≡ times name (flat_map f xs)
+times_moved f name xs ys moved =
+    times_flat f name ys
+    ∙ sum_by-IsPermutation (λ y. times name (f y)) xs ys moved
+    ∙ sym (times_flat f name xs)
+
+-- What is linked of an archive of libraries, where the libraries may be in another order.
+
+-- Elements of lists in another order.
+
+pub among_moved : {X : Type 0} (x : X) (xs ys : List X) → IsPermutation xs ys → Among x xs → Among x ys
+among_moved x xs ys moved held = contains_among x ys (Contains-permutation xs ys x moved (among_contains x xs held))
+
+-- The exports that are chosen are those that are wanted, in their order.
+
+pub chosen_are : (l : Library) (wanted : List (List ℕ)) → chosen_exports l.definition (exports_wanted l.definition wanted) ≡ filter (is_wanted wanted) (exports_of l)
+chosen_are l wanted = passing_chosen (is_wanted wanted) [] (exports_of l)
+
+-- The input of a library that is wanted, and what is chosen by an input.
+
+-- The symbols of what is linked differ, since those do that the archive lists.
+
+symbols_fewer : (name : List ℕ) (e : ExportView) → times name (archive_symbols e) ≤ times name (symbols_of_export e)
+unfolding times
+symbols_fewer name e =
+    elim (cases_Bool e.is_data) [
+      | inl is ↦ elim (cases_Bool (is_alias e.alias_target e.name)) [ inl alias ↦ rw (is, alias) (omega arith) | inr none ↦ rw (is, none) (omega arith) ]
+      | inr is ↦ rw is (omega arith)
+    ]
+
+exports_fewer : (name : List ℕ) (test : ExportView → Bool) (es : List ExportView) → times name (flat_map archive_symbols (filter test es)) ≤ times name (flat_map symbols_of_export es)
+unfolding times
+exports_fewer name test [] = omega arith
+exports_fewer name test (e ∷ es) =
+    let behind : times name (flat_map archive_symbols (filter test es)) ≤ times name (flat_map symbols_of_export es) = exports_fewer name test es in
+    let own : times name (archive_symbols e) ≤ times name (symbols_of_export e) = symbols_fewer name e in
+    let all : times name (symbols_of_export e ++ flat_map symbols_of_export es) ≡ times name (symbols_of_export e) + times name (flat_map symbols_of_export es) =
+    times_both name (symbols_of_export e) (flat_map symbols_of_export es) in
+    let some : times name (archive_symbols e ++ flat_map archive_symbols (filter test es)) ≡ times name (archive_symbols e) + times name (flat_map archive_symbols (filter test es)) =
+    times_both name (archive_symbols e) (flat_map archive_symbols (filter test es)) in
+    elim (cases_Bool (test e)) [ inl is ↦ rw is (omega arith) | inr other ↦ rw other (omega arith) ]
+
+module _ (machine : MachineType) where
+  pub library_fewer : (name : List ℕ) (l : Library) (wanted : List (List ℕ)) →
+      times name (linked_symbols machine (names_for Gnu l.definition) (chosen_exports l.definition (exports_wanted l.definition wanted))) ≤ times name (symbols_of_library machine l)
+  unfolding symbols_of_library times
+  library_fewer name l wanted =
+      let dll : NamesOfDll = names_for Gnu l.definition in
+      let chosen : List ExportView = filter (is_wanted wanted) (exports_of l) in
+      let turned : times name (flat_map symbols_of_export (reverse (exports_of l))) ≡ times name (flat_map symbols_of_export (exports_of l)) =
+      times_moved symbols_of_export name (exports_of l) (reverse (exports_of l)) (IsPermutation-reverse (exports_of l)) in
+      let few : times name (flat_map archive_symbols chosen) ≤ times name (flat_map symbols_of_export (exports_of l)) = exports_fewer name (is_wanted wanted) (exports_of l) in
+      let both : times name (flat_map archive_symbols chosen ++ iname_symbol machine dll.linked ∷ []) ≡ times name (flat_map archive_symbols chosen) + times name (iname_symbol machine dll.linked ∷ []) =
+      times_both name (flat_map archive_symbols chosen) (iname_symbol machine dll.linked ∷ []) in
+      subst (λ (es : List ExportView). times name (linked_symbols machine dll es)
+      ≤ times name (iname_symbol machine dll.linked ∷ head_symbol machine dll.linked ∷ flat_map symbols_of_export (reverse (exports_of l)))) (sym (chosen_are l wanted))
+      (omega arith)

@@ -1,47 +1,38 @@
 -- A closed program of an archive of both flavours links, however a linker reads members.
 use Rattle.std.proofs.Common.{◌≡◌, ℕ, ◌+◌, ◌*◌, ◌⊎◌, Bool, true, false, List, [], ◌∷◌, ◌++◌, Option, Some, refl, ap, sym, ◌∙◌, subst, inl, inr}
 use Rattle.std.specs.Prelude.{◌<◌, ◌^◌, IsPermutation, not, slice_get}
-use Rattle.std.specs.List.{AllByRecursion, Contains, filter}
+use Rattle.std.specs.List.{AllByRecursion, Contains, cons_option, filter}
 use Rattle.std.proofs.lemmas.Bool.{cases_Bool, true≢false, not_from_false}
 use Rattle.std.proofs.lemmas.List.Sorted.{IsPermutation-sym}
 use Rattle.implib.specs.declared.flavor.Flavor.{Flavor}
 use Rattle.implib.specs.declared.flavor.Flavor.TheVariants.{Gnu, Msvc}
 use Rattle.implib.specs.declared.machine.MachineType.{MachineType}
-use Rattle.implib.specs.Definition.{ExportView}
-use Rattle.implib.specs.Formats.Object.{Object}
+use Rattle.implib.specs.Definition.{DefinitionView, ExportView}
+use Rattle.implib.specs.Formats.Object.{Object, object_in}
 use Rattle.implib.specs.Import.{imp_symbol}
-use Rattle.implib.specs.LibraryName.{names_for}
+use Rattle.implib.specs.LibraryName.{linked_dll, names_for}
 use Rattle.implib.specs.Link.Linked.{IsDefinedOnce}
+use Rattle.implib.specs.Link.LinkedMembers.{objects_in}
 use Rattle.implib.specs.Link.Placement.{Bases, placed_from}
 use Rattle.implib.specs.Link.Resolution.{definitions_of}
 use Rattle.implib.specs.Members.ImportTables.{thunk_width}
 use Rattle.implib.specs.Members.MemberSpec.{MemberView}
 use Rattle.implib.specs.Members.MsvcObjects.{null_descriptor_symbol}
 use Rattle.implib.proofs.Link.LinkedMembers.{among_contains}
-use Rattle.implib.proofs.Link.Ranges.{Among, all_among, among_back, among_first, among_flat, among_front}
+use Rattle.implib.proofs.Link.Ranges.{Among, all_among, among_back, among_first, among_flat, among_front, among_later}
 use Rattle.implib_link.specs.Flavors.Expansion.{expanded_in}
-use Rattle.implib_link.specs.Flavors.Program.{AreProgramObjects, Ending, FlavorInput, IsMadeFor, IsProgramOf, OfMember, ProgramLinks, all_members, exports_chosen, symbol_in, symbols_listed, thunks_of}
-use Rattle.implib_link.specs.Gnu.Packed.{packed, packed_end}
-use Rattle.implib_link.specs.Gnu.Program.{ClaimsNone, HaveSame, has_tables}
-use Rattle.implib_link.specs.Search.Archives.{Library, exports_of}
-use Rattle.implib_link.specs.Search.BothFlavors.{AreClosedForBoth, FlavorLibrary, IsClosedForBoth, IsFlavorArchive, IsImportedOfBoth, IsUsedIn, LinksClosedForBoth, NamesNoMembers, archive_of_both, flavor_inputs, inputs_of_both, msvc_among, symbols_in}
-use Rattle.implib_link.specs.Search.Closed.{TakesIntoAs, listed_in, unresolved}
-use Rattle.implib_link.specs.Search.MsvcArchives.{first_null, is_weak_in, wanted_for}
-use Rattle.implib_link.specs.Search.Search.{TakesAs, first_listed, left_as, objects_as}
-use Rattle.implib_link.proofs.Flavors.Loaded.{entry_of}
-use Rattle.implib_link.proofs.Flavors.Packed.{packed_objects}
-use Rattle.implib_link.proofs.Flavors.Program.{program_links}
-use Rattle.implib_link.proofs.Search.Arranged.{among_moved}
-use Rattle.implib_link.proofs.Search.BothArranged.{both_distinct, both_found, both_made}
-use Rattle.implib_link.proofs.Search.Chosen.{AnOwn, AnyOf, TheLast, TheTop, chosen_are, chosen_by, chosen_name, export_chosen, input_held, input_in, input_is, is_chosen, linked_from, linked_into, some_short}
-use Rattle.implib_link.proofs.Search.Closing.{IsFirstAs, IsListed, first_of, listed_other, none_left, others_claim_none, reached, still_named, takes_apart}
-use Rattle.implib_link.proofs.Search.FlavorGroups.{first_held, made_of, there_msvc}
-use Rattle.implib_link.proofs.Search.Found.{IsReader, expands, found, weak_by_role}
+use Rattle.implib_link.specs.Flavors.Program.{AreEnded, AreEndedByLinker, AreEndedByMember, AreProgramObjects, Ending, FlavorInput, IsMadeFor, IsProgramOf, OfLinker, OfMember, ProgramLinks, all_members, null_member, objects_taken, exports_chosen, symbol_in, symbols_listed, thunks_of, ClaimsNone, HaveSame, has_tables, null_descriptor, packed, packed_end}
+use Rattle.implib_link.specs.Search.Search.{Library, exports_of, TakesIntoAs, listed_in, unresolved, first_listed, left_as, objects_as}
+use Rattle.implib_link.specs.Search.Libraries.{AreClosed, FlavorLibrary, IsClosed, IsFlavorArchive, IsImported, IsUsedIn, LinksClosed, NamesNoMembers, archive_of_both, flavor_inputs, inputs_in, msvc_among, symbols_in, first_null, is_weak_in, wanted_for}
+use Rattle.implib_link.proofs.Tables.{entry_of}
+use Rattle.implib_link.proofs.Flavors.Program.{packed_objects, program_links}
+use Rattle.implib_link.proofs.Search.ArchiveMembers.{among_moved, only_one}
+use Rattle.implib_link.proofs.Search.Chosen.{both_distinct, both_found, both_made, members_distinct, AnOwn, AnyOf, IsLinked, TheLast, TheTop, chosen_are, chosen_by, chosen_name, export_chosen, input_held, input_in, input_is, is_chosen, linked_from, linked_into, own_chosen}
+use Rattle.implib_link.proofs.Search.Closing.{IsFirstAs, IsListed, TakesAs, first_of, listed_other, none_left, others_claim_none, reached, still_named, takes_apart}
+use Rattle.implib_link.proofs.Search.FlavorGroups.{first_held, made_of, msvc_there, there_msvc, IsReader, expands, found, weak_by_role}
 use Rattle.implib_link.proofs.Search.Lists.{among_at, among_either, among_flat_map, contains_among, from_not, passes, passing, at_index}
-use Rattle.implib_link.proofs.Search.MsvcArchives.{by_symbol, null_tables}
-use Rattle.implib_link.proofs.Search.MsvcMembers.{null_is, null_of}
-use Rattle.implib_link.proofs.Search.Roles.{IsRole, Last, Null, Own, Role, Top, Weak, in_flavor, is_weak_role, listed_as, member, symbols}
-use Rattle.implib_link.proofs.Search.Search.{only_one}
+use Rattle.implib_link.proofs.Search.MsvcMembers.{by_symbol, null_tables, null_is, null_of}
+use Rattle.implib_link.proofs.Search.Roles.{IsRole, Last, Null, Own, Role, Top, Weak, in_flavor, is_weak_role, listed_as, member, plain_as, symbols}
 use Rattle.implib_link.proofs.Search.Taken.{Why, as_other, both_taken, each_first, linked_other, needed, not_wanted}
 
 -- a symbol of an export's own member is that of its address, or its name, where it is no data
@@ -115,7 +106,7 @@ module _ (machine : MachineType) (libraries : List FlavorLibrary) (archive : IsF
 
   -- a null descriptor that is taken is the first library's for Microsoft's linker
   abbrev pub IsNullTaken : MemberView → Type 0
-  IsNullTaken m = ((x : Library) × Among (in_flavor Msvc x) libraries) × Among m (first_null machine (msvc_among libraries))
+  IsNullTaken m = ((x : Library) × Among (in_flavor Msvc x) libraries × AnyOf wanted (in_flavor Msvc x)) × Among m (first_null machine (msvc_among libraries))
 
   pub other_from : (m : MemberView) → Among m (filter (λ y. not (weak y)) taken) → IsNullTaken m ⊎ Among m (all_members machine inputs)
   other_from m held =
@@ -131,7 +122,7 @@ module _ (machine : MachineType) (libraries : List FlavorLibrary) (archive : IsF
           IsNullTaken m ⊎ Among m (all_members machine inputs)
       by l Top there so why same plain = inr (linked_into machine wanted arranged m l (into l there) why (TheTop same))
       by l Last there so why same plain = inr (linked_into machine wanted arranged m l (into l there) why (TheLast same))
-      by l Null there so why same plain = inl ((why.0, why.1), null_in l.flavor l.library so same)
+      by l Null there so why same plain = inl (why, null_in l.flavor l.library so same)
       by l (Own n e) there so why same plain = inr (linked_into machine wanted arranged m l (into l there) (record { number = n; export = e; is = so.0; want = why }) (AnOwn n e so.0 same why))
       by l (Weak n e b) there so why same plain = absurd (true≢false plain)
 
@@ -175,7 +166,7 @@ module _ (machine : MachineType) (libraries : List FlavorLibrary) (archive : IsF
     -- A name that is wanted and listed.
 
     of_own : (l : FlavorLibrary) (n : ℕ) (e : ExportView) (name : List ℕ) → Among l libraries → IsRole libraries l (Own n e) → Among name (symbols_in l.flavor e) → Among name wanted →
-        IsImportedOfBoth machine (placed_from bases objects) bases inputs name
+        IsImported machine (placed_from bases objects) bases inputs name
     of_own l n e name held so listed want =
         let is_want : is_chosen l.flavor wanted e ≡ true = chosen_by l.flavor wanted e name so.1 listed want in
         let any : AnyOf wanted l = record { number = n; export = e; is = so.0; want = is_want } in
@@ -203,7 +194,7 @@ module _ (machine : MachineType) (libraries : List FlavorLibrary) (archive : IsF
         }
 
     abbrev pub Resolved : List ℕ → Type 0
-    Resolved name = IsImportedOfBoth machine (placed_from bases objects) bases (flavor_inputs arranged wanted) name ⊎ ((m : MemberView) × Contains (filter weak taken) m × (m.symbols ≡ name ∷ []))
+    Resolved name = IsImported machine (placed_from bases objects) bases (flavor_inputs arranged wanted) name ⊎ ((m : MemberView) × Contains (filter weak taken) m × (m.symbols ≡ name ∷ []))
 
     resolved_by : (l : FlavorLibrary) (r : Role) (name : List ℕ) (m : MemberView) → Among name wanted → first_listed members name ≡ Some m → Among l libraries → IsRole libraries l r →
         m ≡ member machine l.flavor l.library r → Among name (symbols machine l.flavor l.library r) → weak m ≡ is_weak_role r → Resolved name
@@ -225,114 +216,221 @@ module _ (machine : MachineType) (libraries : List FlavorLibrary) (archive : IsF
         let x = found machine libraries archive name at.0 at.1 in
         resolved_by x.has.library x.has.role name at.0 (contains_among name wanted want) at.1 x.has.held x.has.is x.has.same x.listed (weak_by_role machine libraries archive reads weak reader at.0 x.has)
 
--- Closed by a null descriptor of a library.
+-- Closed, by what ends the directory.
+
+-- members that a linker takes for the objects that their bytes are
+objects_same : (machine : MachineType) (members : List MemberView) → ((m : MemberView) → Among m members → expanded_in machine m.bytes ≡ object_in m.bytes) → objects_taken machine members ≡ objects_in members
+objects_same machine [] all = refl
+objects_same machine (m ∷ members) all =
+    ap (λ o. cons_option o (objects_taken machine members)) (all m (among_first m members))
+    ∙ ap (cons_option (object_in m.bytes)) (objects_same machine members (λ x held. all x (among_later x m members held)))
+
+-- the members of libraries for GNU's linker are such
+module _ (machine : MachineType) (libraries : List FlavorLibrary) (archive : IsFlavorArchive machine libraries) (arranged : List FlavorLibrary) (order : IsPermutation libraries arranged) (names : List (List ℕ))
+    (gnu : AllByRecursion (λ p. p.flavor ≡ Gnu) (flavor_inputs arranged names)) where
+  of_role : (m : MemberView) (flavor : Flavor) (l : Library) (r : Role) → flavor ≡ Gnu → Among (in_flavor flavor l) libraries → IsRole libraries (in_flavor flavor l) r → m ≡ member machine flavor l r →
+      expanded_in machine m.bytes ≡ object_in m.bytes
+  of_role m Msvc l r is held so same = cc
+  of_role m Gnu l r is held so same =
+      subst (λ (y : MemberView). expanded_in machine y.bytes ≡ object_in y.bytes) (sym same)
+      ((expands machine libraries archive).taken Gnu l r held so ∙ sym (plain_as machine l (made_of machine libraries archive Gnu l held) libraries r so))
+
+  of_linked : (m : MemberView) (l : FlavorLibrary) → l.flavor ≡ Gnu → Among l libraries → IsLinked machine names l m → expanded_in machine m.bytes ≡ object_in m.bytes
+  of_linked m l is held (TheTop same) = of_role m l.flavor l.library Top is held tt same
+  of_linked m l is held (TheLast same) = of_role m l.flavor l.library Last is held tt same
+  of_linked m l is held (AnOwn n e at same want) = of_role m l.flavor l.library (Own n e) is held (at, own_chosen l.flavor names e want) same
+
+  pub gnu_taken : objects_taken machine (all_members machine (flavor_inputs arranged names)) ≡ objects_in (all_members machine (flavor_inputs arranged names))
+  gnu_taken = objects_same machine (all_members machine (flavor_inputs arranged names)) (λ m held.
+      let x = linked_from machine names arranged m held in
+      of_linked m x.0 (all_among (λ (p : FlavorInput). p.flavor ≡ Gnu) (input_in names x.0) (flavor_inputs arranged names) (input_held names arranged x.0 x.1 x.2) gnu)
+      (among_moved x.0 arranged libraries (IsPermutation-sym libraries arranged order) x.1) x.3)
+
+-- What is linked, with what ends the directory: objects with import tables are those of members that are taken, and may be the
+-- linker's null descriptor.
+pub record IsEnded (machine : MachineType) (ending : Ending) (own : List Object) (taken : List MemberView) (arranged : List FlavorLibrary) (objects : List Object) : Type 0 where
+  pub linked : List MemberView
+  pub from : (o : Object) → Among o (filter has_tables objects) → Among o (objects_taken machine linked) ⊎ (o ≡ null_descriptor)
+  pub into : (o : Object) → Among o (objects_taken machine linked) → Among o (filter has_tables objects)
+  pub are_taken : (m : MemberView) → Among m linked → Among m (filter (λ y. not (is_weak_in machine y)) taken)
+  pub are_linked : (m : MemberView) → Among m (filter (λ y. not (is_weak_in machine y)) taken) → Among m linked
+  pub held : AreProgramObjects machine ending (inputs_in machine arranged own taken) objects
 
 module _ (machine : MachineType) (libraries : List FlavorLibrary) (archive : IsFlavorArchive machine libraries) (own : List Object) (taken : List MemberView) (arranged : List FlavorLibrary)
-    (objects : List Object) (is : AreClosedForBoth machine libraries own taken arranged objects) where
+    (objects : List Object) (closed_as : AreClosedAs machine (expanded_in machine) (is_weak_in machine) libraries own taken arranged objects) where
   abbrev reads : List ℕ → Option Object
   reads = expanded_in machine
 
   abbrev weak : MemberView → Bool
   weak = is_weak_in machine
 
-  closed_as : AreClosedAs machine (expanded_in machine) (is_weak_in machine) libraries own taken arranged objects
-  closed_as = record { takes = is.takes; order = is.order; others = is.others; claims = is.claims; names = is.names }
+  abbrev wanted_here : List (List ℕ)
+  wanted_here = wanted_for machine own taken
 
-  -- a library that an import is wanted of
-  abbrev one_library : (x : Library) × Among x (msvc_among libraries) × AnyOf (wanted_for machine own taken) (in_flavor Msvc x)
-  one_library = some_short (msvc_among libraries) (wanted_for machine own taken) is.some
+  abbrev inputs_here : List FlavorInput
+  inputs_here = inputs_in machine arranged own taken
 
-  abbrev null : List MemberView
-  null = first_null machine (msvc_among libraries)
+  abbrev all_here : List MemberView
+  all_here = all_members machine (inputs_in machine arranged own taken)
 
-  abbrev linked : List MemberView
-  linked = is.before ++ (null ++ is.behind)
+  module _ (e : AreEndedByLinker machine (inputs_in machine arranged own taken) objects) where
+    no_null : (x : Library) → Among (in_flavor Msvc x) libraries → AnyOf wanted_here (in_flavor Msvc x) → ⊥
+    no_null x there any =
+        let none : Msvc ≡ Gnu = all_among (λ (p : FlavorInput). p.flavor ≡ Gnu) (input_in wanted_here (in_flavor Msvc x)) inputs_here
+        (input_held wanted_here arranged (in_flavor Msvc x) (among_moved (in_flavor Msvc x) libraries arranged closed_as.order there) any) e.gnu in
+        cc
 
-  null_there : (m : MemberView) → Among m null → Among m (filter (λ y. not (weak y)) taken)
-  null_there = null_other machine libraries archive reads weak (expands machine libraries archive) own taken arranged objects closed_as one_library.0 (there_msvc libraries one_library.0 one_library.1) one_library.2
+    same : objects_taken machine all_here ≡ objects_in all_here
+    same = gnu_taken machine libraries archive arranged closed_as.order wanted_here e.gnu
 
-  member_there : (m : MemberView) → Among m (is.before ++ is.behind) → Among m (filter (λ y. not (weak y)) taken)
-  member_there m held = member_other machine libraries archive reads weak (expands machine libraries archive) own taken arranged objects closed_as m (subst (Among m) is.members held)
+    pub by_linker : IsEnded machine OfLinker own taken arranged objects
+    by_linker = record {
+      linked = all_here;
+      from = λ o held. elim (among_either o (objects_in all_here) (null_descriptor ∷ []) (subst (Among o) e.tables held)) [
+        | inl one ↦ inl (subst (Among o) (sym same) one)
+        | inr null ↦ inr (only_one o null_descriptor null)
+      ];
+      into = λ o held. subst (Among o) (sym e.tables) (among_front o (objects_in all_here) (null_descriptor ∷ []) (subst (Among o) same held));
+      are_taken = member_other machine libraries archive reads weak (expands machine libraries archive) own taken arranged objects closed_as;
+      are_linked = λ m held. elim (other_from machine libraries archive reads weak (expands machine libraries archive) own taken arranged objects closed_as m held) [
+        | inl null ↦ absurd (no_null null.0.0 null.0.1 null.0.2)
+        | inr all ↦ all
+      ];
+      held = record {
+        distinct = members_distinct machine libraries archive arranged closed_as.order wanted_here;
+        ended = e;
+        others = others_claim machine libraries archive reads weak (expands machine libraries archive) own taken arranged objects closed_as (symbols_listed all_here)
+            (listed_linked machine libraries archive reads weak (expands machine libraries archive) own taken arranged objects closed_as);
+        found = both_found machine libraries archive arranged closed_as.order wanted_here;
+      };
+    }
 
-  linked_taken : (m : MemberView) → Among m linked → Among m (filter (λ y. not (weak y)) taken)
-  linked_taken m held =
-      elim (among_either m is.before (null ++ is.behind) held) [
-        | inl front ↦ member_there m (among_front m is.before is.behind front)
-        | inr rest ↦ elim (among_either m null is.behind rest) [
-          | inl own_null ↦ null_there m own_null
-          | inr last ↦ member_there m (among_back m is.before is.behind last)
+  module _ (e : AreEndedByMember machine (inputs_in machine arranged own taken) objects) where
+    -- the library whose null descriptor it is, of which an import is wanted
+    null_library : (y : Library) × Among (in_flavor Msvc y) libraries × AnyOf wanted_here (in_flavor Msvc y) × (e.null_from.input.definition ≡ y.definition)
+    null_library =
+        let one = input_is wanted_here arranged e.null_from (contains_among e.null_from inputs_here e.null_held) in
+        by one.0.flavor one.0.library (ap (λ (p : FlavorInput). p.flavor) (sym one.2) ∙ e.null_flavor)
+        (among_moved one.0 arranged libraries (IsPermutation-sym libraries arranged closed_as.order) one.1) one.3 (ap (λ (p : FlavorInput). p.input.definition) one.2)
+      where
+        by : (flavor : Flavor) (x : Library) → flavor ≡ Msvc → Among (in_flavor flavor x) libraries → AnyOf wanted_here (in_flavor flavor x) → e.null_from.input.definition ≡ x.definition → (y : Library) × Among (in_flavor Msvc y) libraries × AnyOf wanted_here (in_flavor Msvc y) × (e.null_from.input.definition ≡ y.definition)
+        by Gnu x is held any own = cc
+        by Msvc x is held any own = (x, held, any, own)
+
+    abbrev x : Library
+    x = null_library.0
+
+    there : Among x (msvc_among libraries)
+    there = msvc_there libraries x null_library.1
+
+    abbrev null : List MemberView
+    null = first_null machine (msvc_among libraries)
+
+    abbrev linked : List MemberView
+    linked = e.before ++ (null ++ e.behind)
+
+    tables : filter has_tables objects ≡ objects_taken machine (e.before ++ (first_null machine (msvc_among libraries) ++ e.behind))
+    tables =
+        e.tables
+        ∙ ap (λ (d : DefinitionView). objects_taken machine (e.before ++ null_member machine (linked_dll d) ∷ e.behind)) null_library.3
+        ∙ sym (null_tables machine (msvc_among libraries) archive.msvc e.before e.behind (names_for Msvc x.definition) x there (null_is machine x (made_of machine libraries archive Msvc x null_library.1)))
+
+    null_there : (m : MemberView) → Among m null → Among m (filter (λ y. not (weak y)) taken)
+    null_there = null_other machine libraries archive reads weak (expands machine libraries archive) own taken arranged objects closed_as x null_library.1 null_library.2
+
+    member_there : (m : MemberView) → Among m (e.before ++ e.behind) → Among m (filter (λ y. not (weak y)) taken)
+    member_there m held = member_other machine libraries archive reads weak (expands machine libraries archive) own taken arranged objects closed_as m (subst (Among m) e.members held)
+
+    linked_taken : (m : MemberView) → Among m linked → Among m (filter (λ y. not (weak y)) taken)
+    linked_taken m held =
+        elim (among_either m e.before (null ++ e.behind) held) [
+          | inl front ↦ member_there m (among_front m e.before e.behind front)
+          | inr rest ↦ elim (among_either m null e.behind rest) [
+            | inl own_null ↦ null_there m own_null
+            | inr last ↦ member_there m (among_back m e.before e.behind last)
+          ]
         ]
-      ]
 
-  taken_linked : (m : MemberView) → Among m (filter (λ y. not (weak y)) taken) → Among m linked
-  taken_linked m held =
-      elim (other_from machine libraries archive reads weak (expands machine libraries archive) own taken arranged objects closed_as m held) [
-        | inl own_null ↦ among_back m is.before (null ++ is.behind) (among_front m null is.behind own_null.1)
-        | inr all ↦ elim (among_either m is.before is.behind (subst (Among m) (sym is.members) all)) [
-          | inl front ↦ among_front m is.before (null ++ is.behind) front
-          | inr last ↦ among_back m is.before (null ++ is.behind) (among_back m null is.behind last)
+    taken_linked : (m : MemberView) → Among m (filter (λ y. not (weak y)) taken) → Among m linked
+    taken_linked m held =
+        elim (other_from machine libraries archive reads weak (expands machine libraries archive) own taken arranged objects closed_as m held) [
+          | inl own_null ↦ among_back m e.before (null ++ e.behind) (among_front m null e.behind own_null.1)
+          | inr all ↦ elim (among_either m e.before e.behind (subst (Among m) (sym e.members) all)) [
+            | inl front ↦ among_front m e.before (null ++ e.behind) front
+            | inr last ↦ among_back m e.before (null ++ e.behind) (among_back m null e.behind last)
+          ]
         ]
-      ]
 
-  abbrev IsListedHere : List ℕ → Type 0
-  IsListedHere = Listed machine libraries archive reads weak (expands machine libraries archive) own taken arranged objects closed_as
+    abbrev IsListedHere : List ℕ → Type 0
+    IsListedHere = Listed machine libraries archive reads weak (expands machine libraries archive) own taken arranged objects closed_as
 
-  null_among : (name : List ℕ) → name ≡ null_descriptor_symbol → IsListedHere name
-  unfolding Among
-  null_among name named = by (msvc_among libraries) refl one_library.1
-    where
-      by : (ls : List Library) → msvc_among libraries ≡ ls → Among one_library.0 ls → IsListedHere name
-      by [] same there = absurd there
-      by (x ∷ rest) same there =
-          of_other machine libraries archive reads weak (expands machine libraries archive) own taken arranged objects closed_as name (null_of machine x)
-          (null_there (null_of machine x) (subst (λ (ls : List Library). Among (null_of machine x) (first_null machine ls)) (sym same) (inl refl)))
-          (subst (Among name) (sym (listed_as machine Msvc x Null)) (inl named))
+    null_among : (name : List ℕ) → name ≡ null_descriptor_symbol → IsListedHere name
+    unfolding Among
+    null_among name named = by (msvc_among libraries) refl there
+      where
+        by : (ls : List Library) → msvc_among libraries ≡ ls → Among x ls → IsListedHere name
+        by [] are none = absurd none
+        by (y ∷ rest) are some =
+            of_other machine libraries archive reads weak (expands machine libraries archive) own taken arranged objects closed_as name (null_of machine y)
+            (null_there (null_of machine y) (subst (λ (ls : List Library). Among (null_of machine y) (first_null machine ls)) (sym are) (inl refl)))
+            (subst (Among name) (sym (listed_as machine Msvc y Null)) (inl named))
 
-  listed_name : (name : List ℕ) → Among name (null_descriptor_symbol ∷ symbols_listed (all_members machine (inputs_of_both machine arranged own taken))) → IsListedHere name
-  unfolding Among
-  listed_name name (inl one) = null_among name one
-  listed_name name (inr held) = listed_linked machine libraries archive reads weak (expands machine libraries archive) own taken arranged objects closed_as name held
+    listed_name : (name : List ℕ) → Among name (null_descriptor_symbol ∷ symbols_listed (all_members machine (inputs_in machine arranged own taken))) → IsListedHere name
+    unfolding Among
+    listed_name name (inl one) = null_among name one
+    listed_name name (inr held) = listed_linked machine libraries archive reads weak (expands machine libraries archive) own taken arranged objects closed_as name held
 
-  pub both_held : AreProgramObjects machine OfMember (inputs_of_both machine arranged own taken) objects
-  both_held =
-      let x : Library = one_library.0 in
-      let there : Among (in_flavor Msvc x) libraries = there_msvc libraries x one_library.1 in
-      let wanted : List (List ℕ) = wanted_for machine own taken in
-      record {
-        distinct = both_distinct machine libraries archive arranged is.order wanted x one_library.1;
-        ended = record {
-          null_from = input_in wanted (in_flavor Msvc x);
-          null_held = among_contains (input_in wanted (in_flavor Msvc x)) (inputs_of_both machine arranged own taken)
-              (input_held wanted arranged (in_flavor Msvc x) (among_moved (in_flavor Msvc x) libraries arranged is.order there) one_library.2);
-          null_flavor = refl;
-          before = is.before;
-          behind = is.behind;
-          members = is.members;
-          tables = is.tables ∙ null_tables machine (msvc_among libraries) archive.msvc is.before is.behind (names_for Msvc x.definition) x one_library.1 (null_is machine x (made_of machine libraries archive Msvc x there));
-        };
+    pub by_member : IsEnded machine OfMember own taken arranged objects
+    by_member = record {
+      linked = linked;
+      from = λ o held. inl (subst (Among o) tables held);
+      into = λ o held. subst (Among o) (sym tables) held;
+      are_taken = linked_taken;
+      are_linked = taken_linked;
+      held = record {
+        distinct = both_distinct machine libraries archive arranged closed_as.order wanted_here x there;
+        ended = e;
         others = others_claim machine libraries archive reads weak (expands machine libraries archive) own taken arranged objects closed_as
-            (null_descriptor_symbol ∷ symbols_listed (all_members machine (inputs_of_both machine arranged own taken))) listed_name;
-        found = both_found machine libraries archive arranged is.order wanted;
-      }
+            (null_descriptor_symbol ∷ symbols_listed (all_members machine (inputs_in machine arranged own taken))) listed_name;
+        found = both_found machine libraries archive arranged closed_as.order wanted_here;
+      };
+    }
 
-  pub both_links : (bases : Bases) → IsProgramOf machine OfMember bases (inputs_of_both machine arranged own taken) objects → LinksClosedForBoth machine libraries own taken arranged bases objects
+  is_ended : (ending : Ending) → AreEnded ending machine (inputs_in machine arranged own taken) objects → IsEnded machine ending own taken arranged objects
+  is_ended OfLinker e = by_linker e
+  is_ended OfMember e = by_member e
+
+module _ (machine : MachineType) (ending : Ending) (libraries : List FlavorLibrary) (archive : IsFlavorArchive machine libraries) (own : List Object) (taken : List MemberView) (arranged : List FlavorLibrary)
+    (objects : List Object) (is : AreClosed machine ending libraries own taken arranged objects) where
+  as_closed : AreClosedAs machine (expanded_in machine) (is_weak_in machine) libraries own taken arranged objects
+  as_closed = record { takes = is.takes; order = is.order; others = is.others; claims = is.claims; names = is.names }
+
+  so : IsEnded machine ending own taken arranged objects
+  so = is_ended machine libraries archive own taken arranged objects as_closed ending is.ended
+
+  pub both_held : AreProgramObjects machine ending (inputs_in machine arranged own taken) objects
+  both_held = so.held
+
+  pub both_links : (bases : Bases) → IsProgramOf machine ending bases (inputs_in machine arranged own taken) objects → LinksClosed machine ending libraries own taken arranged bases objects
   both_links bases program =
-      let reader : IsReader machine libraries archive reads weak = expands machine libraries archive in
+      let read : List ℕ → Option Object = expanded_in machine in
+      let is_weak_one : MemberView → Bool = is_weak_in machine in
+      let reader : IsReader machine libraries archive read is_weak_one = expands machine libraries archive in
       record {
-        taken_is = both_taken machine libraries archive (unresolved own) taken is.names (takes machine libraries archive reads weak reader own taken arranged objects closed_as);
+        taken_is = both_taken machine libraries archive (unresolved own) taken is.names (takes machine libraries archive read is_weak_one reader own taken arranged objects as_closed);
         program = program;
-        links = links machine libraries archive reads weak reader own taken arranged objects closed_as OfMember bases program;
-        used = used machine libraries archive reads weak reader own taken arranged objects closed_as OfMember bases program;
-        resolved = resolved machine libraries archive reads weak reader own taken arranged objects closed_as OfMember bases program;
-        closed = none_left reads (archive_of_both libraries) weak taken (first_each machine libraries archive reads weak reader own taken arranged objects closed_as) own objects linked is.others
-            (λ o held. inl (subst (Among o) is.tables held)) (λ o held. subst (Among o) (sym is.tables) held) linked_taken taken_linked is.takes;
+        links = links machine libraries archive read is_weak_one reader own taken arranged objects as_closed ending bases program;
+        used = used machine libraries archive read is_weak_one reader own taken arranged objects as_closed ending bases program;
+        resolved = resolved machine libraries archive read is_weak_one reader own taken arranged objects as_closed ending bases program;
+        closed = none_left read (archive_of_both libraries) is_weak_one taken (first_each machine libraries archive read is_weak_one reader own taken arranged objects as_closed) own objects so.linked is.others
+            so.from so.into so.are_taken so.are_linked is.takes;
       }
 
-pub closed_links_of_both : (machine : MachineType) (libraries : List FlavorLibrary) (own : List Object) (taken : List MemberView) (arranged : List FlavorLibrary) (bases : Bases) (objects : List Object) →
-    IsFlavorArchive machine libraries → IsClosedForBoth machine libraries own taken arranged bases objects → LinksClosedForBoth machine libraries own taken arranged bases objects
-closed_links_of_both machine libraries own taken arranged bases objects archive is =
-    both_links machine libraries archive own taken arranged objects is.closed bases (record {
-      held = both_held machine libraries archive own taken arranged objects is.closed;
+pub closed_links_of_both : (machine : MachineType) (ending : Ending) (libraries : List FlavorLibrary) (own : List Object) (taken : List MemberView) (arranged : List FlavorLibrary) (bases : Bases) (objects : List Object) →
+    IsFlavorArchive machine libraries → IsClosed machine ending libraries own taken arranged bases objects → LinksClosed machine ending libraries own taken arranged bases objects
+closed_links_of_both machine ending libraries own taken arranged bases objects archive is =
+    both_links machine ending libraries archive own taken arranged objects is.closed bases (record {
+      held = both_held machine ending libraries archive own taken arranged objects is.closed;
       admissible = is.admissible;
       lookups = is.lookups;
       addresses = is.addresses;
@@ -340,12 +438,12 @@ closed_links_of_both machine libraries own taken arranged bases objects archive 
     })
 
 -- packed placement closes the program
-pub packed_both : (machine : MachineType) (libraries : List FlavorLibrary) (own : List Object) (taken : List MemberView) (arranged : List FlavorLibrary) (first : ℕ) (objects : List Object) →
-    IsFlavorArchive machine libraries → AreClosedForBoth machine libraries own taken arranged objects → 0 < first → packed_end first objects < 2 ^ 31 →
-    IsClosedForBoth machine libraries own taken arranged (packed first objects) objects
-packed_both machine libraries own taken arranged first objects archive closed above below =
-    let inputs : List FlavorInput = inputs_of_both machine arranged own taken in
+pub packed_both : (machine : MachineType) (ending : Ending) (libraries : List FlavorLibrary) (own : List Object) (taken : List MemberView) (arranged : List FlavorLibrary) (first : ℕ) (objects : List Object) →
+    IsFlavorArchive machine libraries → AreClosed machine ending libraries own taken arranged objects → 0 < first → packed_end first objects < 2 ^ 31 →
+    IsClosed machine ending libraries own taken arranged (packed first objects) objects
+packed_both machine ending libraries own taken arranged first objects archive closed above below =
+    let inputs : List FlavorInput = inputs_in machine arranged own taken in
     let made : AllByRecursion (IsMadeFor machine) inputs = both_made machine libraries archive arranged closed.order (wanted_for machine own taken) in
-    let program : IsProgramOf machine OfMember (packed first objects) inputs objects =
-    packed_objects machine OfMember first inputs objects made (both_held machine libraries archive own taken arranged objects closed) above below in
+    let program : IsProgramOf machine ending (packed first objects) inputs objects =
+    packed_objects machine ending first inputs objects made (both_held machine ending libraries archive own taken arranged objects closed) above below in
     record { closed = closed; admissible = program.admissible; lookups = program.lookups; addresses = program.addresses; follows = program.follows }

@@ -1,7 +1,7 @@
 -- What is linked of libraries in either flavour, for names that want their exports.
-use Rattle.std.proofs.Common.{◌≡◌, ℕ, ◌<◌, Bool, length, arith, true, List, [], ◌∷◌, map, Option, Some, None, refl, ap, sym, ◌∙◌, subst, inl, inr, ◌⊎◌}
-use Rattle.std.specs.Prelude.{slice_get}
-use Rattle.std.specs.List.{cons_option, filter, filter_map}
+use Rattle.std.proofs.Common.{◌≡◌, ℕ, ◌<◌, Bool, length, arith, true, List, [], ◌∷◌, map, Option, Some, None, refl, ap, sym, ◌∙◌, subst, inl, inr, ◌⊎◌, ◌+◌, ◌≤◌, ◌++◌}
+use Rattle.std.specs.Prelude.{slice_get, IsPermutation, bytes_eq}
+use Rattle.std.specs.List.{cons_option, filter, filter_map, AllByRecursion, IsDistinct, flat_map}
 use Rattle.std.specs.Option.{option_map}
 use Rattle.implib.specs.declared.flavor.Flavor.{Flavor}
 use Rattle.implib.specs.declared.flavor.Flavor.TheVariants.{Gnu, Msvc}
@@ -16,18 +16,20 @@ use Rattle.implib.specs.Members.Msvc.{short_import_symbols}
 use Rattle.implib.specs.Members.MsvcMembers.{descriptor_spec, null_thunk_spec, short_import_spec}
 use Rattle.implib.proofs.Link.LinkedMembers.{among_map}
 use Rattle.implib.proofs.Link.Ranges.{Among, among_back, among_first, among_flat, among_front, among_later}
-use Rattle.implib_link.specs.Flavors.Program.{FlavorInput, all_members, gnu_input, members_linked, specs_in}
-use Rattle.implib_link.specs.Search.Archives.{Library, exports_of, input_if_any, inputs_wanted}
-use Rattle.implib_link.specs.Search.BothFlavors.{FlavorLibrary, flavor_input, flavor_inputs, symbols_in}
-use Rattle.implib_link.specs.Search.MsvcArchives.{imports_wanted, is_import_wanted, short_input_if_any, short_inputs}
-use Rattle.implib_link.specs.Search.Search.{exports_wanted, is_wanted}
-use Rattle.implib_link.proofs.Flavors.GnuPrograms.{gnu_members}
-use Rattle.implib_link.proofs.Search.Arranged.{chosen_are as gnu_chosen_are}
-use Rattle.implib_link.proofs.Search.Lists.{among_at, among_either, among_flat_map, among_mapped, passes, passing, at_index, kept_from, kept_into}
-use Rattle.implib_link.proofs.Search.MsvcArchives.{both_parts, first_one, import_parts, imports_are}
+use Rattle.implib_link.specs.Flavors.Program.{FlavorInput, all_members, gnu_input, members_linked, specs_in, IsFoundByName, IsMadeFor, dll_names_in, symbols_listed}
+use Rattle.implib_link.specs.Search.Search.{Library, exports_of, input_if_any, inputs_wanted, exports_wanted, is_wanted}
+use Rattle.implib_link.specs.Search.Libraries.{FlavorLibrary, flavor_input, flavor_inputs, symbols_in, imports_wanted, is_import_wanted, short_input_if_any, short_inputs, IsFlavorArchive, msvc_among}
+use Rattle.implib_link.proofs.Flavors.Program.{gnu_members}
+use Rattle.implib_link.proofs.Search.ArchiveMembers.{chosen_are as gnu_chosen_are, among_moved, library_fewer as gnu_fewer, distinct_from, times, times_both, times_moved, Chosen, in_nothing, member_spec_chosen, member_spec_linked, numbers_are_wanted, only_one, some_export, wanted_name, wants}
+use Rattle.implib_link.proofs.Search.Lists.{among_at, among_either, among_flat_map, among_mapped, passes, passing, at_index, kept_from, kept_into, all_from as all_each, distinct_later}
+use Rattle.implib_link.proofs.Search.MsvcMembers.{both_parts, first_one, import_parts, imports_are, library_fewer as short_fewer}
 use Rattle.implib_link.proofs.Search.Roles.{IsOwn, Last, Own, Top, in_flavor, member}
-use Rattle.implib_link.proofs.Search.Search.{Chosen, in_nothing, member_spec_chosen, member_spec_linked, numbers_are_wanted, only_one, some_export, wanted_name, wants}
 use Rattle.std.proofs.lemmas.Option.{same_Some}
+use Rattle.std.proofs.lemmas.List.Sorted.{IsPermutation-sym}
+use Rattle.implib.specs.Members.MsvcObjects.{null_descriptor_symbol}
+use Rattle.implib_link.proofs.Flavors.Block.{symbols_of, FlavorBlock}
+use Rattle.implib_link.proofs.Flavors.Inputs.{block_in, inputs_symbols}
+use Rattle.implib_link.proofs.Search.FlavorGroups.{few, made_of, null_of, of_libraries, of_library, by_name}
 
 -- whether an export's own member is taken for names
 abbrev pub is_chosen : Flavor → List (List ℕ) → ExportView → Bool
@@ -59,9 +61,6 @@ pub record AnyOf (names : List (List ℕ)) (l : FlavorLibrary) : Type 0 where
   pub export : ExportView
   pub is : slice_get (exports_of l.library) number ≡ Some export
   pub want : is_chosen l.flavor names export ≡ true
-
-pub any_too : (names more : List (List ℕ)) (l : FlavorLibrary) → ((name : List ℕ) → Among name names → Among name more) → AnyOf names l → AnyOf more l
-any_too names more l within any = record { number = any.number; export = any.export; is = any.is; want = chosen_too l.flavor names more any.export within any.want }
 
 -- The input of a library.
 
@@ -241,3 +240,83 @@ short_some libraries names x held any =
     by : (inputs : List FlavorInput) → Among (input_in names (in_flavor Msvc x)) inputs → 0 < length inputs
     by [] none = absurd (in_nothing (input_in names (in_flavor Msvc x)) none)
     by (p ∷ inputs) some = omega arith
+
+-- What is linked of an archive of both flavours, where the libraries may be in another order: its symbols differ, since those do
+-- that the archive lists.
+
+module _ (machine : MachineType) where
+  abbrev of_inputs : List FlavorInput → List (List ℕ)
+  of_inputs inputs = flat_map (λ (k : FlavorBlock). symbols_of machine k.flavor k.dll k.exports) (map block_in inputs)
+
+  abbrev IsFewer : List ℕ → Flavor → Library → List ℕ → Type 0
+  IsFewer name flavor l chosen = times name (symbols_of machine flavor (names_for flavor l.definition) (chosen_exports l.definition chosen)) ≤ times name (of_library machine flavor l)
+
+  library_fewer : (name : List ℕ) (names : List (List ℕ)) (flavor : Flavor) (l : Library) → IsFewer name flavor l (numbers_in flavor names l)
+  library_fewer name names Msvc l = short_fewer machine name l names
+  library_fewer name names Gnu l = gnu_fewer machine name l names
+
+  one_more : (name : List ℕ) (names : List (List ℕ)) (flavor : Flavor) (l : Library) (others : List FlavorInput) →
+      times name (of_inputs (cons_option (flavor_input names flavor l) others)) ≤ times name (of_library machine flavor l) + times name (of_inputs others)
+  one_more name names flavor l others =
+      subst (λ o. times name (of_inputs (cons_option o others)) ≤ times name (of_library machine flavor l) + times name (of_inputs others)) (sym (input_if flavor names l))
+      (by (numbers_in flavor names l) (library_fewer name names flavor l))
+    where
+      by : (chosen : List ℕ) → IsFewer name flavor l chosen → times name (of_inputs (cons_option (if_any flavor l chosen) others)) ≤ times name (of_library machine flavor l) + times name (of_inputs others)
+      by [] few = omega arith
+      by (n ∷ chosen) few =
+          (let both = times_both name (symbols_of machine flavor (names_for flavor l.definition) (chosen_exports l.definition (n ∷ chosen))) (of_inputs others) in omega arith)
+
+  inputs_fewer : (name : List ℕ) (libraries : List FlavorLibrary) (names : List (List ℕ)) → times name (of_inputs (flavor_inputs libraries names)) ≤ times name (of_libraries machine libraries)
+  unfolding times
+  inputs_fewer name [] names = omega arith
+  inputs_fewer name (l ∷ rest) names =
+      let first : times name (of_inputs (cons_option (flavor_input names l.flavor l.library) (flavor_inputs rest names))) ≤ times name (of_library machine l.flavor l.library) + times name (of_inputs (flavor_inputs rest names)) =
+      one_more name names l.flavor l.library (flavor_inputs rest names) in
+      let behind : times name (of_inputs (flavor_inputs rest names)) ≤ times name (of_libraries machine rest) = inputs_fewer name rest names in
+      let all : times name (of_library machine l.flavor l.library ++ of_libraries machine rest) ≡ times name (of_library machine l.flavor l.library) + times name (of_libraries machine rest) =
+      times_both name (of_library machine l.flavor l.library) (of_libraries machine rest) in
+      omega arith
+
+  module _ (libraries : List FlavorLibrary) (archive : IsFlavorArchive machine libraries) where
+    abbrev shorts : List Library
+    shorts = msvc_among libraries
+
+    module _ (arranged : List FlavorLibrary) (moved : IsPermutation libraries arranged) (names : List (List ℕ)) where
+      back : (l : FlavorLibrary) → Among l arranged → Among l libraries
+      back l held = among_moved l arranged libraries (IsPermutation-sym libraries arranged moved) held
+
+      pub both_made : AllByRecursion (IsMadeFor machine) (flavor_inputs arranged names)
+      both_made = all_each (IsMadeFor machine) (flavor_inputs arranged names) (λ p held.
+          let from = input_is names arranged p held in
+          subst (IsMadeFor machine) (sym from.2) (made_of machine libraries archive from.0.flavor from.0.library (back from.0 from.1)))
+
+      pub both_found : AllByRecursion (λ p. IsFoundByName p.flavor (dll_names_in p)) (flavor_inputs arranged names)
+      both_found = all_each (λ p. IsFoundByName p.flavor (dll_names_in p)) (flavor_inputs arranged names) (λ p held.
+          let from = input_is names arranged p held in
+          subst (λ (q : FlavorInput). IsFoundByName q.flavor (dll_names_in q)) (sym from.2) (by_name machine libraries archive from.0.flavor from.0.library (back from.0 from.1)))
+
+      few_linked : (name : List ℕ) → times name (null_of shorts ++ of_inputs (flavor_inputs arranged names)) ≤ 1
+      few_linked name =
+          let most : times name (null_of shorts) + times name (of_libraries machine libraries) ≤ 1 = few machine libraries archive name in
+          let turned : times name (of_libraries machine arranged) ≡ times name (of_libraries machine libraries) = times_moved (λ (l : FlavorLibrary). of_library machine l.flavor l.library) name libraries arranged moved in
+          let less : times name (of_inputs (flavor_inputs arranged names)) ≤ times name (of_libraries machine arranged) = inputs_fewer name arranged names in
+          let some : times name (null_of shorts ++ of_inputs (flavor_inputs arranged names)) ≡ times name (null_of shorts) + times name (of_inputs (flavor_inputs arranged names)) =
+          times_both name (null_of shorts) (of_inputs (flavor_inputs arranged names)) in
+          omega arith
+
+      with_null_distinct : IsDistinct bytes_eq (null_of shorts ++ symbols_listed (all_members machine (flavor_inputs arranged names)))
+      with_null_distinct =
+          subst (λ listed. IsDistinct bytes_eq (null_of shorts ++ listed)) (sym (inputs_symbols machine (flavor_inputs arranged names) both_made))
+          (distinct_from (null_of shorts ++ of_inputs (flavor_inputs arranged names)) few_linked)
+
+      pub both_distinct : (l : Library) → Among l (msvc_among libraries) → IsDistinct bytes_eq (null_descriptor_symbol ∷ symbols_listed (all_members machine (flavor_inputs arranged names)))
+      unfolding Among
+      both_distinct l held = by (msvc_among libraries) held with_null_distinct
+        where
+          by : (ls : List Library) → Among l ls → IsDistinct bytes_eq (null_of ls ++ symbols_listed (all_members machine (flavor_inputs arranged names))) →
+              IsDistinct bytes_eq (null_descriptor_symbol ∷ symbols_listed (all_members machine (flavor_inputs arranged names)))
+          by [] none distinct = absurd none
+          by (x ∷ ls) some distinct = distinct
+
+      pub members_distinct : IsDistinct bytes_eq (symbols_listed (all_members machine (flavor_inputs arranged names)))
+      members_distinct = distinct_later (null_of shorts) (symbols_listed (all_members machine (flavor_inputs arranged names))) with_null_distinct

@@ -8,11 +8,10 @@ use Rattle.implib.specs.Formats.Object.{Object}
 use Rattle.implib.specs.Members.MemberSpec.{MemberView}
 use Rattle.implib.proofs.Link.LinkedMembers.{among_contains}
 use Rattle.implib.proofs.Link.Ranges.{Among, all_among, among_back, among_flat, among_front, among_later}
-use Rattle.implib_link.specs.Gnu.Program.{ClaimsNone, HaveSame, claimed_names, has_tables, null_descriptor}
-use Rattle.implib_link.specs.Search.Closed.{claims_of, listed_in, references_of, unresolved, AreTakenIntoAs, PullsIntoAs, TakesIntoAs}
-use Rattle.implib_link.specs.Search.Search.{first_listed, is_listed_for, undefined_in, left_as, claimed_as, AreTakenInTurnAs, objects_as, PullsInAs, TakesAs}
+use Rattle.implib_link.specs.Flavors.Program.{ClaimsNone, HaveSame, claimed_names, has_tables, null_descriptor}
+use Rattle.implib_link.specs.Search.Search.{claims_of, listed_in, references_of, unresolved, AreTakenIntoAs, PullsIntoAs, TakesIntoAs, first_listed, is_listed_for, undefined_in, left_as, claimed_as, objects_as}
 use Rattle.implib_link.proofs.Search.Lists.{all_from as all_each, among_any, among_either, among_flat_map, any_among, any_member, contains_among, listed_is, none_listed, name_as, as_name, NameAs, passing, passes, from_not, kept_from, names_more}
-use Rattle.implib_link.proofs.Search.Search.{in_nothing}
+use Rattle.implib_link.proofs.Search.ArchiveMembers.{in_nothing}
 use Rattle.std.proofs.lemmas.Option.{same_Some}
 
 -- Lists.
@@ -50,6 +49,23 @@ unfolding references_of claims_of
 unresolved_from objects name left none =
     passes (λ n. not (list_any (bytes_eq n) (claims_of objects))) name (references_of objects) left
     (not_from_false (list_any (bytes_eq name) (claims_of objects)) (not_there name (flat_map claimed_names objects) none))
+
+-- A search for wanted names: an undefined name pulls in a member where the name is wanted or left by a member that is taken, no
+-- member that is taken claims it, and the first member that it is listed for is this one, which is not taken.
+pub record PullsInAs (reads : List ℕ → Option Object) (archive : List MemberView) (wanted : List (List ℕ)) (taken : List MemberView) (name : List ℕ) (m : MemberView) : Type 0 where
+  pub named : Contains (wanted ++ left_as reads taken) name
+  pub undefined : list_any (bytes_eq name) (claimed_as reads taken) ≡ false
+  pub listed : first_listed archive name ≡ Some m
+  pub new : Contains taken m → ⊥
+
+unfoldable pub AreTakenInTurnAs : (List ℕ → Option Object) → List MemberView → List (List ℕ) → List MemberView → Type 0
+AreTakenInTurnAs reads archive wanted [] = Unit {0}
+AreTakenInTurnAs reads archive wanted (m ∷ earlier) =
+    ((name : List ℕ) × PullsInAs reads archive wanted earlier name m) × AreTakenInTurnAs reads archive wanted earlier
+
+pub record TakesAs (reads : List ℕ → Option Object) (archive : List MemberView) (wanted : List (List ℕ)) (taken : List MemberView) : Type 0 where
+  pub in_turn : AreTakenInTurnAs reads archive wanted taken
+  pub ended : (name : List ℕ) (m : MemberView) → PullsInAs reads archive wanted taken name m → ⊥
 
 -- The search for given objects is one for what they leave unresolved.
 

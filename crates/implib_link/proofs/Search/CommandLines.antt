@@ -5,27 +5,18 @@ use Rattle.std.specs.List.{AllByRecursion, Contains, IsDistinct, cons_option, fi
 use Rattle.std.proofs.lemmas.Bool.{cases_Bool, true≢false, not_from_false}
 use Rattle.std.proofs.lemmas.Grind.{flat_map-append}
 use Rattle.std.proofs.lemmas.List.{append-nil, append_assoc}
-use Rattle.implib.specs.Formats.Object.{Object, object_in}
-use Rattle.implib.specs.Link.Placement.{Bases}
-use Rattle.implib.specs.declared.machine.MachineType.{MachineType}
+use Rattle.implib.specs.Formats.Object.{Object}
 use Rattle.implib.specs.Members.MemberSpec.{MemberView}
 use Rattle.implib.proofs.Link.LinkedMembers.{among_contains}
 use Rattle.implib.proofs.Link.Ranges.{Among, all_among, among_back, among_first, among_front, among_later}
-use Rattle.implib_link.specs.Gnu.Program.{HaveSame, claimed_names}
-use Rattle.implib_link.specs.Search.Archives.{IsArchive, Library, archive_of}
-use Rattle.implib_link.specs.Search.Closed.{AreLinkedFor, AreTakenIntoAs, LinksClosed, PullsIntoAs, TakesIntoAs, references_of, unresolved}
-use Rattle.implib_link.specs.Search.Given.{AreGiven}
-use Rattle.implib_link.specs.Search.CommandLines.{AnObject, Archives, AreFirst, AreListedWhole, AreRounds, AreSwept, AreUnclaimedBehind, Input, IsOrdered, IsSwept, LeavesNone, NoneIsLost, SearchesFor, SearchesLibraries, TakesFirst, SearchesCommandLine, SearchesFrom, listed_at, names_left, numbers_but, numbers_in, numbers_of, object_of, objects_given, others_of, given_with}
-use Rattle.implib_link.specs.Search.Search.{claimed_as, first_listed, is_listed_for, objects_as, undefined_in}
-use Rattle.implib_link.specs.Search.Sweeps.{IndexEntry, index_at, members_at, numbers_from, sweeps, swept}
-use Rattle.implib_link.proofs.Search.ArchiveGroups.{found_or_not}
-use Rattle.implib_link.proofs.Search.Closed.{closed_links}
-use Rattle.implib_link.proofs.Search.Given.{given_closes}
+use Rattle.implib_link.specs.Flavors.Program.{HaveSame, claimed_names}
+use Rattle.implib_link.specs.Search.Search.{AreTakenIntoAs, PullsIntoAs, TakesIntoAs, references_of, unresolved, claimed_as, first_listed, is_listed_for, objects_as, undefined_in, IndexEntry, index_at, members_at, numbers_from, sweeps, swept}
+use Rattle.implib_link.specs.Search.CommandLines.{AnObject, Archives, AreFirst, AreListedWhole, AreRounds, AreSwept, AreUnclaimedBehind, Input, IsOrdered, IsSwept, LeavesNone, NoneIsLost, SearchesFor, TakesFirst, SearchesCommandLine, SearchesFrom, listed_at, names_left, numbers_but, numbers_in, numbers_of, object_of, objects_given, others_of, given_with}
+use Rattle.implib_link.proofs.Search.ArchiveMembers.{found_or_not, only_one}
 use Rattle.implib_link.proofs.Search.Closing.{unresolved_from, unresolved_parts, claims_apart}
 use Rattle.implib_link.proofs.Search.Lists.{all_listed, among_any, any_among, among_either, among_flat_map, among_listed, as_name, contains_among, listed_is, listed_once, name_as, passes, passing, at_index, names_more, among_filter}
 use Rattle.implib_link.proofs.Search.Sweeps.{IsFirstAt, Lifts, all_there, among_number, entries_of, entry_there, first_at, none_first, none_left, number_among, number_taken, swept_adds, sweeps_in_turn, sweeps_keep, taken_number, once_by}
 use Rattle.std.proofs.lemmas.Option.{same_Some, none-some}
-use Rattle.implib_link.proofs.Search.Search.{only_one}
 
 -- What was read first counts on: references and claims of some objects are those of more.
 
@@ -647,16 +638,6 @@ module _ (reads : List ℕ → Option Object) (of_libraries members : List Membe
         | inl ordered ↦ gnu_searches reads members inputs taken s.first s.unclaimed ordered s.searches
         | inr complete ↦ gnu_completes reads members inputs taken s.first s.unclaimed complete s.searches
       ]))
-
-pub command_line_closes : (machine : MachineType) (libraries : List Library) (members : List MemberView) (inputs : List Input) (taken : List ℕ) (is_given : MemberView → Bool)
-    (arranged : List Library) (bases : Bases) (objects : List Object) → SearchesLibraries machine libraries members inputs is_given taken → IsArchive machine libraries →
-    AreGiven machine libraries (given_with object_in is_given (objects_given inputs) (members_at members taken)) →
-    AreLinkedFor machine libraries (given_with object_in is_given (objects_given inputs) (members_at members taken)) (others_of is_given (members_at members taken)) arranged bases objects →
-    LinksClosed machine libraries (given_with object_in is_given (objects_given inputs) (members_at members taken)) (others_of is_given (members_at members taken)) arranged bases objects
-command_line_closes machine libraries members inputs taken is_given arranged bases objects searches archive given linked =
-    let takes = takes_of_libraries object_in (archive_of libraries) members inputs is_given taken searches in
-    closed_links machine libraries (given_with object_in is_given (objects_given inputs) (members_at members taken)) (others_of is_given (members_at members taken)) arranged bases objects archive
-    (given_closes machine libraries (given_with object_in is_given (objects_given inputs) (members_at members taken)) (others_of is_given (members_at members taken)) arranged bases objects archive given takes linked)
 
 -- Where GNU `ld` takes a command line's members in order, lld takes the same.
 pub takes_alike : (reads : List ℕ → Option Object) (members : List MemberView) (inputs : List Input) (taken : List ℕ) (other : List MemberView) → TakesFirst members (names_left reads (objects_given inputs) (members_at members taken)) taken →

@@ -1,15 +1,14 @@
 -- A search of any archive ends: each member that is taken was not taken before, and an archive has so many.
 use Rattle.std.proofs.Common.{◌≡◌, ℕ, zero, suc, ◌+◌, ◌<◌, ◌≤◌, Bool, true, false, List, [], ◌∷◌, ◌++◌, length, Some, None, refl, ap, sym, ◌∙◌, subst, inl, inr, ◌⊎◌, arith, if◌then◌else◌, Option}
 use Rattle.std.specs.Prelude.{◌&&◌, ◌||◌, bytes_eq}
-use Rattle.std.specs.List.{Contains, list_any}
+use Rattle.std.specs.List.{Contains}
 use Rattle.std.proofs.lemmas.Bool.{and_parts, cases_Bool, false_from_ne_true, true≢false}
 use Rattle.std.proofs.lemmas.Slice.Eq.{bytes_eq-Decides}
 use Rattle.implib.specs.Members.MemberSpec.{MemberView}
 use Rattle.implib.proofs.Link.LinkedMembers.{among_contains}
 use Rattle.implib.proofs.Link.Ranges.{Among}
-use Rattle.implib_link.specs.Search.Closed.{AreTakenIntoAs, PullsIntoAs, TakesIntoAs, unresolved}
-use Rattle.implib_link.specs.Search.Search.{AreTakenInTurnAs, first_listed, objects_as, PullsInAs, TakesAs, left_as, claimed_as}
-use Rattle.implib_link.proofs.Search.ArchiveGroups.{found_or_not}
+use Rattle.implib_link.specs.Search.Search.{AreTakenIntoAs, PullsIntoAs, TakesIntoAs, unresolved, first_listed, objects_as}
+use Rattle.implib_link.proofs.Search.ArchiveMembers.{found_or_not}
 use Rattle.implib.specs.Formats.Object.{Object}
 use Rattle.implib_link.proofs.Search.Lists.{contains_among, listed_is}
 use Rattle.implib.proofs.Link.Definitions.{same_text}
@@ -133,11 +132,14 @@ none_left n m less most = omega arith
 less_left : (n m k : ℕ) → n < m → m ≤ suc k → n ≤ k
 less_left n m k less most = omega arith
 
--- A search ends, whatever lets a name pull in a member: one of finitely many names does, and the member is not taken.
-module _ (archive : List MemberView) (Pulls : List MemberView → List ℕ → MemberView → Type 0) (Turn : List MemberView → Type 0) (names : List MemberView → List (List ℕ))
-    (more : (taken : List MemberView) (name : List ℕ) (m : MemberView) → Pulls taken name m → Turn taken → Turn (m ∷ taken))
-    (asks : (taken : List MemberView) (name : List ℕ) → Among name (names taken) → ((m : MemberView) × Pulls taken name m) ⊎ ((m : MemberView) → Pulls taken name m → ⊥))
-    (fresh : (taken : List MemberView) (name : List ℕ) (m : MemberView) → Pulls taken name m → (first_listed archive name ≡ Some m) × (Contains taken m → ⊥)) where
+-- A search for given objects ends: one of finitely many names pulls in a member, which is not taken.
+module _ (reads : List ℕ → Option Object) (archive : List MemberView) (own : List Object) where
+  abbrev left_by : List MemberView → List (List ℕ)
+  left_by taken = unresolved (own ++ objects_as reads taken)
+
+  abbrev Pulls : List MemberView → List ℕ → MemberView → Type 0
+  Pulls = PullsIntoAs reads archive own
+
   -- a name that pulls in a member, of these
   PulledIn : List MemberView → List (List ℕ) → Type 0
   PulledIn taken some = (name : List ℕ) × (m : MemberView) × Among name some × Pulls taken name m
@@ -145,11 +147,18 @@ module _ (archive : List MemberView) (Pulls : List MemberView → List ℕ → M
   NonePullsIn : List MemberView → List (List ℕ) → Type 0
   NonePullsIn taken some = (name : List ℕ) (m : MemberView) → Among name some → Pulls taken name m → ⊥
 
-  pulls_or_not : (taken : List MemberView) (some : List (List ℕ)) → ((name : List ℕ) → Among name some → Among name (names taken)) → PulledIn taken some ⊎ NonePullsIn taken some
+  one_pulls : (taken : List MemberView) (name : List ℕ) → Among name (left_by taken) → ((m : MemberView) × Pulls taken name m) ⊎ ((m : MemberView) → Pulls taken name m → ⊥)
+  one_pulls taken name named =
+      elim (first_new archive taken name) [
+        | inr none ↦ inr (λ m pulls. none m pulls.listed pulls.new)
+        | inl found ↦ inl (found.0, record { named = among_contains name (left_by taken) named; listed = found.1; new = found.2 })
+      ]
+
+  pulls_or_not : (taken : List MemberView) (some : List (List ℕ)) → ((name : List ℕ) → Among name some → Among name (left_by taken)) → PulledIn taken some ⊎ NonePullsIn taken some
   unfolding PulledIn NonePullsIn Among
   pulls_or_not taken [] within = inr (λ name m held pulls. held)
   pulls_or_not taken (x ∷ some) within =
-      elim (asks taken x (within x (inl refl))) [
+      elim (one_pulls taken x (within x (inl refl))) [
         | inl found ↦ inl (x, found.0, inl refl, found.1)
         | inr none ↦ elim (pulls_or_not taken some (λ name held. within name (inr held))) [
           | inl later ↦ inl (later.0, later.1, inr later.2, later.3)
@@ -162,64 +171,42 @@ module _ (archive : List MemberView) (Pulls : List MemberView → List ℕ → M
 
   fewer_left : (taken : List MemberView) (name : List ℕ) (m : MemberView) → Pulls taken name m → not_taken archive (m ∷ taken) < not_taken archive taken
   fewer_left taken name m pulls =
-      let own = fresh taken name m pulls in
-      fewer archive taken m (listed_is archive name m own.0).0 (false_from_ne_true (is_taken taken m) (λ is. own.1 (among_contains m taken (taken_among taken m is))))
+      fewer archive taken m (listed_is archive name m pulls.listed).0 (false_from_ne_true (is_taken taken m) (λ is. pulls.new (among_contains m taken (taken_among taken m is))))
+
+  finished : (taken : List MemberView) → AreTakenIntoAs reads archive own taken → NonePullsIn taken (left_by taken) → (t : List MemberView) × TakesIntoAs reads archive own t
+  unfolding NonePullsIn
+  finished taken turn none = (taken, record { in_turn = turn; ended = λ name m pulls. none name m (contains_among name (left_by taken) pulls.named) pulls })
 
   -- from members that are taken, with at most so many left
-  ends_from : (most : ℕ) (taken : List MemberView) → not_taken archive taken ≤ most → Turn taken →
-      (t : List MemberView) × Turn t × ((name : List ℕ) (m : MemberView) → Among name (names t) → Pulls t name m → ⊥)
-  unfolding PulledIn NonePullsIn
+  ends_from : (most : ℕ) (taken : List MemberView) → not_taken archive taken ≤ most → AreTakenIntoAs reads archive own taken → (t : List MemberView) × TakesIntoAs reads archive own t
+  unfolding PulledIn AreTakenIntoAs
   ends_from zero taken few turn =
-      elim (pulls_or_not taken (names taken) (λ name held. held)) [
-        | inr none ↦ (taken, turn, none)
+      elim (pulls_or_not taken (left_by taken) (λ name held. held)) [
+        | inr none ↦ finished taken turn none
         | inl found ↦ absurd (none_left (not_taken archive (found.1 ∷ taken)) (not_taken archive taken) (fewer_left taken found.0 found.1 found.3) few)
       ]
   ends_from (suc most) taken few turn =
-      elim (pulls_or_not taken (names taken) (λ name held. held)) [
-        | inr none ↦ (taken, turn, none)
+      elim (pulls_or_not taken (left_by taken) (λ name held. held)) [
+        | inr none ↦ finished taken turn none
         | inl found ↦
-            ends_from most (found.1 ∷ taken) (less_left (not_taken archive (found.1 ∷ taken)) (not_taken archive taken) most (fewer_left taken found.0 found.1 found.3) few)
-            (more taken found.0 found.1 found.3 turn)
+            ends_from most (found.1 ∷ taken) (less_left (not_taken archive (found.1 ∷ taken)) (not_taken archive taken) most (fewer_left taken found.0 found.1 found.3) few) ((found.0, found.3), turn)
       ]
 
-  pub any_ends : Turn [] → (t : List MemberView) × Turn t × ((name : List ℕ) (m : MemberView) → Among name (names t) → Pulls t name m → ⊥)
-  any_ends start = ends_from (not_taken archive []) [] (omega arith) start
-
-module _ (reads : List ℕ → Option Object) (archive : List MemberView) (wanted : List (List ℕ)) where
-  one_asks : (taken : List MemberView) (name : List ℕ) → Among name (wanted ++ left_as reads taken) →
-      ((m : MemberView) × PullsInAs reads archive wanted taken name m) ⊎ ((m : MemberView) → PullsInAs reads archive wanted taken name m → ⊥)
-  one_asks taken name named =
-      elim (cases_Bool (list_any (bytes_eq name) (claimed_as reads taken))) [
-        | inl claimed ↦ inr (λ m pulls. true≢false (sym claimed ∙ pulls.undefined))
-        | inr undefined ↦ elim (first_new archive taken name) [
-          | inr none ↦ inr (λ m pulls. none m pulls.listed pulls.new)
-          | inl found ↦ inl (found.0, record { named = among_contains name (wanted ++ left_as reads taken) named; undefined = undefined; listed = found.1; new = found.2 })
-        ]
-      ]
-
-  one_more : (taken : List MemberView) (name : List ℕ) (m : MemberView) → PullsInAs reads archive wanted taken name m → AreTakenInTurnAs reads archive wanted taken → AreTakenInTurnAs reads archive wanted (m ∷ taken)
-  unfolding AreTakenInTurnAs
-  one_more taken name m pulls turn = ((name, pulls), turn)
-
-  found_ends : (taken : List MemberView) × TakesAs reads archive wanted taken
-  unfolding AreTakenInTurnAs
-  found_ends =
-      let found =
-      any_ends archive (PullsInAs reads archive wanted) (AreTakenInTurnAs reads archive wanted) (λ taken. wanted ++ left_as reads taken) one_more one_asks (λ taken name m pulls. (pulls.listed, pulls.new)) tt in
-      (found.0, record { in_turn = found.1; ended = λ name m pulls. found.2 name m (contains_among name (wanted ++ left_as reads found.0) pulls.named) pulls })
+  pub into_ends : (taken : List MemberView) × TakesIntoAs reads archive own taken
+  unfolding AreTakenIntoAs
+  into_ends = ends_from (not_taken archive []) [] (omega arith) tt
 
   -- each member that is taken leaves fewer
-  taken_and_left : (taken : List MemberView) → AreTakenInTurnAs reads archive wanted taken → length taken + not_taken archive taken ≤ not_taken archive []
-  unfolding AreTakenInTurnAs
+  taken_and_left : (taken : List MemberView) → AreTakenIntoAs reads archive own taken → length taken + not_taken archive taken ≤ not_taken archive []
+  unfolding AreTakenIntoAs
   taken_and_left [] turn = omega arith
   taken_and_left (m ∷ earlier) turn =
-      let less : not_taken archive (m ∷ earlier) < not_taken archive earlier =
-      fewer archive earlier m (listed_is archive turn.0.0 m turn.0.1.listed).0 (false_from_ne_true (is_taken earlier m) (λ is. turn.0.1.new (among_contains m earlier (taken_among earlier m is)))) in
+      let less : not_taken archive (m ∷ earlier) < not_taken archive earlier = fewer_left earlier turn.0.0 m turn.0.1 in
       let before : length earlier + not_taken archive earlier ≤ not_taken archive [] = taken_and_left earlier turn.1 in
       let counted : length (m ∷ earlier) ≡ suc (length earlier) = refl in
       omega arith
 
-pub none_taken : (archive : List MemberView) → not_taken archive [] ≤ length archive
+none_taken : (archive : List MemberView) → not_taken archive [] ≤ length archive
 unfolding not_taken is_taken
 none_taken [] = omega arith
 none_taken (m ∷ archive) =
@@ -227,34 +214,8 @@ none_taken (m ∷ archive) =
     let counted : length (m ∷ archive) ≡ suc (length archive) = refl in
     omega arith
 
-pub search_bounded : (reads : List ℕ → Option Object) (archive taken : List MemberView) (wanted : List (List ℕ)) → AreTakenInTurnAs reads archive wanted taken → length taken ≤ length archive
-search_bounded reads archive taken wanted turn =
-    let most : length taken + not_taken archive taken ≤ not_taken archive [] = taken_and_left reads archive wanted taken turn in
+pub search_bounded : (reads : List ℕ → Option Object) (archive : List MemberView) (own : List Object) (taken : List MemberView) → AreTakenIntoAs reads archive own taken → length taken ≤ length archive
+search_bounded reads archive own taken turn =
+    let most : length taken + not_taken archive taken ≤ not_taken archive [] = taken_and_left reads archive own taken turn in
     let first : not_taken archive [] ≤ length archive = none_taken archive in
     omega arith
-
-pub search_ends : (reads : List ℕ → Option Object) (archive : List MemberView) (wanted : List (List ℕ)) → (taken : List MemberView) × TakesAs reads archive wanted taken
-search_ends reads archive wanted = found_ends reads archive wanted
-
--- A search for given objects ends.
-module _ (reads : List ℕ → Option Object) (archive : List MemberView) (own : List Object) where
-  abbrev left_by : List MemberView → List (List ℕ)
-  left_by taken = unresolved (own ++ objects_as reads taken)
-
-  left_asks : (taken : List MemberView) (name : List ℕ) → Among name (left_by taken) →
-      ((m : MemberView) × PullsIntoAs reads archive own taken name m) ⊎ ((m : MemberView) → PullsIntoAs reads archive own taken name m → ⊥)
-  left_asks taken name named =
-      elim (first_new archive taken name) [
-        | inr none ↦ inr (λ m pulls. none m pulls.listed pulls.new)
-        | inl found ↦ inl (found.0, record { named = among_contains name (left_by taken) named; listed = found.1; new = found.2 })
-      ]
-
-  left_more : (taken : List MemberView) (name : List ℕ) (m : MemberView) → PullsIntoAs reads archive own taken name m → AreTakenIntoAs reads archive own taken → AreTakenIntoAs reads archive own (m ∷ taken)
-  unfolding AreTakenIntoAs
-  left_more taken name m pulls turn = ((name, pulls), turn)
-
-  pub into_ends : (taken : List MemberView) × TakesIntoAs reads archive own taken
-  unfolding AreTakenIntoAs
-  into_ends =
-      let found = any_ends archive (PullsIntoAs reads archive own) (AreTakenIntoAs reads archive own) left_by left_more left_asks (λ taken name m pulls. (pulls.listed, pulls.new)) tt in
-      (found.0, record { in_turn = found.1; ended = λ name m pulls. found.2 name m (contains_among name (left_by found.0) pulls.named) pulls })

@@ -1,34 +1,270 @@
--- An archive of both flavours as groups of members: of each library the member with its descriptor, the one that ends its tables, and
--- the members of each export. The null descriptors are apart.
-use Rattle.std.proofs.Common.{◌≡◌, ℕ, ◌+◌, ◌≤◌, true, false, List, [], ◌∷◌, ◌++◌, map, Some, refl, ap, sym, ◌∙◌, subst, inl, inr, arith}
-use Rattle.std.specs.Prelude.{bytes_eq, slice_get}
-use Rattle.std.specs.List.{AllByRecursion, IsDistinct, cons_option, flat_map, list_any}
+-- Libraries for GNU's linker that are named apart are an archive.
+use Rattle.std.proofs.Common.{◌≡◌, ℕ, ◌+◌, ◌≤◌, ◌⊎◌, true, false, List, [], ◌∷◌, ◌++◌, map, refl, ap, sym, ◌∙◌, subst, inl, inr, arith, codes, Some, Bool, Option}
+use Rattle.std.specs.Prelude.{bytes_eq, not, reverse, ◌==◌, ◌&&◌, slice_get}
+use Rattle.std.specs.List.{AllByRecursion, IsDistinct, flat_map, list_any, cons_option}
 use Rattle.std.proofs.lemmas.Bool.{cases_Bool, false_from_ne_true, true≢false}
-use Rattle.std.proofs.lemmas.Grind.{flat_map-append}
+use Rattle.std.proofs.lemmas.List.{append_cancel_left, append_cancel_right, map-append}
+use Rattle.std.proofs.lemmas.List.Sorted.{IsPermutation-reverse}
 use Rattle.std.proofs.lemmas.Slice.Eq.{bytes_eq-Decides}
-use Rattle.implib.specs.declared.flavor.Flavor.{Flavor}
-use Rattle.implib.specs.declared.flavor.Flavor.TheVariants.{Gnu, Msvc}
 use Rattle.implib.specs.declared.machine.MachineType.{MachineType}
+use Rattle.implib.specs.declared.machine.MachineType.TheVariants.{I386, ARMNT, AMD64, ARM64}
 use Rattle.implib.specs.Definition.{ExportView}
-use Rattle.implib.specs.LibraryName.{linked_dll, linked_name}
-use Rattle.implib.specs.Members.Gnu.{head_symbol, iname_symbol}
+use Rattle.implib.specs.Import.{imp_symbol, is_alias, underscore}
+use Rattle.implib.specs.Members.Gnu.{head_symbol, iname_symbol, mangled_name}
+use Rattle.implib.specs.Underscore.{leading_underscore}
+use Rattle.implib.proofs.Link.Ranges.{Among, all_among, among_back, among_front, among_first, among_flat, among_later}
+use Rattle.implib_link.specs.Search.Search.{IsArchive, IsLibrary, Library, exports_of, symbols_of_export, symbols_of_library, archive_of, first_listed, is_listed_for, has_weak, undefined_in}
+use Rattle.implib_link.specs.Search.Libraries.{heads_of, tails_of, FlavorLibrary, IsFlavorArchive, archive_of_both, gnu_among, msvc_among, IsMsvcArchive, symbols_of_all_shorts, if_gnu, if_msvc, symbols_of_shorts, is_weak_in}
+use Rattle.implib_link.specs.Search.NamedApart.{AreNamedApart, begins_plain, names_in, stem}
+use Rattle.implib_link.proofs.Search.Closing.{there_not, IsFirstAs, is_first, names_read, tables_read}
+use Rattle.implib_link.proofs.Search.ArchiveMembers.{distinct_from, few_from, times, times_both, times_moved, Group, IsWithin, export_group, export_group_is, export_groups, first_behind, first_in_group, found_or_not, group_is_export, group_of_first, head_of, members_of_exports, members_of_groups, symbols_of_exports, symbols_of_groups, tail_of, within_export as within_gnu, FindsOwn, FindsWeak, InExport as GnuExport, alias_symbols, in_export as in_gnu, own_first, own_symbols, weak_first, in_nothing, only_one, none_times}
+use Rattle.implib_link.proofs.Search.Lists.{among_either, among_mapped, distinct_join, all_from, among_at, among_flat_map, among_any, any_among, distinct_apart, distinct_later, listed_is, at_index, kept_from, kept_into}
+use Rattle.implib.specs.LibraryName.{linked_name, names_for, NamesOfDll, linked_dll}
+use Rattle.implib.specs.declared.flavor.Flavor.TheVariants.{Gnu, Msvc}
+use Rattle.implib.specs.declared.flavor.Flavor.{Flavor}
+use Rattle.implib_link.proofs.Search.Roles.{in_flavor, Last, Null, Own, Role, Top, Weak, listed_as, member, symbols, IsRole, claims_as, is_weak_role, left, left_as_role, object, pair, tables_as, taken_as, weak_as, weak_symbol, weak_target}
+use Rattle.std.proofs.lemmas.Grind.{flat_map-append}
 use Rattle.implib.specs.Members.Members.{AreMembersOf}
 use Rattle.implib.specs.Members.MemberSpec.{MemberView}
 use Rattle.implib.specs.Members.MsvcMembers.{descriptor_spec, null_descriptor_spec}
 use Rattle.implib.specs.Members.MsvcObjects.{descriptor_symbol, null_descriptor_symbol, null_thunk_symbol}
 use Rattle.implib.proofs.Link.LinkedMembers.{among_map}
-use Rattle.implib.proofs.Link.Ranges.{Among, all_among, among_first, among_flat, among_later}
-use Rattle.implib_link.specs.Search.Archives.{Library, archive_of, exports_of, symbols_of_library}
-use Rattle.implib_link.specs.Search.BothFlavors.{FlavorLibrary, IsFlavorArchive, archive_of_both, gnu_among, if_gnu, if_msvc, msvc_among}
-use Rattle.implib_link.specs.Search.MsvcArchives.{symbols_of_all_shorts, symbols_of_shorts}
-use Rattle.implib_link.specs.Search.Search.{first_listed, is_listed_for}
-use Rattle.implib_link.proofs.Search.ArchiveGroups.{Group, IsWithin, export_group, export_group_is, export_groups, first_behind, first_in_group, found_or_not, group_is_export, group_of_first, head_of, members_of_exports, members_of_groups, symbols_of_exports, symbols_of_groups, tail_of}
-use Rattle.implib_link.proofs.Search.ArchiveMembers.{within_export as within_gnu}
-use Rattle.implib_link.proofs.Search.Counts.{distinct_from, few_from, none_times, times, times_both}
-use Rattle.implib_link.proofs.Search.Lists.{all_from, among_at, among_flat_map, among_any, among_mapped, any_among, distinct_apart, distinct_later, listed_is, at_index, kept_from, kept_into}
-use Rattle.implib_link.proofs.Search.MsvcMembers.{descriptor_of, members_are, null_of as null_member_of, short_group, symbols_of_groups_of, thunk_of, within_export as within_short}
-use Rattle.implib_link.proofs.Search.Roles.{Last, Null, Own, Role, Top, Weak, in_flavor, listed_as, member, symbols}
-use Rattle.implib_link.proofs.Search.Search.{in_nothing, only_one}
+use Rattle.implib_link.proofs.Search.MsvcMembers.{descriptor_of, members_are, null_of as null_member_of, short_group, symbols_of_groups_of, thunk_of, within_export as within_short, FindsShort, FindsWeak as FindsShortWeak, InExport as ShortExport, in_export as in_short, pair_first, pair_symbol, short_first, short_symbol, weak_of as short_weak_of}
+use Rattle.implib.specs.Formats.Object.{Object}
+use Rattle.implib.specs.Members.Msvc.{short_import_symbol}
+use Rattle.implib_link.specs.Flavors.Expansion.{expanded_in}
+use Rattle.implib_link.specs.Flavors.Program.{IsFoundByName, has_tables}
+
+-- Symbols that differ by their first bytes.
+
+no_underscore : (byte : ℕ) → byte ≡ underscore → not (byte == underscore) ≡ true → ⊥
+no_underscore byte is plain = true≢false (sym plain ∙ subst (λ n. not (n == underscore) ≡ false) (sym is) refl)
+
+first_byte : (x y : ℕ) (xs ys : List ℕ) → x ∷ xs ≡ y ∷ ys → x ≡ y
+first_byte x y xs ys same = cc
+
+later_bytes : (x y : ℕ) (xs ys : List ℕ) → x ∷ xs ≡ y ∷ ys → xs ≡ ys
+later_bytes x y xs ys same = cc
+
+-- a text that begins so is none that begins with an underscore
+plain_apart : (text more rest : List ℕ) → begins_plain text ≡ true → text ++ more ≡ underscore ∷ rest → ⊥
+plain_apart [] more rest plain same = true≢false (sym plain)
+plain_apart (byte ∷ text) more rest plain same = no_underscore byte (first_byte byte underscore (text ++ more) rest same) plain
+
+two_numbers : (x y n m : ℕ) → x ≡ y → x ≡ n → y ≡ m → n + 1 ≤ m ⊎ m + 1 ≤ n → ⊥
+two_numbers x y n m same is other (inl less) = omega arith
+two_numbers x y n m same is other (inr more) = omega arith
+
+h_is_no_underscore : (xs ys : List ℕ) → 0x68 ∷ xs ≡ 0x5F ∷ ys → ⊥
+h_is_no_underscore xs ys same = two_numbers 0x68 0x5F 0x68 0x5F (first_byte 0x68 0x5F xs ys same) refl refl (inr (omega arith))
+
+h_is_no_i : (xs ys : List ℕ) → 0x68 ∷ xs ≡ 0x69 ∷ ys → ⊥
+h_is_no_i xs ys same = two_numbers 0x68 0x69 0x68 0x69 (first_byte 0x68 0x69 xs ys same) refl refl (inl (omega arith))
+
+tail_no_head : (machine : MachineType) (dll other : List ℕ) → begins_plain (mangled_name dll) ≡ true → iname_symbol machine dll ≡ head_symbol machine other → ⊥
+unfolding iname_symbol head_symbol
+tail_no_head machine dll other plain same =
+    plain_apart (mangled_name dll) (codes "_iname") (codes "head_" ++ mangled_name other) plain
+    (append_cancel_left (leading_underscore machine) (mangled_name dll ++ codes "_iname") (codes "_head_" ++ mangled_name other) same)
+
+tail_no_imp : (machine : MachineType) (dll name : List ℕ) → begins_plain (mangled_name dll) ≡ true → iname_symbol machine dll ≡ imp_symbol name → ⊥
+unfolding iname_symbol
+tail_no_imp I386 dll name plain same =
+    plain_apart (mangled_name dll) (codes "_iname") (codes "imp_" ++ name) plain (later_bytes underscore underscore (mangled_name dll ++ codes "_iname") (codes "_imp_" ++ name) same)
+tail_no_imp ARMNT dll name plain same = plain_apart (mangled_name dll) (codes "_iname") (codes "_imp_" ++ name) plain same
+tail_no_imp AMD64 dll name plain same = plain_apart (mangled_name dll) (codes "_iname") (codes "_imp_" ++ name) plain same
+tail_no_imp ARM64 dll name plain same = plain_apart (mangled_name dll) (codes "_iname") (codes "_imp_" ++ name) plain same
+
+head_no_imp : (machine : MachineType) (dll name : List ℕ) → head_symbol machine dll ≡ imp_symbol name → ⊥
+unfolding head_symbol
+head_no_imp I386 dll name same =
+    h_is_no_i (codes "ead_" ++ mangled_name dll) (codes "mp_" ++ name)
+    (later_bytes underscore underscore (codes "head_" ++ mangled_name dll) (codes "imp_" ++ name)
+    (later_bytes underscore underscore (codes "_head_" ++ mangled_name dll) (codes "_imp_" ++ name) same))
+head_no_imp ARMNT dll name same =
+    h_is_no_underscore (codes "ead_" ++ mangled_name dll) (codes "imp_" ++ name) (later_bytes underscore underscore (codes "head_" ++ mangled_name dll) (codes "_imp_" ++ name) same)
+head_no_imp AMD64 dll name same =
+    h_is_no_underscore (codes "ead_" ++ mangled_name dll) (codes "imp_" ++ name) (later_bytes underscore underscore (codes "head_" ++ mangled_name dll) (codes "_imp_" ++ name) same)
+head_no_imp ARM64 dll name same =
+    h_is_no_underscore (codes "ead_" ++ mangled_name dll) (codes "imp_" ++ name) (later_bytes underscore underscore (codes "head_" ++ mangled_name dll) (codes "_imp_" ++ name) same)
+
+-- Texts that differ where others do.
+
+distinct_mapped : {X : Type 0} (g h : X → List ℕ) → ((x y : X) → h x ≡ h y → g x ≡ g y) → (xs : List X) → IsDistinct bytes_eq (map g xs) → IsDistinct bytes_eq (map h xs)
+unfolding IsDistinct
+distinct_mapped g h back [] distinct = tt
+distinct_mapped {X = X} g h back (x ∷ xs) distinct = (others xs distinct.0, distinct_mapped g h back xs distinct.1)
+  where
+    others : (ys : List X) → AllByRecursion (λ other. bytes_eq (g x) other ≡ false) (map g ys) → AllByRecursion (λ other. bytes_eq (h x) other ≡ false) (map h ys)
+    others [] all = tt
+    others (y ∷ ys) all = (
+      false_from_ne_true (bytes_eq (h x) (h y)) (λ same.
+          true≢false (sym ((bytes_eq-Decides (g x) (g y)).1 (back x y ((bytes_eq-Decides (h x) (h y)).0 same))) ∙ all.0)),
+      others ys all.1,
+    )
+
+stem_of_tail : (machine : MachineType) (l k : Library) → iname_symbol machine (linked_name l.definition) ≡ iname_symbol machine (linked_name k.definition) → stem l ≡ stem k
+unfolding iname_symbol
+stem_of_tail machine l k same =
+    append_cancel_right (stem l) (stem k) (codes "_iname") (append_cancel_left (leading_underscore machine) (stem l ++ codes "_iname") (stem k ++ codes "_iname") same)
+
+stem_of_head : (machine : MachineType) (l k : Library) → head_symbol machine (linked_name l.definition) ≡ head_symbol machine (linked_name k.definition) → stem l ≡ stem k
+unfolding head_symbol
+stem_of_head machine l k same =
+    append_cancel_left (codes "_head_") (stem l) (stem k) (append_cancel_left (leading_underscore machine) (codes "_head_" ++ stem l) (codes "_head_" ++ stem k) same)
+
+map_same : (names : List (List ℕ)) → map (λ (name : List ℕ). name) names ≡ names
+map_same [] = refl
+map_same (name ∷ names) = ap (λ ns. name ∷ ns) (map_same names)
+
+-- How often a name is listed.
+
+exports_count : (name : List ℕ) (es : List ExportView) →
+    times name (flat_map symbols_of_export es) ≤ times name (map (λ (e : ExportView). e.name) es) + times name (map imp_symbol (map (λ (e : ExportView). e.name) es))
+unfolding times
+exports_count name [] = omega arith
+exports_count name (e ∷ es) =
+    let behind = exports_count name es in
+    let all : times name (symbols_of_export e ++ flat_map symbols_of_export es) ≡ times name (symbols_of_export e) + times name (flat_map symbols_of_export es) =
+    times_both name (symbols_of_export e) (flat_map symbols_of_export es) in
+    elim (cases_Bool (e.is_data && not (is_alias e.alias_target e.name))) [
+      | inl alone ↦
+          let own : times name (symbols_of_export e) ≡ times name (imp_symbol e.name ∷ []) = (rw alone refl) in
+          omega arith
+      | inr both ↦
+          let own : times name (symbols_of_export e) ≡ times name (e.name ∷ imp_symbol e.name ∷ []) = (rw both refl) in
+          omega arith
+    ]
+
+module _ (machine : MachineType) where
+  library_count : (name : List ℕ) (libraries : List Library) →
+      times name (flat_map (symbols_of_library machine) libraries)
+      ≤ times name (tails_of machine libraries) + (times name (heads_of machine libraries) + (times name (names_in libraries) + times name (map imp_symbol (names_in libraries))))
+  unfolding times symbols_of_library
+  library_count name [] = omega arith
+  library_count name (l ∷ libraries) =
+      let dll : NamesOfDll = names_for Gnu l.definition in
+      let own : List (List ℕ) = map (λ (e : ExportView). e.name) (exports_of l) in
+      let behind = library_count name libraries in
+      let turned : times name (flat_map symbols_of_export (reverse (exports_of l))) ≡ times name (flat_map symbols_of_export (exports_of l)) =
+      times_moved symbols_of_export name (exports_of l) (reverse (exports_of l)) (IsPermutation-reverse (exports_of l)) in
+      let few = exports_count name (exports_of l) in
+      let split : times name (flat_map symbols_of_export (reverse (exports_of l)) ++ flat_map (symbols_of_library machine) libraries)
+      ≡ times name (flat_map symbols_of_export (reverse (exports_of l))) + times name (flat_map (symbols_of_library machine) libraries) =
+      times_both name (flat_map symbols_of_export (reverse (exports_of l))) (flat_map (symbols_of_library machine) libraries) in
+      let names : times name (map (λ (e : ExportView). e.name) (exports_of l) ++ names_in libraries) ≡ times name (map (λ (e : ExportView). e.name) (exports_of l)) + times name (names_in libraries) =
+      times_both name own (names_in libraries) in
+      let imps : times name (map imp_symbol (map (λ (e : ExportView). e.name) (exports_of l) ++ names_in libraries))
+      ≡ times name (map imp_symbol (map (λ (e : ExportView). e.name) (exports_of l))) + times name (map imp_symbol (names_in libraries)) =
+      ap (times name) (map-append imp_symbol own (names_in libraries)) ∙ times_both name (map imp_symbol own) (map imp_symbol (names_in libraries)) in
+      omega arith
+
+  module _ (libraries : List Library) (apart : AreNamedApart machine libraries) where
+    abbrev tails : List (List ℕ)
+    tails = tails_of machine libraries
+
+    abbrev heads : List (List ℕ)
+    heads = heads_of machine libraries
+
+    abbrev names : List (List ℕ)
+    names = names_in libraries
+
+    abbrev imps : List (List ℕ)
+    imps = map imp_symbol (names_in libraries)
+
+    begins : (l : Library) → Among l libraries → begins_plain (stem l) ≡ true
+    begins l held = all_among (λ (x : Library). begins_plain (stem x) ≡ true) l libraries held apart.begin
+
+    -- a name of an export is no symbol that is made of a name
+    plain_name : (name : List ℕ) → Among name names → Among name (tails ++ (heads ++ imps)) → ⊥
+    plain_name name held made =
+        there_not name (tails ++ (heads ++ imps)) (all_among (λ n. list_any (bytes_eq n) (tails_of machine libraries ++ (heads_of machine libraries ++ map imp_symbol (names_in libraries))) ≡ false) name names held apart.plain) made
+
+    names_and_imps : IsDistinct bytes_eq (names_in libraries ++ map imp_symbol (names_in libraries))
+    names_and_imps =
+        distinct_join names imps apart.exports
+        (distinct_mapped (λ (name : List ℕ). name) imp_symbol (λ x y same. append_cancel_left (codes "__imp_") x y same) names (subst (IsDistinct bytes_eq) (sym (map_same names)) apart.exports))
+        (λ name held there. plain_name name held (among_back name tails (heads ++ imps) (among_back name heads imps there)))
+
+    head_of_among : (name : List ℕ) → Among name heads → (l : Library) × Among l libraries × (name ≡ head_symbol machine (linked_name l.definition))
+    head_of_among name held = among_mapped (λ (l : Library). head_symbol machine (linked_name l.definition)) name libraries held
+
+    tail_of_among : (name : List ℕ) → Among name tails → (l : Library) × Among l libraries × (name ≡ iname_symbol machine (linked_name l.definition))
+    tail_of_among name held = among_mapped (λ (l : Library). iname_symbol machine (linked_name l.definition)) name libraries held
+
+    heads_and_others : IsDistinct bytes_eq (heads_of machine libraries ++ (names_in libraries ++ map imp_symbol (names_in libraries)))
+    heads_and_others =
+        distinct_join heads (names ++ imps) (distinct_mapped stem (λ (l : Library). head_symbol machine (linked_name l.definition)) (stem_of_head machine) libraries apart.stems) names_and_imps
+        (λ name held there. elim (among_either name names imps there) [
+          | inl own ↦ plain_name name own (among_back name tails (heads ++ imps) (among_front name heads imps held))
+          | inr imp ↦
+              let l = head_of_among name held in
+              let n = among_mapped imp_symbol name names imp in
+              head_no_imp machine (linked_name l.0.definition) n.0 (sym l.2 ∙ n.2)
+        ])
+
+    all_differ : IsDistinct bytes_eq (tails_of machine libraries ++ (heads_of machine libraries ++ (names_in libraries ++ map imp_symbol (names_in libraries))))
+    all_differ =
+        distinct_join tails (heads ++ (names ++ imps)) (distinct_mapped stem (λ (l : Library). iname_symbol machine (linked_name l.definition)) (stem_of_tail machine) libraries apart.stems) heads_and_others
+        (λ name held there.
+        let l = tail_of_among name held in
+        elim (among_either name heads (names ++ imps) there) [
+          | inl head ↦ let k = head_of_among name head in tail_no_head machine (linked_name l.0.definition) (linked_name k.0.definition) (begins l.0 l.1) (sym l.2 ∙ k.2)
+          | inr others ↦ elim (among_either name names imps others) [
+            | inl own ↦ plain_name name own (among_front name tails (heads ++ imps) held)
+            | inr imp ↦ let n = among_mapped imp_symbol name names imp in tail_no_imp machine (linked_name l.0.definition) n.0 (begins l.0 l.1) (sym l.2 ∙ n.2)
+          ]
+        ])
+
+    listed_few : (name : List ℕ) → times name (flat_map (symbols_of_library machine) libraries) ≤ 1
+    listed_few name =
+        let most = few_from (tails ++ (heads ++ (names ++ imps))) all_differ name in
+        let first : times name (tails ++ (heads ++ (names ++ imps))) ≡ times name tails + times name (heads ++ (names ++ imps)) = times_both name tails (heads ++ (names ++ imps)) in
+        let second : times name (heads ++ (names ++ imps)) ≡ times name heads + times name (names ++ imps) = times_both name heads (names ++ imps) in
+        let third : times name (names ++ imps) ≡ times name names + times name imps = times_both name names imps in
+        let few = library_count name libraries in
+        omega arith
+
+pub named_apart : (machine : MachineType) (libraries : List Library) → AllByRecursion (IsLibrary machine) libraries → AreNamedApart machine libraries → IsArchive machine libraries
+named_apart machine libraries made apart = record {
+  made = made;
+  distinct = distinct_from (flat_map (symbols_of_library machine) libraries) (listed_few machine libraries apart);
+}
+
+-- An archive of libraries for one linker is one of libraries in either flavour. Of those for GNU's a linker that reads members as
+-- objects alone takes each member for what others do.
+
+members_of_flavor : (flavor : Flavor) (libraries : List Library) → archive_of_both (map (in_flavor flavor) libraries) ≡ archive_of libraries
+unfolding archive_of
+members_of_flavor flavor [] = refl
+members_of_flavor flavor (l ∷ libraries) = ap (λ ms. l.members ++ ms) (members_of_flavor flavor libraries)
+
+-- So is one of libraries for Microsoft's linker.
+
+abbrev pub short_libraries : List Library → List FlavorLibrary
+short_libraries libraries = map (in_flavor Msvc) libraries
+
+pub shorts_alone : (libraries : List Library) → msvc_among (short_libraries libraries) ≡ libraries
+shorts_alone [] = refl
+shorts_alone (l ∷ libraries) = ap (λ ls. l ∷ ls) (shorts_alone libraries)
+
+pub no_gnu : (libraries : List Library) → gnu_among (short_libraries libraries) ≡ []
+no_gnu [] = refl
+no_gnu (l ∷ libraries) = no_gnu libraries
+
+pub short_members : (libraries : List Library) → archive_of_both (short_libraries libraries) ≡ archive_of libraries
+short_members libraries = members_of_flavor Msvc libraries
+
+pub shorts_archive : (machine : MachineType) (libraries : List Library) → IsMsvcArchive machine libraries → IsFlavorArchive machine (short_libraries libraries)
+unfolding IsDistinct
+shorts_archive machine libraries archive = record {
+  gnu = subst (IsArchive machine) (sym (no_gnu libraries)) (record { made = tt; distinct = tt });
+  msvc = subst (IsMsvcArchive machine) (sym (shorts_alone libraries)) archive;
+  apart = subst (λ ls. AllByRecursion (λ name. list_any (bytes_eq name) (symbols_of_all_shorts (msvc_among (short_libraries libraries))) ≡ false) (flat_map (symbols_of_library machine) ls)) (sym (no_gnu libraries)) tt;
+}
+
+-- An archive of both flavours as groups of members: of each library the member with its descriptor, the one that ends its tables, and
+-- the members of each export. The null descriptors are apart.
 
 -- A library of a flavour is among all.
 
@@ -353,3 +589,119 @@ module _ (machine : MachineType) (libraries : List FlavorLibrary) (archive : IsF
       by : name ≡ null_descriptor_symbol → (ls : List Library) → msvc_among libraries ≡ ls → FoundIn name m
       by named [] none = in_group (λ l held is. in_nothing l (subst (Among l) none held))
       by named (x ∷ rest) first = InNull x rest first (let e : Some m ≡ Some (null_member_of machine x) = sym found ∙ null_finds name named x rest first in cc) named
+
+-- Which member of an archive of both flavours a name finds, in which role; and what is so of it, however members are read.
+
+module _ (machine : MachineType) (libraries : List FlavorLibrary) (archive : IsFlavorArchive machine libraries) where
+  pub by_name : (flavor : Flavor) (l : Library) → Among (in_flavor flavor l) libraries → IsFoundByName flavor (names_for flavor l.definition)
+  by_name Gnu l held = tt
+  by_name Msvc l held = all_among (λ (x : Library). IsFoundByName Msvc (names_for Msvc x.definition)) l (msvc_among libraries) (msvc_there libraries l held) archive.msvc.found
+
+  -- a member, in its role
+  pub record HasRole (m : MemberView) : Type 0 where
+    pub library : FlavorLibrary
+    pub held : Among library libraries
+    pub role : Role
+    pub is : IsRole libraries library role
+    pub same : m ≡ member machine library.flavor library.library role
+
+  -- A name finds a member that is listed for it.
+  pub record Found (name : List ℕ) (m : MemberView) : Type 0 where
+    pub has : HasRole m
+    pub listed : Among name (symbols machine has.library.flavor has.library.library has.role)
+
+  pub find : (name : List ℕ) (m : MemberView) (flavor : Flavor) (l : Library) (r : Role) → Among (in_flavor flavor l) libraries → IsRole libraries (in_flavor flavor l) r →
+      m ≡ member machine flavor l r → Among name (symbols machine flavor l r) → Found name m
+  find name m flavor l r held is same listed = record { has = record { library = in_flavor flavor l; held = held; role = r; is = is; same = same }; listed = listed }
+
+  one : (name own : List ℕ) → name ≡ own → Among name (own ∷ [])
+  one name own is = subst (λ n. Among n (own ∷ [])) (sym is) (among_first own [])
+
+  of_end : (flavor : Flavor) (l : Library) (r : Role) → IsEnd machine r → IsRole libraries (in_flavor flavor l) r
+  of_end flavor l Top end = tt
+  of_end flavor l Last end = tt
+  of_end flavor l Null end = absurd end
+  of_end flavor l (Own n e) end = absurd end
+  of_end flavor l (Weak n e b) end = absurd end
+
+  as_one : (name own : List ℕ) (m : MemberView) → Among name (own ∷ []) → first_listed (archive_of_both libraries) own ≡ Some m → first_listed (archive_of_both libraries) name ≡ Some m
+  as_one name own m held is = ap (first_listed (archive_of_both libraries)) (only_one name own held) ∙ is
+
+  pub found : (name : List ℕ) (m : MemberView) → first_listed (archive_of_both libraries) name ≡ Some m → Found name m
+  found name m is = by (found_in machine libraries archive name m is)
+    where
+      of_gnu : (l : Library) (n : ℕ) (e : ExportView) → Among (in_flavor Gnu l) libraries → slice_get (exports_of l) n ≡ Some e → GnuExport machine l n e name m → Found name m
+      of_gnu l n e held at (FindsOwn same listed) = find name m Gnu l (Own n e) held (at, tt) same listed
+      of_gnu l n e held at (FindsWeak alias is_data named same) = find name m Gnu l (Weak n e false) held (at, (alias, is_data)) same (one name _ named)
+
+      of_short : (l : Library) (n : ℕ) (e : ExportView) → Among (in_flavor Msvc l) libraries → slice_get (exports_of l) n ≡ Some e → ShortExport machine l e name m → Found name m
+      of_short l n e held at (FindsShort none same listed) = find name m Msvc l (Own n e) held (at, none) same listed
+      of_short l n e held at (FindsShortWeak alias weak target (inl pair) same named) =
+          find name m Msvc l (Weak n e false) held (at, alias)
+          (same ∙ ap (λ w. short_weak_of machine l w target) pair.0 ∙ ap (short_weak_of machine l (short_import_symbol e)) pair.1) (one name _ (named ∙ pair.0))
+      of_short l n e held at (FindsShortWeak alias weak target (inr pair) same named) =
+          find name m Msvc l (Weak n e true) held (at, alias)
+          (same ∙ ap (λ w. short_weak_of machine l w target) pair.0 ∙ ap (short_weak_of machine l (imp_symbol (short_import_symbol e))) pair.1) (one name _ (named ∙ pair.0))
+
+      of_group : (flavor : Flavor) (l : Library) (g : Group) → Among (in_flavor flavor l) libraries → IsGroup machine flavor l g → first_listed g.members name ≡ Some m → Found name m
+      of_group flavor l g held (OfRole r end at) first =
+          let there = listed_is (member machine flavor l r ∷ []) name m (subst (λ (y : Group). first_listed y.members name ≡ Some m) at first) in
+          let same : m ≡ member machine flavor l r = only_one m (member machine flavor l r) there.0 in
+          find name m flavor l r held (of_end flavor l r end) same (subst (Among name) (listed_as machine flavor l r) (subst (λ (y : MemberView). Among name y.symbols) same there.1))
+      of_group Gnu l g held (OfExport n e at own) first = of_gnu l n e held at (in_gnu machine l n e name m (subst (λ (y : Group). first_listed y.members name ≡ Some m) own first))
+      of_group Msvc l g held (OfExport n e at own) first = of_short l n e held at (in_short machine l e name m (subst (λ (y : Group). first_listed y.members name ≡ Some m) own first))
+
+      by : FoundIn machine libraries archive name m → Found name m
+      by (InGroup flavor l g held own first) = of_group flavor l g held own first
+      by (InNull x rest first same named) = find name m Msvc x Null (there_msvc libraries x (first_held libraries x rest first)) (rest, first) same (one name _ named)
+
+  -- And what a member is listed for finds it.
+  pub finds : (flavor : Flavor) (l : Library) (r : Role) (name : List ℕ) → Among (in_flavor flavor l) libraries → IsRole libraries (in_flavor flavor l) r →
+      Among name (symbols machine flavor l r) → first_listed (archive_of_both libraries) name ≡ Some (member machine flavor l r)
+  finds flavor l Top name held is listed = role_finds machine libraries archive flavor l Top name held tt listed
+  finds flavor l Last name held is listed = role_finds machine libraries archive flavor l Last name held tt listed
+  finds Gnu l Null name held is listed = absurd is
+  finds Msvc l Null name held is listed = null_finds machine libraries archive name (only_one name _ listed) l is.0 is.1
+  finds Gnu l (Own n e) name held is listed = export_finds machine libraries archive Gnu l n e name _ held is.0 (own_symbols e name listed) (own_first machine l n e name listed)
+  finds Msvc l (Own n e) name held is listed = export_finds machine libraries archive Msvc l n e name _ held is.0 (short_symbol e name is.1 listed) (short_first machine l e name is.1 listed)
+  finds Gnu l (Weak n e true) name held is listed = absurd is.1
+  finds Gnu l (Weak n e false) name held is listed =
+      as_one name e.name _ listed (export_finds machine libraries archive Gnu l n e e.name _ held is.0 (alias_symbols e is.1.0) (weak_first machine l n e is.1.0 is.1.1))
+  finds Msvc l (Weak n e b) name held is listed =
+      as_one name (weak_symbol Msvc e b) _ listed (export_finds machine libraries archive Msvc l n e (weak_symbol Msvc e b) _ held is.0
+      (pair_symbol e (weak_symbol Msvc e b) (weak_target e b) is.1 (pair e b)) (pair_first machine l e (weak_symbol Msvc e b) (weak_target e b) is.1 (pair e b)))
+
+  -- A way to read members that takes each of these for its object, and the members that are weak externals by it.
+  pub record IsReader (reads : List ℕ → Option Object) (weak : MemberView → Bool) : Type 0 where
+    pub taken : (flavor : Flavor) (l : Library) (r : Role) → Among (in_flavor flavor l) libraries → IsRole libraries (in_flavor flavor l) r →
+        reads (member machine flavor l r).bytes ≡ Some (object machine flavor l r)
+    pub weak_is : (m : MemberView) → weak m ≡ has_weak (reads m.bytes)
+
+  -- a linker for a machine reads them so
+  pub expands : IsReader (expanded_in machine) (is_weak_in machine)
+  unfolding is_weak_in
+  expands = record { taken = λ flavor l r held is. taken_as machine libraries flavor l r (made_of machine libraries archive flavor l held) is; weak_is = λ m. refl }
+
+  module _ (reads : List ℕ → Option Object) (weak : MemberView → Bool) (reader : IsReader reads weak) (m : MemberView) (x : HasRole m) where
+    pub weak_by_role : weak m ≡ is_weak_role x.role
+    weak_by_role =
+        reader.weak_is m
+        ∙ ap has_weak (ap (λ (y : MemberView). reads y.bytes) x.same ∙ reader.taken x.library.flavor x.library.library x.role x.held x.is)
+        ∙ weak_as machine x.library.flavor x.library.library x.role
+
+    pub left_by_role : (o : Object) (name : List ℕ) → reads m.bytes ≡ Some o → Among name (undefined_in o) → Among name (left machine x.library.flavor x.library.library x.role)
+    left_by_role o name read held =
+        names_read reads undefined_in (left machine x.library.flavor x.library.library x.role) name m _ o _ x.same (reader.taken x.library.flavor x.library.library x.role x.held x.is) read
+        (left_as_role machine x.library.flavor x.library.library x.role (by_name x.library.flavor x.library.library x.held)) held
+
+    pub tables_by_role : (o : Object) → reads m.bytes ≡ Some o → has_tables o ≡ not (is_weak_role x.role)
+    tables_by_role o read =
+        tables_read reads (not (is_weak_role x.role)) m _ o _ x.same (reader.taken x.library.flavor x.library.library x.role x.held x.is) read
+        (tables_as machine x.library.flavor x.library.library x.role)
+
+    pub first_by_role : IsFirstAs reads (archive_of_both libraries) m
+    first_by_role =
+        is_first reads (archive_of_both libraries) m _ _ (symbols machine x.library.flavor x.library.library x.role) x.same
+        (reader.taken x.library.flavor x.library.library x.role x.held x.is)
+        (claims_as machine x.library.flavor x.library.library x.role) (listed_as machine x.library.flavor x.library.library x.role)
+        (λ name listed. finds x.library.flavor x.library.library x.role name x.held x.is listed)

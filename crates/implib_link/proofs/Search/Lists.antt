@@ -1,15 +1,12 @@
 -- An archive whose listed symbols differ: each name has one member, and what members leave and claim.
 use Rattle.std.proofs.Common.{◌≡◌, ℕ, zero, suc, true, false, List, [], ◌∷◌, ◌++◌, map, Option, Some, None, refl, ap, sym, ◌∙◌, subst, inl, inr, ◌⊎◌, arith, Bool}
-use Rattle.std.specs.Prelude.{bytes_eq, reverse, slice_get, not}
+use Rattle.std.specs.Prelude.{bytes_eq, slice_get, not}
 use Rattle.std.specs.List.{AllByRecursion, Contains, IsDistinct, cons_option, flat_map, list_any, list_all, filter, filter_map}
 use Rattle.std.proofs.lemmas.Bool.{cases_Bool, false_from_ne_true, or_parts, true≢false, and_parts}
-use Rattle.std.proofs.lemmas.List.{reverse-append}
-use Rattle.std.proofs.lemmas.Grind.{flat_map-append}
 use Rattle.std.proofs.lemmas.Slice.Eq.{bytes_eq-Decides}
-use Rattle.implib.specs.Members.MemberSpec.{MemberSpec, MemberView, member_of}
+use Rattle.implib.specs.Members.MemberSpec.{MemberView}
 use Rattle.implib.specs.Formats.Object.{Object}
-use Rattle.implib.proofs.Link.LinkedMembers.{among_map, among_reverse}
-use Rattle.implib.proofs.Link.Ranges.{Among, all_among, among_back, among_first, among_front, among_later, among_flat}
+use Rattle.implib.proofs.Link.Ranges.{Among, all_among, among_back, among_first, among_later, among_flat}
 use Rattle.implib_link.specs.Search.Search.{first_listed, is_listed_for, objects_as}
 use Rattle.std.proofs.lemmas.Option.{same_Some}
 
@@ -137,12 +134,6 @@ listed_is (x ∷ archive) name m is =
       | inr other ↦ let later = listed_is archive name m (rw other at is) in (inr later.0, later.1)
     ]
 
--- one name is not listed for two members
-pub one_member : (archive : List MemberView) (name : List ℕ) (m other : MemberView) → IsDistinct bytes_eq (all_listed archive) →
-    Among m archive → Among other archive → Among name m.symbols → Among name other.symbols → m ≡ other
-one_member archive name m other distinct held held_too is is_too =
-    same_Some m other (sym (listed_once archive name m distinct held is) ∙ listed_once archive name other distinct held_too is_too)
-
 pub among_flat_map : {X Y : Type 0} (f : X → List Y) (name : Y) (xs : List X) → Among name (flat_map f xs) → (x : X) × Among x xs × Among name (f x)
 unfolding Among
 among_flat_map f name [] held = absurd held
@@ -208,11 +199,6 @@ none_listed name m members none held is = true≢false (sym (among_any name m.sy
 
 -- Names that differ, put together and apart.
 
-distinct_first : (first later : List (List ℕ)) → IsDistinct bytes_eq (first ++ later) → IsDistinct bytes_eq first
-unfolding IsDistinct
-distinct_first [] later distinct = tt
-distinct_first (x ∷ first) later distinct = ((all_parts (λ other. bytes_eq x other ≡ false) first later distinct.0).0, distinct_first first later distinct.1)
-
 none_same : (x : List ℕ) (names : List (List ℕ)) → (Among x names → ⊥) → AllByRecursion (λ other. bytes_eq x other ≡ false) names
 unfolding Among
 none_same x [] none = tt
@@ -229,45 +215,6 @@ distinct_join (x ∷ first) later own behind apart =
       | inr there ↦ apart x (inl refl) there
     ] in
     (none_same x (first ++ later) none, distinct_join first later own.1 behind (λ name held. apart name (inr held)))
-
--- names of a list in the other order
-pub distinct_reversed : {X : Type 0} (f : X → List (List ℕ)) (xs : List X) → IsDistinct bytes_eq (flat_map f (reverse xs)) → IsDistinct bytes_eq (flat_map f xs)
-distinct_reversed f [] distinct = distinct
-distinct_reversed f (x ∷ xs) distinct =
-    let parts : IsDistinct bytes_eq (flat_map f (reverse xs) ++ (f x ++ [])) =
-    subst (IsDistinct bytes_eq) (ap (flat_map f) (reverse-append (x ∷ []) xs) ∙ flat_map-append f (reverse xs) (x ∷ [])) distinct in
-    distinct_join (f x) (flat_map f xs) (distinct_first (f x) [] (distinct_later (flat_map f (reverse xs)) (f x ++ []) parts))
-    (distinct_reversed f xs (distinct_first (flat_map f (reverse xs)) (f x ++ []) parts))
-    (λ name here there.
-    let from = among_flat_map f name xs there in
-    distinct_apart (flat_map f (reverse xs)) (f x ++ []) name parts
-    (among_flat f from.0 (reverse xs) name (among_reverse from.0 xs from.1) from.2) (among_front name (f x) [] here))
-
--- the symbols of one member differ
-pub own_distinct : (archive : List MemberView) (m : MemberView) → IsDistinct bytes_eq (all_listed archive) → Among m archive → IsDistinct bytes_eq m.symbols
-unfolding Among
-own_distinct [] m distinct held = absurd held
-own_distinct (x ∷ archive) m distinct (inl e) = subst (λ (y : MemberView). IsDistinct bytes_eq y.symbols) (sym e) (distinct_first x.symbols (all_listed archive) distinct)
-own_distinct (x ∷ archive) m distinct (inr held) = own_distinct archive m (distinct_later x.symbols (all_listed archive) distinct) held
-
--- so do those of members of an archive that have names of their own
-pub some_distinct : (archive some : List MemberView) → IsDistinct bytes_eq (all_listed archive) → ((m : MemberView) → Among m some → Among m archive) →
-    IsDistinct bytes_eq (map (λ (m : MemberView). m.name) some) → IsDistinct bytes_eq (all_listed some)
-unfolding IsDistinct Among
-some_distinct archive [] distinct held once = tt
-some_distinct archive (x ∷ some) distinct held once =
-    distinct_join x.symbols (all_listed some) (own_distinct archive x distinct (held x (inl refl)))
-    (some_distinct archive some distinct (λ m there. held m (inr there)) once.1)
-    (λ name here there.
-    let from = among_flat_map (λ (m : MemberView). m.symbols) name some there in
-    let same : x ≡ from.0 = one_member archive name x from.0 distinct (held x (inl refl)) (held from.0 (inr from.1)) here from.2 in
-    apart_none x.name (map (λ (m : MemberView). m.name) some)
-    (subst (λ (y : MemberView). Among y.name (map (λ (m : MemberView). m.name) some)) (sym same) (among_map (λ (m : MemberView). m.name) from.0 some from.1)) once.0)
-
--- what specifications list is what their members are listed for
-pub listed_mapped : (ps : List MemberSpec) → all_listed (map member_of ps) ≡ flat_map (λ (p : MemberSpec). p.symbols) ps
-listed_mapped [] = refl
-listed_mapped (p ∷ ps) = ap (λ names. p.symbols ++ names) (listed_mapped ps)
 
 -- each of a list passes a test that all pass
 pub each_of : {X : Type 0} (test : X → Bool) (x : X) (xs : List X) → list_all test xs ≡ true → Among x xs → test x ≡ true
@@ -307,11 +254,3 @@ from_not false is = refl
 
 pub among_filter : {X : Type 0} (test : X → Bool) (x : X) (xs : List X) → Among x (filter test xs) → Among x xs
 among_filter test x xs held = (passing test x xs held).0
-
--- where none passes a test
-pub none_passes : {X : Type 0} (test : X → Bool) (xs : List X) → ((x : X) → Among x xs → test x ≡ false) → (filter test xs ≡ []) × (filter (λ x. not (test x)) xs ≡ xs)
-none_passes test [] none = (refl, refl)
-none_passes test (x ∷ xs) none =
-    let own : test x ≡ false = none x (among_first x xs) in
-    let later = none_passes test xs (λ y held. none y (among_later y x xs held)) in
-    (rw own later.0, rw own (ap (λ ys. x ∷ ys) later.1))

@@ -1,34 +1,33 @@
 -- The members of a library for Microsoft's linker: which of an export's a name finds, and what they are taken for.
-use Rattle.std.proofs.Common.{◌≡◌, ℕ, true, false, List, [], ◌∷◌, ◌++◌, map, Some, refl, ap, sym, ◌∙◌, subst, inl, inr, ◌⊎◌}
-use Rattle.std.specs.List.{flat_map}
-use Rattle.std.proofs.lemmas.Bool.{cases_Bool, false_from_ne_true}
+use Rattle.std.proofs.Common.{◌≡◌, ℕ, true, false, List, [], ◌∷◌, ◌++◌, map, Some, refl, ap, sym, ◌∙◌, subst, inl, inr, ◌⊎◌, ◌<◌, length, arith, ◌+◌, ◌≤◌}
+use Rattle.std.specs.List.{flat_map, filter}
+use Rattle.std.proofs.lemmas.Bool.{cases_Bool, false_from_ne_true, and_parts}
 use Rattle.std.proofs.lemmas.List.{map-append}
 use Rattle.implib.specs.declared.machine.MachineType.{MachineType}
 use Rattle.implib.specs.Definition.{ExportView}
 use Rattle.implib.specs.Formats.Layout.{entries_of, name_text, object_of}
 use Rattle.implib.specs.Formats.Object.{Object}
-use Rattle.implib.specs.Import.{imp_symbol}
+use Rattle.implib.specs.Import.{imp_symbol, Ask, Name, Ordinal}
 use Rattle.implib.specs.Members.MemberSpec.{MemberSpec, MemberView, member_of}
 use Rattle.implib.specs.Members.Msvc.{short_import_symbol, short_import_symbols}
 use Rattle.implib.specs.Members.MsvcMembers.{descriptor_spec, export_specs, header_specs, null_descriptor_spec, null_thunk_spec, short_import_spec, weak_specs}
 use Rattle.implib.specs.Members.WeakExternal.{weak_object, weak_spec}
-use Rattle.implib.proofs.Link.Ranges.{Among, among_back, among_first, among_flat, among_front}
-use Rattle.implib_link.specs.Flavors.Expansion.{expanded_in}
-use Rattle.implib_link.specs.Flavors.SectionSymbols.{with_section_symbols}
-use Rattle.implib_link.specs.Gnu.Program.{claimed_names}
-use Rattle.implib_link.specs.Search.Archives.{Library, exports_of}
-use Rattle.implib_link.specs.Search.MsvcArchives.{IsMsvcLibrary, is_short_alias, symbols_of_short}
-use Rattle.implib_link.specs.Search.Search.{first_listed, is_listed_for, undefined_in}
-use Rattle.implib_link.proofs.Flavors.Block.{asking}
+use Rattle.implib.proofs.Link.Ranges.{Among, among_back, among_first, among_flat, among_front, all_among}
+use Rattle.implib_link.specs.Flavors.Expansion.{expanded_in, Code, Constant, Data, Use, import_object, descriptor_symbol_by_name, with_section_symbols}
+use Rattle.implib_link.specs.Flavors.Program.{claimed_names, has_tables, null_member, objects_taken}
+use Rattle.implib_link.specs.Search.Search.{Library, exports_of, first_listed, is_listed_for, undefined_in, has_weak}
+use Rattle.implib_link.specs.Search.Libraries.{IsMsvcLibrary, is_short_alias, symbols_of_short, IsMsvcArchive, first_null, imports_wanted, is_import_wanted, with_first_null, symbols_of_shorts, is_short_wanted}
+use Rattle.implib_link.proofs.Flavors.Block.{asking, symbols_of}
 use Rattle.implib_link.proofs.Flavors.Expanded.{taken_descriptor, taken_null, taken_null_thunk}
-use Rattle.implib_link.proofs.Flavors.Inputs.{descriptor_taken, null_taken, short_taken, taken_of, thunk_taken}
-use Rattle.implib_link.proofs.Search.ArchiveGroups.{Group, IsWithin, members_of_groups, symbols_of_groups}
-use Rattle.implib_link.proofs.Search.Lists.{listed_is, among_any, any_among}
-use Rattle.implib_link.proofs.Search.Search.{in_nothing, only_one}
+use Rattle.implib_link.proofs.Flavors.Inputs.{descriptor_taken, null_taken, short_taken, taken_of, thunk_taken, objects_with_null}
+use Rattle.implib_link.proofs.Search.ArchiveMembers.{Group, IsWithin, members_of_groups, symbols_of_groups, in_nothing, only_one, passing_chosen, no_address, times, times_both}
+use Rattle.implib_link.proofs.Search.Lists.{listed_is, among_any, any_among, among_either, from_not}
 use Rattle.implib.specs.LibraryName.{NamesOfDll, linked_dll, names_for}
 use Rattle.implib.specs.declared.flavor.Flavor.TheVariants.{Msvc}
-use Rattle.implib_link.proofs.Search.ArchiveMembers.{no_address}
 use Rattle.std.proofs.lemmas.Option.{same_Some}
+use Rattle.implib.specs.Members.MsvcObjects.{descriptor, null_descriptor, null_descriptor_symbol, null_thunk, null_thunk_symbol, descriptor_symbol}
+use Rattle.std.specs.Prelude.{not}
+use Rattle.implib.specs.Link.LinkedMembers.{chosen_exports}
 
 -- The members.
 
@@ -234,3 +233,184 @@ module _ (machine : MachineType) where
         taken_of l.definition machine l.members [] made p
         (among_back p (header_specs machine dll) (flat_map (export_specs machine dll) (exports_of l))
         (among_flat (export_specs machine dll) e (exports_of l) p there (among_front p (weak_specs machine dll.linked e) (short_import_spec machine dll e ∷ []) (pair_there e weak target alias pair))))
+
+-- What the members for Microsoft's linker leave to others, and which are weak externals and hold import tables.
+
+-- What the members leave.
+
+pub left_descriptor : (machine : MachineType) (dll : NamesOfDll) → undefined_in (taken_descriptor machine dll) ≡ null_descriptor_symbol ∷ null_thunk_symbol dll.linked ∷ []
+unfolding undefined_in with_section_symbols object_of descriptor entries_of name_text
+left_descriptor machine dll = refl
+
+pub left_null : (machine : MachineType) → undefined_in (taken_null machine) ≡ []
+unfolding undefined_in with_section_symbols object_of null_descriptor entries_of name_text
+left_null machine = refl
+
+pub left_thunk : (machine : MachineType) (dll : NamesOfDll) → undefined_in (taken_null_thunk machine dll) ≡ []
+unfolding undefined_in with_section_symbols object_of null_thunk entries_of name_text
+left_thunk machine dll = refl
+
+pub left_asking : (machine : MachineType) (dll : NamesOfDll) (symbol : List ℕ) (ask : Ask) (use_kind : Use) → undefined_in (import_object machine dll.text symbol ask use_kind) ≡ descriptor_symbol_by_name dll.text ∷ []
+unfolding undefined_in import_object
+left_asking machine dll symbol (Ordinal n) Code = refl
+left_asking machine dll symbol (Ordinal n) Data = refl
+left_asking machine dll symbol (Ordinal n) Constant = refl
+left_asking machine dll symbol (Name text hint) Code = refl
+left_asking machine dll symbol (Name text hint) Data = refl
+left_asking machine dll symbol (Name text hint) Constant = refl
+
+-- Which members are weak externals.
+
+pub descriptor_not_weak : (machine : MachineType) (dll : NamesOfDll) → has_weak (Some (taken_descriptor machine dll)) ≡ false
+unfolding with_section_symbols object_of descriptor entries_of name_text
+descriptor_not_weak machine dll = refl
+
+pub null_not_weak : (machine : MachineType) → has_weak (Some (taken_null machine)) ≡ false
+unfolding with_section_symbols object_of null_descriptor entries_of name_text
+null_not_weak machine = refl
+
+pub thunk_not_weak : (machine : MachineType) (dll : NamesOfDll) → has_weak (Some (taken_null_thunk machine dll)) ≡ false
+unfolding with_section_symbols object_of null_thunk entries_of name_text
+thunk_not_weak machine dll = refl
+
+pub asking_not_weak : (machine : MachineType) (dll : NamesOfDll) (symbol : List ℕ) (ask : Ask) (use_kind : Use) → has_weak (Some (import_object machine dll.text symbol ask use_kind)) ≡ false
+unfolding import_object
+asking_not_weak machine dll symbol (Ordinal n) Code = refl
+asking_not_weak machine dll symbol (Ordinal n) Data = refl
+asking_not_weak machine dll symbol (Ordinal n) Constant = refl
+asking_not_weak machine dll symbol (Name text hint) Code = refl
+asking_not_weak machine dll symbol (Name text hint) Data = refl
+asking_not_weak machine dll symbol (Name text hint) Constant = refl
+
+pub weak_is_weak : (machine : MachineType) (weak target : List ℕ) → has_weak (Some (taken_weak machine weak target)) ≡ true
+unfolding with_section_symbols weak_object object_of entries_of name_text
+weak_is_weak machine weak target = refl
+
+-- Which of them hold import tables.
+
+pub descriptor_has : (machine : MachineType) (dll : NamesOfDll) → has_tables (taken_descriptor machine dll) ≡ true
+unfolding has_tables with_section_symbols object_of descriptor entries_of name_text
+descriptor_has machine dll = refl
+
+pub null_has : (machine : MachineType) → has_tables (taken_null machine) ≡ true
+unfolding has_tables with_section_symbols object_of null_descriptor entries_of name_text
+null_has machine = refl
+
+pub thunk_has : (machine : MachineType) (dll : NamesOfDll) → has_tables (taken_null_thunk machine dll) ≡ true
+unfolding has_tables with_section_symbols object_of null_thunk entries_of name_text
+thunk_has machine dll = refl
+
+pub asking_has : (machine : MachineType) (dll : NamesOfDll) (symbol : List ℕ) (ask : Ask) (use_kind : Use) → has_tables (import_object machine dll.text symbol ask use_kind) ≡ true
+unfolding has_tables import_object
+asking_has machine dll symbol (Ordinal n) use_kind = refl
+asking_has machine dll symbol (Name text hint) use_kind = refl
+
+pub weak_has_none : (machine : MachineType) (weak target : List ℕ) → has_tables (taken_weak machine weak target) ≡ false
+unfolding has_tables with_section_symbols weak_object object_of entries_of name_text
+weak_has_none machine weak target = refl
+
+-- Archives of libraries for Microsoft's linker: which exports are wanted, what is linked of them, and the null descriptor that they share.
+
+pub import_parts : (names : List (List ℕ)) (e : ExportView) → is_import_wanted names e ≡ true → (is_short_wanted names e ≡ true) × (is_short_alias e ≡ false)
+import_parts names e want =
+    let parts = and_parts (is_short_wanted names e) (not (is_short_alias e)) want in
+    (parts.0, from_not (is_short_alias e) parts.1)
+
+pub both_parts : (names : List (List ℕ)) (e : ExportView) → is_short_wanted names e ≡ true → is_short_alias e ≡ false → is_import_wanted names e ≡ true
+both_parts names e want none = rw (want, none) refl
+
+-- a symbol of a short import is that of its address, or its own, where it is no data
+pub by_symbol : (e : ExportView) (name : List ℕ) → Among name (short_import_symbols e) → (name ≡ imp_symbol (short_import_symbol e)) ⊎ ((name ≡ short_import_symbol e) × (e.is_data ≡ false))
+unfolding Among
+by_symbol e name (inl is) = inl is
+by_symbol e name (inr behind) =
+    elim (cases_Bool e.is_data) [
+      | inl is ↦ (let nothing : Among name [] = rw is at behind in absurd (in_nothing name nothing))
+      | inr is ↦ (let one : Among name (short_import_symbol e ∷ []) = rw is at behind in inr (only_one name (short_import_symbol e) one, is))
+    ]
+
+none_below : (n : ℕ) → n < 0 → ⊥
+none_below n less = omega arith
+
+pub first_one : {X : Type 0} (xs : List X) → 0 < length xs → (x : X) × Among x xs
+unfolding Among
+first_one [] some = absurd (none_below 0 some)
+first_one (x ∷ xs) some = (x, inl refl)
+
+-- What is linked of libraries.
+
+pub imports_are : (l : Library) (names : List (List ℕ)) → chosen_exports l.definition (imports_wanted l names) ≡ filter (is_import_wanted names) (exports_of l)
+imports_are l names = passing_chosen (is_import_wanted names) [] (exports_of l)
+
+-- members with the first library's null descriptor
+pub null_or_member : (machine : MachineType) (libraries : List Library) (m : MemberView) (members : List MemberView) → Among m (with_first_null machine libraries members) →
+    (Among m (first_null machine libraries) × ((x : MemberView) × Among x members)) ⊎ Among m members
+unfolding Among
+null_or_member machine libraries m [] held = absurd held
+null_or_member machine libraries m (x ∷ members) held =
+    elim (among_either m (first_null machine libraries) (x ∷ members) held) [
+      | inl null ↦ inl (null, (x, inl refl))
+      | inr own ↦ inr own
+    ]
+
+pub member_with : (machine : MachineType) (libraries : List Library) (m : MemberView) (members : List MemberView) → Among m members → Among m (with_first_null machine libraries members)
+unfolding Among
+member_with machine libraries m [] held = absurd held
+member_with machine libraries m (x ∷ members) held = among_back m (first_null machine libraries) (x ∷ members) held
+
+pub null_with : (machine : MachineType) (libraries : List Library) (m x : MemberView) (members : List MemberView) → Among m (first_null machine libraries) → Among x members →
+    Among m (with_first_null machine libraries members)
+unfolding Among
+null_with machine libraries m x [] null held = absurd held
+null_with machine libraries m x (y ∷ members) null held = among_front m (first_null machine libraries) (y ∷ members) null
+
+module _ (machine : MachineType) (libraries : List Library) (archive : IsMsvcArchive machine libraries) where
+  pub made_of : (l : Library) → Among l libraries → IsMsvcLibrary machine l
+  made_of l held = all_among (IsMsvcLibrary machine) l libraries held archive.made
+
+  first_held : (l : Library) (rest : List Library) → libraries ≡ l ∷ rest → Among l libraries
+  first_held l rest is = subst (Among l) (sym is) (among_first l rest)
+
+  -- the null descriptor of any library is taken for the same object
+  pub null_tables : (before behind : List MemberView) (dll : NamesOfDll) (l : Library) → Among l libraries → expanded_in machine (null_member machine dll.linked).bytes ≡ Some (taken_null machine) →
+      objects_taken machine (before ++ (first_null machine libraries ++ behind)) ≡ objects_taken machine (before ++ null_member machine dll.linked ∷ behind)
+  null_tables before behind dll l held is = by libraries refl held
+    where
+      by : (ls : List Library) → libraries ≡ ls → Among l ls → objects_taken machine (before ++ (first_null machine ls ++ behind)) ≡ objects_taken machine (before ++ null_member machine dll.linked ∷ behind)
+      by [] same there = absurd (in_nothing l there)
+      by (x ∷ rest) same there =
+          objects_with_null machine before behind (null_member machine (linked_dll x.definition)) (null_is machine x (made_of x (first_held x rest same)))
+          ∙ sym (objects_with_null machine before behind (null_member machine dll.linked) is)
+
+-- What is linked of a library has no more symbols than the archive lists.
+
+shorts_fewer : (name : List ℕ) (names : List (List ℕ)) (es : List ExportView) → times name (flat_map short_import_symbols (filter (is_import_wanted names) es)) ≤ times name (flat_map symbols_of_short es)
+unfolding times
+shorts_fewer name names [] = omega arith
+shorts_fewer name names (e ∷ es) =
+    let behind : times name (flat_map short_import_symbols (filter (is_import_wanted names) es)) ≤ times name (flat_map symbols_of_short es) = shorts_fewer name names es in
+    let all : times name (symbols_of_short e ++ flat_map symbols_of_short es) ≡ times name (symbols_of_short e) + times name (flat_map symbols_of_short es) =
+    times_both name (symbols_of_short e) (flat_map symbols_of_short es) in
+    let some : times name (short_import_symbols e ++ flat_map short_import_symbols (filter (is_import_wanted names) es))
+    ≡ times name (short_import_symbols e) + times name (flat_map short_import_symbols (filter (is_import_wanted names) es)) =
+    times_both name (short_import_symbols e) (flat_map short_import_symbols (filter (is_import_wanted names) es)) in
+    elim (cases_Bool (is_import_wanted names e)) [
+      | inl is ↦
+          let same : symbols_of_short e ≡ short_import_symbols e = (let none = (import_parts names e is).1 in rw none refl) in
+          let counts : times name (symbols_of_short e) ≡ times name (short_import_symbols e) = ap (times name) same in
+          rw is (omega arith)
+      | inr other ↦ rw other (omega arith)
+    ]
+
+module _ (machine : MachineType) where
+  pub library_fewer : (name : List ℕ) (l : Library) (names : List (List ℕ)) →
+      times name (symbols_of machine Msvc (names_for Msvc l.definition) (chosen_exports l.definition (imports_wanted l names))) ≤ times name (symbols_of_shorts l)
+  unfolding symbols_of_shorts times
+  library_fewer name l names =
+      let dll : NamesOfDll = names_for Msvc l.definition in
+      let chosen : List ExportView = filter (is_import_wanted names) (exports_of l) in
+      let few : times name (flat_map short_import_symbols chosen) ≤ times name (flat_map symbols_of_short (exports_of l)) = shorts_fewer name names (exports_of l) in
+      let both : times name (flat_map short_import_symbols chosen ++ null_thunk_symbol dll.linked ∷ []) ≡ times name (flat_map short_import_symbols chosen) + times name (null_thunk_symbol dll.linked ∷ []) =
+      times_both name (flat_map short_import_symbols chosen) (null_thunk_symbol dll.linked ∷ []) in
+      subst (λ (es : List ExportView). times name (symbols_of machine Msvc dll es) ≤ times name (descriptor_symbol dll.linked ∷ null_thunk_symbol dll.linked ∷ flat_map symbols_of_short (exports_of l))) (sym (imports_are l names))
+      (omega arith)

@@ -1,9 +1,8 @@
 -- GNU `ld`'s search, which resolves nothing by weak externals, and one that does.
 use Rattle.std.proofs.Common.{◌≡◌, ℕ, ◌⊎◌, true, false, List, [], ◌∷◌, ◌++◌, Option, Some, None, map, refl, ap, sym, ◌∙◌, subst, inl, inr, arith}
-use Rattle.std.specs.Prelude.{bytes_eq, not, ◌==◌}
+use Rattle.std.specs.Prelude.{bytes_eq, not, ◌==◌, if◌then◌else◌}
 use Rattle.std.specs.List.{Contains, cons_option, filter, flat_map, list_any}
 use Rattle.std.specs.Option.{option_map}
-use Rattle.std.specs.Prelude.{if◌then◌else◌}
 use Rattle.std.proofs.lemmas.Bool.{and_parts, cases_Bool, not_from_false, true≢false}
 use Rattle.implib.specs.Formats.Constants.{class_external, class_weak_external, section_undefined}
 use Rattle.implib.specs.Link.Resolution.{is_undefined_external}
@@ -15,15 +14,11 @@ use Rattle.implib.specs.Members.MemberSpec.{MemberView}
 use Rattle.implib.proofs.Link.LinkedMembers.{among_contains, among_map}
 use Rattle.implib.proofs.Link.Ranges.{Among, all_among, among_flat, among_later}
 use Rattle.implib_link.specs.Flavors.Expansion.{expanded_in}
-use Rattle.implib_link.specs.Gnu.Program.{claimed_name, claimed_names}
-use Rattle.implib_link.specs.Search.Archives.{is_weak_entry}
-use Rattle.implib_link.specs.Search.BothFlavors.{FlavorLibrary, IsFlavorArchive, archive_of_both}
-use Rattle.implib_link.specs.Search.Closed.{AreTakenIntoAs, PullsIntoAs, TakesIntoAs, unresolved}
-use Rattle.implib_link.specs.Search.MsvcArchives.{TakesIntoFor, is_weak_in}
-use Rattle.implib_link.specs.Search.Plainly.{AreOnlyWeak, HaveNoWeak, IsWeakAmong, TakesPlainly, WeakAreFirst, left_plainly, plainly, weak_names, without_weak}
-use Rattle.implib_link.specs.Search.Search.{first_listed, objects_as, undefined_in}
+use Rattle.implib_link.specs.Flavors.Program.{claimed_name, claimed_names}
+use Rattle.implib_link.specs.Search.Search.{is_weak_entry, AreTakenIntoAs, PullsIntoAs, TakesIntoAs, unresolved, first_listed, objects_as, undefined_in, AreOnlyWeak, HaveNoWeak, IsWeakAmong, TakesPlainly, WeakAreFirst, left_plainly, plainly, weak_names, without_weak}
+use Rattle.implib_link.specs.Search.Libraries.{FlavorLibrary, IsFlavorArchive, archive_of_both, TakesIntoFor, is_weak_in}
 use Rattle.implib_link.proofs.Search.Closing.{IsFirstAs, in_turn_for, pulled, there_not, unresolved_from, unresolved_parts}
-use Rattle.implib_link.proofs.Search.Found.{expands, first_by_role, found}
+use Rattle.implib_link.proofs.Search.FlavorGroups.{expands, first_by_role, found}
 use Rattle.implib_link.proofs.Search.Lists.{NameAs, among_either, among_filter, among_flat_map, among_mapped, any_among, contains_among, from_not, kept_from, kept_into, none_among, passes, passing}
 use Rattle.std.proofs.lemmas.Option.{same_Some}
 

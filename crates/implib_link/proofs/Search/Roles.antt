@@ -18,26 +18,17 @@ use Rattle.implib.specs.Members.MsvcObjects.{descriptor_symbol, null_descriptor_
 use Rattle.implib.specs.Members.WeakExternal.{weak_object, weak_spec}
 use Rattle.implib.specs.Formats.Layout.{entries_of, name_text, object_of}
 use Rattle.implib.proofs.Link.Placement.{export, head, tail}
-use Rattle.implib_link.specs.Flavors.Expansion.{expanded_in}
-use Rattle.implib_link.specs.Flavors.Program.{IsFoundByName, ask_in, symbol_in}
-use Rattle.implib_link.specs.Flavors.SectionSymbols.{with_section_symbols}
-use Rattle.implib_link.specs.Gnu.Program.{claimed_names, has_tables}
-use Rattle.implib_link.specs.Search.Archives.{IsLibrary, Library, exports_of, has_weak}
-use Rattle.implib_link.specs.Search.BothFlavors.{FlavorLibrary, msvc_among, symbols_in}
-use Rattle.implib_link.specs.Search.MsvcArchives.{is_short_alias}
-use Rattle.implib_link.specs.Search.Search.{undefined_in}
-use Rattle.implib_link.proofs.Flavors.Block.{asking, use_for}
-use Rattle.implib_link.proofs.Flavors.Claims.{claims_asking, claims_descriptor, claims_null, claims_thunk}
+use Rattle.implib_link.specs.Flavors.Expansion.{expanded_in, with_section_symbols}
+use Rattle.implib_link.specs.Flavors.Program.{IsFoundByName, ask_in, symbol_in, claimed_names, has_tables}
+use Rattle.implib_link.specs.Search.Search.{IsLibrary, Library, exports_of, has_weak, undefined_in}
+use Rattle.implib_link.specs.Search.Libraries.{FlavorLibrary, msvc_among, symbols_in, is_short_alias}
+use Rattle.implib_link.proofs.Flavors.Block.{asking, use_for, claimed_export, claimed_head, claimed_tail}
+use Rattle.implib_link.proofs.Flavors.Inputs.{claims_asking, claims_descriptor, claims_null, claims_thunk, head_taken, tail_taken, export_taken, spec_taken, spec_held}
 use Rattle.implib_link.proofs.Flavors.Expanded.{taken_descriptor, taken_null, taken_null_thunk}
-use Rattle.implib_link.proofs.Flavors.Inputs.{head_taken, tail_taken, export_taken, spec_taken, spec_held}
-use Rattle.implib_link.proofs.Gnu.Alone.{export_has, head_has, tail_has}
-use Rattle.implib_link.proofs.Gnu.Claims.{claimed_export, claimed_head, claimed_tail}
-use Rattle.implib_link.proofs.Search.ArchiveGroups.{export_of, head_of, tail_of}
-use Rattle.implib_link.proofs.Search.ArchiveMembers.{export_entries, export_object_is, head_object_is, tail_object_is, weak_object_is, weak_there}
+use Rattle.implib_link.proofs.Flavors.Program.{export_has, head_has, tail_has}
+use Rattle.implib_link.proofs.Search.ArchiveMembers.{export_of, head_of, tail_of, export_entries, export_object_is, head_object_is, tail_object_is, weak_object_is, weak_there, left_export, left_head, left_tail}
 use Rattle.implib_link.proofs.Search.Lists.{among_at}
-use Rattle.implib_link.proofs.Search.Msvc.{asking_has, asking_not_weak, descriptor_has, descriptor_not_weak, left_asking, left_descriptor, left_null, left_thunk, null_has, null_not_weak, thunk_has, thunk_not_weak, weak_has_none, weak_is_weak}
-use Rattle.implib_link.proofs.Search.MsvcMembers.{IsPair, claims_weak, descriptor_is, descriptor_of, left_weak, null_is, null_of, short_is, short_of, taken_weak, thunk_is, thunk_of, weak_is}
-use Rattle.implib_link.proofs.Search.Search.{left_export, left_head, left_tail}
+use Rattle.implib_link.proofs.Search.MsvcMembers.{asking_has, asking_not_weak, descriptor_has, descriptor_not_weak, left_asking, left_descriptor, left_null, left_thunk, null_has, null_not_weak, thunk_has, thunk_not_weak, weak_has_none, weak_is_weak, IsPair, claims_weak, descriptor_is, descriptor_of, left_weak, null_is, null_of, short_is, short_of, taken_weak, thunk_is, thunk_of, weak_is}
 
 -- a library in a flavour
 abbrev pub in_flavor : Flavor → Library → FlavorLibrary

@@ -8,9 +8,7 @@ use Rattle.implib.specs.Formats.Object.{Object}
 use Rattle.implib.specs.Members.MemberSpec.{MemberView}
 use Rattle.implib.proofs.Link.LinkedMembers.{among_contains, among_map}
 use Rattle.implib.proofs.Link.Ranges.{Among, among_first, among_flat, among_later}
-use Rattle.implib_link.specs.Search.Closed.{AreTakenIntoAs, PullsIntoAs, TakesIntoAs, unresolved}
-use Rattle.implib_link.specs.Search.Search.{first_listed, is_listed_for, objects_as}
-use Rattle.implib_link.specs.Search.Sweeps.{IndexEntry, SweepsTake, entries_at, index_at, index_of, is_due, is_left, members_at, numbers_from, sweeps, swept}
+use Rattle.implib_link.specs.Search.Search.{AreTakenIntoAs, PullsIntoAs, TakesIntoAs, unresolved, first_listed, is_listed_for, objects_as, IndexEntry, SweepsTake, entries_at, index_at, index_of, is_due, is_left, members_at, numbers_from, sweeps, swept}
 use Rattle.implib_link.proofs.Search.Lists.{all_listed, among_any, among_flat_map, among_listed, among_mapped, any_among, contains_among, distinct_apart, distinct_later, listed_is, among_at, at_index, any_from, any_of, kept_into, kept_from}
 use Rattle.std.proofs.lemmas.Option.{same_Some, slice_get_within}
 

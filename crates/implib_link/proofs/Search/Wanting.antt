@@ -1,7 +1,7 @@
 -- A list of names is wanted as an object's, and adds nothing to what is linked.
 use Rattle.std.proofs.Common.{◌≡◌, ℕ, List, [], ◌∷◌, ◌++◌, ◌^◌, ◌<◌, None, Some, refl, ap, sym, ◌∙◌, subst, inl, inr, bytes_eq, map}
 use Rattle.std.specs.Prelude.{◌==◌, if◌then◌else◌, not, slice_get}
-use Rattle.std.specs.List.{AllByRecursion, filter_map, flat_map, list_any}
+use Rattle.std.specs.List.{AllByRecursion, filter, filter_map, flat_map, list_any}
 use Rattle.std.proofs.lemmas.Bool.{cases_Bool}
 use Rattle.std.proofs.lemmas.List.Elements.{filter-append}
 use Rattle.implib.specs.declared.coff.object.Relocation.{Relocation}
@@ -12,12 +12,8 @@ use Rattle.implib.specs.Link.Image.{AllApart, IsAdmissible, Range, contribution_
 use Rattle.implib.specs.Link.Linked.{undefined_name}
 use Rattle.implib.specs.Link.Placement.{Bases, Group, Placed, SectionAddress, base_of, groups, placed_from}
 use Rattle.implib.specs.Link.Resolution.{address_or_zero, defined_by_entry, definitions_of, first_address, is_undefined_external, symbol_address, target_address}
-use Rattle.implib_link.specs.Flavors.Program.{AreEnded, Ending, FlavorInput, IsProgramOf, OfLinker, OfMember, own_names}
-use Rattle.implib_link.specs.Gnu.Packed.{group_end, sections_end}
-use Rattle.implib_link.specs.Gnu.Program.{ClaimsNone, claimed_name, claimed_names, has_tables}
-use Rattle.implib_link.specs.Search.Closed.{claims_of, references_of, unresolved}
-use Rattle.implib_link.specs.Search.Search.{undefined_in}
-use Rattle.implib_link.specs.Search.Wanting.{unclaimed, undefined_symbol, wanting}
+use Rattle.implib_link.specs.Flavors.Program.{AreEnded, Ending, FlavorInput, IsProgramOf, OfLinker, OfMember, own_names, ClaimsNone, claimed_name, claimed_names, has_tables, group_end, sections_end}
+use Rattle.implib_link.specs.Search.Search.{claims_of, references_of, unresolved, undefined_in, unclaimed, undefined_symbol, wanting}
 
 -- The list: what it leaves to others, what it claims, what it defines.
 
@@ -92,49 +88,31 @@ module _ (names : List (List ℕ)) (machine : MachineType) (bases : Bases) (obje
       (λ group. range_of (base_of group bases) (contributions machine (placed_from bases objects) group (placed_from bases objects)))
       (λ group. ap (range_of (base_of group bases)) (contributions_same machine with_list (placed_from bases objects) definitions_same group (placed_from bases objects))) groups
 
-  admissible_without : IsAdmissible machine bases (wanting names ∷ objects) → IsAdmissible machine bases objects
-  admissible_without a = record {
+  admissible_same : (xs ys : List Object) → image_of machine bases (placed_from bases xs) ≡ image_of machine bases (placed_from bases ys) → IsAdmissible machine bases xs → IsAdmissible machine bases ys
+  admissible_same xs ys same a = record {
     descriptors = a.descriptors;
     directory_ends = a.directory_ends;
     lookups = a.lookups;
     addresses = a.addresses;
     hint_names = a.hint_names;
     dll_names = a.dll_names;
-    ends = subst (AllByRecursion (λ (r : Range). range_end r < 2 ^ 31)) image_same a.ends;
-    apart = subst AllApart image_same a.apart;
-  }
-
-  admissible_with : IsAdmissible machine bases objects → IsAdmissible machine bases (wanting names ∷ objects)
-  admissible_with a = record {
-    descriptors = a.descriptors;
-    directory_ends = a.directory_ends;
-    lookups = a.lookups;
-    addresses = a.addresses;
-    hint_names = a.hint_names;
-    dll_names = a.dll_names;
-    ends = subst (AllByRecursion (λ (r : Range). range_end r < 2 ^ 31)) (sym image_same) a.ends;
-    apart = subst AllApart (sym image_same) a.apart;
+    ends = subst (AllByRecursion (λ (r : Range). range_end r < 2 ^ 31)) same a.ends;
+    apart = subst AllApart same a.apart;
   }
 
   claims_nothing : (texts : List (List ℕ)) → ClaimsNone texts (wanting names)
   claims_nothing [] = tt
   claims_nothing (text ∷ texts) = (rw (none_claimed names) refl, claims_nothing texts)
 
-  ended_without : (ending : Ending) (inputs : List FlavorInput) → AreEnded ending machine inputs (wanting names ∷ objects) → AreEnded ending machine inputs objects
-  unfolding has_tables
-  ended_without OfLinker inputs e = record { gnu = e.gnu; tables = e.tables }
-  ended_without OfMember inputs e = record { null_from = e.null_from; null_held = e.null_held; null_flavor = e.null_flavor; before = e.before; behind = e.behind; members = e.members; tables = e.tables }
-
-  ended_with : (ending : Ending) (inputs : List FlavorInput) → AreEnded ending machine inputs objects → AreEnded ending machine inputs (wanting names ∷ objects)
-  unfolding has_tables
-  ended_with OfLinker inputs e = record { gnu = e.gnu; tables = e.tables }
-  ended_with OfMember inputs e = record { null_from = e.null_from; null_held = e.null_held; null_flavor = e.null_flavor; before = e.before; behind = e.behind; members = e.members; tables = e.tables }
+  ended_same : (ending : Ending) (inputs : List FlavorInput) (xs ys : List Object) → filter has_tables xs ≡ filter has_tables ys → AreEnded ending machine inputs xs → AreEnded ending machine inputs ys
+  ended_same OfLinker inputs xs ys same e = record { gnu = e.gnu; tables = sym same ∙ e.tables }
+  ended_same OfMember inputs xs ys same e = record { null_from = e.null_from; null_held = e.null_held; null_flavor = e.null_flavor; before = e.before; behind = e.behind; members = e.members; tables = sym same ∙ e.tables }
 
   pub program_without : (ending : Ending) (inputs : List FlavorInput) → IsProgramOf machine ending bases inputs (wanting names ∷ objects) → IsProgramOf machine ending bases inputs objects
   unfolding has_tables group_end sections_end
   program_without ending inputs program = record {
-    held = record { distinct = program.held.distinct; ended = ended_without ending inputs program.held.ended; others = program.held.others.1; found = program.held.found };
-    admissible = admissible_without program.admissible;
+    held = record { distinct = program.held.distinct; ended = ended_same ending inputs (wanting names ∷ objects) objects refl program.held.ended; others = program.held.others.1; found = program.held.found };
+    admissible = admissible_same (wanting names ∷ objects) objects image_same program.admissible;
     lookups = program.lookups;
     addresses = program.addresses;
     follows = program.follows;
@@ -145,11 +123,11 @@ module _ (names : List (List ℕ)) (machine : MachineType) (bases : Bases) (obje
   program_with ending inputs program = record {
     held = record {
       distinct = program.held.distinct;
-      ended = ended_with ending inputs program.held.ended;
+      ended = ended_same ending inputs objects (wanting names ∷ objects) refl program.held.ended;
       others = (claims_nothing (own_names ending machine inputs), program.held.others);
       found = program.held.found;
     };
-    admissible = admissible_with program.admissible;
+    admissible = admissible_same objects (wanting names ∷ objects) (sym image_same) program.admissible;
     lookups = program.lookups;
     addresses = program.addresses;
     follows = program.follows;

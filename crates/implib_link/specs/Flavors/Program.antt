@@ -1,20 +1,29 @@
--- Programs of DLLs in either flavour: objects that are linked, among them what a linker takes the
--- chosen members of several DLLs for, each made for Microsoft's linker or for GNU's, and what ends
--- their directory. The others hold no part of the import tables and claim no symbol of the members.
-use Rattle.std.specs.Prelude.{◌≡◌, ℕ, ◌+◌, ◌*◌, ◌%◌, false, not, List, [], ◌∷◌, ◌++◌, bytes_eq}
-use Rattle.std.specs.Prelude.{length, map, slice_get, Some, if◌then◌else◌}
-use Rattle.std.specs.List.{AllByRecursion, Contains, IsDistinct, filter, filter_map, flat_map}
+-- Packed placement: the groups of the import tables one after another, each at the first multiple
+-- of 8, and what ends the descriptors right after them, at the first multiple of 4.
+use Rattle.std.specs.Prelude.{ℕ, ◌+◌, List, [], ◌∷◌, length, Option, Some, None, if◌then◌else◌, ◌≡◌}
+use Rattle.std.specs.Prelude.{zero, suc, Bool, ◌&&◌, ◌||◌, ◌==◌, not, true, false, bytes_eq, codes}
+use Rattle.std.specs.Prelude.{take, ◌*◌, ◌%◌, ◌++◌, map, slice_get}
+use Rattle.implib.specs.Formats.Object.{Object, ObjectSection, ASymbol, Auxiliary, Entry}
+use Rattle.implib.specs.Formats.Object.{ObjectSymbol}
+use Rattle.implib.specs.Link.Placement.{Addresses, Bases, Descriptors, DirectoryEnds, DllNames}
+use Rattle.implib.specs.Link.Placement.{Group, HintNames, Lookups, alignment, group_named}
+use Rattle.implib.specs.Link.Placement.{next_multiple, same_group, Placed, placed_from}
+use Rattle.std.specs.List.{AllByRecursion, Contains, filter, filter_map, flat_map, list_any}
+use Rattle.std.specs.List.{IsDistinct}
+use Rattle.implib.specs.declared.machine.MachineType.{MachineType}
+use Rattle.implib.specs.Formats.Constants.{class_external, section_undefined, class_weak_external}
+use Rattle.implib.specs.Members.Gnu.{section, head_symbol}
+use Rattle.implib.specs.Members.ImportTables.{table_flags, descriptor_size, zeros, thunk_width}
+use Rattle.implib.specs.Link.LinkedMembers.{LinkInput, all_linked, chosen_exports, linked_specs}
+use Rattle.implib.specs.Link.LinkedMembers.{objects_in}
+use Rattle.implib.specs.Link.Resolution.{is_undefined_external, symbol_address, definitions_of}
 use Rattle.implib.specs.declared.flavor.Flavor.{Flavor}
 use Rattle.implib.specs.declared.flavor.Flavor.TheVariants.{Gnu, Msvc}
-use Rattle.implib.specs.declared.machine.MachineType.{MachineType}
 use Rattle.implib.specs.Definition.{DefinitionView, ExportView}
-use Rattle.implib.specs.Members.Gnu.{head_symbol}
 use Rattle.implib.specs.Link.Image.{IsAdmissible, Range, image_of}
 use Rattle.implib.specs.Import.{Ask, Name, Ordinal, imp_symbol}
 use Rattle.implib.specs.LibraryName.{NamesOfDll, linked_dll, names_for}
-use Rattle.implib.specs.Members.ImportTables.{thunk_width}
 use Rattle.implib.specs.Link.Linked.{AllFind, IsDefinedAt, IsDefinedOnce, undefined_names}
-use Rattle.implib.specs.Link.LinkedMembers.{LinkInput, chosen_exports, linked_specs, objects_in}
 use Rattle.implib.specs.Link.Load.{LoadsStrictly}
 use Rattle.implib.specs.Members.MemberSpec.{MemberSpec, MemberView, member_of}
 use Rattle.implib.specs.Members.Members.{AreMembersOf}
@@ -23,15 +32,145 @@ use Rattle.implib.specs.Members.MsvcMembers.{descriptor_spec, null_descriptor_sp
 use Rattle.implib.specs.Members.MsvcMembers.{short_import_spec}
 use Rattle.implib.specs.Members.MsvcObjects.{descriptor_symbol, null_descriptor_symbol}
 use Rattle.implib.specs.Members.NameRules.{asked_in}
-use Rattle.implib.specs.Formats.Object.{Object}
-use Rattle.implib.specs.Link.Placement.{Bases, Descriptors, Placed, placed_from}
-use Rattle.implib.specs.Link.Resolution.{definitions_of}
 use Rattle.implib_link.specs.Directory.{DirectoryAt, Imported}
 use Rattle.implib_link.specs.Flavors.Expansion.{descriptor_symbol_by_name, expanded_in}
-use Rattle.implib_link.specs.Gnu.Packed.{group_end}
-use Rattle.implib_link.specs.Gnu.Program.{ClaimsNone, GetsAddress, HaveSame, has_tables}
-use Rattle.implib_link.specs.Gnu.Program.{names_claimed_in, null_descriptor, thunks_before}
-use Rattle.implib_link.specs.Gnu.Program.{with_tables}
+
+-- the end of a group after an end and a section of this group or of another one or of none
+abbrev pub end_with : Group → ℕ → ObjectSection → Option Group → ℕ
+end_with group end s None = end
+end_with group end s (Some other) =
+    if same_group group other then next_multiple (alignment s.flags) end + length s.bytes else end
+
+-- the end of a group after an end and sections
+unfoldable pub sections_end : Group → ℕ → List ObjectSection → ℕ
+sections_end group end [] = end
+sections_end group end (s ∷ sections) =
+    sections_end group (end_with group end s (group_named s.name)) sections
+
+-- the end of a group that begins at a base
+unfoldable pub group_end : Group → ℕ → List Object → ℕ
+group_end group base [] = base
+group_end group base (o ∷ objects) = group_end group (sections_end group base o.sections) objects
+
+-- the base after a group that begins at a base
+abbrev pub base_behind : Group → ℕ → List Object → ℕ
+base_behind group base objects = next_multiple 8 (group_end group base objects)
+
+-- the bases of the groups, from an address on
+abbrev pub packed_descriptors : ℕ → ℕ
+packed_descriptors first = next_multiple 8 first
+
+abbrev pub packed_directory_ends : ℕ → List Object → ℕ
+packed_directory_ends first objects =
+    next_multiple 4 (group_end Descriptors (packed_descriptors first) objects)
+
+abbrev pub packed_lookups : ℕ → List Object → ℕ
+packed_lookups first objects =
+    base_behind DirectoryEnds (packed_directory_ends first objects) objects
+
+abbrev pub packed_addresses : ℕ → List Object → ℕ
+packed_addresses first objects = base_behind Lookups (packed_lookups first objects) objects
+
+abbrev pub packed_hint_names : ℕ → List Object → ℕ
+packed_hint_names first objects = base_behind Addresses (packed_addresses first objects) objects
+
+abbrev pub packed_dll_names : ℕ → List Object → ℕ
+packed_dll_names first objects = base_behind HintNames (packed_hint_names first objects) objects
+
+abbrev pub packed : ℕ → List Object → Bases
+packed first objects = record {
+  descriptors = packed_descriptors first;
+  directory_ends = packed_directory_ends first objects;
+  lookups = packed_lookups first objects;
+  addresses = packed_addresses first objects;
+  hint_names = packed_hint_names first objects;
+  dll_names = packed_dll_names first objects;
+}
+
+-- where the last group ends
+abbrev pub packed_end : ℕ → List Object → ℕ
+packed_end first objects = group_end DllNames (packed_dll_names first objects) objects
+
+-- What objects of a link hold and claim, and how the exports of a DLL for GNU's linker are
+-- imported.
+
+-- the descriptor of zeros that ends the import directory: linkers add it after all others
+abbrev pub null_descriptor : Object
+null_descriptor = record {
+  machine = 0;
+  time = 0;
+  optional_header_size = 0;
+  characteristics = 0;
+  sections = section (codes ".idata$2") table_flags (zeros descriptor_size) [] ∷ [];
+  entries = [];
+}
+
+-- whether a section is a part of the import tables: its name begins with `.idata$`
+abbrev pub is_table : ObjectSection → Bool
+is_table s = bytes_eq (take 7 s.name) (codes ".idata$")
+
+-- whether an object holds such a section
+unfoldable pub has_tables : Object → Bool
+has_tables o = list_any is_table o.sections
+
+-- whether a symbol is one for all objects
+abbrev pub is_shared : ObjectSymbol → Bool
+is_shared s = (s.class == class_external) || (s.class == class_weak_external)
+
+-- whether a symbol is plainly left to other objects: external and undefined, and no common block,
+-- whose value is its size
+abbrev pub is_reference : ObjectSymbol → Bool
+is_reference s = (s.class == class_external) && (s.section == section_undefined) && (s.value == 0)
+
+-- the name that an entry claims: it defines it, in a section, as an absolute value, as a common
+-- block or as a weak external
+abbrev pub claimed_name : Entry → Option (List ℕ)
+claimed_name (Auxiliary bytes) = None
+claimed_name (ASymbol s) = if is_shared s && not (is_reference s) then Some s.name else None
+
+-- the names that an object claims
+abbrev pub claimed_names : Object → List (List ℕ)
+claimed_names o = filter_map claimed_name o.entries
+
+-- an object claims none of these names
+abbrev pub ClaimsNone : List (List ℕ) → Object → Type 0
+ClaimsNone names o =
+    AllByRecursion (λ name. list_any (bytes_eq name) (claimed_names o) ≡ false) names
+
+-- the symbols that the linked members of all DLLs are listed for
+abbrev pub linked_symbols : MachineType → List LinkInput → List (List ℕ)
+linked_symbols machine inputs = flat_map (λ m. m.symbols) (all_linked machine inputs)
+
+-- an undefined symbol of this name, in any object that is linked, has this address
+abbrev pub GetsAddress : List Placed → List ℕ → ℕ → Type 0
+GetsAddress linked name address =
+    (p : Placed) (s : ObjectSymbol) → Contains linked p → Contains p.object.entries (ASymbol s) →
+    is_undefined_external s ≡ true → s.name ≡ name →
+    symbol_address linked p (ASymbol s) ≡ Some address
+
+-- the thunks in the tables of the first few DLLs, with the null thunks that end them
+abbrev pub thunks_before : ℕ → List LinkInput → ℕ
+thunks_before zero inputs = 0
+thunks_before (suc i) [] = 0
+thunks_before (suc i) (p ∷ inputs) =
+    length (chosen_exports p.definition p.chosen) + 1 + thunks_before i inputs
+
+-- the objects of a link that hold import tables
+abbrev pub with_tables : List Placed → List Placed
+with_tables linked = filter (λ p. has_tables p.object) linked
+
+-- the names that placed objects claim
+abbrev pub names_claimed_in : List Placed → List (List ℕ)
+names_claimed_in linked = flat_map (λ p. claimed_names p.object) linked
+
+-- two lists have the same elements
+abbrev pub HaveSame : {X : Type 0} → List X → List X → Type 0
+HaveSame {X} first second =
+    (x : X) → (Contains first x → Contains second x) × (Contains second x → Contains first x)
+
+-- Programs of DLLs in either flavour: objects that are linked, among them what a linker takes the
+-- chosen members of several DLLs for, each made for Microsoft's linker or for GNU's, and what ends
+-- their directory. The others hold no part of the import tables and claim no symbol of the members.
 
 -- an input of a link in a flavour: a definition, its members for this flavour's linker, and the
 -- numbers of the chosen exports

@@ -8,8 +8,7 @@ use Rattle.implib.specs.Formats.Constants.{class_weak_external}
 use Rattle.implib.specs.Formats.Object.{ASymbol, Auxiliary, Entry, ObjectSymbol, u32_at}
 use Rattle.implib.specs.Link.Placement.{Placed}
 use Rattle.implib.specs.Link.Resolution.{definitions_of, first_address, is_undefined_external}
-use Rattle.implib_link.specs.Gnu.Fields.{DefinesIn, LinkedCode}
-use Rattle.implib_link.specs.Gnu.Operands.{Names}
+use Rattle.implib_link.specs.Gnu.Fields.{DefinesIn, LinkedCode, Names}
 
 -- the name of a symbol
 abbrev pub name_of : Entry → Option (List ℕ)

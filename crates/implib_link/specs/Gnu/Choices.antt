@@ -7,8 +7,7 @@ use Rattle.implib.specs.Formats.Object.{ASymbol, Object, ObjectSymbol, section_n
 use Rattle.implib.specs.Link.Image.{AllApart, Range, image_of}
 use Rattle.implib.specs.Link.Placement.{Bases, Placed, placed_from}
 use Rattle.implib.specs.Link.Resolution.{is_undefined_external, symbol_address}
-use Rattle.implib_link.specs.Gnu.Calls.{Defines, PlacedCode}
-use Rattle.implib_link.specs.Gnu.Rebased.{Place, covers}
+use Rattle.implib_link.specs.Gnu.Fields.{Defines, PlacedCode, Place, covers}
 
 -- the range of code before its relocation
 abbrev pub plain_range : PlacedCode → Range

@@ -10,9 +10,8 @@ use Rattle.implib.specs.Link.Image.{Range, byte_at}
 use Rattle.implib.specs.Link.Placement.{Placed}
 use Rattle.implib.specs.Link.Resolution.{symbol_address}
 use Rattle.implib_link.specs.Gnu.Choices.{ArePlacesApart}
-use Rattle.implib_link.specs.Gnu.Fields.{AreLinkedBeside, LinkedCode, ranges_of_codes}
-use Rattle.implib_link.specs.Gnu.Rebased.{IsRebased, Place, absolute_width, covers, places_at}
-use Rattle.implib_link.specs.Gnu.Rebased.{table_places}
+use Rattle.implib_link.specs.Gnu.Fields.{AreLinkedBeside, LinkedCode, ranges_of_codes, IsRebased}
+use Rattle.implib_link.specs.Gnu.Fields.{Place, absolute_width, covers, places_at, table_places}
 
 -- where relocations of linked code store addresses whole
 abbrev pub places_of_code : MachineType → LinkedCode → List Place

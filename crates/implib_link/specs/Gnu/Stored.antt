@@ -14,12 +14,10 @@ use Rattle.implib.specs.Link.Load.{NumberAt}
 use Rattle.implib.specs.Link.Placement.{Placed}
 use Rattle.implib.specs.Link.Resolution.{is_undefined_external}
 use Rattle.implib.specs.Members.ImportTables.{thunk_width}
-use Rattle.implib_link.specs.Gnu.Calls.{field_width}
-use Rattle.implib_link.specs.Gnu.Fields.{AreLinkedBeside, DefinesIn, LinkedCode, MeetsAlone}
-use Rattle.implib_link.specs.Gnu.Fields.{field_at, ranges_of_codes}
+use Rattle.implib_link.specs.Gnu.Fields.{field_width, AreLinkedBeside, DefinesIn, LinkedCode}
+use Rattle.implib_link.specs.Gnu.Fields.{MeetsAlone, field_at, ranges_of_codes, HasField}
+use Rattle.implib_link.specs.Gnu.Fields.{HasPageField, HasPointer, Place, absolute_width}
 use Rattle.implib_link.specs.Gnu.Moves.{AreMoved, ArePaged}
-use Rattle.implib_link.specs.Gnu.Operands.{HasField, HasPageField, HasPointer}
-use Rattle.implib_link.specs.Gnu.Rebased.{Place, absolute_width}
 use Rattle.implib_link.specs.Stub.{adrp_immediate, bits_of, page, plus_signed, with_adrp, with_bits}
 
 -- The relocations by 32 bits that hold an address from the image's base (PE/COFF specification,

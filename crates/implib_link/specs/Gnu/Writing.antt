@@ -1,10 +1,55 @@
+-- The loaded program: a loader walks the import directory and writes into each address table what
+-- the DLL gives for each ask.
+use Rattle.std.specs.Prelude.{◌≡◌, ℕ, ◌+◌, List, [], ◌∷◌, ◌++◌, Some, zero, suc, ◌<◌}
+use Rattle.implib.specs.Link.Image.{Range, byte_at}
+use Rattle.implib.specs.Import.{Ask}
+use Rattle.implib.specs.Link.Load.{BytesAt, NumberAt, TextAt, ThunkAt}
+use Rattle.implib.specs.Link.Placement.{Placed}
+use Rattle.implib.specs.Link.Resolution.{definitions_of}
+use Rattle.implib_link.specs.Directory.{Imported, FindsBy, StopsAt}
+
+-- what is written into an address table: the bytes given for each ask, an entry further on each
+unfoldable pub entries_written : ℕ → ℕ → (Ask → List ℕ) → List Ask → List Range
+entries_written width address gives [] = []
+entries_written width address gives (ask ∷ asks) =
+    record { start = address; bytes = gives ask }
+    ∷ entries_written width (address + width) gives asks
+
+-- What a loader writes that walks a directory from an address on: for each DLL its entries, from
+-- the address that the descriptor has at 16. A DLL gives bytes for each ask, say the address of a
+-- function.
+unfoldable pub Writes : List Range → ℕ → (List ℕ → Ask → List ℕ) → ℕ → List Imported → List Range →
+    Type 0
+Writes image width gives address [] written = written ≡ []
+Writes image width gives address (i ∷ others) written =
+    (table : ℕ) × (NumberAt image 4 (address + 16) table × ((behind : List Range) ×
+    ((written ≡ entries_written width table (gives i.dll) i.asks ++ behind)
+    × Writes image width gives (address + 20) others behind)))
+
+-- at the only definition of a symbol are these bytes
+pub record HoldsAt (image : List Range) (linked : List Placed) (name : List ℕ)
+    (bytes : List ℕ) : Type 0 where
+  pub address : ℕ
+  pub once : definitions_of name linked ≡ record { name = name; address = Some address } ∷ []
+  pub located : BytesAt image address bytes
+
+-- A loader that knows nothing but the image: it walks the import directory from an address on,
+-- reads what it finds there, and writes into the address tables what the DLLs give for it.
+
+-- What such a loader writes that goes on at this many descriptors from an address on, and stops at
+-- the next one (PE/COFF specification, "Import Directory Table", "Import Address Table"). At each
+-- descriptor it reads the DLL's name, by either table the asks, thunk by thunk, and the address of
+-- the address table; there it writes what the DLL gives for each ask.
+unfoldable pub ReadsAndWrites : List Range → ℕ → (List ℕ → Ask → List ℕ) → ℕ → ℕ → List Range →
+    Type 0
+ReadsAndWrites image width gives zero address written = StopsAt image address × (written ≡ [])
+ReadsAndWrites image width gives (suc n) address written =
+    (found : Imported) × ((step : FindsBy image width address found) × ((behind : List Range)
+    × ((written ≡ entries_written width step.addresses (gives found.dll) found.asks ++ behind)
+    × ReadsAndWrites image width gives n (address + 20) behind)))
+
 -- A loader that writes as it goes: each of its reads sees what it has written before. Its memory is
 -- a list of ranges of which the first counts, and what it writes comes in front.
-use Rattle.std.specs.Prelude.{◌≡◌, ℕ, ◌+◌, ◌<◌, List, [], ◌∷◌}
-use Rattle.implib.specs.Import.{Ask}
-use Rattle.implib.specs.Link.Image.{Range, byte_at}
-use Rattle.implib.specs.Link.Load.{NumberAt, TextAt, ThunkAt}
-use Rattle.implib_link.specs.Directory.{Imported, StopsAt}
 
 -- One table: at each thunk, one after another, the loader reads what it asks for and writes what
 -- the DLL gives for it at the next entry of the address table, before it reads the next thunk; it

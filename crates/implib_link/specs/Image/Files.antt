@@ -13,7 +13,7 @@ use Rattle.implib_dll.specs.Outcome.{◌>>=◌, Read}
 use Rattle.implib_dll.specs.Sections.{Section, sections_in}
 use Rattle.implib_dll.specs.declared.header.Header.{Header}
 use Rattle.implib_dll.specs.declared.section.Layout.TheVariants.{File}
-use Rattle.implib_link.specs.Gnu.Reading.{ReadsAndWrites}
+use Rattle.implib_link.specs.Gnu.Writing.{ReadsAndWrites}
 
 -- a data directory: an address and a size
 pub record DataDirectory : Type 0 where

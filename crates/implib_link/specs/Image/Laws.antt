@@ -12,8 +12,8 @@ use Rattle.implib.specs.declared.machine.MachineType.{MachineType}
 use Rattle.implib_link.specs.Image.Files.{DataDirectory, LoadsFile, MappedFile, address_in}
 use Rattle.implib_link.specs.Image.Files.{mapped_file}
 use Rattle.implib_link.specs.Gnu.Fields.{AreLinkedBeside, DefinesIn, LinkedCode, ranges_of_codes}
-use Rattle.implib_link.specs.Gnu.Loaded.{Writes}
-use Rattle.implib_link.specs.Gnu.Operands.{AllLead, AreKept}
+use Rattle.implib_link.specs.Gnu.Fields.{AllLead, AreKept}
+use Rattle.implib_link.specs.Gnu.Writing.{Writes}
 use Rattle.implib_link.specs.Gnu.Stored.{AreFurtherHeld, HoldAddress}
 use Rattle.implib_link.specs.Tables.{AreSteady, AreTables, AreTablesLoaded, Block, CanReadFrom}
 use Rattle.implib_link.specs.Tables.{Table, TableEntry, Tables, imported_by_table, packed_tables}

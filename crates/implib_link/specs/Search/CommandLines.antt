@@ -10,21 +10,19 @@
 -- `addUndefined`) reads all inputs, and takes the members that names ask for from one queue behind
 -- them. So what it takes is one search of all members for all objects, in an order that such a
 -- search allows (`TakesIntoAs`).
-use Rattle.std.specs.Prelude.{◌≡◌, ℕ, zero, suc, Bool, false, ◌&&◌, ◌==◌, List, [], ◌∷◌, ◌++◌}
-use Rattle.std.specs.Prelude.{◌≤◌, bytes_eq, length, not, slice_get, Option, None, Some, ◌⊎◌}
+use Rattle.std.specs.Prelude.{◌≡◌, ℕ, zero, suc, Bool, false, ◌&&◌, ◌==◌, List, [], ◌∷◌, ◌++◌, ◌≤◌}
+use Rattle.std.specs.Prelude.{bytes_eq, length, not, slice_get, Option, None, Some, ◌⊎◌}
 use Rattle.std.specs.List.{AllByRecursion, Contains, filter, flat_map, list_any}
-use Rattle.implib.specs.Formats.Object.{Object, object_in}
+use Rattle.implib.specs.Formats.Object.{Object}
 use Rattle.implib.specs.Import.{imp_symbol}
 use Rattle.implib.specs.declared.machine.MachineType.{MachineType}
 use Rattle.implib.specs.Members.MemberSpec.{MemberView}
-use Rattle.implib_link.specs.Gnu.Program.{ClaimsNone, HaveSame, claimed_names}
+use Rattle.implib_link.specs.Flavors.Program.{ClaimsNone, HaveSame, claimed_names}
 use Rattle.implib_link.specs.Flavors.Expansion.{expanded_in}
-use Rattle.implib_link.specs.Search.BothFlavors.{FlavorLibrary, archive_of_both}
-use Rattle.implib_link.specs.Search.Archives.{Library, archive_of}
-use Rattle.implib_link.specs.Search.Closed.{listed_in, references_of, unresolved}
-use Rattle.implib_link.specs.Search.Search.{claimed_as, first_listed, is_listed_for, objects_as}
-use Rattle.implib_link.specs.Search.Search.{undefined_in}
-use Rattle.implib_link.specs.Search.Sweeps.{index_at, members_at, numbers_from, sweeps, swept}
+use Rattle.implib_link.specs.Search.Libraries.{FlavorLibrary, archive_of_both}
+use Rattle.implib_link.specs.Search.Search.{listed_in, references_of, unresolved, claimed_as}
+use Rattle.implib_link.specs.Search.Search.{first_listed, is_listed_for, objects_as, undefined_in}
+use Rattle.implib_link.specs.Search.Search.{index_at, members_at, numbers_from, sweeps, swept}
 
 -- an input: an object, or archives that are searched as a group; an archive by itself is a group of
 -- one
@@ -206,11 +204,6 @@ pub record SearchesFor (reads : List ℕ → Option Object) (of_libraries member
       ⊎ NoneIsLost reads members (objects_given inputs) (members_at members taken)
   pub whole : AreListedWhole reads members
   pub searches : SearchesCommandLine reads members inputs taken
-
--- of libraries for it
-abbrev pub SearchesLibraries : MachineType → List Library → List MemberView → List Input →
-    (MemberView → Bool) → List ℕ → Type 0
-SearchesLibraries machine libraries = SearchesFor object_in (archive_of libraries)
 
 -- of libraries of which some are for it and others for Microsoft's linker, whose short imports it
 -- expands

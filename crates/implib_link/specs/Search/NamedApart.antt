@@ -6,8 +6,8 @@ use Rattle.std.specs.List.{AllByRecursion, IsDistinct, flat_map, list_any}
 use Rattle.implib.specs.declared.machine.MachineType.{MachineType}
 use Rattle.implib.specs.Import.{imp_symbol, underscore}
 use Rattle.implib.specs.Members.Gnu.{mangled_name}
-use Rattle.implib_link.specs.Search.Archives.{Library, exports_of}
-use Rattle.implib_link.specs.Search.Given.{heads_of, tails_of}
+use Rattle.implib_link.specs.Search.Search.{Library, exports_of}
+use Rattle.implib_link.specs.Search.Libraries.{heads_of, tails_of}
 use Rattle.implib.specs.LibraryName.{linked_name}
 
 -- A DLL's name as symbols have it. For example, `foo_dll` of foo.dll.

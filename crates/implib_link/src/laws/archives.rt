@@ -1,79 +1,46 @@
 //! Laws of archive search in bytes. The functions do nothing: their contracts are the laws.
 
-ghost use Rattle.implib.specs.Definition.{DefinitionView};
-ghost use Rattle.implib.specs.Formats.Object.{Object, object_in};
+ghost use Rattle.implib.specs.Formats.Object.{Object};
 ghost use Rattle.implib.specs.Link.Placement.{Bases};
-ghost use Rattle.implib.specs.LibraryName.{linked_dll, linked_name};
 ghost use Rattle.implib.specs.Members.MemberSpec.{MemberView};
-ghost use Rattle.implib.specs.Members.Members.{AreMembersOf};
-ghost use Rattle.implib.specs.Members.MsvcObjects.{descriptor_symbol};
-ghost use Rattle.implib.specs.declared.flavor.Flavor.TheVariants.{Gnu, Msvc};
 ghost use Rattle.implib.specs.declared.machine.MachineType.{MachineType};
 ghost use Rattle.implib_archive.specs.Archive.{archive_of as archive_bytes};
 ghost use Rattle.implib_archive.specs.Refusal.{refusal_of};
 ghost use Rattle.implib_archive.specs.declared.kind.Kind.TheVariants.{Coff, Gnu as GnuKind};
 ghost use Rattle.implib_archive.specs.declared.kind.Kind.{Kind};
-ghost use Rattle.implib_link.specs.Archives.BothWay.{AreLinkedForBoth, BothArrive};
+ghost use Rattle.implib_link.specs.Archives.Ways.{AreLinkedFor, CallsArrive, SearchesByLld};
+ghost use Rattle.implib_link.specs.Archives.Ways.{AreCalledAlike, LldArrives, read_by_lld};
 ghost use Rattle.implib_link.specs.Archives.Files.{ArchiveFile, HasMembers, HasMembersAs};
-ghost use Rattle.implib_link.specs.Archives.Files.{members_in_files, members_read};
-ghost use Rattle.implib_link.specs.Archives.InBytes.{LinkerMember, asks_for, asks_on, asks_with};
-ghost use Rattle.implib_link.specs.Archives.InBytes.{asks_as, asks_with_as, asks_with_on};
-ghost use Rattle.implib_link.specs.Archives.LldFiles.{SearchesByLld};
-ghost use Rattle.implib_link.specs.Archives.LldWay.{AreCalledAlike, LldArrives, read_by_lld};
-ghost use Rattle.implib_link.specs.Archives.Results.{HaveArchive, IsEnding, IsSearchOf};
-ghost use Rattle.implib_link.specs.Archives.Results.{LeadsToFirst, TakesJust};
-ghost use Rattle.implib_link.specs.Archives.Way.{CallsArrive};
-ghost use Rattle.implib_link.specs.Flavors.Expansion.{descriptor_symbol_by_name, expanded_in};
-ghost use Rattle.implib_link.specs.Gnu.Program.{ClaimsNone};
-ghost use Rattle.implib_link.specs.Search.Archives.{IsArchive, Library, NamesNoHeadOrTailOf};
-ghost use Rattle.implib_link.specs.Search.Archives.{TakesOfLibraries, archive_of, wanted_with};
-ghost use Rattle.implib_link.specs.Search.BothFlavors.{AreGivenForBoth, FlavorLibrary};
-ghost use Rattle.implib_link.specs.Search.BothFlavors.{IsFlavorArchive, archive_of_both};
-ghost use Rattle.implib_link.specs.Search.BothFlavors.{msvc_among};
-ghost use Rattle.implib_link.specs.Search.Closed.{AreLinkedFor, LinksClosed, listed_in, unresolved};
-ghost use Rattle.implib_link.specs.Search.Closed.{TakesIntoAs, wanted_in};
-ghost use Rattle.implib_link.specs.Search.CommandLines.{Input, SearchesFlavors, SearchesLibraries};
-ghost use Rattle.implib_link.specs.Search.CommandLines.{given_with};
+ghost use Rattle.implib_link.specs.Archives.Files.{members_in_files};
+ghost use Rattle.implib_link.specs.Archives.InBytes.{LinkerMember, HaveArchive, IsSearchOf};
+ghost use Rattle.implib_link.specs.Archives.InBytes.{LeadsToFirst, TakesJust};
+ghost use Rattle.implib_link.specs.Flavors.Program.{Ending};
+ghost use Rattle.implib_link.specs.Flavors.Expansion.{expanded_in};
+ghost use Rattle.implib_link.specs.Search.Search.{Library, archive_of, TakesIntoAs, members_at};
+ghost use Rattle.implib_link.specs.Search.Libraries.{AreGiven, FlavorLibrary, IsFlavorArchive};
+ghost use Rattle.implib_link.specs.Search.Libraries.{archive_of_both, IsMsvcArchive};
+ghost use Rattle.implib_link.specs.Search.CommandLines.{Input, SearchesFlavors, given_with};
 ghost use Rattle.implib_link.specs.Search.CommandLines.{objects_given, others_of};
-ghost use Rattle.implib_link.specs.Search.Given.{AreGiven};
-ghost use Rattle.implib_link.specs.Search.Sweeps.{members_at};
-ghost use Rattle.implib_link.specs.Search.Msvc.{NamesNoHeader, msvc_if_any, shorts_wanted};
-ghost use Rattle.implib_link.specs.Search.MsvcArchives.{IsMsvcArchive, short_inputs};
-ghost use Rattle.implib_link.specs.Search.Search.{NamesNoHeadOrTail, exports_wanted};
-ghost use Rattle.implib_link.specs.Gnu.Program.{HaveSame};
-ghost use Rattle.implib_link.specs.Search.Search.{TakesAs, linked_if_any, names_undefined};
-ghost use Rattle.std.specs.List.{AllByRecursion, IsDistinct, flat_map};
-ghost use Rattle.std.specs.Prelude.{◌≡◌, ◌<◌, ◌++◌, ℕ, Bool, List, Option, None, bytes_eq};
-ghost use Rattle.std.specs.Prelude.{length};
+ghost use Rattle.std.specs.List.{IsDistinct, flat_map};
+ghost use Rattle.std.specs.Prelude.{◌≡◌, ◌<◌, ℕ, Bool, List, Option, None, bytes_eq, length};
 
 /// The bytes of the archive of members are an archive in the sense of searches: a name leads to the
-/// first member that it is listed for, by either linker member; what a linker takes in the bytes,
-/// for wanted names or for given objects, however it reads members, are members that it takes of
-/// the list; and each search of the list is one in the bytes.
+/// first member that it is listed for, by either linker member; what a linker takes in the bytes
+/// for given objects, however it reads members, are members that it takes of the list; and each
+/// search of the list is one in the bytes.
 pub fn archives_are_searched()
     ensures leads { (kind : Kind) (linker : LinkerMember) (members : List MemberView)
         (name : List ℕ) →
         HaveArchive kind linker members → LeadsToFirst kind linker members name }
-    ensures wanted { (reads : List ℕ → Option Object) (kind : Kind) (linker : LinkerMember)
-        (members : List MemberView) (wanted : List (List ℕ)) →
-        HaveArchive kind linker members →
-        TakesJust kind linker members (asks_as reads wanted) (TakesAs reads members wanted) }
-    ensures given { (reads : List ℕ → Option Object) (kind : Kind) (linker : LinkerMember)
+    ensures takes { (reads : List ℕ → Option Object) (kind : Kind) (linker : LinkerMember)
         (members : List MemberView) (own : List Object) →
         HaveArchive kind linker members →
-        TakesJust kind linker members (asks_with_as reads own) (TakesIntoAs reads members own) }
-    ensures found_for_names { (reads : List ℕ → Option Object) (kind : Kind)
-        (linker : LinkerMember) (members : List MemberView) (wanted : List (List ℕ))
-        (found : List MemberView) →
-        HaveArchive kind linker members →
-        TakesAs reads members wanted found →
-        IsSearchOf kind linker members (asks_as reads wanted) found }
-    ensures found_for_objects { (reads : List ℕ → Option Object) (kind : Kind)
-        (linker : LinkerMember) (members : List MemberView) (own : List Object)
-        (found : List MemberView) →
+        TakesJust kind linker members reads own (TakesIntoAs reads members own) }
+    ensures found { (reads : List ℕ → Option Object) (kind : Kind) (linker : LinkerMember)
+        (members : List MemberView) (own : List Object) (found : List MemberView) →
         HaveArchive kind linker members →
         TakesIntoAs reads members own found →
-        IsSearchOf kind linker members (asks_with_as reads own) found }
+        IsSearchOf kind linker members reads own found }
 {}
 
 /// The bytes of an archive of either kind have its members, with the symbols of each in the order
@@ -90,130 +57,6 @@ pub fn archives_have_their_members()
         HasMembersAs Coff (archive_bytes Coff members) members }
 {}
 
-/// A search in the bytes comes to an end, whichever name the linker takes up first: for any names,
-/// also of short imports, and for any objects.
-pub fn searches_end()
-    ensures wanted { (kind : Kind) (linker : LinkerMember) (members : List MemberView)
-        (wanted : List (List ℕ)) →
-        HaveArchive kind linker members → IsEnding kind linker members (asks_for wanted) }
-    ensures given { (kind : Kind) (linker : LinkerMember) (members : List MemberView)
-        (own : List Object) →
-        HaveArchive kind linker members → IsEnding kind linker members (asks_with own) }
-    ensures short { (kind : Kind) (linker : LinkerMember) (machine : MachineType)
-        (members : List MemberView) (wanted : List (List ℕ)) →
-        HaveArchive kind linker members →
-        IsEnding kind linker members (asks_on machine wanted) }
-{}
-
-/// In the bytes of the archive of a definition's members for GNU's linker a linker takes exactly
-/// the head, the members of the exports that are wanted and the tail; nothing, where no export is
-/// wanted.
-///
-/// All listed symbols differ, so no export has an alias.
-pub fn search_takes_wanted()
-    ensures { (kind : Kind) (linker : LinkerMember) (machine : MachineType) (d : DefinitionView)
-        (members : List MemberView) (wanted : List (List ℕ)) →
-        HaveArchive kind linker members →
-        AreMembersOf d machine Gnu members →
-        IsDistinct bytes_eq (flat_map (λ m. m.symbols) members) →
-        NamesNoHeadOrTail machine (linked_name d) wanted →
-        TakesJust kind linker members (asks_for wanted)
-        (λ taken. HaveSame taken (linked_if_any d machine (exports_wanted d wanted))) }
-{}
-
-/// In the bytes of an archive of the members of several libraries a linker takes exactly what is
-/// linked of the wanted exports of each, and weak externals, whose targets are then wanted, too.
-pub fn libraries_are_searched()
-    ensures { (kind : Kind) (linker : LinkerMember) (machine : MachineType)
-        (libraries : List Library) (wanted : List (List ℕ)) →
-        HaveArchive kind linker (archive_of libraries) →
-        IsArchive machine libraries →
-        TakesJust kind linker (archive_of libraries) (asks_for wanted)
-        (λ taken. NamesNoHeadOrTailOf machine libraries (wanted_with wanted taken) →
-        TakesOfLibraries machine libraries wanted taken) }
-{}
-
-/// In the bytes of an archive of libraries a linker takes for given objects what closes the
-/// program, if the objects claim none of its symbols, and no head's or tail's symbol is wanted; or,
-/// asked of the objects alone, if they may be given.
-pub fn closed_program_links()
-    ensures closed { (kind : Kind) (linker : LinkerMember) (machine : MachineType)
-        (libraries : List Library) (own : List Object) →
-        HaveArchive kind linker (archive_of libraries) →
-        IsArchive machine libraries →
-        TakesJust kind linker (archive_of libraries) (asks_with own)
-        (λ taken. (arranged : List Library) (bases : Bases) (objects : List Object) →
-        AreLinkedFor machine libraries own taken arranged bases objects →
-        AllByRecursion (ClaimsNone (listed_in taken ++ names_undefined taken)) own →
-        NamesNoHeadOrTailOf machine libraries (wanted_in own taken) →
-        LinksClosed machine libraries own taken arranged bases objects) }
-    ensures given { (kind : Kind) (linker : LinkerMember) (machine : MachineType)
-        (libraries : List Library) (own : List Object) →
-        HaveArchive kind linker (archive_of libraries) →
-        IsArchive machine libraries →
-        AreGiven machine libraries own →
-        TakesJust kind linker (archive_of libraries) (asks_with own)
-        (λ taken. (arranged : List Library) (bases : Bases) (objects : List Object) →
-        AreLinkedFor machine libraries own taken arranged bases objects →
-        LinksClosed machine libraries own taken arranged bases objects) }
-{}
-
-/// In the bytes of the archive of a definition's members for Microsoft's linker a linker takes
-/// exactly the short imports that are wanted, the import descriptor, the null descriptor and the
-/// null thunk; nothing, where no export is wanted.
-pub fn search_takes_short_imports()
-    ensures { (kind : Kind) (linker : LinkerMember) (machine : MachineType) (d : DefinitionView)
-        (members : List MemberView) (wanted : List (List ℕ)) →
-        HaveArchive kind linker members →
-        AreMembersOf d machine Msvc members →
-        IsDistinct bytes_eq (flat_map (λ m. m.symbols) members) →
-        descriptor_symbol_by_name d.import_name ≡ descriptor_symbol (linked_dll d) →
-        NamesNoHeader (linked_dll d) wanted →
-        TakesJust kind linker members (asks_on machine wanted)
-        (λ taken. HaveSame taken (msvc_if_any d machine (shorts_wanted d wanted))) }
-{}
-
-/// The whole way for GNU's linker: what a linker takes in an archive's bytes for given objects
-/// closes the program, wherever it is linked; and in the memory that a loader leaves, which reads
-/// the image and knows nothing else, each call through an import's `__imp_` symbol, in any object's
-/// placed code, goes to what the DLL gives for the export.
-pub fn bytes_lead_to_calls()
-    ensures { (kind : Kind) (linker : LinkerMember) (machine : MachineType)
-        (libraries : List Library) (own : List Object) →
-        HaveArchive kind linker (archive_of libraries) →
-        IsArchive machine libraries →
-        AreGiven machine libraries own →
-        TakesJust kind linker (archive_of libraries) (asks_with own)
-        (λ taken. (arranged : List Library) (bases : Bases) (objects : List Object) →
-        AreLinkedFor machine libraries own taken arranged bases objects →
-        CallsArrive machine libraries own taken arranged bases objects) }
-{}
-
-/// The whole way for GNU's linker, of the files of a command line: what it takes in the order of
-/// the command line, of archives of libraries and of anything else, for the given objects, closes
-/// the program; and in the memory that a loader leaves each call through an import's `__imp_`
-/// symbol goes to what the DLL gives.
-pub fn files_lead_to_calls()
-    ensures { (machine : MachineType) (libraries : List Library) (files : List (List ℕ))
-        (inputs : List Input) (is_given : MemberView → Bool) (taken : List ℕ)
-        (arranged : List Library) (bases : Bases) (objects : List Object) →
-        SearchesLibraries machine libraries (flat_map members_read files) inputs is_given taken →
-        IsArchive machine libraries →
-        AreGiven machine libraries
-        (given_with object_in is_given (objects_given inputs)
-        (members_at (flat_map members_read files) taken)) →
-        AreLinkedFor machine libraries
-        (given_with object_in is_given (objects_given inputs)
-        (members_at (flat_map members_read files) taken))
-        (others_of is_given (members_at (flat_map members_read files) taken))
-        arranged bases objects →
-        CallsArrive machine libraries
-        (given_with object_in is_given (objects_given inputs)
-        (members_at (flat_map members_read files) taken))
-        (others_of is_given (members_at (flat_map members_read files) taken))
-        arranged bases objects }
-{}
-
 /// The whole way for lld: in the bytes of an archive of libraries for Microsoft's linker lld takes
 /// the short import of exactly the exports that given objects, or aliases that are taken, leave
 /// unresolved. Of a program of those that are live, in memory at any base, a loader that reads it
@@ -222,73 +65,57 @@ pub fn files_lead_to_calls()
 /// its bare name arrives there by its thunk.
 ///
 /// The listed symbols are distinct, but for those that one library's or one export's members share.
-/// No alias is among the exports that are spoken of. The search comes to an end, of any members.
+/// No alias is among the exports that are spoken of.
 pub fn bytes_lead_to_lld_calls()
-    ensures arrives { (kind : Kind) (linker : LinkerMember) (machine : MachineType)
+    ensures { (kind : Kind) (linker : LinkerMember) (machine : MachineType)
         (libraries : List Library) (own : List Object) →
         HaveArchive kind linker (archive_of libraries) →
         IsMsvcArchive machine libraries →
         AreCalledAlike libraries →
-        TakesJust kind linker (archive_of libraries) (asks_with_as (read_by_lld machine) own)
+        TakesJust kind linker (archive_of libraries) (read_by_lld machine) own
         (LldArrives machine libraries own) }
-    ensures ends { (kind : Kind) (linker : LinkerMember) (machine : MachineType)
-        (members : List MemberView) (own : List Object) →
-        HaveArchive kind linker members →
-        IsEnding kind linker members (asks_with_as (read_by_lld machine) own) }
 {}
 
-/// The whole way for libraries of which some are for GNU's linker and others for Microsoft's: what
-/// a linker takes in their archive's bytes for objects that may be given closes the program,
-/// wherever it is linked; and in the memory that a loader leaves, which reads the image and knows
-/// nothing else, each call through an import's `__imp_` symbol, of either flavour, in any object's
-/// linked code, goes to what its DLL gives. The objects leave a symbol of some short import
-/// unresolved.
-///
-/// The search comes to an end, of any members.
-pub fn bytes_of_both_flavors_lead_to_calls()
-    ensures arrive { (kind : Kind) (linker : LinkerMember) (machine : MachineType)
+/// The whole way for libraries of which some are for GNU's linker and others for Microsoft's, or
+/// all for one: what a linker takes in their archive's bytes for objects that may be given closes
+/// the program, wherever it is linked; and in the memory that a loader leaves, which reads the
+/// image and knows nothing else, each field against an import's `__imp_` symbol, of either flavour,
+/// in any object's linked code, as that of a call, leads to what its DLL gives.
+pub fn bytes_lead_to_calls()
+    ensures { (kind : Kind) (linker : LinkerMember) (machine : MachineType)
         (libraries : List FlavorLibrary) (own : List Object) →
         HaveArchive kind linker (archive_of_both libraries) →
         IsFlavorArchive machine libraries →
-        AreGivenForBoth machine libraries own →
-        0 < length (short_inputs (msvc_among libraries) (unresolved own)) →
-        TakesJust kind linker (archive_of_both libraries) (asks_with_on machine own)
-        (λ taken. (arranged : List FlavorLibrary) (bases : Bases) (objects : List Object) →
-        AreLinkedForBoth machine libraries own taken arranged bases objects →
-        BothArrive machine libraries own taken arranged bases objects) }
-    ensures ends { (kind : Kind) (linker : LinkerMember) (machine : MachineType)
-        (members : List MemberView) (own : List Object) →
-        HaveArchive kind linker members →
-        IsEnding kind linker members (asks_with_on machine own) }
+        AreGiven machine libraries own →
+        TakesJust kind linker (archive_of_both libraries) (expanded_in machine) own
+        (λ taken. (ending : Ending) (arranged : List FlavorLibrary) (bases : Bases)
+        (objects : List Object) →
+        AreLinkedFor machine ending libraries own taken arranged bases objects →
+        CallsArrive machine ending libraries own taken arranged bases objects) }
 {}
 
-/// The whole way for a linker that expands short imports, of the files of a command line: what it
-/// takes in the order of the command line, of archives of libraries for either linker and of
-/// anything else, for the given objects, closes the program; and in the memory that a loader leaves
-/// each call through an import's `__imp_` symbol goes to what its DLL gives. Some short import is
-/// wanted.
-pub fn files_of_both_flavors_lead_to_calls()
-    ensures { (machine : MachineType) (libraries : List FlavorLibrary) (files : List ArchiveFile)
-        (inputs : List Input) (is_given : MemberView → Bool) (taken : List ℕ)
-        (arranged : List FlavorLibrary) (bases : Bases) (objects : List Object) →
-        SearchesFlavors machine libraries (members_in_files files) inputs is_given taken →
+/// The whole way for a linker that expands short imports, as GNU `ld`, of the archives of a command
+/// line: what it takes in their order of their members, which may be those that their files have
+/// (`members_in_files`), of libraries for either linker and of anything else, for the given
+/// objects, closes the program; and in the memory that a loader leaves each field against an
+/// import's `__imp_` symbol, as that of a call, leads to what its DLL gives.
+pub fn command_lines_lead_to_calls()
+    ensures { (machine : MachineType) (ending : Ending) (libraries : List FlavorLibrary)
+        (members : List MemberView) (inputs : List Input) (is_given : MemberView → Bool)
+        (taken : List ℕ) (arranged : List FlavorLibrary) (bases : Bases) (objects : List Object) →
+        SearchesFlavors machine libraries members inputs is_given taken →
         IsFlavorArchive machine libraries →
-        AreGivenForBoth machine libraries
+        AreGiven machine libraries
         (given_with (expanded_in machine) is_given (objects_given inputs)
-        (members_at (members_in_files files) taken)) →
-        0 < length (short_inputs (msvc_among libraries) (unresolved
+        (members_at members taken)) →
+        AreLinkedFor machine ending libraries
         (given_with (expanded_in machine) is_given (objects_given inputs)
-        (members_at (members_in_files files) taken)))) →
-        AreLinkedForBoth machine libraries
+        (members_at members taken))
+        (others_of is_given (members_at members taken)) arranged bases objects →
+        CallsArrive machine ending libraries
         (given_with (expanded_in machine) is_given (objects_given inputs)
-        (members_at (members_in_files files) taken))
-        (others_of is_given (members_at (members_in_files files) taken))
-        arranged bases objects →
-        BothArrive machine libraries
-        (given_with (expanded_in machine) is_given (objects_given inputs)
-        (members_at (members_in_files files) taken))
-        (others_of is_given (members_at (members_in_files files) taken))
-        arranged bases objects }
+        (members_at members taken))
+        (others_of is_given (members_at members taken)) arranged bases objects }
 {}
 
 /// The whole way for lld, of the files of a command line: what it takes of archives of libraries

@@ -1,118 +1,119 @@
 //! Laws of an archive in which some libraries' members are for GNU's linker and others' for
 //! Microsoft's.
 
+ghost use Rattle.implib.specs.Definition.{DefinitionView};
 ghost use Rattle.implib.specs.Formats.Object.{Object};
+ghost use Rattle.implib.specs.LibraryName.{names_for};
 ghost use Rattle.implib.specs.Link.Image.{image_of};
 ghost use Rattle.implib.specs.Link.Placement.{Bases, placed_from};
 ghost use Rattle.implib.specs.Members.MemberSpec.{MemberView};
+ghost use Rattle.implib.specs.declared.flavor.Flavor.TheVariants.{Msvc};
 ghost use Rattle.implib.specs.declared.machine.MachineType.{MachineType};
-ghost use Rattle.implib_link.specs.Flavors.Program.{all_members, objects_taken};
-ghost use Rattle.implib_link.specs.Gnu.Packed.{packed, packed_end};
-ghost use Rattle.implib_link.specs.Gnu.Program.{has_tables};
-ghost use Rattle.implib_link.specs.Search.BothExists.{HasClosedForBoth, tables_end_of_both};
-ghost use Rattle.implib_link.specs.Search.BothFlavors.{AreClosedForBoth, AreGivenForBoth};
-ghost use Rattle.implib_link.specs.Search.BothFlavors.{FlavorLibrary, IsFlavorArchive};
-ghost use Rattle.implib_link.specs.Search.BothFlavors.{IsClosedForBoth, LinksClosedForBoth};
-ghost use Rattle.implib_link.specs.Search.BothFlavors.{NamesNoMembers, TakesOfBoth};
-ghost use Rattle.implib_link.specs.Search.BothFlavors.{archive_of_both, inputs_of_both};
-ghost use Rattle.implib_link.specs.Search.BothFlavors.{msvc_among};
-ghost use Rattle.implib_link.specs.Search.Closed.{unresolved};
-ghost use Rattle.implib_link.specs.Search.Exists.{LieWithin};
-ghost use Rattle.implib_link.specs.Search.Msvc.{TakesFor};
-ghost use Rattle.implib_link.specs.Search.MsvcArchives.{first_null, short_inputs, wanted_with_weak};
-ghost use Rattle.implib_link.specs.Search.MsvcArchives.{weak_in, TakesIntoFor};
-ghost use Rattle.implib_link.specs.Gnu.Program.{HaveSame};
+ghost use Rattle.implib_link.specs.Flavors.Expansion.{before_last_stop};
+ghost use Rattle.implib_link.specs.Flavors.Program.{AreEnded, Ending, IsFoundByName, objects_taken};
+ghost use Rattle.implib_link.specs.Flavors.Program.{ClaimsNone, HaveSame, has_tables, packed};
+ghost use Rattle.implib_link.specs.Flavors.Program.{packed_end};
+ghost use Rattle.implib_link.specs.Search.Libraries.{HasClosed, tables_end_by, AreClosed, AreGiven};
+ghost use Rattle.implib_link.specs.Search.Libraries.{FlavorLibrary, IsFlavorArchive, IsClosed};
+ghost use Rattle.implib_link.specs.Search.Libraries.{LinksClosed, NamesNoMembers, TakesOfLibraries};
+ghost use Rattle.implib_link.specs.Search.Libraries.{archive_of_both, inputs_in, left_in};
+ghost use Rattle.implib_link.specs.Search.Libraries.{wanted_for, LieWithin, weak_in, TakesIntoFor};
+ghost use Rattle.implib_link.specs.Search.Search.{listed_in, unresolved};
 ghost use Rattle.std.specs.List.{AllByRecursion, filter};
-ghost use Rattle.std.specs.Prelude.{◌≡◌, ◌<◌, ◌^◌, ◌++◌, ℕ, IsPermutation, List, false, length};
-ghost use Rattle.std.specs.Prelude.{not};
+ghost use Rattle.std.specs.Prelude.{◌≡◌, ◌<◌, ◌^◌, ◌++◌, ℕ, IsPermutation, List, Some, false, not};
 
-/// From such an archive a linker takes exactly the members of the exports that are wanted, by the
-/// program or by an alias that is taken, with what their libraries have besides, and weak externals
-/// of aliases.
-pub fn libraries_of_both_flavors_are_searched()
-    ensures takes { (machine : MachineType) (libraries : List FlavorLibrary)
-        (taken : List MemberView) (wanted : List (List ℕ)) →
+/// From such an archive a linker takes for given objects, which claim nothing of what is taken,
+/// exactly the members of the exports that are wanted, by the objects or by an alias that is taken,
+/// with what their libraries have besides, and weak externals of aliases. A list of wanted names is
+/// such an object (`laws::wanting`).
+pub fn libraries_are_searched()
+    ensures { (machine : MachineType) (libraries : List FlavorLibrary) (own : List Object)
+        (taken : List MemberView) →
         IsFlavorArchive machine libraries →
-        NamesNoMembers machine libraries (wanted_with_weak machine wanted taken) →
-        TakesFor machine (archive_of_both libraries) wanted taken →
-        TakesOfBoth machine libraries wanted taken }
+        AllByRecursion (ClaimsNone (listed_in taken ++ left_in machine taken)) own →
+        NamesNoMembers machine libraries (wanted_for machine own taken) →
+        TakesIntoFor machine (archive_of_both libraries) own taken →
+        TakesOfLibraries machine libraries (unresolved own) taken }
 {}
 
 /// Given objects and what a linker takes for them of such an archive are a program of these DLLs,
 /// which imports exactly the exports that are named by symbols that the given objects, or the
 /// aliases that are taken for them, leave unresolved; and no name is left unresolved that the
-/// archive lists. Some short import is wanted, so that there is a null descriptor.
+/// archive lists. Where no short import is linked, the linker's null descriptor ends the directory;
+/// else that of a library for Microsoft's linker, anywhere among the members.
 ///
 /// The given objects may claim symbols of the libraries, but for those of the members that are
-/// taken. The libraries may be linked in another order than that of the archive, and the null
-/// descriptor, that of the first library for Microsoft's linker, is anywhere among the members.
+/// taken. The libraries may be linked in another order than that of the archive.
 /// Packed placement closes the program, where it ends below 2^31.
-pub fn closed_program_of_both_flavors_links()
-    ensures links { (machine : MachineType) (libraries : List FlavorLibrary) (own : List Object)
-        (taken : List MemberView) (arranged : List FlavorLibrary) (bases : Bases)
+pub fn closed_program_links()
+    ensures links { (machine : MachineType) (ending : Ending) (libraries : List FlavorLibrary)
+        (own : List Object) (taken : List MemberView) (arranged : List FlavorLibrary)
+        (bases : Bases) (objects : List Object) →
+        IsFlavorArchive machine libraries →
+        IsClosed machine ending libraries own taken arranged bases objects →
+        LinksClosed machine ending libraries own taken arranged bases objects }
+    ensures packed { (machine : MachineType) (ending : Ending) (libraries : List FlavorLibrary)
+        (own : List Object) (taken : List MemberView) (arranged : List FlavorLibrary) (first : ℕ)
         (objects : List Object) →
         IsFlavorArchive machine libraries →
-        IsClosedForBoth machine libraries own taken arranged bases objects →
-        LinksClosedForBoth machine libraries own taken arranged bases objects }
-    ensures packed { (machine : MachineType) (libraries : List FlavorLibrary) (own : List Object)
-        (taken : List MemberView) (arranged : List FlavorLibrary) (first : ℕ)
-        (objects : List Object) →
-        IsFlavorArchive machine libraries →
-        AreClosedForBoth machine libraries own taken arranged objects →
+        AreClosed machine ending libraries own taken arranged objects →
         0 < first →
         packed_end first objects < 2 ^ 31 →
-        IsClosedForBoth machine libraries own taken arranged (packed first objects) objects }
+        IsClosed machine ending libraries own taken arranged (packed first objects)
+        objects }
 {}
 
-/// A search for any objects ends; and whatever a linker takes of libraries of both flavours for
-/// objects that may be given, if they leave a symbol of some short import unresolved, closes the
+/// Whatever a linker takes of libraries of either flavour for objects that may be given closes the
 /// program, as what is linked. Nothing is asked of the search.
 ///
 /// If none of these objects holds a part of the import tables, there is such a program (`exists`).
 /// Objects that close a program do so in their packed placement from an address on (`packed`), of
 /// which nothing is asked but room: that the address is above 0, and that the tables of the
 /// libraries, whose sizes the definitions alone bound, end below 2^31; there they lie (`within`).
-pub fn objects_given_for_both_flavors_are_closed()
-    ensures ends { (machine : MachineType) (archive : List MemberView) (own : List Object) →
-        (taken : List MemberView) × TakesIntoFor machine archive own taken }
-    ensures closes { (machine : MachineType) (libraries : List FlavorLibrary) (own : List Object)
-        (taken : List MemberView) (arranged : List FlavorLibrary) (objects : List Object)
-        (before behind : List MemberView) →
+pub fn given_objects_are_closed()
+    ensures closes { (machine : MachineType) (ending : Ending) (libraries : List FlavorLibrary)
+        (own : List Object) (taken : List MemberView) (arranged : List FlavorLibrary)
+        (objects : List Object) →
         IsFlavorArchive machine libraries →
-        AreGivenForBoth machine libraries own →
+        AreGiven machine libraries own →
         TakesIntoFor machine (archive_of_both libraries) own taken →
-        0 < length (short_inputs (msvc_among libraries) (unresolved own)) →
         IsPermutation libraries arranged →
         HaveSame (filter (λ o. not (has_tables o)) objects)
         (own ++ objects_taken machine (weak_in machine taken)) →
-        before ++ behind ≡ all_members machine (inputs_of_both machine arranged own taken) →
-        filter has_tables objects
-        ≡ objects_taken machine (before ++ (first_null machine (msvc_among libraries) ++ behind)) →
-        AreClosedForBoth machine libraries own taken arranged objects }
-    ensures packed { (machine : MachineType) (libraries : List FlavorLibrary) (own : List Object)
-        (taken : List MemberView) (arranged : List FlavorLibrary) (first : ℕ)
+        AreEnded ending machine (inputs_in machine arranged own taken) objects →
+        AreClosed machine ending libraries own taken arranged objects }
+    ensures packed { (machine : MachineType) (ending : Ending) (libraries : List FlavorLibrary)
+        (own : List Object) (taken : List MemberView) (arranged : List FlavorLibrary) (first : ℕ)
         (objects : List Object) →
         IsFlavorArchive machine libraries →
-        AreClosedForBoth machine libraries own taken arranged objects →
+        AreClosed machine ending libraries own taken arranged objects →
         0 < first →
-        tables_end_of_both first libraries < 2 ^ 31 →
-        IsClosedForBoth machine libraries own taken arranged (packed first objects) objects }
-    ensures within { (machine : MachineType) (libraries : List FlavorLibrary) (own : List Object)
-        (taken : List MemberView) (arranged : List FlavorLibrary) (first : ℕ)
+        tables_end_by first libraries < 2 ^ 31 →
+        IsClosed machine ending libraries own taken arranged (packed first objects)
+        objects }
+    ensures within { (machine : MachineType) (ending : Ending) (libraries : List FlavorLibrary)
+        (own : List Object) (taken : List MemberView) (arranged : List FlavorLibrary) (first : ℕ)
         (objects : List Object) →
         IsFlavorArchive machine libraries →
-        AreClosedForBoth machine libraries own taken arranged objects →
+        AreClosed machine ending libraries own taken arranged objects →
         0 < first →
-        tables_end_of_both first libraries < 2 ^ 31 →
-        LieWithin first (tables_end_of_both first libraries)
+        tables_end_by first libraries < 2 ^ 31 →
+        LieWithin first (tables_end_by first libraries)
         (image_of machine (packed first objects) (placed_from (packed first objects) objects)) }
     ensures exists { (machine : MachineType) (libraries : List FlavorLibrary) (own : List Object)
         (first : ℕ) →
         IsFlavorArchive machine libraries →
-        AreGivenForBoth machine libraries own →
+        AreGiven machine libraries own →
         AllByRecursion (λ o. has_tables o ≡ false) own →
-        0 < length (short_inputs (msvc_among libraries) (unresolved own)) →
         0 < first →
-        tables_end_of_both first libraries < 2 ^ 31 →
-        HasClosedForBoth machine libraries own first }
+        tables_end_by first libraries < 2 ^ 31 →
+        HasClosed machine libraries own first }
+{}
+
+/// Linkers find the descriptor of a library for Microsoft's linker by its DLL's name, whatever the
+/// name's ending, where the library's name is the DLL's up to its last full stop.
+pub fn descriptors_are_found()
+    ensures { (d : DefinitionView) →
+        d.library_name ≡ Some (before_last_stop d.import_name) →
+        IsFoundByName Msvc (names_for Msvc d) }
 {}

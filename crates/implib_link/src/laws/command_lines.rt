@@ -1,20 +1,14 @@
 //! Laws of searches of several archives, in the order of a command line.
 
-ghost use Rattle.implib.specs.Formats.Object.{Object, object_in};
-ghost use Rattle.implib.specs.Link.Placement.{Bases};
+ghost use Rattle.implib.specs.Formats.Object.{Object};
 ghost use Rattle.implib.specs.Members.MemberSpec.{MemberView};
-ghost use Rattle.implib.specs.declared.machine.MachineType.{MachineType};
-ghost use Rattle.implib_link.specs.Gnu.Program.{HaveSame};
-ghost use Rattle.implib_link.specs.Search.Archives.{IsArchive, Library};
-ghost use Rattle.implib_link.specs.Search.Closed.{AreLinkedFor, LinksClosed, TakesIntoAs};
+ghost use Rattle.implib_link.specs.Flavors.Program.{HaveSame};
+ghost use Rattle.implib_link.specs.Search.Search.{TakesIntoAs, members_at};
 ghost use Rattle.implib_link.specs.Search.CommandLines.{AreFirst, AreListedWhole};
-ghost use Rattle.implib_link.specs.Search.CommandLines.{AreUnclaimedBehind, NoneIsLost};
-ghost use Rattle.implib_link.specs.Search.CommandLines.{TakesFirst, names_left};
-ghost use Rattle.implib_link.specs.Search.CommandLines.{Input, IsOrdered};
-ghost use Rattle.implib_link.specs.Search.CommandLines.{SearchesCommandLine, SearchesLibraries};
-ghost use Rattle.implib_link.specs.Search.CommandLines.{given_with, objects_given, others_of};
-ghost use Rattle.implib_link.specs.Search.Given.{AreGiven};
-ghost use Rattle.implib_link.specs.Search.Sweeps.{members_at};
+ghost use Rattle.implib_link.specs.Search.CommandLines.{AreUnclaimedBehind, NoneIsLost, TakesFirst};
+ghost use Rattle.implib_link.specs.Search.CommandLines.{names_left, Input, IsOrdered};
+ghost use Rattle.implib_link.specs.Search.CommandLines.{SearchesCommandLine, given_with};
+ghost use Rattle.implib_link.specs.Search.CommandLines.{objects_given, others_of};
 ghost use Rattle.std.specs.Prelude.{ℕ, [], Bool, List, Option};
 
 /// What GNU `ld` takes of the archives of a command line is what one search of all their members
@@ -77,23 +71,4 @@ pub fn taken_members_are_as_given()
         AreListedWhole reads members → TakesIntoAs reads members own taken →
         TakesIntoAs reads (others_of is_given members) (given_with reads is_given own taken)
         (others_of is_given taken) }
-{}
-
-/// What GNU `ld` takes of a command line's archives, of which some are of libraries for it and the
-/// others of anything, closes the program, as what is linked: of the libraries it takes what the
-/// given objects and the members of the other archives that are taken leave unresolved.
-pub fn command_lines_close()
-    ensures { (machine : MachineType) (libraries : List Library) (members : List MemberView)
-        (inputs : List Input) (taken : List ℕ) (is_given : MemberView → Bool)
-        (arranged : List Library) (bases : Bases) (objects : List Object) →
-        SearchesLibraries machine libraries members inputs is_given taken →
-        IsArchive machine libraries →
-        AreGiven machine libraries
-        (given_with object_in is_given (objects_given inputs) (members_at members taken)) →
-        AreLinkedFor machine libraries
-        (given_with object_in is_given (objects_given inputs) (members_at members taken))
-        (others_of is_given (members_at members taken)) arranged bases objects →
-        LinksClosed machine libraries
-        (given_with object_in is_given (objects_given inputs) (members_at members taken))
-        (others_of is_given (members_at members taken)) arranged bases objects }
 {}

@@ -8,9 +8,9 @@ ghost use Rattle.implib.specs.Link.Placement.{Placed};
 ghost use Rattle.implib.specs.Members.ImportTables.{thunk_width};
 ghost use Rattle.implib.specs.declared.machine.MachineType.{MachineType};
 ghost use Rattle.implib_link.specs.Directory.{DirectoryAt, Imported};
-ghost use Rattle.implib_link.specs.Flavors.LldImports.{IsLldProgram, LldLinks};
-ghost use Rattle.implib_link.specs.Flavors.LldTables.{ArePiecesAt, IsImportable, addresses_at};
-ghost use Rattle.implib_link.specs.Flavors.LldTables.{built, hints_at, lookups_at, names_at};
+ghost use Rattle.implib_link.specs.Flavors.LldImports.{IsLldProgram, LldLinks, ArePiecesAt};
+ghost use Rattle.implib_link.specs.Flavors.LldImports.{IsImportable, addresses_at, built, hints_at};
+ghost use Rattle.implib_link.specs.Flavors.LldImports.{lookups_at, names_at};
 ghost use Rattle.std.specs.List.{AllByRecursion, Contains};
 ghost use Rattle.std.specs.Prelude.{◌<◌, ◌^◌, ℕ, List, map};
 

@@ -4,8 +4,8 @@ ghost use Rattle.implib.specs.Formats.Object.{Object};
 ghost use Rattle.implib.specs.Link.Image.{IsAdmissible};
 ghost use Rattle.implib.specs.declared.machine.MachineType.{MachineType};
 ghost use Rattle.implib_link.specs.Flavors.Program.{AreEnded, AreProgramObjects, Ending};
-ghost use Rattle.implib_link.specs.Flavors.Program.{FlavorInput, IsMadeFor, IsProgramOf};
-ghost use Rattle.implib_link.specs.Gnu.Packed.{packed, packed_end};
+ghost use Rattle.implib_link.specs.Flavors.Program.{FlavorInput, IsMadeFor, IsProgramOf, packed};
+ghost use Rattle.implib_link.specs.Flavors.Program.{packed_end};
 ghost use Rattle.std.specs.List.{AllByRecursion};
 ghost use Rattle.std.specs.Prelude.{◌≡◌, ◌<◌, ◌%◌, ◌^◌, ℕ, List};
 

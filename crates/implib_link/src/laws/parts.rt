@@ -8,7 +8,7 @@ ghost use Rattle.implib.specs.Members.ImportTables.{thunk_width};
 ghost use Rattle.implib.specs.Members.OlderSymbols.{AreOlderMembersOf};
 ghost use Rattle.implib.specs.declared.machine.MachineType.{MachineType};
 ghost use Rattle.implib_link.specs.Flavors.Program.{IsProgram};
-ghost use Rattle.implib_link.specs.Gnu.Calls.{Defines, PlacedCode, StubAt};
+ghost use Rattle.implib_link.specs.Gnu.Fields.{Defines, PlacedCode, StubAt};
 ghost use Rattle.implib_link.specs.Parts.{IsPart, IsProgramOfParts, Part, older_linked};
 ghost use Rattle.implib_link.specs.Parts.{older_part_of, part_of, stores_none};
 ghost use Rattle.implib_link.specs.Tables.{AreSteady, AreTables, Table, tables_at};

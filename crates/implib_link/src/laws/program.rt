@@ -9,10 +9,9 @@ ghost use Rattle.implib.specs.declared.machine.MachineType.{MachineType};
 ghost use Rattle.implib_link.specs.Directory.{DirectoryAt, Imported, WalkFinds};
 ghost use Rattle.implib_link.specs.Flavors.Program.{AreProgramObjects, Ending, FlavorInput};
 ghost use Rattle.implib_link.specs.Flavors.Program.{IsMadeFor, IsProgramOf, OfLinker, ProgramLinks};
-ghost use Rattle.implib_link.specs.Flavors.Program.{gnu_input};
+ghost use Rattle.implib_link.specs.Flavors.Program.{gnu_input, ClaimsNone, has_tables};
+ghost use Rattle.implib_link.specs.Flavors.Program.{linked_symbols, null_descriptor};
 ghost use Rattle.implib_link.specs.FullNames.{object_by_full_names};
-ghost use Rattle.implib_link.specs.Gnu.Program.{ClaimsNone, has_tables, linked_symbols};
-ghost use Rattle.implib_link.specs.Gnu.Program.{null_descriptor};
 ghost use Rattle.std.specs.List.{AllByRecursion, IsDistinct, filter};
 ghost use Rattle.std.specs.Prelude.{◌≡◌, ◌++◌, ◌∷◌, ℕ, List, Some, [], bytes_eq, map, not};
 

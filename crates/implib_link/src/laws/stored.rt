@@ -1,17 +1,12 @@
 //! The law of the addresses that code and data hold as numbers.
 
 ghost use Rattle.implib.specs.Formats.Object.{ObjectSymbol};
-ghost use Rattle.implib.specs.Import.{Ask};
-ghost use Rattle.implib.specs.Link.Image.{Range};
 ghost use Rattle.implib.specs.Members.ImportTables.{thunk_width};
-ghost use Rattle.implib.specs.declared.machine.MachineType.{MachineType};
-ghost use Rattle.implib_link.specs.Flavors.LldThunks.{ThunkArrives};
-ghost use Rattle.implib_link.specs.Gnu.Fields.{DefinesIn, LinkedCode};
-ghost use Rattle.implib_link.specs.Gnu.Operands.{HasPointer};
-ghost use Rattle.implib_link.specs.Gnu.Rebased.{StubArrives};
+ghost use Rattle.implib_link.specs.Flavors.LldImports.{ThunkArrives};
+ghost use Rattle.implib_link.specs.Gnu.Fields.{DefinesIn, LinkedCode, HasPointer, StubArrives};
 ghost use Rattle.implib_link.specs.Gnu.Stored.{AreStoredInMemory, HoldAddress, PointsTo};
 ghost use Rattle.implib_link.specs.InMemory.{OfStubs, OfThunks, WhereLoaded};
-ghost use Rattle.implib_link.specs.Tables.{Table, TableEntry, Tables};
+ghost use Rattle.implib_link.specs.Tables.{Table, TableEntry};
 ghost use Rattle.std.specs.List.{Contains};
 ghost use Rattle.std.specs.Prelude.{◌≡◌, ◌+◌, ◌*◌, ◌++◌, ◌<◌, ◌≤◌, ◌^◌, ℕ, List, Some, slice_get};
 

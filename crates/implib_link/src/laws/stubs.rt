@@ -5,38 +5,23 @@ ghost use Rattle.implib.specs.Formats.Object.{Object, ObjectSymbol, section_numb
 ghost use Rattle.implib.specs.Link.Placement.{Bases, placed_from};
 ghost use Rattle.implib.specs.Members.ImportTables.{thunk_width};
 ghost use Rattle.implib.specs.declared.machine.MachineType.{MachineType};
-ghost use Rattle.implib_link.specs.Flavors.LldThunks.{BranchArrivesByThunk, ThunkArrives};
+ghost use Rattle.implib_link.specs.Flavors.LldImports.{BranchArrivesByThunk, ThunkArrives};
 ghost use Rattle.implib_link.specs.Flavors.Program.{Ending, FlavorInput, IsCode, IsMadeFor};
 ghost use Rattle.implib_link.specs.Flavors.Program.{IsProgramOf, exports_chosen, symbol_in};
 ghost use Rattle.implib_link.specs.Flavors.Program.{thunks_of};
-ghost use Rattle.implib_link.specs.Gnu.A32.{A32JumpReads, OfArmStubs, distance_from};
-ghost use Rattle.implib_link.specs.Gnu.Calls.{CanBranch, Defines, DirectCallArrives, HasDirectCall};
-ghost use Rattle.implib_link.specs.Gnu.Calls.{PlacedCode, StubAt};
-ghost use Rattle.implib_link.specs.Gnu.Fields.{DefinesIn, LinkedCode, placed_code};
+ghost use Rattle.implib_link.specs.Gnu.Fields.{CanBranch, Defines, DirectCallArrives};
+ghost use Rattle.implib_link.specs.Gnu.Fields.{HasDirectCall, PlacedCode, StubAt, DefinesIn};
+ghost use Rattle.implib_link.specs.Gnu.Fields.{LinkedCode, placed_code, HasBranch, StubArrives};
 ghost use Rattle.implib_link.specs.Gnu.Moves.{AreInMemory};
-ghost use Rattle.implib_link.specs.Gnu.Operands.{HasBranch};
-ghost use Rattle.implib_link.specs.Gnu.Rebased.{StubArrives};
 ghost use Rattle.implib_link.specs.InMemory.{OfStubs, OfThunks, WhereLoaded};
-ghost use Rattle.implib_link.specs.Stub.{CanJump, JumpsThrough};
 ghost use Rattle.std.specs.List.{AllByRecursion, Contains};
-ghost use Rattle.std.specs.Prelude.{◌≡◌, ◌+◌, ◌*◌, ◌^◌, ◌≤◌, ◌++◌, ℕ, List, Some, slice_get};
+ghost use Rattle.std.specs.Prelude.{◌≡◌, ◌+◌, ◌*◌, ◌++◌, ℕ, List, Some, slice_get};
 
-/// The stub of each chosen export of code jumps through the export's own entry, wherever its code
-/// is placed; for Microsoft's linker it is that of the short import's expansion. Whatever placed
-/// code defines the export's name in a program is that stub (`names`).
-pub fn stubs_jump()
-    ensures jumps { (machine : MachineType) (ending : Ending) (image_base : ℕ) (bases : Bases)
-        (inputs : List FlavorInput) (objects : List Object)
-        (i j : ℕ) (p : FlavorInput) (e : ExportView) →
-        AllByRecursion (IsMadeFor machine) inputs →
-        IsProgramOf machine ending bases inputs objects →
-        CanJump machine image_base bases →
-        slice_get inputs i ≡ Some p →
-        slice_get (exports_chosen p) j ≡ Some e →
-        IsCode p.flavor e →
-        JumpsThrough machine image_base (placed_from bases objects) (symbol_in p.flavor e)
-        (bases.addresses + thunk_width machine * thunks_of i inputs + thunk_width machine * j) }
-    ensures names { (machine : MachineType) (ending : Ending) (bases : Bases)
+/// Whatever placed code defines the name of a chosen export of code in a program is the stub of the
+/// export's own entry; for Microsoft's linker it is that of the short import's expansion. So by
+/// `stubs_of_any_tables_jump` it jumps through that entry, wherever it is placed.
+pub fn names_are_stubs()
+    ensures { (machine : MachineType) (ending : Ending) (bases : Bases)
         (inputs : List FlavorInput) (objects : List Object) (i j : ℕ) (p : FlavorInput)
         (e : ExportView) (d : PlacedCode)
         (t : ObjectSymbol) →
@@ -85,14 +70,4 @@ pub fn stubs_of_any_tables_jump()
         CanBranch machine (c.position + offset) d.position →
         BranchArrivesByThunk machine image_base (written ++ memory) (c.position + offset) after
         given)) }
-{}
-
-/// ARMNT's stub, by A32's rule of its two loads: in memory at any base, its jump reads its target
-/// where the distance of its entry from its own end is, and so never at its entry. The linker puts
-/// into its field what its type asks, and the image is below 2^32.
-pub fn armnt_stubs_miss_their_entries()
-    ensures reads { OfArmStubs (λ image_base memory d t entry.
-        (t.value ≡ 0) × A32JumpReads memory d.position (distance_from (d.position + 8) entry)) }
-    ensures misses { OfArmStubs (λ image_base memory d t entry.
-        image_base + 2 ^ 31 ≤ 2 ^ 32 → A32JumpReads memory d.position (image_base + entry) → ⊥) }
 {}

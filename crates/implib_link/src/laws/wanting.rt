@@ -1,6 +1,6 @@
 //! The law of names that are wanted beside those of objects.
 
-ghost use Rattle.implib_link.specs.Search.Wanting.{ListsAddNothing, NamesAreWanted};
+ghost use Rattle.implib_link.specs.Search.Search.{ListsAddNothing, NamesAreWanted};
 
 /// A list of names that a linker wants, as by `-u` or `/include:`, is an object in all the laws of
 /// searches and of programs: the names count as those that objects leave unresolved, unless objects

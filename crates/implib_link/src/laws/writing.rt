@@ -8,12 +8,10 @@ ghost use Rattle.implib.specs.Formats.Object.{Object};
 ghost use Rattle.implib.specs.Link.Placement.{Bases, placed_from};
 ghost use Rattle.implib.specs.declared.machine.MachineType.{MachineType};
 ghost use Rattle.implib_link.specs.Directory.{Imported};
-ghost use Rattle.implib_link.specs.Flavors.Program.{Ending, FlavorInput, IsMadeFor};
-ghost use Rattle.implib_link.specs.Flavors.Program.{IsProgramOf};
+ghost use Rattle.implib_link.specs.Flavors.Program.{Ending, FlavorInput, IsMadeFor, IsProgramOf};
 ghost use Rattle.implib_link.specs.Flavors.Program.{imported_in};
 ghost use Rattle.implib_link.specs.Gnu.Fields.{LinkedCode};
-ghost use Rattle.implib_link.specs.Gnu.Reading.{ReadsAndWrites};
-ghost use Rattle.implib_link.specs.Gnu.Writing.{AreAlike, WritesAsItGoes};
+ghost use Rattle.implib_link.specs.Gnu.Writing.{ReadsAndWrites, AreAlike, WritesAsItGoes};
 ghost use Rattle.std.specs.List.{AllByRecursion};
 ghost use Rattle.std.specs.Prelude.{◌≡◌, ◌++◌, ℕ, List, length, map};
 

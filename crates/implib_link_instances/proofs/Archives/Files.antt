@@ -1,15 +1,14 @@
 -- The archives that were read by hand, by computing.
-use Rattle.std.proofs.Common.{List, [], ap, codes, inl, inr, refl, subst, sym, ◌++◌, ◌∙◌, ◌∷◌, ◌≡◌}
+use Rattle.std.proofs.Common.{List, [], ap, codes, inl, inr, refl, subst, sym, ◌++◌, ◌∙◌, ◌∷◌, ◌≡◌, ℕ}
 use Rattle.implib_archive.specs.Leads.{headers_among, headers_in, with_header}
 use Rattle.implib_archive.specs.Reader.{data_at, first_in, linker_data, linker_in, long_name, long_name_at, long_names_in, long_names_or, member_at, name_in, number_in, numbers_in, paired, read_as, stored_at, stored_from, stored_in, texts_in, trimmed}
 use Rattle.implib_link.specs.Archives.Files.{ArchiveFile, HasMembersAs, entries_by, entries_in, member_after, members_in_files, members_read, members_read_as, symbols_at}
 use Rattle.implib.specs.Worked.Digits.{bytes_of_digits}
 use Rattle.implib_archive.specs.declared.kind.Kind.TheVariants.{Coff}
-use Rattle.implib_link.specs.Search.BothFlavors.{FlavorLibrary, archive_of_both, msvc_among}
+use Rattle.implib_link.specs.Search.Libraries.{FlavorLibrary, archive_of_both, msvc_among, IsMsvcArchive, symbols_of_shorts}
 use Rattle.implib_link_instances.specs.Archives.Files.{WorkedFileLine, WorkedFileLines, WorkedFiles, amd64_files, i386_files, i386_kernel_lib, i386_libquit, kernel_lib, libquit, lld_taken}
-use Rattle.implib_link_instances.specs.Worked.FlavorLines.{amd64_kernels, i386_kernels, shorts_taken}
-use Rattle.std.proofs.Common.{ℕ}
-use Rattle.implib_link_instances.proofs.Worked.Opened.{searched, archived}
+use Rattle.implib_link_instances.specs.Worked.CommandLines.{amd64_kernels, i386_kernels, shorts_taken, is_quit}
+use Rattle.implib_link_instances.proofs.Worked.Search.{searched, archived}
 use Rattle.std.specs.Prelude.{bytes_eq, drop, if◌then◌else◌, slice_get}
 use Rattle.std.specs.List.{IsDistinct, flat_map}
 use Rattle.implib.specs.declared.machine.MachineType.{MachineType}
@@ -18,16 +17,12 @@ use Rattle.implib.specs.Machine.{is_32bit}
 use Rattle.implib.specs.Definition.{empty_definition}
 use Rattle.implib.specs.Members.MsvcObjects.{null_descriptor_symbol}
 use Rattle.implib.proofs.Link.Ranges.{Among}
-use Rattle.implib_link.specs.Archives.LldFiles.{SearchesByLld}
-use Rattle.implib_link.specs.Archives.LldWay.{AreCalledAlike, read_by_lld}
-use Rattle.implib_link.proofs.Archives.LldFiles.{files_lead_to_lld}
-use Rattle.implib_link.specs.Search.Archives.{Library}
-use Rattle.implib_link.specs.Search.Closed.{AreTakenIntoAs, TakesIntoAs, listed_in}
+use Rattle.implib_link.specs.Archives.Ways.{SearchesByLld, AreCalledAlike, read_by_lld}
+use Rattle.implib_link.proofs.Archives.Ways.{files_lead_to_lld}
+use Rattle.implib_link.specs.Search.Search.{Library, AreTakenIntoAs, TakesIntoAs, listed_in}
 use Rattle.implib_link.specs.Search.CommandLines.{AreListedWhole, SearchesFlavors, names_left}
-use Rattle.implib_link.specs.Search.MsvcArchives.{IsMsvcArchive, symbols_of_shorts}
 use Rattle.implib_link.proofs.Search.CommandLines.{are_first_of_distinct, taken_are}
 use Rattle.implib_link.proofs.Search.Lists.{contains_among}
-use Rattle.implib_link_instances.specs.Worked.CommandLines.{is_quit}
 use Rattle.implib_link_instances.proofs.Worked.CommandLines.{ended_by, exit, member_or_none, object_at, own, pulls_by, whole_by}
 use Rattle.implib_link_instances.proofs.Worked.FlavorLines.{kernels, line, shorts, worked}
 use Rattle.implib_link_instances.proofs.Worked.Lemmas.{IsX86}

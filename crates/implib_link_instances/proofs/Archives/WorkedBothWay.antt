@@ -1,46 +1,33 @@
 -- The whole way for libraries of both flavours by hand, by computing and by the laws.
-use Rattle.std.proofs.Common.{List, Some, [], ap, arith, codes, map, refl, subst, sym, ℕ, ◌++◌, ◌+◌, ◌<◌, ◌^◌, ◌∙◌, ◌∷◌, ◌≡◌}
-use Rattle.std.specs.Prelude.{slice_get}
-use Rattle.std.specs.List.{AllByRecursion, Contains}
+use Rattle.std.proofs.Common.{List, [], arith, codes, map, refl, ℕ, ◌++◌, ◌<◌, ◌^◌, ◌∷◌, ◌≡◌}
+use Rattle.std.specs.List.{AllByRecursion}
 use Rattle.implib.specs.declared.flavor.Flavor.TheVariants.{Gnu, Msvc}
 use Rattle.implib.specs.declared.machine.MachineType.TheVariants.{AMD64}
 use Rattle.implib.specs.Link.Image.{image_of}
 use Rattle.implib.specs.Worked.Statements.{plain_export}
-use Rattle.implib.proofs.Link.LinkedMembers.{among_contains}
-use Rattle.implib.proofs.Link.Ranges.{among_back, apart_as_they_rise}
+use Rattle.implib.proofs.Link.Ranges.{apart_as_they_rise}
 use Rattle.implib_archive.specs.declared.kind.Kind.TheVariants.{Coff}
-use Rattle.implib_link.specs.Archives.BothWay.{AreLinkedForBoth, BothArrive}
-use Rattle.implib_link.specs.Archives.InBytes.{Second}
-use Rattle.implib_link.specs.Archives.Results.{HaveArchive}
-use Rattle.implib_link_instances.specs.Archives.WorkedBothWay.{WorkedBothWay, bar_for_gnu, bases, before_null, both, calls_bar, calls_queue, code, code_at, linked, objects, own, placed, queue_for_msvc, taken}
-use Rattle.implib_link.proofs.Archives.BothWay.{both_arrive}
-use Rattle.implib_link.proofs.Archives.Corollaries.{found_given}
-use Rattle.implib_link.specs.Flavors.Program.{FlavorInput}
-use Rattle.implib_link.specs.Gnu.Calls.{CallArrives, HasCall, PlacedCode}
+use Rattle.implib_link.specs.Archives.Ways.{AreLinkedFor, CallsArrive}
+use Rattle.implib_link.specs.Archives.InBytes.{Second, HaveArchive}
+use Rattle.implib_link_instances.specs.Archives.WorkedWays.{WorkedBothWay, bar_for_gnu, bases, before_null, both, calls_bar, calls_queue, code, linked, objects, own, placed, queue_for_msvc, taken}
+use Rattle.implib_link.proofs.Archives.Ways.{both_arrive}
+use Rattle.implib_link.proofs.Archives.InBytes.{search_of}
+use Rattle.implib_link.specs.Flavors.Program.{AreEnded, FlavorInput, OfMember, ClaimsNone, group_end, packed_end, sections_end}
 use Rattle.implib_link.specs.Gnu.Choices.{AreSections, DefineOnce, plain_range}
-use Rattle.implib_link.specs.Gnu.Fields.{AreBeside, LinkedCode, placed_code, ranges_of_codes}
-use Rattle.implib_link.specs.Gnu.Packed.{group_end, packed_end, sections_end}
-use Rattle.implib_link.specs.Gnu.Program.{ClaimsNone}
-use Rattle.implib_link.specs.Search.BothFlavors.{AreGivenForBoth, IsClosedForBoth, IsFlavorArchive, archive_of_both, kept_of_both}
-use Rattle.implib_link.specs.Search.Closed.{listed_in, unresolved}
-use Rattle.implib_link.specs.Search.Msvc.{TakesFor, left_in}
-use Rattle.implib_link.specs.Search.MsvcArchives.{TakesIntoFor}
-use Rattle.implib_link_instances.specs.Worked.Calls.{first_bytes, given_on, last_bytes}
-use Rattle.implib_link_instances.specs.Worked.MsvcSearch.{thunk_named}
+use Rattle.implib_link.specs.Gnu.Fields.{AreBeside, LinkedCode, placed_code}
+use Rattle.implib_link.specs.Search.Libraries.{AreGiven, IsClosed, IsFlavorArchive, archive_of_both, inputs_in, symbols_kept, left_in, TakesIntoFor}
+use Rattle.implib_link.specs.Search.Search.{listed_in}
+use Rattle.implib_link_instances.specs.Worked.Operands.{given_on}
+use Rattle.implib_link_instances.specs.Worked.Search.{thunk_named}
 use Rattle.implib_link.proofs.Gnu.Choices.{found, found_in}
-use Rattle.implib_link.proofs.Gnu.LinkedCodes.{codes_can_be_linked}
-use Rattle.implib_link.proofs.Gnu.Loaded.{mapped_at}
+use Rattle.implib_link.proofs.Gnu.LinkedBytes.{codes_can_be_linked}
 use Rattle.implib_link.proofs.Search.BothClosed.{packed_both}
-use Rattle.implib_link.proofs.Search.BothGiven.{both_given_closes}
-use Rattle.implib_link.proofs.Search.Closing.{claims_apart, takes_into}
-use Rattle.implib_link.proofs.Search.Lists.{among_at}
+use Rattle.implib_link.proofs.Search.Taken.{both_given_closes}
 use Rattle.implib_link_instances.proofs.Worked.BothFlavors.{archive_by}
 use Rattle.implib_link_instances.proofs.Worked.Calls.{once_by, wide}
-use Rattle.implib_link_instances.proofs.Worked.Opened.{searched, archived}
-use Rattle.implib_link_instances.proofs.Worked.Programs.{claims_none_by, instructions_at}
-use Rattle.implib_link.specs.Search.Search.{AreTakenInTurnAs, left_as}
+use Rattle.implib_link_instances.proofs.Worked.Search.{searched, archived, below_limit, into_by}
+use Rattle.implib_link_instances.proofs.Worked.Programs.{claims_none_by}
 use Rattle.implib_link.specs.Flavors.Expansion.{expanded_in}
-use Rattle.implib_link_instances.proofs.Worked.Search.{below_limit, takes_by}
 
 archive : IsFlavorArchive AMD64 both
 unfolding searched
@@ -50,42 +37,44 @@ ready : HaveArchive Coff Second (archive_of_both both)
 unfolding searched archived
 ready = record { accepted = refl; has = tt }
 
-given : AreGivenForBoth AMD64 both own
+given : AreGiven AMD64 both own
 unfolding searched
 given = record {
-  claims = (claims_none_by (kept_of_both AMD64 both own) calls_bar refl, (claims_none_by (kept_of_both AMD64 both own) calls_queue refl, tt));
+  claims = (claims_none_by (symbols_kept AMD64 both own) calls_bar refl, (claims_none_by (symbols_kept AMD64 both own) calls_queue refl, tt));
   names = record { gnu = (record { head = refl; name = refl }, tt); msvc = (record { descriptor = refl; null_descriptor = refl; null_thunk = refl }, tt) };
 }
-
-wanted_takes : TakesFor AMD64 (archive_of_both both) (unresolved own) taken
-unfolding searched AreTakenInTurnAs
-wanted_takes = takes_by ((0x7F ∷ codes "zed_NULL_THUNK_DATA") ∷ codes "__NULL_IMPORT_DESCRIPTOR" ∷ codes "__IMPORT_DESCRIPTOR_zed" ∷ codes "__imp_queue" ∷ codes "foo_dll_iname" ∷ codes "_head_foo_dll" ∷ codes "__imp_bar" ∷ []) refl refl refl
 
 claims : AllByRecursion (ClaimsNone (listed_in taken ++ left_in AMD64 taken)) own
 unfolding searched
 claims = (claims_none_by (listed_in taken ++ left_in AMD64 taken) calls_bar refl, (claims_none_by (listed_in taken ++ left_in AMD64 taken) calls_queue refl, tt))
 
 takes : TakesIntoFor AMD64 (archive_of_both both) own taken
-unfolding left_as
-takes =
-    takes_into (expanded_in AMD64) (archive_of_both both) own taken (λ name left. claims_apart (listed_in taken ++ left_in AMD64 taken) own claims name (among_back name (listed_in taken) (left_in AMD64 taken) left)) wanted_takes
+unfolding searched
+takes = into_by ((0x7F ∷ codes "zed_NULL_THUNK_DATA") ∷ codes "__NULL_IMPORT_DESCRIPTOR" ∷ codes "__IMPORT_DESCRIPTOR_zed" ∷ codes "__imp_queue" ∷ codes "foo_dll_iname" ∷ codes "_head_foo_dll" ∷ codes "__imp_bar" ∷ []) refl refl refl claims
 
-closed : IsClosedForBoth AMD64 both own taken both bases objects
+abbrev bar_input : FlavorInput
+bar_input = record { flavor = Gnu; input = record { definition = bar_for_gnu.library.definition; members = bar_for_gnu.library.members; chosen = 0 ∷ [] } }
+
+abbrev queue_input : FlavorInput
+queue_input = record { flavor = Msvc; input = record { definition = queue_for_msvc.library.definition; members = queue_for_msvc.library.members; chosen = 0 ∷ [] } }
+
+ended : AreEnded OfMember AMD64 (inputs_in AMD64 both own taken) objects
+unfolding searched
+ended = record { null_from = queue_input; null_held = (1, omega arith, refl); null_flavor = refl; before = before_null; behind = thunk_named (codes "zed.dll") ∷ []; members = refl; tables = refl }
+
+closed : IsClosed AMD64 OfMember both own taken both bases objects
 unfolding searched group_end sections_end
 closed =
-    packed_both AMD64 both own taken both 0x2000 objects archive
-    (both_given_closes AMD64 both own taken both objects before_null (thunk_named (codes "zed.dll") ∷ []) archive given takes (omega arith) (record { moves = []; below = tt; is = refl }) (λ o. (λ held. held, λ held. held)) refl refl)
+    packed_both AMD64 OfMember both own taken both 0x2000 objects archive
+    (both_given_closes AMD64 OfMember both own taken both objects archive given takes (record { moves = []; below = tt; is = refl }) (λ o. (λ held. held, λ held. held)) ended)
     (omega arith) (below_limit (packed_end 0x2000 objects) refl)
 
-linked_for : AreLinkedForBoth AMD64 both own taken both bases objects
+linked_for : AreLinkedFor AMD64 OfMember both own taken both bases objects
 unfolding searched
 linked_for = record {
   order = record { moves = []; below = tt; is = refl };
   others = λ o. (λ held. held, λ held. held);
-  before = before_null;
-  behind = thunk_named (codes "zed.dll") ∷ [];
-  members = refl;
-  tables = refl;
+  ended = ended;
   admissible = closed.admissible;
   lookups = closed.lookups;
   addresses = closed.addresses;
@@ -105,76 +94,43 @@ once : DefineOnce linked placed
 unfolding searched group_end sections_end found found_in
 once = once_by linked placed refl refl
 
-bar_called : HasCall AMD64 (code_at calls_bar 0x3000) 4 (codes "__imp_bar")
-bar_called = instructions_at (first_bytes AMD64) (last_bytes AMD64) 1 [] [] tt tt refl refl refl refl
-
-queue_called : HasCall AMD64 (code_at calls_queue 0x3020) 4 (codes "__imp_queue")
-queue_called = instructions_at (first_bytes AMD64) (last_bytes AMD64) 1 [] [] tt tt refl refl refl refl
-
 beside : (codes : List LinkedCode) × ((targets : LinkedCode → ℕ → ℕ) × ((map placed_code codes ≡ placed) × AreBeside AMD64 0x1_4000_0000 bases objects codes targets))
 unfolding searched group_end sections_end
 beside =
     let small : AllByRecursion (λ (b : ℕ). b < 256) code.bytes = (omega arith, (omega arith, (omega arith, (omega arith, (omega arith, (omega arith, (omega arith, (omega arith, (omega arith, (omega arith, (omega arith, (omega arith, (omega arith, (omega arith, (omega arith, tt))))))))))))))) in
     codes_can_be_linked AMD64 0x1_4000_0000 bases objects placed sections once (small, (small, tt))
 
--- the linked code of a placed one
-record Linked (codes : List LinkedCode) (c : PlacedCode) : Type 0 where
-  own : LinkedCode
-  held : Contains codes own
-  is : placed_code own ≡ c
-
-linked_code : (codes : List LinkedCode) (i : ℕ) (c : PlacedCode) → map placed_code codes ≡ placed → slice_get placed i ≡ Some c → Linked codes c
-linked_code codes i c same at =
-    let found = mapped_at placed_code codes i c (ap (λ xs. slice_get xs i) same ∙ at) in
-    record { own = found.0; held = among_contains found.0 codes (among_at found.0 codes i found.1.0); is = found.1.1 }
-
-arrive : BothArrive AMD64 both own taken both bases objects
+arrive : CallsArrive AMD64 OfMember both own taken both bases objects
 unfolding searched
-arrive = both_arrive AMD64 both own taken both bases objects archive given (omega arith) takes linked_for
-
-abbrev bar_input : FlavorInput
-bar_input = record { flavor = Gnu; input = record { definition = bar_for_gnu.library.definition; members = bar_for_gnu.library.members; chosen = 0 ∷ [] } }
-
-abbrev queue_input : FlavorInput
-queue_input = record { flavor = Msvc; input = record { definition = queue_for_msvc.library.definition; members = queue_for_msvc.library.members; chosen = 0 ∷ [] } }
+arrive = both_arrive AMD64 OfMember both own taken both bases objects archive given takes linked_for
 
 pub worked_both_way : WorkedBothWay
 unfolding searched group_end sections_end
-worked_both_way =
-    let bar = linked_code beside.0 0 (code_at calls_bar 0x3000) beside.1.1.0 refl in
-    let queue = linked_code beside.0 1 (code_at calls_queue 0x3020) beside.1.1.0 refl in
-    let bar_has : HasCall AMD64 (placed_code bar.own) 4 (codes "__imp_bar") = subst (λ c. HasCall AMD64 c 4 (codes "__imp_bar")) (sym bar.is) bar_called in
-    let queue_has : HasCall AMD64 (placed_code queue.own) 4 (codes "__imp_queue") = subst (λ c. HasCall AMD64 c 4 (codes "__imp_queue")) (sym queue.is) queue_called in
-    record {
-      archive = archive;
-      ready = ready;
-      given = given;
-      leaves = refl;
-      wants = omega arith;
-      takes = found_given (expanded_in AMD64) Coff Second (archive_of_both both) own taken ready takes;
-      linked_for = linked_for;
-      sections = sections;
-      bar_called = bar_called;
-      queue_called = queue_called;
-      bar_entry = refl;
-      queue_entry = refl;
-      arrive = (
-        beside.0,
+worked_both_way = record {
+  archive = archive;
+  ready = ready;
+  given = given;
+  leaves = refl;
+  takes = search_of Coff Second (archive_of_both both) (expanded_in AMD64) own taken ready takes;
+  linked_for = linked_for;
+  sections = sections;
+  bar_entry = refl;
+  queue_entry = refl;
+  arrive = (
+    beside.0,
+    (
+      beside.1.0,
+      (
+        beside.1.1.0,
         (
-          beside.1.0,
-          (
-            beside.1.1.0,
-            (
-              beside.1.1.1,
-              λ n written reads. (
-                arrive.ends (given_on AMD64) n written (wide AMD64) reads,
-                subst (λ a. CallArrives AMD64 0x1_4000_0000 (written ++ (image_of AMD64 bases linked ++ ranges_of_codes beside.0)) a (0x30 ∷ 0 ∷ 0 ∷ 0x10 ∷ 0 ∷ 0 ∷ 0 ∷ 0 ∷ [])) (ap (λ (c : PlacedCode). c.position + 4) bar.is)
-                    (arrive.calls 0x1_4000_0000 beside.0 beside.1.0 (given_on AMD64) n written 0 0 bar_input (plain_export (codes "bar")) bar.own 4 tt beside.1.1.1 (wide AMD64) reads refl refl bar.held bar_has),
-                subst (λ a. CallArrives AMD64 0x1_4000_0000 (written ++ (image_of AMD64 bases linked ++ ranges_of_codes beside.0)) a (0x50 ∷ 0 ∷ 0 ∷ 0x10 ∷ 0 ∷ 0 ∷ 0 ∷ 0 ∷ [])) (ap (λ (c : PlacedCode). c.position + 4) queue.is)
-                    (arrive.calls 0x1_4000_0000 beside.0 beside.1.0 (given_on AMD64) n written 1 0 queue_input (plain_export (codes "queue")) queue.own 4 tt beside.1.1.1 (wide AMD64) reads refl refl queue.held queue_has),
-              ),
-            ),
+          beside.1.1.1,
+          λ n written reads. (
+            arrive.ends (given_on AMD64) n written (wide AMD64) reads,
+            arrive.leads 0x1_4000_0000 beside.0 beside.1.0 (given_on AMD64) n written 0 0 bar_input (plain_export (codes "bar")) tt beside.1.1.1 (wide AMD64) reads refl refl,
+            arrive.leads 0x1_4000_0000 beside.0 beside.1.0 (given_on AMD64) n written 1 0 queue_input (plain_export (codes "queue")) tt beside.1.1.1 (wide AMD64) reads refl refl,
           ),
         ),
-      );
-    }
+      ),
+    ),
+  );
+}

@@ -1,5 +1,5 @@
 -- The way for lld by hand, by computing and by the law.
-use Rattle.std.proofs.Common.{◌≡◌, [], ◌∷◌, codes, refl, ap, sym, ◌∙◌, inl, inr, arith}
+use Rattle.std.proofs.Common.{ℕ, List, ◌≡◌, [], ◌∷◌, codes, refl, ap, sym, ◌∙◌, inl, inr, arith}
 use Rattle.implib.specs.declared.machine.MachineType.TheVariants.{AMD64}
 use Rattle.implib.specs.Formats.Constants.{amd64_rel32, class_external}
 use Rattle.implib.specs.Formats.Layout.{encoded_size}
@@ -10,38 +10,30 @@ use Rattle.implib.specs.Worked.Statements.{plain_export}
 use Rattle.implib.proofs.Link.LinkedMembers.{among_contains}
 use Rattle.implib.proofs.Link.Ranges.{Among}
 use Rattle.implib_archive.specs.declared.kind.Kind.TheVariants.{Coff}
-use Rattle.implib_link.specs.Archives.InBytes.{Second, asks_with_as}
-use Rattle.implib_link.specs.Archives.LldWay.{AreCalledAlike, IsBuiltByLld, IsWantedBy, LldArrives, read_by_lld, shorts_in}
-use Rattle.implib_link.specs.Archives.Results.{HaveArchive}
-use Rattle.implib_link_instances.specs.Archives.WorkedLldWay.{WorkedLldWay, bar_short, calls_linked, is_live, live_shorts, lld_codes, lld_image, lld_libraries, lld_library, lld_linked, lld_memory, lld_own, lld_tables, lld_taken, lld_targets, placed_calls, thunk_linked, two_calls}
-use Rattle.implib_link.proofs.Archives.Corollaries.{taken_given}
+use Rattle.implib_link.specs.Archives.InBytes.{Second, HaveArchive}
+use Rattle.implib_link.specs.Archives.Ways.{AreCalledAlike, IsBuiltByLld, IsWantedBy, LldArrives, read_by_lld, shorts_in, LldLoads}
+use Rattle.implib_link_instances.specs.Archives.WorkedWays.{WorkedLldWay, bar_short, calls_linked, is_live, live_shorts, lld_codes, lld_image, lld_libraries, lld_library, lld_linked, lld_memory, lld_own, lld_tables, lld_taken, lld_targets, placed_calls, thunk_linked, two_calls}
 use Rattle.implib_link.proofs.Archives.InBytes.{search_of}
-use Rattle.implib_link.proofs.Archives.LldWay.{lld_arrives}
-use Rattle.implib_link.specs.Flavors.Expansion.{descriptor_symbol_by_name, expanded_in, import_object}
-use Rattle.implib_link.specs.Flavors.LldImports.{imports_of_lld}
-use Rattle.implib_link.specs.Flavors.LldTables.{ArePiecesAt, built, built_bytes}
-use Rattle.implib_link.specs.Flavors.LldThunks.{placed_thunk, thunk_section}
-use Rattle.implib_link.specs.Flavors.SectionSymbols.{with_section_symbols}
-use Rattle.implib_link.specs.Gnu.Fields.{AreLinkedBeside, range_of_code}
+use Rattle.implib_link.proofs.Archives.Ways.{lld_arrives}
+use Rattle.implib_link.specs.Flavors.Expansion.{descriptor_symbol_by_name, expanded_in, import_object, with_section_symbols}
+use Rattle.implib_link.specs.Flavors.LldImports.{imports_of_lld, ArePiecesAt, built, built_bytes, placed_thunk, thunk_section}
+use Rattle.implib_link.specs.Gnu.Fields.{AreLinkedBeside, range_of_code, HasBranch, HasInstruction, table_places}
 use Rattle.implib_link.specs.Gnu.Moves.{AreInMemory, AreMoved}
-use Rattle.implib_link.specs.Gnu.Operands.{HasBranch, HasInstruction}
-use Rattle.implib_link.specs.Gnu.Rebased.{table_places}
-use Rattle.implib_link.specs.Search.Archives.{Library, archive_of}
-use Rattle.implib_link.specs.Search.Closed.{AreTakenIntoAs, TakesIntoAs, claims_of, references_of}
-use Rattle.implib_link.specs.Search.MsvcArchives.{IsMsvcArchive, symbols_of_shorts}
-use Rattle.implib_link.specs.Search.Search.{undefined_in}
+use Rattle.implib_link.specs.Search.Search.{Library, archive_of, AreTakenIntoAs, TakesIntoAs, claims_of, references_of, undefined_in}
+use Rattle.implib_link.specs.Search.Libraries.{IsMsvcArchive, symbols_of_shorts}
 use Rattle.implib_link.specs.Tables.{AreSteady}
-use Rattle.implib_link_instances.specs.Worked.Calls.{given_on}
-use Rattle.implib_link_instances.specs.Worked.MsvcSearch.{short_named}
+use Rattle.implib_link_instances.specs.Worked.Operands.{given_on}
+use Rattle.implib_link_instances.specs.Worked.Search.{short_named}
 use Rattle.implib_link_instances.specs.Worked.Programs.{symbol_of_class}
-use Rattle.implib_link.proofs.Flavors.LldTables.{built_pieces}
+use Rattle.implib_link.proofs.Flavors.LldImports.{built_pieces}
 use Rattle.implib_link.proofs.Search.Lists.{contains_among}
 use Rattle.implib_link_instances.proofs.Worked.Calls.{wide}
 use Rattle.implib_link_instances.proofs.Worked.CommandLines.{ended_by, pulls_by}
-use Rattle.implib_link_instances.proofs.Worked.LinkedCode.{all_needed, only_absolute, rebased_by, relocated_by, relocated_test}
-use Rattle.implib_link_instances.proofs.Worked.LldPrograms.{lld_opened, disjoint, meet_test, takes_outside}
-use Rattle.implib_link_instances.proofs.Worked.Programs.{distinct_by, opened, instruction_by}
-use Rattle.implib_link_instances.proofs.Worked.Opened.{archived}
+use Rattle.implib_link_instances.proofs.Worked.Programs.{all_needed, only_absolute, rebased_by, relocated_by, relocated_test, lld_opened, disjoint, meet_test, takes_outside, distinct_by, opened, instruction_by}
+use Rattle.implib_link_instances.proofs.Worked.Search.{archived}
+use Rattle.implib_link.specs.Gnu.Writing.{ReadsAndWrites}
+use Rattle.implib.specs.Members.ImportTables.{thunk_width}
+use Rattle.implib.specs.Link.Image.{Range}
 
 -- what the computing has to open
 unfoldable way_opened : Unit {0}
@@ -166,13 +158,18 @@ branch = record {
 arrive : LldArrives AMD64 lld_libraries lld_own lld_taken
 arrive = lld_arrives AMD64 lld_libraries archive alike lld_own lld_taken takes
 
+loaded_at : (image_base : ℕ) → AreInMemory AMD64 image_base lld_image lld_linked lld_codes lld_targets lld_memory → (n : ℕ) (written : List Range) →
+    ReadsAndWrites lld_memory (thunk_width AMD64) (given_on AMD64) n 0x2000 written → LldLoads AMD64 lld_libraries lld_own lld_taken is_live 0x2000 0x2038 lld_image lld_linked image_base lld_codes lld_memory (given_on AMD64) n written
+loaded_at image_base at n written reads =
+    arrive.loaded is_live 0x2000 0x2038 lld_image lld_linked built_by_lld image_base lld_codes lld_targets lld_memory (given_on AMD64) steady at n written (wide AMD64) reads
+
 pub worked_lld_way : WorkedLldWay
 unfolding way_opened
 worked_lld_way = record {
   archive = archive;
   alike = alike;
   ready = ready;
-  takes = search_of Coff Second (archive_of lld_libraries) (asks_with_as (read_by_lld AMD64) lld_own) lld_taken ready (taken_given (read_by_lld AMD64) (archive_of lld_libraries) lld_own lld_taken takes);
+  takes = search_of Coff Second (archive_of lld_libraries) (read_by_lld AMD64) lld_own lld_taken ready takes;
   wanted = wanted;
   read = read;
   built = built_by_lld;
@@ -182,13 +179,9 @@ worked_lld_way = record {
   thunk = record { from = refl; number = refl };
   call = call;
   branch = branch;
-  leads = λ n written reads. (
-    (arrive.loads is_live 0x2000 0x2038 lld_image lld_linked built_by_lld 0x1_4000_0000 lld_codes lld_targets lld_memory (given_on AMD64) steady at n written (wide AMD64) reads).0,
-    arrive.leads is_live 0x2000 0x2038 lld_image lld_linked built_by_lld 0x1_4000_0000 lld_codes lld_targets lld_memory (given_on AMD64) steady at n written (wide AMD64) reads lld_library (plain_export (codes "bar")) wanted refl tt,
-  );
-  leads_moved = λ n written reads.
-      arrive.leads is_live 0x2000 0x2038 lld_image lld_linked built_by_lld 0x7FF6_1234_0000 lld_codes lld_targets lld_memory (given_on AMD64) steady moved n written (wide AMD64) reads lld_library (plain_export (codes "bar")) wanted refl tt;
+  leads = λ n written reads. let loaded = loaded_at 0x1_4000_0000 at n written reads in (loaded.count, loaded.leads lld_library (plain_export (codes "bar")) wanted refl tt);
+  leads_moved = λ n written reads. (loaded_at 0x7FF6_1234_0000 moved n written reads).leads lld_library (plain_export (codes "bar")) wanted refl tt;
   calls = λ n written reads.
-      arrive.calls is_live 0x2000 0x2038 lld_image lld_linked built_by_lld 0x1_4000_0000 lld_codes lld_targets lld_memory (given_on AMD64) steady at n written (wide AMD64) reads lld_library (plain_export (codes "bar")) wanted refl tt
+      (loaded_at 0x1_4000_0000 at n written reads).calls lld_library (plain_export (codes "bar")) wanted refl tt
       calls_linked thunk_linked 7 0 (0, omega arith, refl) (1, omega arith, refl) (record { from = refl; number = refl }) branch tt;
 }

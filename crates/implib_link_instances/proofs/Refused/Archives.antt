@@ -21,27 +21,27 @@ use Rattle.implib_archive.specs.Worked.{worked_gnu, worked_members}
 use Rattle.implib_archive.specs.declared.kind.Kind.TheVariants.{Gnu}
 use Rattle.implib_archive.proofs.WorkedBytes.{worked_archives}
 use Rattle.implib_link.specs.Archives.Files.{entries_by}
-use Rattle.implib_link.specs.Archives.InBytes.{First, TakesAt, asks_for, header_by}
-use Rattle.implib_link.specs.Archives.LldWay.{IsBuiltByLld, IsWantedBy, read_by_lld, short_of_export, shorts_in}
-use Rattle.implib_link.specs.Archives.Results.{AreHeadersOf}
-use Rattle.implib_link.specs.Flavors.LldImports.{IsLldProgram, imports_of_lld, placed_by_lld}
-use Rattle.implib_link.specs.Flavors.LldTables.{addresses_at, built, hints_at, lookups_at, names_at}
-use Rattle.implib_link.proofs.Flavors.LldTables.{built_pieces}
+use Rattle.implib_link.specs.Archives.InBytes.{First, TakesAt, header_by, AreHeadersOf}
+use Rattle.implib_link.specs.Archives.Ways.{IsBuiltByLld, IsWantedBy, read_by_lld, short_of_export, shorts_in}
+use Rattle.implib_link.specs.Flavors.LldImports.{IsLldProgram, imports_of_lld, placed_by_lld, addresses_at, built, hints_at, lookups_at, names_at}
+use Rattle.implib_link.proofs.Flavors.LldImports.{built_pieces}
 use Rattle.implib_link.specs.Search.CommandLines.{names_left}
 use Rattle.implib_link.proofs.Search.Lists.{among_any, any_among, contains_among}
 use Rattle.implib_link_instances.proofs.Archives.Files.{opened_files}
-use Rattle.implib_link_instances.proofs.Archives.Worked.{opened_bytes, worked_searches}
+use Rattle.implib_link_instances.proofs.Archives.Worked.{opened_bytes}
+use Rattle.implib_link_instances.proofs.Archives.WorkedBothWay.{worked_both_way}
 use Rattle.implib_link_instances.proofs.Archives.WorkedLldWay.{worked_lld_way}
-use Rattle.implib_link_instances.proofs.Refused.Links.{first_letter, refused_links_closed, refused_links_closed_for_both}
+use Rattle.implib_link_instances.proofs.Refused.Links.{first_letter, refused_links_closed}
 use Rattle.implib_link_instances.proofs.Worked.Calls.{one_of, wide, worked_reading}
 use Rattle.implib_link_instances.proofs.Worked.Lemmas.{differ, none_at, none_in}
-use Rattle.implib_link_instances.proofs.Worked.LldPrograms.{lld_opened}
-use Rattle.implib_link_instances.proofs.Worked.Opened.{searched}
-use Rattle.implib_link_instances.specs.Refused.Archives.{RefusedAreMembersAt, RefusedBothArrive, RefusedCallsArrive, RefusedHasMembersAs, RefusedInBytes, RefusedIsHeaderOf, RefusedIsInDirectory, RefusedIsSearchOf, RefusedIsWantedBy, RefusedLeadsToFirst, RefusedLldArrives, ways_taken, with_header_in}
-use Rattle.implib_link_instances.specs.Archives.WorkedLldWay.{bar_short, lld_taken}
-use Rattle.implib_link_instances.specs.Refused.Links.{f_library, listing, own}
-use Rattle.implib_link_instances.specs.Refused.Searches.{f_export}
-use Rattle.implib_link_instances.specs.Worked.Calls.{given_on}
+use Rattle.implib_link_instances.proofs.Worked.Programs.{lld_opened}
+use Rattle.implib_link_instances.proofs.Worked.Search.{searched}
+use Rattle.implib_link_instances.specs.Refused.Archives.{RefusedAreMembersAt, RefusedCallsArrive, RefusedHasMembersAs, RefusedInBytes, RefusedIsHeaderOf, RefusedIsInDirectory, RefusedIsSearchOf, RefusedIsWantedBy, RefusedLeadsToFirst, RefusedLldArrives, ways_taken, with_header_in}
+use Rattle.implib_link_instances.specs.Archives.WorkedWays.{bar_short, lld_taken}
+use Rattle.implib_link_instances.specs.Refused.Links.{f_library, listing, own, f_export}
+use Rattle.implib_link_instances.specs.Worked.Operands.{given_on}
+use Rattle.implib.specs.Formats.Object.{object_in}
+use Rattle.implib_link.specs.Search.Search.{claims_of, references_of, undefined_in}
 
 -- what the computing of archives has to open
 unfoldable opened_archive : Unit {0}
@@ -90,10 +90,10 @@ f_found : header_by First worked_gnu (codes "f") ≡ Some 182
 unfolding opened_bytes
 f_found = refl
 
-not_ended : (headers taken : List ℕ) → AreHeadersOf headers worked_members taken [] → TakesAt Gnu First (archive_of Gnu worked_members) (asks_for (codes "f" ∷ [])) taken → ⊥
-unfolding AreHeadersOf
+not_ended : (headers taken : List ℕ) → AreHeadersOf headers worked_members taken [] → TakesAt Gnu First (archive_of Gnu worked_members) object_in own taken → ⊥
+unfolding AreHeadersOf claims_of references_of undefined_in
 not_ended headers [] at takes =
-    takes.ended (codes "f") 182 (record { asked = ((0, omega arith, refl), refl); found = ap (λ bytes. header_by First bytes (codes "f")) worked_archives.gnu ∙ f_found; new = λ held. none_in 182 held })
+    takes.ended (codes "f") 182 (record { left = (0, omega arith, refl); found = ap (λ bytes. header_by First bytes (codes "f")) worked_archives.gnu ∙ f_found; new = λ held. none_in 182 held })
 not_ended headers (header ∷ taken) at takes = at
 
 none_of_none : (headers taken : List ℕ) → AreHeadersOf headers [] taken (listing ∷ []) → ⊥
@@ -122,12 +122,6 @@ refused_leads_to_first = record {
 pub refused_calls_arrive : RefusedCallsArrive
 refused_calls_arrive = record {
   links = λ x. refused_links_closed.closed x.links;
-  ends = λ x. let read = worked_reading.amd64_ends in differ 0 2 (sym (x.ends (given_on AMD64) 2 read.0 (wide AMD64) read.1)) (omega arith);
-}
-
-pub refused_both_arrive : RefusedBothArrive
-refused_both_arrive = record {
-  links = λ x. refused_links_closed_for_both.closed x.links;
   ends = λ x. let read = worked_reading.amd64_ends in differ 0 2 (sym (x.ends (given_on AMD64) 2 read.0 (wide AMD64) read.1)) (omega arith);
 }
 
@@ -227,5 +221,5 @@ pub refused_in_bytes : RefusedInBytes
 unfolding AreHeadersOf
 refused_in_bytes = record {
   are_headers_of = λ x. x;
-  takes_just = λ x. (x worked_searches.in_coff.taken worked_searches.in_coff.takes).holds;
+  takes_just = λ x. (x worked_both_way.takes.taken worked_both_way.takes.takes).holds;
 }

@@ -1,20 +1,18 @@
 -- What does not arrive, by computing.
-use Rattle.std.proofs.Common.{List, None, Option, Some, [], ap, append-nil, arith, codes, length, refl, subst, sym, ℕ, ◌*◌, ◌+◌, ◌++◌, ◌<◌, ◌∙◌, ◌∷◌, ◌≡◌}
+use Rattle.std.proofs.Common.{List, None, Option, Some, [], ap, append-nil, arith, codes, length, refl, sym, ℕ, ◌*◌, ◌+◌, ◌++◌, ◌<◌, ◌∙◌, ◌∷◌, ◌≡◌}
 use Rattle.implib.specs.declared.machine.MachineType.TheVariants.{AMD64, ARM64}
 use Rattle.implib.specs.Formats.Constants.{class_external}
 use Rattle.implib.specs.Formats.Object.{ASymbol}
 use Rattle.implib.specs.Link.Resolution.{symbol_address}
 use Rattle.implib.specs.Link.Load.{BytesAt, NumberAt, number_in}
 use Rattle.implib.proofs.Link.Loading.{number_once}
-use Rattle.implib_link.specs.Gnu.Calls.{call_reads, direct_leads}
-use Rattle.implib_link.specs.Gnu.Operands.{branch_leads, operand_leads}
-use Rattle.implib_link.specs.Gnu.Pointers.{load_reads}
-use Rattle.implib_link.specs.Stub.{adrp_immediate, bits_of, jump_reads, ldr_immediate, page, plus_signed, with_adrp, with_bits, word_at}
-use Rattle.implib_link.proofs.Gnu.Memory.{byte_first}
-use Rattle.implib_link_instances.proofs.Worked.Lemmas.{are_located, differ, entry_is, number, same_bytes, value}
-use Rattle.implib_link_instances.proofs.Worked.Operands.{passing_fields}
+use Rattle.implib_link.specs.Gnu.Fields.{direct_leads, branch_leads, operand_leads}
+use Rattle.implib_link.specs.Stub.{adrp_immediate, bits_of, jump_reads, ldr_immediate, page, plus_signed, with_adrp, with_bits}
+use Rattle.implib_link.proofs.Gnu.Loaded.{byte_first}
+use Rattle.implib_link_instances.proofs.Worked.Lemmas.{are_located, differ, number, same_bytes, value}
+use Rattle.implib_link_instances.proofs.Worked.Programs.{passing_fields}
 use Rattle.implib_link_instances.proofs.Worked.Stored.{worked_holdings}
-use Rattle.implib_link_instances.specs.Refused.Code.{RefusedA32JumpReads, RefusedAllLeadTo, RefusedBranchArrives, RefusedBranchArrivesByThunk, RefusedBranchStays, RefusedCallArrives, RefusedDirectCallArrives, RefusedFields, RefusedHoldAddress, RefusedHoldsFurther, RefusedInstructionArrives, RefusedLoadArrives, RefusedOperandArrives, RefusedPageArrives, RefusedPairArrives, RefusedPointerArrives, RefusedPointsTo, RefusedResolves, RefusedStubArrives, RefusedStubAt, RefusedSumArrives, RefusedThunkArrives, asking_f, back, calling_nops, empty_code, nops, one, one_code, page_back, placed_f}
+use Rattle.implib_link_instances.specs.Refused.Code.{RefusedAllLeadTo, RefusedBranchArrives, RefusedBranchArrivesByThunk, RefusedBranchStays, RefusedDirectCallArrives, RefusedFields, RefusedHoldAddress, RefusedHoldsFurther, RefusedInstructionArrives, RefusedOperandArrives, RefusedPairArrives, RefusedPointerArrives, RefusedPointsTo, RefusedResolves, RefusedJumpArrives, RefusedStubAt, RefusedSumArrives, asking_f, back, empty_code, nops, one, one_code, page_back, placed_f}
 use Rattle.implib_link_instances.specs.Worked.Operands.{field, passing_at}
 use Rattle.implib_link_instances.specs.Worked.Programs.{symbol_of_class}
 use Rattle.implib_link_instances.specs.Worked.Stored.{held_at, picking_at, unwind_at}
@@ -55,43 +53,11 @@ eight = 0x90 ∷ seven
 nop : (n : ℕ) → NumberAt nops 4 0x1000 n → n ≡ 0x9090_9090
 nop n there = number_once nops 4 0x1000 n 0x9090_9090 there (number nops 4 0x1000 0x9090_9090 four refl refl refl)
 
-pub refused_a32_jump_reads : RefusedA32JumpReads
-refused_a32_jump_reads = record {
-  load_there = λ x. absent 0x1000 4 x.load (omega arith) x.load_there;
-  is_load = λ x. differ 0x9090_9000 0xE59F_C000 (sym (ap (with_bits 0 12 0) (nop x.load x.load_there)) ∙ x.is_load) (omega arith);
-  literal_there = λ x. absent (0x1008 + bits_of 0 12 x.load) 4 0x40_0060 (omega arith) x.literal_there;
-  jump_there = λ x. absent 0x1004 4 0xE59C_F000 (omega arith) x.jump_there;
-}
-
-pub refused_call_arrives : RefusedCallArrives
-refused_call_arrives = record {
-  here = λ x. nothing_at x.instructions 0x1000 6 x.whole (omega arith) x.here;
-  whole = λ x. nothing_at x.instructions 0x1000 6 x.whole (omega arith) x.here;
-  reads = λ x. no_code (call_reads AMD64 0x1_4000_1000) x.instructions six (0x1_4000_0000 + x.entry) x.here (are_located nops six 0x1000 refl) x.whole refl x.reads;
-  located = λ x. nothing_there one x.entry (omega arith) x.located;
-}
-
-pub refused_load_arrives : RefusedLoadArrives
-refused_load_arrives = record {
-  here = λ x. nothing_at x.instructions 0x1000 7 x.whole (omega arith) x.here;
-  whole = λ x. nothing_at x.instructions 0x1000 7 x.whole (omega arith) x.here;
-  reads = λ x. no_code (load_reads AMD64 0x1_4000_1000) x.instructions seven (0x1_4000_0000 + x.entry) x.here (are_located nops seven 0x1000 refl) x.whole refl x.reads;
-  located = λ x. nothing_there one x.entry (omega arith) x.located;
-}
-
-pub refused_stub_arrives : RefusedStubArrives
-refused_stub_arrives = record {
+pub refused_jump_arrives : RefusedJumpArrives
+refused_jump_arrives = record {
   there = λ x. nothing_at x.code 0x1000 8 x.whole (omega arith) x.there;
   whole = λ x. nothing_at x.code 0x1000 8 x.whole (omega arith) x.there;
   reads = λ x. no_code (jump_reads AMD64 0x1_4000_1000) x.code eight (0x1_4000_0000 + x.entry) x.there (are_located nops eight 0x1000 refl) x.whole refl x.reads;
-  located = λ x. nothing_there one x.entry (omega arith) x.located;
-}
-
-pub refused_thunk_arrives : RefusedThunkArrives
-refused_thunk_arrives = record {
-  there = λ x. nothing_at x.code 0x1000 6 x.whole (omega arith) x.there;
-  whole = λ x. nothing_at x.code 0x1000 6 x.whole (omega arith) x.there;
-  reads = λ x. no_code (jump_reads AMD64 0x1_4000_1000) x.code six (0x1_4000_0000 + x.entry) x.there (are_located nops six 0x1000 refl) x.whole refl x.reads;
   located = λ x. nothing_there one x.entry (omega arith) x.located;
 }
 
@@ -100,17 +66,7 @@ refused_direct_call_arrives = record {
   here = λ x. nothing_at x.instruction 0x1000 5 x.whole (omega arith) x.here;
   whole = λ x. nothing_at x.instruction 0x1000 5 x.whole (omega arith) x.here;
   leads = λ x. no_code (direct_leads AMD64 0x1_4000_1000) x.instruction five (0x1_4000_0000 + x.stub) x.here (are_located nops five 0x1000 refl) x.whole refl x.leads;
-  there = λ x. nothing_at x.code x.stub 8 x.whole_stub (omega arith) x.there;
-  whole_stub = λ x. nothing_at x.code x.stub 8 x.whole_stub (omega arith) x.there;
-  reads = λ x.
-      let call : List ℕ = 0xE8 ∷ 0 ∷ 0 ∷ 0 ∷ 0 ∷ [] in
-      let same : x.instruction ≡ 0xE8 ∷ 0 ∷ 0 ∷ 0 ∷ 0 ∷ [] = same_bytes calling_nops x.instruction call 0xFFB x.here (are_located calling_nops (0xE8 ∷ 0 ∷ 0 ∷ 0 ∷ 0 ∷ []) 0xFFB refl) x.whole in
-      let at : x.stub ≡ 0x1000 = entry_is 0x1_4000_0000 x.stub 0x1000 (sym (ap (direct_leads AMD64 0x1_4000_0FFB) same) ∙ x.leads) in
-      let code : x.code ≡ eight = same_bytes calling_nops x.code eight 0x1000 (subst (λ a. BytesAt calling_nops a x.code) at x.there) (are_located calling_nops eight 0x1000 refl) x.whole_stub in
-      let read : jump_reads AMD64 0x1_4000_1000 x.code ≡ Some (0x1_4000_0000 + x.entry) = subst (λ a. jump_reads AMD64 (0x1_4000_0000 + a) x.code ≡ Some (0x1_4000_0000 + x.entry)) at x.reads in
-      let none : None ≡ Some (0x1_4000_0000 + x.entry) = sym (ap (jump_reads AMD64 0x1_4000_1000) code) ∙ read in
-      cc;
-  located = λ x. nothing_there one x.entry (omega arith) x.located;
+  jumps = λ x. nothing_at x.jumps.code x.stub 8 x.jumps.whole (omega arith) x.jumps.there;
 }
 
 -- where ARM64's pages are
@@ -125,25 +81,6 @@ in_front adrp load entry first second is =
     let led : 0x1_3FFF_F000 ≡ 0x1_4000_0000 + entry =
     sym (ap (λ n. plus_signed 21 4096 (adrp_immediate n) (page 0x1_4000_0010 * 4096) + ldr_immediate 0xF940_0108) first) ∙ (sym (ap (λ n. plus_signed 21 4096 (adrp_immediate adrp) (page 0x1_4000_0010 * 4096) + ldr_immediate n) second) ∙ is) in
     omega arith
-
-pub refused_page_arrives : RefusedPageArrives
-refused_page_arrives = record {
-  adrp_there = λ x. nothing_at x.adrp 16 4 x.adrp_whole (omega arith) x.adrp_there;
-  adrp_whole = λ x. nothing_at x.adrp 16 4 x.adrp_whole (omega arith) x.adrp_there;
-  is_adrp = λ x.
-      let same : x.adrp ≡ four = same_bytes nops x.adrp four 0x1000 x.adrp_there (are_located nops four 0x1000 refl) x.adrp_whole in
-      differ 0x9000_0008 0x9000_0010 (sym (sym (ap (λ xs. with_adrp 0 (word_at xs 0)) same) ∙ x.is_adrp)) (omega arith);
-  ldr_there = λ x. nothing_at x.ldr 20 4 x.ldr_whole (omega arith) x.ldr_there;
-  ldr_whole = λ x. nothing_at x.ldr 20 4 x.ldr_whole (omega arith) x.ldr_there;
-  is_ldr = λ x.
-      let same : x.ldr ≡ four = same_bytes nops x.ldr four 0x1000 x.ldr_there (are_located nops four 0x1000 refl) x.ldr_whole in
-      differ 0x9080_0090 0xF940_0108 (sym (ap (λ xs. with_bits 10 12 0 (word_at xs 0)) same) ∙ x.is_ldr) (omega arith);
-  leads = λ x.
-      let first : x.adrp ≡ 0xE8 ∷ 0xFF ∷ 0xFF ∷ 0xF0 ∷ [] = same_bytes page_back x.adrp (0xE8 ∷ 0xFF ∷ 0xFF ∷ 0xF0 ∷ []) 16 x.adrp_there (are_located page_back (0xE8 ∷ 0xFF ∷ 0xFF ∷ 0xF0 ∷ []) 16 refl) x.adrp_whole in
-      let second : x.ldr ≡ 8 ∷ 1 ∷ 0x40 ∷ 0xF9 ∷ [] = same_bytes page_back x.ldr (8 ∷ 1 ∷ 0x40 ∷ 0xF9 ∷ []) 20 x.ldr_there (are_located page_back (8 ∷ 1 ∷ 0x40 ∷ 0xF9 ∷ []) 20 refl) x.ldr_whole in
-      in_front (word_at x.adrp 0) (word_at x.ldr 0) x.entry (ap (λ xs. word_at xs 0) first) (ap (λ xs. word_at xs 0) second) x.leads;
-  located = λ x. nothing_there one x.entry (omega arith) x.located;
-}
 
 pub refused_pair_arrives : RefusedPairArrives
 refused_pair_arrives = record {

@@ -1,41 +1,140 @@
--- What no link gives, by computing.
-use Rattle.std.proofs.Common.{List, None, Some, [], ap, arith, codes, inl, inr, length, map, refl, suc, subst, sym, zero, ℕ, ◌*◌, ◌+◌, ◌∙◌, ◌∷◌, ◌≡◌, ◌⊎◌}
-use Rattle.std.specs.Prelude.{bytes_eq, slice_get, slice_index}
+-- What is said of no import tables, by computing.
+use Rattle.std.proofs.Common.{List, None, Some, [], ap, arith, codes, inl, inr, length, refl, subst, sym, ℕ, ◌*◌, ◌++◌, ◌+◌, ◌<◌, ◌∷◌, ◌≡◌, ◌≤◌, ◌⊎◌, map, suc, zero, ◌∙◌}
+use Rattle.std.specs.Prelude.{slice_index, bytes_eq, slice_get}
 use Rattle.std.specs.List.{Contains}
-use Rattle.implib.specs.declared.flavor.Flavor.TheVariants.{Gnu}
-use Rattle.implib.specs.declared.machine.MachineType.TheVariants.{AMD64, I386}
-use Rattle.implib.specs.Formats.Constants.{class_external, class_static}
-use Rattle.implib.specs.Formats.Object.{ASymbol, ObjectSection, ObjectSymbol}
-use Rattle.implib.specs.Formats.ShortImport.{ShortImport}
-use Rattle.implib.specs.Link.LinkedMembers.{LinkInput, chosen_exports}
-use Rattle.implib.specs.Link.Load.{NumberAt}
-use Rattle.implib.specs.Link.Placement.{Placed}
-use Rattle.implib.specs.Link.Resolution.{SymbolDefinition}
-use Rattle.implib.specs.Members.Gnu.{section}
-use Rattle.implib.specs.Members.ImportTables.{table_flags, zeros}
-use Rattle.implib.specs.Members.MemberSpec.{MemberView}
-use Rattle.implib.proofs.Link.LinkedMembers.{among_contains}
+use Rattle.implib.specs.Formats.Constants.{class_external}
+use Rattle.implib.specs.Formats.Object.{ASymbol}
+use Rattle.implib.specs.Import.{Ordinal}
+use Rattle.implib.specs.Link.Load.{NumberAt, TableAt}
+use Rattle.implib.specs.Link.Placement.{next_multiple}
+use Rattle.implib.specs.Link.Resolution.{symbol_address, SymbolDefinition}
+use Rattle.implib.specs.Members.ImportTables.{zeros}
 use Rattle.implib.proofs.Link.Loading.{number_once}
-use Rattle.implib_link.specs.Directory.{DirectoryAt}
-use Rattle.implib_link.specs.Flavors.Expansion.{expanded_in}
-use Rattle.implib_link.specs.Flavors.LldImports.{grouped}
-use Rattle.implib_link.specs.Flavors.Program.{FlavorInput, OfMember, SymbolsAt, SymbolsGet, exports_chosen, gnu_input, members_linked, objects_taken, own_names}
-use Rattle.implib_link.specs.Gnu.OtherLibraries.{ends_behind, members_from, rows_before}
-use Rattle.implib_link.specs.Search.Archives.{archive_of}
-use Rattle.implib_link.specs.Search.BothFlavors.{IsImportedOfBoth, archive_of_both}
-use Rattle.implib_link.specs.Search.Closed.{IsAliasTaken, IsImported, listed_in}
-use Rattle.implib_link.specs.Search.MsvcArchives.{IsWeakTaken}
-use Rattle.implib_link.specs.Stub.{code_relocated, jump_reads}
-use Rattle.implib_link.proofs.Search.Lists.{any_among, contains_among}
+use Rattle.implib_link.specs.Directory.{DirectoryAt, WalkFinds}
+use Rattle.implib_link.specs.Flavors.Program.{SymbolsAt, SymbolsGet, FlavorInput, OfMember, exports_chosen, gnu_input, members_linked, objects_taken, own_names}
+use Rattle.implib_link.specs.Gnu.Writing.{Writes, ReadsAndWrites, FillsTable, WritesAsItGoes}
+use Rattle.implib_link.specs.Tables.{RiseFrom, Table}
+use Rattle.implib_link.proofs.Search.Lists.{contains_among, any_among}
 use Rattle.implib_link_instances.proofs.Refused.Code.{absent, nothing_there}
 use Rattle.implib_link_instances.proofs.Worked.Calls.{one_of}
-use Rattle.implib_link_instances.proofs.Worked.Lemmas.{differ, no_definition, none_at, none_in, none_passes, number, value}
-use Rattle.implib_link_instances.proofs.Worked.LldPrograms.{lld_opened}
-use Rattle.implib_link_instances.proofs.Worked.Opened.{searched}
-use Rattle.implib_link_instances.specs.Refused.Links.{RefusedFlavorTextLinks, RefusedFlavorTextsLink, RefusedInputImports, RefusedIsImported, RefusedIsImportedBy, RefusedIsImportedOfBoth, RefusedIsTaken, RefusedJumpsThrough, RefusedLinksBeside, RefusedLinksClosed, RefusedLinksClosedForBoth, RefusedLldLinks, RefusedProgramLinks, RefusedRunLinks, asking_entry, f_in, f_input, f_library, f_run, f_short, for_gnu, four_before, jump, later_short, listing, nul_within, unchosen, with_symbol}
-use Rattle.implib_link_instances.specs.Refused.Tables.{zero_image}
-use Rattle.implib_link_instances.specs.Worked.Programs.{code_object, symbol_of_class, touching_8}
-use Rattle.implib_link_instances.specs.Worked.Sources.{source_in, zed_meant, zed_text}
+use Rattle.implib_link_instances.proofs.Worked.Lemmas.{differ, none_in, number, no_definition, none_at, none_passes}
+use Rattle.implib_link_instances.specs.Refused.Links.{RefusedAreTables, RefusedAreTablesLoaded, RefusedFillsBy, RefusedFindsBy, RefusedHoldsAt, RefusedIsInTable, RefusedLoaders, asking, table_at, table_of_f, zero_image, RefusedFlavorTextLinks, RefusedFlavorTextsLink, RefusedInputImports, RefusedIsImportedBy, RefusedIsImported, RefusedIsTaken, RefusedLinksClosed, RefusedLldLinks, RefusedProgramLinks, asking_entry, f_input, f_library, f_short, for_gnu, later_short, listing, nul_within, unchosen}
+use Rattle.implib_link_instances.specs.Worked.Programs.{symbol_of_class, touching_8}
+use Rattle.implib.specs.declared.flavor.Flavor.TheVariants.{Gnu}
+use Rattle.implib.specs.declared.machine.MachineType.TheVariants.{AMD64}
+use Rattle.implib.specs.Formats.ShortImport.{ShortImport}
+use Rattle.implib.specs.Members.MemberSpec.{MemberView}
+use Rattle.implib.proofs.Link.LinkedMembers.{among_contains}
+use Rattle.implib_link.specs.Flavors.Expansion.{expanded_in}
+use Rattle.implib_link.specs.Flavors.LldImports.{grouped}
+use Rattle.implib_link.specs.Search.Libraries.{IsImported, archive_of_both, IsWeakTaken}
+use Rattle.implib_link.specs.Search.Search.{listed_in}
+use Rattle.implib_link_instances.proofs.Worked.Programs.{lld_opened}
+use Rattle.implib_link_instances.proofs.Worked.Search.{searched}
+use Rattle.implib_link_instances.specs.Worked.Flavors.{source_in, zed_meant, zed_text}
+
+-- a field that is 0 leads to nothing
+zero_field : (a n : ℕ) → NumberAt zero_image 4 a n → NumberAt zero_image 4 a 0 → 0 < n → ⊥
+zero_field a n there none some = differ 0 n (number_once zero_image 4 a 0 n none there) some
+
+name_zero : NumberAt zero_image 4 0x100C 0
+name_zero = number zero_image 4 0x100C 0 (0 ∷ 0 ∷ 0 ∷ 0 ∷ []) refl refl refl
+
+addresses_zero : NumberAt zero_image 4 0x1010 0
+addresses_zero = number zero_image 4 0x1010 0 (0 ∷ 0 ∷ 0 ∷ 0 ∷ []) refl refl refl
+
+either_absent : (a b n : ℕ) → NumberAt [] 4 a n ⊎ NumberAt [] 4 b n → ⊥
+either_absent a b n (inl there) = absent a 4 n (omega arith) there
+either_absent a b n (inr there) = absent b 4 n (omega arith) there
+
+pub refused_finds_by : RefusedFindsBy
+unfolding TableAt
+refused_finds_by = record {
+  name_field = λ x. absent 0x100C 4 x.name (omega arith) x.name_field;
+  has_name = λ x. zero_field 0x100C x.name x.name_field name_zero x.has_name;
+  name_text = λ x. nothing_there (codes "f.dll" ++ 0 ∷ []) x.name (omega arith) x.name_text.located;
+  addresses_field = λ x. absent 0x1010 4 x.addresses (omega arith) x.addresses_field;
+  has_addresses = λ x. zero_field 0x1010 x.addresses x.addresses_field addresses_zero x.has_addresses;
+  table_field = λ x. either_absent 0x1000 0x1010 x.table x.table_field;
+  thunks = λ x. absent x.table 8 x.thunks.0.thunk (omega arith) x.thunks.0.located;
+}
+
+pub refused_fills_by : RefusedFillsBy
+unfolding FillsTable
+refused_fills_by = record {
+  name_field = λ x. absent 0x100C 4 x.name (omega arith) x.name_field;
+  has_name = λ x. zero_field 0x100C x.name x.name_field name_zero x.has_name;
+  name_text = λ x. nothing_there (codes "f.dll" ++ 0 ∷ []) x.name (omega arith) x.name_text.located;
+  addresses_field = λ x. absent 0x1010 4 x.addresses (omega arith) x.addresses_field;
+  has_addresses = λ x. zero_field 0x1010 x.addresses x.addresses_field addresses_zero x.has_addresses;
+  lookups_field = λ x. absent 0x1000 4 x.lookups (omega arith) x.lookups_field;
+  fills = λ x. absent x.lookups 8 x.fills.0.thunk (omega arith) x.fills.0.located;
+}
+
+pub refused_holds_at : RefusedHoldsAt
+refused_holds_at = record {
+  once = λ x. let none : [] ≡ record { name = codes "f"; address = Some x.address } ∷ [] = x.once in cc;
+  located = λ x. nothing_there (zeros 8) x.address (omega arith) x.located;
+}
+
+only_table : (x : Table) → Contains (table_at 0x1000 ∷ []) x → x ≡ table_at 0x1000
+only_table x held = one_of x (table_at 0x1000) (contains_among x (table_at 0x1000 ∷ []) held)
+
+pub refused_is_in_table : RefusedIsInTable
+refused_is_in_table = record {
+  held = λ x. none_in x.table x.held;
+  from = λ x. let from : 0x1000 ≤ 0xFFF = subst (λ (t : Table). t.address ≤ 0xFFF) (only_table x.table x.held) x.from in omega arith;
+  to = λ x. let to : 0x1001 ≤ 0x1000 = subst (λ (t : Table). 0x1001 ≤ t.address + 8 * length t.entries) (only_table x.table x.held) x.to in omega arith;
+}
+
+pub refused_are_tables : RefusedAreTables
+unfolding DirectoryAt RiseFrom
+refused_are_tables = record {
+  starts = λ x. let some : 0 < 0 = x.starts.0 in omega arith;
+  ends = λ x. let below : 0x8000_0000 < 0x8000_0000 = x.ends.0 in omega arith;
+  directory = λ x. nothing_there (zeros 20) 0x1000 (omega arith) x.directory;
+  addresses = λ x. absent 0x1010 4 0x1000 (omega arith) (x.addresses 0 (table_at 0x1000) refl);
+  rise = λ x. let low : 0x1000 ≤ 0xFFF = x.rise.1.0 in omega arith;
+  symbols = λ x.
+      let none : [] ≡ record { name = codes "f"; address = Some 0x1000 } ∷ [] = x.symbols 0 0 table_of_f (record { ask = Ordinal 5; symbol = Some (codes "f") }) (codes "f") refl refl refl in
+      cc;
+}
+
+pub refused_are_tables_loaded : RefusedAreTablesLoaded
+refused_are_tables_loaded = record {
+  entries = λ x.
+      let held = x.entries 0 0 table_of_f (record { ask = Ordinal 5; symbol = Some (codes "f") }) (codes "f") refl refl refl in
+      let none : [] ≡ record { name = codes "f"; address = Some held.address } ∷ [] = held.once in
+      cc;
+  within = λ x. none_in x.within.0.table x.within.0.held;
+}
+
+-- an object that leaves `f` to others gets no address
+pub gets_none : (address : ℕ) → symbol_address (asking ∷ []) asking (ASymbol (symbol_of_class (codes "f") 0 class_external)) ≡ Some address → ⊥
+gets_none address is = let none : None ≡ Some address = is in cc
+
+pub refused_loaders : RefusedLoaders
+unfolding DirectoryAt WalkFinds Writes ReadsAndWrites FillsTable WritesAsItGoes SymbolsAt SymbolsGet RiseFrom next_multiple
+refused_loaders = record {
+  directory_at = λ x. nothing_there (zeros 20) 0x1000 (omega arith) x;
+  stops_at = λ x. either_absent 0x100C 0x1010 0 x;
+  walk_finds = λ x. either_absent 0x100C 0x1010 0 x;
+  writes = λ x. differ 0 1 (sym (ap length x)) (omega arith);
+  reads_and_writes = λ x. either_absent 0x100C 0x1010 0 x.0;
+  fills_table = λ x. absent 0x1000 8 0 (omega arith) x.0;
+  writes_as_it_goes = λ x. either_absent 0x100C 0x1010 0 x.0;
+  are_alike = λ x. let none : None ≡ Some 0 = x 0x1000 in cc;
+  symbols_at = λ x. let none : [] ≡ record { name = codes "f"; address = Some 0x1000 } ∷ [] = x.0 in cc;
+  symbols_get = λ x. gets_none 0x1000 (x.0 asking (symbol_of_class (codes "f") 0 class_external) (0, omega arith, refl) (0, omega arith, refl) refl refl);
+  gets_address = λ x. gets_none 0x1000 (x asking (symbol_of_class (codes "f") 0 class_external) (0, omega arith, refl) (0, omega arith, refl) refl refl);
+  rise_from = λ x. let low : 0x1001 ≤ 0x1000 = x.0 in omega arith;
+  are_steady = λ x. differ 0 1 (sym (ap length x)) (omega arith);
+  lie_within = λ x. let from : 0x1001 ≤ 0x1000 = x.0.0 in omega arith;
+  where_member = λ x. differ 102 103 (ap (λ (text : List ℕ). slice_index text 0) x) (omega arith);
+  are_claimed = λ x. differ 0 1 (ap length x) (omega arith);
+}
+
+-- What no link gives, by computing.
 
 nowhere : (address : ℕ) → None ≡ Some address → ⊥
 nowhere address is = cc
@@ -117,55 +216,18 @@ refused_program_links = record {
   claimed = λ x. none_passes (bytes_eq (codes "more")) (codes "more") (own_names OfMember AMD64 []) refl ((x.claimed (codes "more")).0 (0, omega arith, refl)) refl;
 }
 
-pub refused_run_links : RefusedRunLinks
-unfolding searched
-refused_run_links = record {
-  imports = λ x. no_definition _ (x.imports 0 f_input refl).top;
-  targets = λ x. nowhere x.targets.0.1.1.1.0.1.1.0.0 x.targets.0.1.1.1.0.1.1.0.1;
-  defined = λ x. no_definition _ x.defined.0.1;
-}
-
-pub refused_links_beside : RefusedLinksBeside
-unfolding searched DirectoryAt members_from ends_behind rows_before
-refused_links_beside = record {
-  linked = λ x. none_in _ x.linked.0.0.from_members.0;
-  members = λ x. no_definition _ ((x.members 0 f_run refl).imports 0 f_input refl).top;
-  rows = λ x. differ 4 8 (sym (x.rows 0 four_before refl)) (omega arith);
-  directory = λ x. nothing_there (zeros 20) 4 (omega arith) x.directory;
-  listed = λ x. no_definition _ x.listed.0.1;
-}
-
-f_listed : Contains (listed_in (archive_of (f_library ∷ []))) (codes "f")
-unfolding searched
-f_listed = among_contains (codes "f") (listed_in (archive_of (f_library ∷ []))) (any_among (codes "f") (listed_in (archive_of (f_library ∷ []))) refl)
-
-not_resolved : IsImported AMD64 [] touching_8 [] (codes "f") ⊎ IsAliasTaken [] (codes "f") → ⊥
-unfolding searched
-not_resolved (inl x) = none_at x.number x.input x.input_is
-not_resolved (inr x) = none_in x.0 x.1
-
-pub refused_links_closed : RefusedLinksClosed
-unfolding searched
-refused_links_closed = record {
-  taken_is = λ x. none_in listing ((x.taken_is.inputs listing).0 (0, omega arith, refl));
-  program = λ x. differ 0 1 (ap length x.program.held.ended.tables) (omega arith);
-  links = λ x. none_in _ x.links.linked.0.from_members.0;
-  resolved = λ x. not_resolved (x.resolved (codes "f") (0, omega arith, refl) f_listed);
-  closed = λ x. x.closed (codes "f") (0, omega arith, refl) f_listed;
-}
-
 f_listed_for_both : Contains (listed_in (archive_of_both (for_gnu f_library))) (codes "f")
 unfolding searched
 f_listed_for_both = among_contains (codes "f") (listed_in (archive_of_both (for_gnu f_library))) (any_among (codes "f") (listed_in (archive_of_both (for_gnu f_library))) refl)
 
-not_resolved_for_both : IsImportedOfBoth AMD64 [] touching_8 [] (codes "f") ⊎ IsWeakTaken AMD64 [] (codes "f") → ⊥
+not_resolved_for_both : IsImported AMD64 [] touching_8 [] (codes "f") ⊎ IsWeakTaken AMD64 [] (codes "f") → ⊥
 unfolding searched
 not_resolved_for_both (inl x) = none_at x.number x.input x.input_is
 not_resolved_for_both (inr x) = none_in x.0 x.1
 
-pub refused_links_closed_for_both : RefusedLinksClosedForBoth
+pub refused_links_closed : RefusedLinksClosed
 unfolding searched
-refused_links_closed_for_both = record {
+refused_links_closed = record {
   taken_is = λ x. none_in listing ((x.taken_is.inputs listing).0 (0, omega arith, refl));
   program = λ x. none_in x.program.held.ended.null_from x.program.held.ended.null_held;
   links = λ x. none_in _ x.links.linked.0.from_members.0;
@@ -185,13 +247,6 @@ undefined name address (inr x) = no_definition _ x.2.1
 pub refused_is_imported : RefusedIsImported
 refused_is_imported = record {
   input_is = λ x. none_at x.number x.input x.input_is;
-  export_is = λ x. none_at x.index x.export (subst (λ (p : LinkInput). slice_get (chosen_exports p.definition p.chosen) x.index ≡ Some x.export) (sym (only_one unchosen x.input x.number x.input_is)) x.export_is);
-  by = λ x. undefined (codes "f") _ x.by;
-}
-
-pub refused_is_imported_of_both : RefusedIsImportedOfBoth
-refused_is_imported_of_both = record {
-  input_is = λ x. none_at x.number x.input x.input_is;
   export_is = λ x. none_at x.index x.export (subst (λ (p : FlavorInput). slice_get (exports_chosen p) x.index ≡ Some x.export) (sym (only_one (gnu_input unchosen) x.input x.number x.input_is)) x.export_is);
   by = λ x. undefined (codes "f") _ x.by;
 }
@@ -206,37 +261,4 @@ unfolding DirectoryAt
 refused_flavor_texts_link = record {
   among = λ x. nothing_there (zeros 20) 4 (omega arith) x.among.directory;
   imports = λ x. no_definition _ (x.imports 0 (source_in Gnu AMD64 zed_text (zed_meant AMD64) (0 ∷ [])) refl).imports.top;
-}
-
--- the one object and its one symbol
-abbrev first_of : List Placed → Placed
-first_of [] = record { object = code_object []; section_addresses = [] }
-first_of (p ∷ linked) = p
-
-only_from : (s : ObjectSymbol) (sections : List ObjectSection) (from : Placed) → Contains (with_symbol s sections) from → from ≡ first_of (with_symbol s sections)
-only_from s sections from held = one_of from (first_of (with_symbol s sections)) (contains_among from (with_symbol s sections) held)
-
-only_symbol : (s : ObjectSymbol) (sections : List ObjectSection) (from : Placed) (symbol : ObjectSymbol) → Contains (with_symbol s sections) from → Contains from.object.entries (ASymbol symbol) → symbol ≡ s
-only_symbol s sections from symbol held defined =
-    let entry : ASymbol symbol ≡ ASymbol s =
-    one_of (ASymbol symbol) (ASymbol s) (contains_among (ASymbol symbol) (ASymbol s ∷ []) (subst (λ (p : Placed). Contains p.object.entries (ASymbol symbol)) (only_from s sections from held) defined)) in
-    cc
-
-pub refused_jumps_through : RefusedJumpsThrough
-refused_jumps_through = record {
-  once = λ x. no_definition _ x.once.1;
-  held = λ x. none_in x.from x.held;
-  defined = λ x.
-      let empty : Placed = record { object = code_object []; section_addresses = [] } in
-      none_in (ASymbol x.symbol) (subst (λ (p : Placed). Contains p.object.entries (ASymbol x.symbol)) (one_of x.from empty (contains_among x.from (empty ∷ []) x.held)) x.defined);
-  named = λ x. differ 102 103 (ap first_letter (sym (ap (λ (s : ObjectSymbol). s.name) (only_symbol (f_in 1) jump x.from x.symbol x.held x.defined)) ∙ x.named)) (omega arith);
-  shared = λ x. differ 2 3 (sym (sym (ap (λ (s : ObjectSymbol). s.class) (only_symbol (symbol_of_class (codes "f") 1 class_static) jump x.from x.symbol x.held x.defined)) ∙ x.shared)) (omega arith);
-  first = λ x. differ 1 2 (sym (sym (ap (λ (s : ObjectSymbol). s.section) (only_symbol (f_in 2) jump x.from x.symbol x.held x.defined)) ∙ x.first)) (omega arith);
-  begins = λ x. differ 0 8 (sym (sym (ap (λ (s : ObjectSymbol). s.value) (only_symbol (record (f_in 1) { value = 8 }) jump x.from x.symbol x.held x.defined)) ∙ x.begins)) (omega arith);
-  here = λ x. let none : None ≡ Some x.code = subst (λ (p : Placed). slice_get p.object.sections 0 ≡ Some x.code) (only_from (f_in 1) [] x.from x.held) x.here in cc;
-  jumps = λ x.
-      let is : slice_get jump 0 ≡ Some x.code = subst (λ (p : Placed). slice_get p.object.sections 0 ≡ Some x.code) (only_from (f_in 1) jump x.from x.held) x.here in
-      let code : section (codes ".text") table_flags (0xFF ∷ 0x25 ∷ 0 ∷ 0 ∷ 0 ∷ 0 ∷ []) [] ≡ x.code = cc in
-      let reads : Some 0 ≡ Some 0x60 = subst (λ (c : ObjectSection). jump_reads I386 0x1000 (code_relocated I386 0 (with_symbol (f_in 1) jump) x.from 0x1000 c.relocations c.bytes) ≡ Some 0x60) (sym code) (x.jumps 0x1000 (omega arith)) in
-      differ 0 0x60 (value 0 0x60 reads) (omega arith);
 }

@@ -3,27 +3,17 @@ use Rattle.std.proofs.Common.{List, None, Some, [], ap, arith, codes, inl, inr, 
 use Rattle.std.specs.Prelude.{slice_index}
 use Rattle.std.specs.List.{Contains}
 use Rattle.std.proofs.lemmas.Bool.{true≢false}
-use Rattle.implib.specs.declared.machine.MachineType.TheVariants.{AMD64}
 use Rattle.implib.specs.Definition.{ExportView}
 use Rattle.implib.specs.Import.{imp_symbol}
-use Rattle.implib.specs.Link.LinkedMembers.{linked_members}
 use Rattle.implib.specs.Members.MemberSpec.{MemberView}
 use Rattle.implib.specs.Members.Msvc.{short_import_symbol}
-use Rattle.implib_link.specs.Flavors.Program.{LinksAmong, gnu_input}
-use Rattle.implib_link.specs.Gnu.Program.{linked_symbols}
-use Rattle.implib_link.specs.Search.MsvcArchives.{is_short_alias}
-use Rattle.implib_link.specs.Search.Archives.{Library, exports_of}
-use Rattle.implib_link.specs.Search.BothFlavors.{IsWeakOfBoth}
-use Rattle.implib_link.specs.Search.Closed.{AreTakenIntoAs}
-use Rattle.implib_link.specs.Search.Search.{AreTakenInTurnAs}
+use Rattle.implib_link.specs.Search.Libraries.{is_short_alias, IsWeakOfLibraries}
+use Rattle.implib_link.specs.Search.Search.{Library, exports_of, AreTakenIntoAs}
 use Rattle.implib_link.proofs.Search.Lists.{contains_among}
 use Rattle.implib_link_instances.proofs.Worked.Calls.{one_of}
-use Rattle.implib_link_instances.proofs.Worked.Lemmas.{differ, no_definition, none_in}
-use Rattle.implib_link_instances.proofs.Worked.Opened.{searched}
-use Rattle.implib_link_instances.specs.Refused.Links.{f_library, listing}
-use Rattle.implib_link_instances.specs.Refused.Searches.{RefusedImportsWanted, RefusedIsLinkedOfWanted, RefusedIsWeakData, RefusedIsWeakShort, RefusedPullsIntoAs, RefusedSearches, RefusedTakesAs, RefusedTakesIntoAs, RefusedTakesOfBoth, RefusedTakesOfLibraries, exportless, f_export}
-use Rattle.implib_link_instances.specs.Worked.Programs.{touching_8}
-use Rattle.implib_link_instances.specs.Worked.Search.{members_of, three, by_name, searched_objects}
+use Rattle.implib_link_instances.proofs.Worked.Lemmas.{differ, none_in}
+use Rattle.implib_link_instances.proofs.Worked.Search.{searched}
+use Rattle.implib_link_instances.specs.Refused.Links.{f_library, listing, RefusedIsWeakData, RefusedIsWeakShort, RefusedPullsIntoAs, RefusedSearches, RefusedTakesIntoAs, RefusedTakesOfLibraries, exportless, f_export}
 
 pub refused_pulls_into : RefusedPullsIntoAs
 unfolding searched
@@ -33,13 +23,6 @@ refused_pulls_into = record {
   new = λ x. x.new (0, omega arith, refl);
 }
 
-pub refused_takes : RefusedTakesAs
-unfolding searched AreTakenInTurnAs
-refused_takes = record {
-  in_turn = λ x. none_in x.in_turn.0.0 x.in_turn.0.1.named;
-  ended = λ x. x.ended (codes "f") listing (record { named = (0, omega arith, refl); undefined = refl; listed = refl; new = λ held. none_in listing held });
-}
-
 pub refused_takes_into : RefusedTakesIntoAs
 unfolding searched AreTakenIntoAs
 refused_takes_into = record {
@@ -47,20 +30,13 @@ refused_takes_into = record {
   ended = λ x. x.ended (codes "f") listing (record { named = (0, omega arith, refl); listed = refl; new = λ held. none_in listing held });
 }
 
-pub refused_takes_of_libraries : RefusedTakesOfLibraries
-unfolding searched
-refused_takes_of_libraries = record {
-  inputs = λ x. none_in listing ((x.inputs listing).0 (0, omega arith, refl));
-  weak = λ x. none_in _ x.weak.0.held;
-}
-
-not_weak : (names : List (List ℕ)) (m : MemberView) → IsWeakOfBoth [] names m → ⊥
+not_weak : (names : List (List ℕ)) (m : MemberView) → IsWeakOfLibraries [] names m → ⊥
 not_weak names m (inl x) = none_in x.library x.held
 not_weak names m (inr x) = none_in x.library x.held
 
-pub refused_takes_of_both : RefusedTakesOfBoth
+pub refused_takes_of_libraries : RefusedTakesOfLibraries
 unfolding searched
-refused_takes_of_both = record {
+refused_takes_of_libraries = record {
   inputs = λ x. none_in listing ((x.inputs listing).0 (0, omega arith, refl));
   weak = λ x. not_weak _ _ x.weak.0;
 }
@@ -101,46 +77,11 @@ refused_is_weak_short = record {
   listed = λ x. differ 0 1 (ap length x.listed) (omega arith);
 }
 
--- no members are linked of no numbers but the head and the tail
-four_linked : (chosen : List ℕ) → chosen ≡ [] → by_name ≡ linked_members three AMD64 chosen → ⊥
-unfolding searched
-four_linked chosen none is =
-    let two : 4 ≡ 2 = ap length is ∙ ap (λ (ns : List ℕ). length (linked_members three AMD64 ns)) none in
-    differ 2 4 (sym two) (omega arith)
-
--- the same as none is none
-none_same : (chosen : List ℕ) → ((n : ℕ) → Contains chosen n → Contains [] n) → chosen ≡ []
-none_same [] same = refl
-none_same (n ∷ ns) same = absurd (none_in n (same n (0, omega arith, refl)))
-
-pub refused_is_linked_of_wanted : RefusedIsLinkedOfWanted
-unfolding searched
-refused_is_linked_of_wanted = record {
-  same = λ x. four_linked x.chosen (none_same x.chosen (λ n. (x.same n).0)) x.linked;
-  linked = λ x. differ 0 (length (linked_members three AMD64 x.chosen)) (ap length x.linked) (omega arith);
-}
-
--- the names that are claimed are more than those of the head and the tail
-few_listed : (chosen : List ℕ) → chosen ≡ [] → (x : LinksAmong AMD64 touching_8 (record { definition = three; members = members_of three; chosen = chosen } ∷ []) searched_objects) → ⊥
-unfolding searched
-few_listed chosen none x =
-    let listed : List ℕ → ℕ = λ ns. length (linked_symbols AMD64 (record { definition = three; members = members_of three; chosen = ns } ∷ [])) in
-    let two : 5 ≡ 2 = ap length x.claimed ∙ ap listed none in
-    differ 2 5 (sym two) (omega arith)
-
-pub refused_imports_wanted : RefusedImportsWanted
-refused_imports_wanted = record {
-  same = λ x. few_listed x.chosen (none_same x.chosen (λ n. (x.same n).0)) x.links;
-  links = λ x. no_definition _ (x.links.imports 0 (gnu_input (record { definition = three; members = members_of three; chosen = x.chosen })) refl).top;
-}
-
 pub refused_searches : RefusedSearches
 unfolding searched AreTakenIntoAs
 refused_searches = record {
   have_same = λ x. none_in (codes "f") ((x (codes "f")).0 (0, omega arith, refl));
   are_taken_into_as = λ x. none_in x.0.0 x.0.1.named;
-  is_alias_taken = λ x. none_in x.0 x.1;
-  is_used = λ x. none_in x.0 x.2;
   is_used_in = λ x. none_in x.0 x.2;
   is_weak_among = λ x. none_in x.0 x.2;
   is_weak_of_both = λ x. not_weak [] listing x;

@@ -1,44 +1,101 @@
--- The calls and the pointer by an alias by hand, by computing and by the law.
-use Rattle.implib_link.specs.Gnu.Fields.{LinkedCode}
-use Rattle.std.proofs.Common.{◌≡◌, ℕ, ◌^◌, Bool, true, List, [], ◌∷◌, ◌++◌, codes, Option, None, Some, refl, ap, sym, ◌∙◌, subst, arith, true≢false}
-use Rattle.std.specs.Prelude.{drop, take, ◌==◌, if◌then◌else◌}
-use Rattle.std.specs.List.{list_all}
-use Rattle.std.specs.Option.{option_and_then}
-use Rattle.std.proofs.lemmas.Bool.{eqb-true}
-use Rattle.implib.specs.declared.machine.MachineType.TheVariants.{AMD64}
-use Rattle.implib.specs.Formats.Bytes.{u32_bytes}
+-- Programs of texts by hand, by computing and by the laws.
+use Rattle.std.proofs.Common.{[], ◌∷◌, arith, map, refl, ◌≡◌, ℕ, ◌^◌, Bool, true, List, ◌++◌, codes, Option, None, Some, ap, sym, ◌∙◌, subst, true≢false}
+use Rattle.std.specs.List.{AllByRecursion, list_all}
+use Rattle.implib.specs.declared.flavor.Flavor.TheVariants.{Msvc}
+use Rattle.implib.specs.declared.machine.MachineType.{MachineType}
+use Rattle.implib.specs.declared.machine.MachineType.TheVariants.{AMD64, ARM64, ARMNT, I386}
 use Rattle.implib.specs.Formats.Layout.{encoded_size, entries_of, name_text, object_of}
-use Rattle.implib.specs.Formats.Object.{ASymbol, Auxiliary, Entry, u32_at}
 use Rattle.implib.specs.Formats.ShortImport.{short_import_in}
-use Rattle.implib.specs.Import.{imp_symbol}
-use Rattle.implib.specs.Link.Image.{image_of}
-use Rattle.implib.specs.Link.Placement.{Placed}
-use Rattle.implib.specs.Link.Resolution.{definitions_of, first_address, is_undefined_external, symbol_address}
 use Rattle.implib.specs.Members.GnuMembers.{alias_specs}
 use Rattle.implib.specs.Members.Members.{refusal, renamed_refusal}
 use Rattle.implib.specs.Members.MsvcMembers.{descriptor_spec, header_specs, null_descriptor_spec, null_thunk_spec, weak_specs}
 use Rattle.implib.specs.Members.MsvcObjects.{base_name, descriptor, descriptor_symbol, null_descriptor, null_descriptor_symbol, null_thunk, null_thunk_symbol}
 use Rattle.implib.specs.Members.WeakExternal.{weak_object}
+use Rattle.implib.specs.Text.Parses.{Parses}
+use Rattle.implib.proofs.Worked.Statements.{opened as text_opened, parses}
+use Rattle.implib_link.specs.Flavors.Expansion.{import_object, descriptor_symbol_by_name, expanded_in, with_section_symbols}
+use Rattle.implib_link.specs.Flavors.Program.{OfMember, all_members, IsProgramOf, AreProgramObjects, IsProgram, OfLinker, has_tables, linked_symbols, symbols_listed, group_end, packed, packed_end, sections_end}
+use Rattle.implib_link.specs.Flavors.Texts.{FlavorSource, IsFlavorSource, input_of, link_input_of}
+use Rattle.implib_link_instances.specs.Worked.Flavors.{WorkedSource, WorkedSources, both_sources, both_text_objects, foo_meant, foo_text, gnu_sources, gnu_text_objects, source_in, zed_meant, zed_text, both_inputs as flavor_inputs, flavor_bases_8, foo_input as msvc_input}
+use Rattle.implib_link.proofs.Flavors.Program.{packed_objects, gnu_objects}
+use Rattle.implib_link.proofs.Flavors.Texts.{texts_link}
+use Rattle.implib_link_instances.proofs.Worked.GnuPacked.{packed_is_program}
+use Rattle.implib_link_instances.proofs.Worked.Flavors.{opened, flavor_objects_by}
+use Rattle.implib_link_instances.proofs.Worked.Programs.{distinct_by, claims_none_by, admissible_by, relocated_test}
+use Rattle.implib_link_instances.proofs.Worked.Search.{below_limit}
+use Rattle.implib_link_instances.proofs.Worked.Lemmas.{IsX86}
+use Rattle.implib_link.specs.Gnu.Fields.{LinkedCode, PlacedCode, Resolves}
+use Rattle.std.specs.Prelude.{drop, take, ◌==◌, if◌then◌else◌}
+use Rattle.std.specs.Option.{option_and_then}
+use Rattle.std.proofs.lemmas.Bool.{eqb-true}
+use Rattle.implib.specs.Formats.Bytes.{u32_bytes}
+use Rattle.implib.specs.Formats.Object.{ASymbol, Auxiliary, Entry, u32_at}
+use Rattle.implib.specs.Import.{imp_symbol}
+use Rattle.implib.specs.Link.Image.{image_of}
+use Rattle.implib.specs.Link.Placement.{Placed}
+use Rattle.implib.specs.Link.Resolution.{definitions_of, first_address, is_undefined_external, symbol_address}
 use Rattle.implib.proofs.Link.Ranges.{apart_as_they_rise}
-use Rattle.implib_link.specs.Flavors.Expansion.{descriptor_symbol_by_name, expanded_in, import_object}
-use Rattle.implib_link.specs.Flavors.Program.{OfMember, all_members, symbols_listed, IsProgramOf, IsProgram}
-use Rattle.implib_link.specs.Flavors.SectionSymbols.{with_section_symbols}
 use Rattle.implib_link.specs.Gnu.Aliases.{ResolvesAliases, weak_target}
-use Rattle.implib_link.specs.Gnu.Calls.{HasCall, PlacedCode, Resolves}
-use Rattle.implib_link.specs.Gnu.Packed.{group_end, sections_end}
-use Rattle.implib_link.specs.Gnu.Pointers.{HasLoad}
-use Rattle.implib_link.specs.Gnu.Program.{has_tables, linked_symbols}
-use Rattle.implib_link_instances.specs.Worked.Aliases.{WorkedAlias, WorkedFlavorAlias, alias_at, alias_calling, alias_codes, alias_load_at, alias_loading, alias_objects, alias_placed, all_at, opened_flavors, opened_name, opened_placed}
-use Rattle.implib_link_instances.specs.Worked.Calls.{first_bytes, last_bytes, CodesBeside, code_ranges, linked_codes, as_placed}
-use Rattle.implib_link_instances.specs.Worked.Flavors.{both_inputs as flavor_inputs, flavor_bases_8, foo_input as msvc_input}
+use Rattle.implib_link_instances.specs.Worked.OtherNames.{WorkedAlias, WorkedFlavorAlias, alias_calling, alias_codes, alias_loading, alias_objects, alias_placed, all_at, opened_flavors, opened_name, opened_placed}
+use Rattle.implib_link_instances.specs.Worked.Operands.{CodesBeside, code_ranges, linked_codes, as_placed}
 use Rattle.implib_link_instances.specs.Worked.Programs.{both_inputs, touching_8}
-use Rattle.implib_link.proofs.Gnu.Aliases.{weak_is_weak}
+use Rattle.implib_link.proofs.Tables.{weak_is_weak}
 use Rattle.implib_link.proofs.Search.Lists.{among_at, contains_among, each_of}
 use Rattle.implib_link_instances.proofs.Worked.Calls.{is_none, all_unwanted, none_wanted, beside_by, codes_tested}
-use Rattle.implib_link_instances.proofs.Worked.Programs.{claims_none_by, distinct_by, opened, admissible_by, instructions_at}
-use Rattle.implib_link_instances.proofs.Worked.Flavors.{flavor_objects_by}
-use Rattle.implib_link_instances.proofs.Worked.LinkedCode.{relocated_test}
-use Rattle.implib_link.proofs.Flavors.GnuPrograms.{gnu_objects}
+
+foo : (machine : MachineType) → IsX86 machine → Parses foo_text machine (foo_meant machine)
+unfolding text_opened
+foo ARMNT none = absurd none
+foo ARM64 none = absurd none
+foo machine _ = parses foo_text machine (foo_meant machine) refl refl
+
+zed : (machine : MachineType) → IsX86 machine → Parses zed_text machine (zed_meant machine)
+unfolding text_opened
+zed ARMNT none = absurd none
+zed ARM64 none = absurd none
+zed machine _ = parses zed_text machine (zed_meant machine) refl refl
+
+worked : (machine : MachineType) → IsX86 machine → WorkedSource machine
+unfolding opened refusal renamed_refusal alias_specs encoded_size weak_object has_tables expanded_in short_import_in import_object descriptor_symbol_by_name with_section_symbols descriptor null_descriptor null_thunk descriptor_symbol null_descriptor_symbol null_thunk_symbol base_name descriptor_spec null_descriptor_spec null_thunk_spec header_specs weak_specs group_end sections_end
+worked ARMNT none = absurd none
+worked ARM64 none = absurd none
+worked machine is = record {
+  gnu = gnu;
+  gnu_program = gnu_program;
+  gnu_links = texts_link machine OfLinker (packed 1 (gnu_text_objects machine)) (gnu_sources machine) (gnu_text_objects machine) gnu gnu_program;
+  both = both;
+  both_program = both_program;
+  both_link = texts_link machine OfMember (packed 1 (both_text_objects machine)) (both_sources machine) (both_text_objects machine) both both_program;
+}
+  where
+    gnu : AllByRecursion (IsFlavorSource machine) (gnu_sources machine)
+    gnu = (
+      record { of_text = record { parsed = foo_meant machine; parses = foo machine is; held = refl }; made = record { accepted = refl; made = refl; ordinals = refl } },
+      (record { of_text = record { parsed = zed_meant machine; parses = zed machine is; held = refl }; made = record { accepted = refl; made = refl; ordinals = refl } }, tt),
+    )
+
+    gnu_program : IsProgram machine (packed 1 (gnu_text_objects machine)) (map (λ (s : FlavorSource). link_input_of s.source) (gnu_sources machine)) (gnu_text_objects machine)
+    gnu_program =
+        packed_is_program machine 1 (map (λ (s : FlavorSource). link_input_of s.source) (gnu_sources machine)) (record { accepted = refl; made = refl; ordinals = refl }, (record { accepted = refl; made = refl; ordinals = refl }, tt))
+        (distinct_by (linked_symbols machine (map (λ (s : FlavorSource). link_input_of s.source) (gnu_sources machine))) refl) (omega arith) (below_limit (packed_end 1 (gnu_text_objects machine)) refl)
+
+    both : AllByRecursion (IsFlavorSource machine) (both_sources machine)
+    both = (
+      record { of_text = record { parsed = foo_meant machine; parses = foo machine is; held = refl }; made = record { accepted = refl; made = refl; ordinals = refl } },
+      (record { of_text = record { parsed = zed_meant machine; parses = zed machine is; held = refl }; made = record { accepted = refl; made = refl; ordinals = refl } }, tt),
+    )
+
+    objects : AreProgramObjects machine OfMember (map input_of (both_sources machine)) (both_text_objects machine)
+    objects = flavor_objects_by (input_of (source_in Msvc machine foo_text (foo_meant machine) (1 ∷ 0 ∷ []))) [] (all_members machine (map input_of (both_sources machine))) (0, omega arith, refl) (refl, (tt, tt)) refl refl refl refl refl
+
+    both_program : IsProgramOf machine OfMember (packed 1 (both_text_objects machine)) (map input_of (both_sources machine)) (both_text_objects machine)
+    both_program =
+        packed_objects machine OfMember 1 (map input_of (both_sources machine)) (both_text_objects machine) (record { accepted = refl; made = refl; ordinals = refl }, (record { accepted = refl; made = refl; ordinals = refl }, tt)) objects (omega arith) (below_limit (packed_end 1 (both_text_objects machine)) refl)
+
+pub worked_sources : WorkedSources
+worked_sources = record { amd64 = worked AMD64 tt; i386 = worked I386 tt }
+
+-- The calls and the pointer by an alias by hand, by computing and by the law.
 
 program : IsProgram AMD64 touching_8 (both_inputs AMD64) alias_objects
 unfolding opened alias_specs encoded_size weak_object has_tables object_of entries_of name_text u32_bytes
@@ -117,12 +174,6 @@ resolves : ResolvesAliases alias_placed (linked_codes AMD64 0x1_4000_0000 (all_a
 unfolding opened alias_specs encoded_size weak_object has_tables object_of entries_of name_text u32_bytes u32_at
 resolves = aliases_at alias_placed (linked_codes AMD64 0x1_4000_0000 (all_at 0x80) alias_codes) 0x80 refl
 
-has : HasCall AMD64 alias_at 4 opened_name
-has = instructions_at (first_bytes AMD64) (last_bytes AMD64) 1 [] [] tt tt refl refl refl refl
-
-loads : HasLoad AMD64 alias_load_at 4 opened_name
-loads = instructions_at (first_bytes AMD64) (last_bytes AMD64) 1 [] [] tt tt refl refl refl refl
-
 undefined : definitions_of opened_name alias_placed ≡ []
 unfolding opened alias_specs encoded_size weak_object has_tables object_of entries_of name_text u32_bytes
 undefined = refl
@@ -135,8 +186,6 @@ worked_alias = record {
   resolves = resolves;
   undefined = undefined;
   weak = weak_is;
-  calls = has;
-  loads = loads;
   call_is = refl;
   load_is = refl;
   member = weak_is_weak AMD64 (codes "__imp_bar") (codes "__imp_baz") [] alias_placed;
@@ -189,8 +238,6 @@ worked_flavor_alias = record {
   resolves = flavors_resolves;
   undefined = flavors_undefined;
   weak = flavors_weak;
-  calls = has;
-  loads = loads;
   call_is = refl;
   load_is = refl;
 }

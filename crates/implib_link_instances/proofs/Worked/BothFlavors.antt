@@ -1,41 +1,32 @@
 -- The closed program of both flavours that was linked by hand, by computing and by the laws.
-use Rattle.std.proofs.Common.{List, [], arith, codes, false, length, map, refl, subst, sym, true, ℕ, ◌++◌, ◌<◌, ◌^◌, ◌∙◌, ◌∷◌, ◌≡◌}
+use Rattle.std.proofs.Common.{List, [], arith, codes, false, map, refl, subst, sym, true, ℕ, ◌++◌, ◌<◌, ◌^◌, ◌∙◌, ◌∷◌, ◌≡◌}
 use Rattle.std.specs.Prelude.{IsPermutation, bytes_eq, not}
 use Rattle.std.specs.List.{AllByRecursion, Contains, filter, flat_map, list_all, list_any}
 use Rattle.std.proofs.lemmas.Bool.{and_parts, not-true, true≢false}
 use Rattle.std.proofs.lemmas.Grind.{flat_map-append}
+use Rattle.implib.specs.declared.flavor.Flavor.TheVariants.{Msvc}
 use Rattle.implib.specs.declared.machine.MachineType.TheVariants.{AMD64}
 use Rattle.implib.specs.Formats.Object.{Object}
 use Rattle.implib.specs.Members.MemberSpec.{MemberView}
 use Rattle.implib.specs.Members.MsvcObjects.{descriptor_symbol, null_descriptor_symbol}
 use Rattle.implib.proofs.Link.LinkedMembers.{among_contains, among_map}
-use Rattle.implib.proofs.Link.Ranges.{Among, all_among, among_back, among_front}
-use Rattle.implib_link.specs.Flavors.Program.{all_members, objects_taken}
-use Rattle.implib_link.specs.Gnu.Packed.{group_end, packed, packed_end, sections_end}
-use Rattle.implib_link.specs.Gnu.Program.{ClaimsNone, HaveSame, claimed_names, has_tables}
-use Rattle.implib_link.specs.Search.Archives.{IsArchive, IsLibrary, symbols_of_library}
-use Rattle.implib_link.specs.Search.BothFlavors.{AreClosedForBoth, AreGivenForBoth, FlavorLibrary, IsClosedForBoth, IsFlavorArchive, NamesNoMembers, archive_of_both, gnu_among, inputs_of_both, kept_of_both, msvc_among}
-use Rattle.implib_link.specs.Search.Closed.{listed_in, unresolved}
-use Rattle.implib_link.specs.Search.Msvc.{TakesFor, left_in}
-use Rattle.implib_link.specs.Search.MsvcArchives.{IsMsvcArchive, IsMsvcLibrary, PullsIntoFor, TakesIntoFor, first_null, short_inputs, symbols_of_all_shorts, symbols_of_shorts, wanted_for, weak_in}
-use Rattle.implib_link.specs.Search.Search.{AreTakenInTurnAs, left_as, undefined_in}
-use Rattle.implib_link_instances.specs.Worked.BothFlavors.{WorkedBoth, WorkedBothExists, WorkedGivenForBoth, WorkedReversed, WorkedReversedExists, foo_and_zed, mixed_bases, mixed_objects, mixed_taken, mixed_without_last, reversed_bases, reversed_objects, zed_and_foo}
-use Rattle.implib_link_instances.specs.Worked.Closed.{choosing, clashing, foo_linked}
-use Rattle.implib_link_instances.specs.Worked.MsvcSearch.{thunk_named, zed_members}
-use Rattle.implib_link.proofs.Search.Taken.{both_taken}
+use Rattle.implib.proofs.Link.Ranges.{Among, all_among, among_front}
+use Rattle.implib_link.specs.Flavors.Program.{AreEnded, Ending, FlavorInput, OfMember, objects_taken, ClaimsNone, HaveSame, claimed_names, has_tables, group_end, packed, packed_end, sections_end}
+use Rattle.implib_link.specs.Search.Search.{IsArchive, IsLibrary, symbols_of_library, listed_in, unresolved, PullsIntoAs}
+use Rattle.implib_link.specs.Search.Libraries.{AreClosed, AreGiven, FlavorLibrary, IsClosed, IsFlavorArchive, NamesNoMembers, archive_of_both, gnu_among, inputs_in, symbols_kept, msvc_among, LinksClosed, left_in, IsMsvcArchive, IsMsvcLibrary, TakesIntoFor, symbols_of_all_shorts, symbols_of_shorts, wanted_for, weak_in, HasClosed, objects_closed, tables_end_by}
+use Rattle.implib_link_instances.specs.Worked.BothFlavors.{WorkedBoth, WorkedBothExists, WorkedGiven, foo_and_zed, mixed_bases, mixed_objects, mixed_taken, mixed_without_last, zed_and_foo, choosing, clashing, foo_linked}
+use Rattle.implib_link_instances.specs.Worked.Search.{msvc_zed, thunk_named, zed_members}
 use Rattle.implib_link.proofs.Search.BothClosed.{closed_links_of_both, packed_both}
-use Rattle.implib_link.proofs.Search.Ends.{into_ends}
-use Rattle.implib_link.proofs.Search.Closing.{claims_apart, takes_into, unresolved_parts}
+use Rattle.implib_link.proofs.Search.Ends.{into_ends, search_bounded}
+use Rattle.implib_link.proofs.Search.Closing.{unresolved_parts}
 use Rattle.implib_link.proofs.Search.Lists.{among_any, any_among, contains_among}
-use Rattle.implib_link_instances.proofs.Worked.Opened.{searched}
+use Rattle.implib_link_instances.proofs.Worked.Search.{searched, below_limit, into_by}
 use Rattle.implib_link_instances.proofs.Worked.Programs.{all_differ, claims_none_by, distinct_by, opened}
 use Rattle.implib_link.specs.Flavors.Expansion.{descriptor_symbol_by_name, expanded_in}
 use Rattle.implib.specs.LibraryName.{linked_dll}
 use Rattle.implib.specs.declared.machine.MachineType.{MachineType}
-use Rattle.implib_link_instances.proofs.Worked.Search.{below_limit, takes_by}
 use Rattle.implib.specs.Link.Placement.{next_multiple}
-use Rattle.implib_link.specs.Search.BothExists.{HasClosedForBoth, objects_closed_of_both, tables_end_of_both}
-use Rattle.implib_link.proofs.Search.BothExists.{both_exists, placed_closed, placed_within}
+use Rattle.implib_link.proofs.Search.Exists.{both_exists, placed_closed, placed_within}
 
 abbrev own : List Object
 own = choosing ∷ []
@@ -63,20 +54,15 @@ same_elements : {X : Type 0} (first second : List X) → first ≡ second → Ha
 same_elements first second is = subst (λ xs. HaveSame first xs) is (λ o. (λ held. held, λ held. held))
 
 -- Objects that close a program, which are linked in the order of what is given and taken, by computing.
-pub closed_by : {machine : MachineType} {libraries : List FlavorLibrary} {own : List Object} {taken : List MemberView} {arranged : List FlavorLibrary} {objects : List Object} (before behind : List MemberView) →
-    TakesIntoFor machine (archive_of_both libraries) own taken → 0 < length (short_inputs (msvc_among libraries) (wanted_for machine own taken)) → IsPermutation libraries arranged →
-    filter (λ o. not (has_tables o)) objects ≡ own ++ objects_taken machine (weak_in machine taken) → before ++ behind ≡ all_members machine (inputs_of_both machine arranged own taken) →
-    filter has_tables objects ≡ objects_taken machine (before ++ (first_null machine (msvc_among libraries) ++ behind)) → AllByRecursion (ClaimsNone (listed_in taken ++ left_in machine taken)) own →
-    NamesNoMembers machine libraries (wanted_for machine own taken) → AreClosedForBoth machine libraries own taken arranged objects
-closed_by {machine} {libraries} {own} {taken} {arranged} {objects} before behind takes some order others members tables claims names = record {
+pub closed_by : {machine : MachineType} {ending : Ending} {libraries : List FlavorLibrary} {own : List Object} {taken : List MemberView} {arranged : List FlavorLibrary} {objects : List Object} →
+    TakesIntoFor machine (archive_of_both libraries) own taken → IsPermutation libraries arranged → filter (λ o. not (has_tables o)) objects ≡ own ++ objects_taken machine (weak_in machine taken) →
+    AreEnded ending machine (inputs_in machine arranged own taken) objects → AllByRecursion (ClaimsNone (listed_in taken ++ left_in machine taken)) own → NamesNoMembers machine libraries (wanted_for machine own taken) →
+    AreClosed machine ending libraries own taken arranged objects
+closed_by {machine} {ending} {libraries} {own} {taken} {arranged} {objects} takes order others ended claims names = record {
   takes = takes;
-  some = some;
   order = order;
   others = same_elements (filter (λ o. not (has_tables o)) objects) (own ++ objects_taken machine (weak_in machine taken)) others;
-  before = before;
-  behind = behind;
-  members = members;
-  tables = tables;
+  ended = ended;
   claims = claims;
   names = names;
 }
@@ -104,39 +90,32 @@ archive = record {
   apart = apart_by (null_descriptor_symbol ∷ flat_map symbols_of_shorts (msvc_among foo_and_zed)) (flat_map (symbols_of_library AMD64) (gnu_among foo_and_zed)) refl;
 }
 
-abbrev members : List MemberView
-members = archive_of_both foo_and_zed
-
-abbrev wants : List (List ℕ)
-wants = unresolved (choosing ∷ [])
-
-takes_wanted : TakesFor AMD64 (archive_of_both foo_and_zed) (unresolved (choosing ∷ [])) mixed_taken
-unfolding searched AreTakenInTurnAs
-takes_wanted = takes_by ((0x7F ∷ codes "zed_NULL_THUNK_DATA") ∷ codes "__NULL_IMPORT_DESCRIPTOR" ∷ codes "__IMPORT_DESCRIPTOR_zed" ∷ codes "__imp_queue" ∷ codes "foo_dll_iname" ∷ codes "_head_foo_dll" ∷ codes "baz" ∷ codes "bar" ∷ []) refl refl refl
-
 pub claims : AllByRecursion (ClaimsNone (listed_in mixed_taken ++ left_in AMD64 mixed_taken)) (choosing ∷ [])
 unfolding searched
 claims = (claims_none_by (listed_in mixed_taken ++ left_in AMD64 mixed_taken) choosing refl, tt)
 
--- what the members that are taken leave, the object does not claim
-pub left_apart : (name : List ℕ) → Among name (flat_map undefined_in (objects_taken AMD64 mixed_taken)) → Among name (flat_map claimed_names own) → ⊥
-unfolding left_as
-left_apart name left = claims_apart (listed_in mixed_taken ++ left_in AMD64 mixed_taken) own claims name (among_back name (listed_in mixed_taken) (left_in AMD64 mixed_taken) left)
-
 takes : TakesIntoFor AMD64 (archive_of_both foo_and_zed) (choosing ∷ []) mixed_taken
-takes = takes_into (expanded_in AMD64) members own mixed_taken left_apart takes_wanted
+unfolding searched
+takes = into_by ((0x7F ∷ codes "zed_NULL_THUNK_DATA") ∷ codes "__NULL_IMPORT_DESCRIPTOR" ∷ codes "__IMPORT_DESCRIPTOR_zed" ∷ codes "__imp_queue" ∷ codes "foo_dll_iname" ∷ codes "_head_foo_dll" ∷ codes "baz" ∷ codes "bar" ∷ []) refl refl refl claims
 
 names : NamesNoMembers AMD64 foo_and_zed (wanted_for AMD64 (choosing ∷ []) mixed_taken)
 unfolding searched
 names = record { gnu = (record { head = refl; name = refl }, tt); msvc = (record { descriptor = refl; null_descriptor = refl; null_thunk = refl }, tt) }
 
-closed_objects : AreClosedForBoth AMD64 foo_and_zed (choosing ∷ []) mixed_taken zed_and_foo mixed_objects
-unfolding searched
-closed_objects = closed_by zed_members foo_linked takes (omega arith) (record { moves = (0, 1) ∷ []; below = (omega arith, omega arith, tt); is = refl }) refl refl refl claims names
+abbrev zed_input : FlavorInput
+zed_input = record { flavor = Msvc; input = record { definition = msvc_zed.definition; members = msvc_zed.members; chosen = 0 ∷ [] } }
 
-closed : IsClosedForBoth AMD64 foo_and_zed (choosing ∷ []) mixed_taken zed_and_foo mixed_bases mixed_objects
+ended : AreEnded OfMember AMD64 (inputs_in AMD64 zed_and_foo (choosing ∷ []) mixed_taken) mixed_objects
+unfolding searched
+ended = record { null_from = zed_input; null_held = (0, omega arith, refl); null_flavor = refl; before = zed_members; behind = foo_linked; members = refl; tables = refl }
+
+closed_objects : AreClosed AMD64 OfMember foo_and_zed (choosing ∷ []) mixed_taken zed_and_foo mixed_objects
+unfolding searched
+closed_objects = closed_by takes (record { moves = (0, 1) ∷ []; below = (omega arith, omega arith, tt); is = refl }) refl ended claims names
+
+closed : IsClosed AMD64 OfMember foo_and_zed (choosing ∷ []) mixed_taken zed_and_foo mixed_bases mixed_objects
 unfolding searched group_end sections_end
-closed = packed_both AMD64 foo_and_zed own mixed_taken zed_and_foo 0x2000 mixed_objects archive closed_objects (omega arith) (below_limit (packed_end 0x2000 mixed_objects) refl)
+closed = packed_both AMD64 OfMember foo_and_zed own mixed_taken zed_and_foo 0x2000 mixed_objects archive closed_objects (omega arith) (below_limit (packed_end 0x2000 mixed_objects) refl)
 
 -- the first symbol that a member is listed for
 abbrev first_of : List (List ℕ) → List ℕ
@@ -159,7 +138,7 @@ stopped taken_so_far =
       new = new_by mixed_without_last (thunk_named (codes "zed.dll")) refl;
     })
 
-claimed : (taken : List MemberView) (m : MemberView) → PullsIntoFor AMD64 (archive_of_both foo_and_zed) (choosing ∷ []) taken (codes "stack") m → ⊥
+claimed : (taken : List MemberView) (m : MemberView) → PullsIntoAs (expanded_in AMD64) (archive_of_both foo_and_zed) (choosing ∷ []) taken (codes "stack") m → ⊥
 claimed taken m pulls =
     let name : List ℕ = codes "stack" in
     let objects : List Object = objects_taken AMD64 taken in
@@ -167,7 +146,7 @@ claimed taken m pulls =
     (subst (Among name) (sym (flat_map-append claimed_names own objects))
     (among_front name (flat_map claimed_names own) (flat_map claimed_names objects) (any_among name (flat_map claimed_names own) refl)))
 
-clashes : (arranged : List FlavorLibrary) (objects : List Object) → AreClosedForBoth AMD64 foo_and_zed (clashing ∷ []) mixed_taken arranged objects → ⊥
+clashes : (arranged : List FlavorLibrary) (objects : List Object) → AreClosed AMD64 OfMember foo_and_zed (clashing ∷ []) mixed_taken arranged objects → ⊥
 unfolding searched
 clashes arranged objects is =
     let none : list_any (bytes_eq (codes "queue")) (claimed_names clashing) ≡ false =
@@ -175,16 +154,19 @@ clashes arranged objects is =
     (any_among (codes "queue") (listed_in mixed_taken ++ left_in AMD64 mixed_taken) refl) is.claims.0 in
     true≢false none
 
+worked_links : LinksClosed AMD64 OfMember foo_and_zed (choosing ∷ []) mixed_taken zed_and_foo mixed_bases mixed_objects
+worked_links = closed_links_of_both AMD64 OfMember foo_and_zed own mixed_taken zed_and_foo mixed_bases mixed_objects archive closed
+
 pub worked_both : WorkedBoth
 unfolding searched group_end sections_end
 worked_both = record {
   archive = archive;
   takes = takes;
   wanted = refl;
-  just = both_taken AMD64 foo_and_zed archive wants mixed_taken names takes_wanted;
+  just = worked_links.taken_is;
   chosen = refl;
   closed = closed;
-  links = closed_links_of_both AMD64 foo_and_zed own mixed_taken zed_and_foo mixed_bases mixed_objects archive closed;
+  links = worked_links;
   left = refl;
   queue = refl;
   baz = refl;
@@ -193,66 +175,16 @@ worked_both = record {
   clashes = clashes;
 }
 
-given : AreGivenForBoth AMD64 foo_and_zed (choosing ∷ [])
+given : AreGiven AMD64 foo_and_zed (choosing ∷ [])
 unfolding searched
 given = record {
-  claims = (claims_none_by (kept_of_both AMD64 foo_and_zed own) choosing refl, tt);
+  claims = (claims_none_by (symbols_kept AMD64 foo_and_zed own) choosing refl, tt);
   names = record { gnu = (record { head = refl; name = refl }, tt); msvc = (record { descriptor = refl; null_descriptor = refl; null_thunk = refl }, tt) };
 }
 
-pub worked_given_for_both : WorkedGivenForBoth
+pub worked_given : WorkedGiven
 unfolding searched
-worked_given_for_both = record { given = given; kept = refl; wants = omega arith; ends = into_ends (expanded_in AMD64) (archive_of_both foo_and_zed) own }
-
-abbrev reversed_own : List Object
-reversed_own = choosing ∷ []
-
-reversed_archive : IsFlavorArchive AMD64 zed_and_foo
-unfolding searched
-reversed_archive = record {
-  gnu = gnu_archive;
-  msvc = msvc_archive;
-  apart = apart_by (null_descriptor_symbol ∷ flat_map symbols_of_shorts (msvc_among zed_and_foo)) (flat_map (symbols_of_library AMD64) (gnu_among zed_and_foo)) refl;
-}
-
-abbrev reversed_members : List MemberView
-reversed_members = archive_of_both zed_and_foo
-
-abbrev reversed_wants : List (List ℕ)
-reversed_wants = unresolved (choosing ∷ [])
-
-reversed_takes_wanted : TakesFor AMD64 (archive_of_both zed_and_foo) (unresolved (choosing ∷ [])) mixed_taken
-unfolding searched AreTakenInTurnAs
-reversed_takes_wanted = takes_by ((0x7F ∷ codes "zed_NULL_THUNK_DATA") ∷ codes "__NULL_IMPORT_DESCRIPTOR" ∷ codes "__IMPORT_DESCRIPTOR_zed" ∷ codes "__imp_queue" ∷ codes "foo_dll_iname" ∷ codes "_head_foo_dll" ∷ codes "baz" ∷ codes "bar" ∷ []) refl refl refl
-
-reversed_takes : TakesIntoFor AMD64 (archive_of_both zed_and_foo) (choosing ∷ []) mixed_taken
-reversed_takes = takes_into (expanded_in AMD64) reversed_members reversed_own mixed_taken left_apart reversed_takes_wanted
-
-reversed_names : NamesNoMembers AMD64 zed_and_foo (wanted_for AMD64 (choosing ∷ []) mixed_taken)
-unfolding searched
-reversed_names = record { gnu = (record { head = refl; name = refl }, tt); msvc = (record { descriptor = refl; null_descriptor = refl; null_thunk = refl }, tt) }
-
-reversed_closed_objects : AreClosedForBoth AMD64 zed_and_foo (choosing ∷ []) mixed_taken foo_and_zed reversed_objects
-unfolding searched
-reversed_closed_objects = closed_by (foo_linked ++ zed_members) [] reversed_takes (omega arith) (record { moves = (0, 1) ∷ []; below = (omega arith, omega arith, tt); is = refl }) refl refl refl claims reversed_names
-
-reversed_closed : IsClosedForBoth AMD64 zed_and_foo (choosing ∷ []) mixed_taken foo_and_zed reversed_bases reversed_objects
-unfolding searched group_end sections_end
-reversed_closed = packed_both AMD64 zed_and_foo reversed_own mixed_taken foo_and_zed 0x71000 reversed_objects reversed_archive reversed_closed_objects (omega arith) (below_limit (packed_end 0x71000 reversed_objects) refl)
-
-pub worked_reversed : WorkedReversed
-unfolding searched group_end sections_end
-worked_reversed = record {
-  archive = reversed_archive;
-  takes = reversed_takes;
-  just = both_taken AMD64 zed_and_foo reversed_archive reversed_wants mixed_taken reversed_names reversed_takes_wanted;
-  chosen = refl;
-  closed = reversed_closed;
-  links = closed_links_of_both AMD64 zed_and_foo reversed_own mixed_taken foo_and_zed reversed_bases reversed_objects reversed_archive reversed_closed;
-  left = refl;
-  baz = refl;
-  queue = refl;
-}
+worked_given = record { given = given; kept = refl; ends = into_ends (expanded_in AMD64) (archive_of_both foo_and_zed) own; bounded = search_bounded (expanded_in AMD64) (archive_of_both foo_and_zed) own mixed_taken takes.in_turn }
 
 above_zero : 0 < 0x2000
 above_zero = omega arith
@@ -260,20 +192,20 @@ above_zero = omega arith
 none_below : (n : ℕ) → n ≡ 0 → 0 < n → ⊥
 none_below n is over = omega arith
 
-room : tables_end_of_both 0x2000 foo_and_zed ≡ 0x218E
+room : tables_end_by 0x2000 foo_and_zed ≡ 0x218E
 unfolding opened
 room = refl
 
-room_below : tables_end_of_both 0x2000 foo_and_zed < 2 ^ 31
+room_below : tables_end_by 0x2000 foo_and_zed < 2 ^ 31
 room_below = (let is = room in omega arith)
 
 end : packed_end 0x2000 mixed_objects ≡ 0x20A4
 unfolding searched group_end sections_end
 end = refl
 
-at_zero : HasClosedForBoth AMD64 foo_and_zed (choosing ∷ []) 0 → ⊥
+at_zero : HasClosed AMD64 foo_and_zed (choosing ∷ []) 0 → ⊥
 unfolding next_multiple
-at_zero has = none_below (packed 0 (objects_closed_of_both AMD64 foo_and_zed (choosing ∷ []) has.0)).descriptors refl has.1.admissible.descriptors.0
+at_zero has = none_below (packed 0 (objects_closed has.0 AMD64 foo_and_zed (choosing ∷ []) has.1)).descriptors refl has.2.admissible.descriptors.0
 
 pub worked_both_exists : WorkedBothExists
 unfolding searched group_end sections_end
@@ -281,38 +213,8 @@ worked_both_exists = record {
   room = room;
   end = end;
   objects_are = worked_both.closed.closed;
-  closed = placed_closed AMD64 foo_and_zed (choosing ∷ []) mixed_taken zed_and_foo 0x2000 mixed_objects worked_both.archive worked_both.closed.closed above_zero room_below;
-  within = placed_within AMD64 foo_and_zed (choosing ∷ []) mixed_taken zed_and_foo 0x2000 mixed_objects worked_both.archive worked_both.closed.closed above_zero room_below;
-  exists = both_exists AMD64 foo_and_zed (choosing ∷ []) 0x2000 worked_both.archive worked_given_for_both.given (refl, tt) worked_given_for_both.wants above_zero room_below;
+  closed = placed_closed AMD64 OfMember foo_and_zed (choosing ∷ []) mixed_taken zed_and_foo 0x2000 mixed_objects worked_both.archive worked_both.closed.closed above_zero room_below;
+  within = placed_within AMD64 OfMember foo_and_zed (choosing ∷ []) mixed_taken zed_and_foo 0x2000 mixed_objects worked_both.archive worked_both.closed.closed above_zero room_below;
+  exists = both_exists AMD64 foo_and_zed (choosing ∷ []) 0x2000 worked_both.archive worked_given.given (refl, tt) above_zero room_below;
   at_zero = at_zero;
-}
-
--- The other order.
-
-reversed_room : tables_end_of_both 0x71000 zed_and_foo ≡ 0x7118E
-unfolding opened
-reversed_room = refl
-
-reversed_end : packed_end 0x71000 reversed_objects ≡ 0x710A4
-unfolding searched group_end sections_end
-reversed_end = refl
-
-reversed_below : tables_end_of_both 0x71000 zed_and_foo < 2 ^ 31
-reversed_below = (let is = reversed_room in omega arith)
-
-reversed_given : AreGivenForBoth AMD64 zed_and_foo (choosing ∷ [])
-unfolding searched
-reversed_given = record {
-  claims = (claims_none_by (kept_of_both AMD64 zed_and_foo (choosing ∷ [])) choosing refl, tt);
-  names = record { gnu = (record { head = refl; name = refl }, tt); msvc = (record { descriptor = refl; null_descriptor = refl; null_thunk = refl }, tt) };
-}
-
-pub worked_reversed_exists : WorkedReversedExists
-unfolding searched group_end sections_end
-worked_reversed_exists = record {
-  room = reversed_room;
-  end = reversed_end;
-  closed = placed_closed AMD64 zed_and_foo (choosing ∷ []) mixed_taken foo_and_zed 0x71000 reversed_objects worked_reversed.archive worked_reversed.closed.closed (omega arith) reversed_below;
-  within = placed_within AMD64 zed_and_foo (choosing ∷ []) mixed_taken foo_and_zed 0x71000 reversed_objects worked_reversed.archive worked_reversed.closed.closed (omega arith) reversed_below;
-  exists = both_exists AMD64 zed_and_foo (choosing ∷ []) 0x71000 worked_reversed.archive reversed_given (refl, tt) (omega arith) (omega arith) reversed_below;
 }

@@ -7,18 +7,16 @@ use Rattle.implib.specs.declared.machine.MachineType.{MachineType}
 use Rattle.implib.specs.Formats.Object.{ASymbol, Auxiliary, Entry, Object, ObjectSymbol, before_nul, bytes_at, data_at, each_at, entries_at, name_of, object_in, object_of_header, relocation_at, relocation_of, section_at, section_numbered, section_of, strings_at, symbol_of, u16_at, u32_at, up_to_nul}
 use Rattle.implib.specs.Link.Image.{AllApart, Range, image_of, with_address}
 use Rattle.implib.specs.Link.Placement.{Bases, Placed, next_multiple, placed_from}
-use Rattle.implib_link.specs.Gnu.Calls.{Defines, PlacedCode, Resolves}
-use Rattle.implib_link.specs.Gnu.Fields.{IsRelocated, LinkedCode, placed_code, range_of_code, ranges_of_codes}
-use Rattle.implib_link_instances.specs.Worked.Calls.{CodesBeside, WorkedChoices, WorkedPointer, WorkedPointers, WorkedReading, as_placed, branch_codes, branching_objects, branching_placed, code_ranges, code_relocated_by, first_bytes, given_on, last_bytes, linked_by, linked_codes}
-use Rattle.implib_link.proofs.Gnu.LinkedCodes.{linked_beside, takes_from}
-use Rattle.implib_link_instances.proofs.Worked.LinkedCode.{relocated_by, relocated_test}
+use Rattle.implib_link.specs.Gnu.Fields.{Defines, PlacedCode, Resolves, IsRelocated, LinkedCode, placed_code, range_of_code, ranges_of_codes}
+use Rattle.implib_link_instances.specs.Worked.Operands.{CodesBeside, WorkedChoices, WorkedReading, as_placed, branch_codes, branching_objects, branching_placed, code_ranges, code_relocated_by, given_on, linked_by, linked_codes}
+use Rattle.implib_link.proofs.Gnu.LinkedBytes.{linked_beside, takes_from}
+use Rattle.implib_link_instances.proofs.Worked.Programs.{relocated_by, relocated_test, opened as opened_of_programs, worked_programs}
 use Rattle.implib.proofs.Members.MemberReadings.{map_after}
-use Rattle.implib_link.specs.Gnu.Loaded.{HoldsAt}
-use Rattle.implib_link.proofs.Tables.{tables_end, tables_read}
-use Rattle.implib_link.proofs.TablesOfPrograms.{program_count, program_entry, program_tables}
+use Rattle.implib_link.specs.Gnu.Writing.{HoldsAt, ReadsAndWrites}
+use Rattle.implib_link.proofs.Tables.{tables_end, tables_read, program_count, program_entry, program_tables}
 use Rattle.implib_link.specs.Tables.{block_of_flavor, tables_at}
 use Rattle.std.specs.Fmt.{digits}
-use Rattle.implib.specs.declared.machine.MachineType.TheVariants.{AMD64, ARM64, ARMNT, I386}
+use Rattle.implib.specs.declared.machine.MachineType.TheVariants.{AMD64, ARM64, I386}
 use Rattle.implib.specs.Definition.{ExportView}
 use Rattle.implib.specs.Formats.Bytes.{u16_bytes, u32_bytes}
 use Rattle.implib.specs.Formats.File.{is_defined_external}
@@ -30,26 +28,16 @@ use Rattle.implib.specs.Members.ImportTables.{thunk_width}
 use Rattle.implib.specs.Members.Members.{refusal, renamed_refusal}
 use Rattle.implib.specs.Members.WeakExternal.{weak_object}
 use Rattle.implib.specs.Formats.Layout.{auxiliary_bytes, auxiliary_count, contents, contents_offset, contents_size, encoded, encoded_size, header_bytes, name_field, offsets_from, pointer_or_zero, record_count, records, relocation_bytes, section_header, section_headers, string_bytes_of, string_offsets, string_size, string_table, strings_size, symbol_bytes, symbol_table_offset}
-use Rattle.implib.specs.Link.Resolution.{address_or_zero, definitions_of, is_undefined_external, symbol_address, target_address}
+use Rattle.implib.specs.Link.Resolution.{definitions_of, is_undefined_external, symbol_address}
 use Rattle.implib.specs.Formats.Writer.{layout_of, long_names, name_location, symbol_written, with_long_name, with_name}
 use Rattle.implib.proofs.Link.Ranges.{Among, apart_as_they_rise}
 use Rattle.implib.specs.Worked.Statements.{plain_export}
-use Rattle.implib_link.specs.Flavors.Program.{Ending, FlavorInput, IsMadeFor, IsProgramOf, OfLinker, ask_in, dll_of, exports_chosen, gnu_input, symbol_in}
-use Rattle.implib_link.specs.Gnu.Program.{has_tables}
-use Rattle.implib_link.specs.Gnu.Reading.{ReadsAndWrites}
+use Rattle.implib_link.specs.Flavors.Program.{Ending, FlavorInput, IsMadeFor, IsProgramOf, OfLinker, ask_in, dll_of, exports_chosen, gnu_input, symbol_in, has_tables}
 use Rattle.implib_link_instances.specs.Worked.Programs.{both_inputs, foo_input, program_image, program_objects, program_placed, symbol_on, touching_4, touching_8}
 use Rattle.implib_link.proofs.Gnu.Stubs.{same_address}
 use Rattle.implib_link.proofs.Search.Lists.{among_at, contains_among, each_of}
-use Rattle.implib_link_instances.proofs.Worked.Programs.{instructions_at, opened as opened_of_programs, worked_programs}
-use Rattle.implib_link_instances.proofs.Worked.Lemmas.{IsX86, image_base, touching}
-use Rattle.implib.specs.Machine.{is_32bit}
+use Rattle.implib_link_instances.proofs.Worked.Lemmas.{image_base}
 use Rattle.implib.proofs.Link.Definitions.{same_text}
-use Rattle.implib.specs.Formats.ShortImport.{short_import_in}
-use Rattle.implib.specs.Members.MsvcMembers.{descriptor_spec, header_specs, null_descriptor_spec, null_thunk_spec, weak_specs}
-use Rattle.implib.specs.Members.MsvcObjects.{base_name, descriptor, descriptor_symbol, null_descriptor, null_descriptor_symbol, null_thunk, null_thunk_symbol}
-use Rattle.implib_link.specs.Flavors.Expansion.{descriptor_symbol_by_name, expanded_in, import_object}
-use Rattle.implib_link.specs.Flavors.SectionSymbols.{with_section_symbols}
-use Rattle.implib_link.specs.Gnu.Packed.{group_end, sections_end}
 use Rattle.implib_link.specs.Gnu.Choices.{AreSections, DefineOnce, plain_range}
 use Rattle.implib_link.proofs.Gnu.Choices.{choice, choice_resolves, defined_found, found, found_in, here_from, is_here}
 
@@ -201,26 +189,6 @@ none_wanted codes all c d index s t c_held d_held at undefined defines named =
     let same : bytes_eq s.name t.name ≡ true = subst (λ n. bytes_eq s.name n ≡ true) (sym named) (same_text s.name) in
     let is : is_wanted t.name (ASymbol s) ≡ true = and_from (is_undefined_external s) (bytes_eq s.name t.name) undefined same in
     true≢false (sym is ∙ not-true (is_wanted t.name (ASymbol s)) four)
-
-pub resolves_by_tables : (linked : List Placed) (codes : List PlacedCode) → list_all (λ (c : PlacedCode). all_unwanted codes c.from.object.entries) codes ≡ true →
-    Resolves linked codes (λ c index. target_address linked c.from index)
-resolves_by_tables linked codes all = record {
-  tables = λ c index address entry held at is. rw at (ap address_or_zero is);
-  code = λ c d index s t c_held d_held at undefined defines named. absurd (none_wanted codes all c d index s t c_held d_held at undefined defines named);
-}
-
-pointer : (machine : MachineType) → IsX86 machine → WorkedPointer machine (image_base machine) (touching machine) (if is_32bit machine then 0xA1 ∷ 0x64 ∷ 0 ∷ 0x40 ∷ 0 ∷ [] else 0x48 ∷ 0x8B ∷ 5 ∷ 0x7D ∷ 0xF0 ∷ 0xFF ∷ 0xFF ∷ []) (if is_32bit machine then 0x64 else 0x88)
-unfolding opened_of_programs alias_specs encoded_size weak_object has_tables
-pointer ARMNT none = absurd none
-pointer ARM64 none = absurd none
-pointer machine _ = record { loads = instructions_at (first_bytes machine) (last_bytes machine) 1 [] [] tt tt refl refl refl refl; bytes = refl; reads = refl }
-
-pub worked_pointers : WorkedPointers
-unfolding opened_of_programs refusal renamed_refusal alias_specs encoded_size weak_object has_tables expanded_in short_import_in import_object descriptor_symbol_by_name with_section_symbols descriptor null_descriptor null_thunk descriptor_symbol null_descriptor_symbol null_thunk_symbol base_name descriptor_spec null_descriptor_spec null_thunk_spec header_specs weak_specs group_end sections_end
-worked_pointers = record {
-  amd64 = pointer AMD64 tt;
-  i386 = pointer I386 tt;
-}
 
 -- Whether code defines each name once, and none that the tables have.
 

@@ -1,37 +1,34 @@
 -- The command lines, by computing and by the laws.
 use Rattle.std.proofs.Common.{arith, ◌≡◌, ℕ, zero, suc, true, false, List, [], ◌∷◌, ◌++◌, map, Option, None, Some, refl, sym, ◌∙◌, subst, inl, inr, codes}
 use Rattle.std.specs.Prelude.{bytes_eq, if◌then◌else◌, is_none}
-use Rattle.std.specs.List.{AllByRecursion, Contains, IsDistinct, flat_map, list_all, list_any}
+use Rattle.std.specs.List.{AllByRecursion, Contains, IsDistinct, list_all, list_any}
 use Rattle.std.proofs.lemmas.Bool.{and_parts, true≢false}
 use Rattle.implib.specs.declared.machine.MachineType.{MachineType}
 use Rattle.implib.specs.Machine.{is_32bit}
 use Rattle.implib.specs.declared.machine.MachineType.TheVariants.{AMD64, ARM64, ARMNT, I386}
 use Rattle.implib.specs.Formats.Layout.{encoded_size}
-use Rattle.implib.specs.Formats.Object.{Object, object_in}
+use Rattle.implib.specs.Formats.Object.{Object}
 use Rattle.implib.specs.Members.GnuMembers.{alias_specs}
 use Rattle.implib.specs.Members.MemberSpec.{MemberView}
 use Rattle.implib.specs.Members.Members.{refusal, renamed_refusal}
 use Rattle.implib.proofs.Link.LinkedMembers.{among_contains, among_map}
 use Rattle.implib.proofs.Link.Ranges.{Among}
-use Rattle.implib_link.specs.Gnu.Program.{HaveSame}
-use Rattle.implib_link.specs.Search.Archives.{archive_of, is_weak, symbols_of_library, IsArchive}
-use Rattle.implib_link.specs.Search.Closed.{PullsIntoAs, claims_of, listed_in, references_of, unresolved}
+use Rattle.implib_link.specs.Flavors.Program.{HaveSame}
+use Rattle.implib_link.specs.Flavors.Expansion.{expanded_in}
+use Rattle.implib_link.specs.Search.Search.{archive_of, is_weak, symbols_of_library, PullsIntoAs, claims_of, listed_in, references_of, unresolved, claimed_as, first_listed, objects_as, undefined_in, members_at, sweeps, swept}
+use Rattle.implib_link.specs.Search.Libraries.{HasClosed, AreGiven, IsFlavorArchive, archive_of_both, symbols_kept}
 use Rattle.implib_link.specs.Search.CommandLines.{AreListedWhole, AreRounds, AreSwept, AreUnclaimedBehind, ImportsByName, IsOrdered, SearchesCommandLine, SearchesFrom, given_with, names_left}
-use Rattle.implib_link.specs.Search.Given.{AreGiven, symbols_kept}
-use Rattle.implib_link.specs.Search.Search.{claimed_as, first_listed, objects_as, undefined_in}
-use Rattle.implib_link.specs.Search.Sweeps.{members_at, sweeps, swept}
 use Rattle.implib_link.proofs.Search.CommandLines.{are_first_of_distinct, first_of_distinct, gnu_searches, taken_are, takes_alike}
 use Rattle.implib_link.proofs.Search.Lists.{among_any, any_among, contains_among}
-use Rattle.implib_link_instances.specs.Worked.CommandLines.{WorkedCommandLine, WorkedCommandLines, WorkedLibraries, all_taken, amd64_members, i386_members, i386_wants_bytes, in_group, is_quit, kernel_on, library_last, of_quit, read_or_none, wants_bytes}
+use Rattle.implib_link_instances.specs.Worked.CommandLines.{WorkedCommandLine, WorkedCommandLines, WorkedLibraries, all_taken, amd64_members, i386_members, i386_wants_bytes, in_group, gnu_kernel, is_quit, library_last, of_quit, read_or_none, wants_bytes}
 use Rattle.implib_link_instances.specs.Worked.Programs.{code_object}
 use Rattle.implib_link_instances.proofs.Worked.Programs.{claims_none_by, distinct_by, opened}
-use Rattle.implib_link.specs.Archives.Results.{HaveArchive}
-use Rattle.implib_link.specs.Archives.InBytes.{Second}
+use Rattle.implib_link.specs.Archives.InBytes.{HaveArchive, Second}
 use Rattle.implib_archive.specs.declared.kind.Kind.TheVariants.{Coff}
-use Rattle.implib_link_instances.proofs.Worked.Opened.{archived, searched}
+use Rattle.implib_link_instances.proofs.Worked.Search.{archived, searched}
 use Rattle.implib_link_instances.proofs.Worked.Lemmas.{IsX86}
-use Rattle.implib_link.specs.Search.Exists.{HasClosed}
-use Rattle.implib_link.proofs.Search.Exists.{closed_exists}
+use Rattle.implib_link.proofs.Search.Exists.{both_exists}
+use Rattle.implib_link_instances.proofs.Worked.BothFlavors.{archive_by}
 
 -- members that claim what they are listed for
 whole_at : (reads : List ℕ → Option Object) (m : MemberView) → claimed_as reads (m ∷ []) ≡ m.symbols → HaveSame (claimed_as reads (m ∷ [])) m.symbols
@@ -86,7 +83,7 @@ exit machine = if is_32bit machine then codes "_ExitProcess@4" else codes "ExitP
 abbrev members : MachineType → List MemberView
 members machine = if is_32bit machine then i386_members else amd64_members
 
-worked : (machine : MachineType) → IsX86 machine → WorkedCommandLine (members machine) (own machine) × WorkedLibraries machine (kernel_on machine (exit machine)) (members machine) (own machine)
+worked : (machine : MachineType) → IsX86 machine → WorkedCommandLine machine (members machine) (own machine) × WorkedLibraries machine (gnu_kernel machine (exit machine)) (members machine) (own machine)
 unfolding opened alias_specs encoded_size claimed_as swept sweeps references_of claims_of undefined_in AreSwept AreRounds SearchesFrom IsOrdered AreUnclaimedBehind searched archived refusal renamed_refusal is_weak symbols_of_library archive_of
 worked ARMNT none = absurd none
 worked ARM64 none = absurd none
@@ -96,14 +93,14 @@ worked machine _ = (
     whole = whole;
     first = searched_last;
     ordered = ordered;
-    takes = gnu_searches object_in (members machine) (library_last (own machine)) all_taken (first_of_distinct (members machine) (names_left object_in (own machine) (members_at (members machine) all_taken)) all_taken distinct) unclaimed ordered searched_last;
+    takes = gnu_searches (expanded_in machine) (members machine) (library_last (own machine)) all_taken (first_of_distinct (members machine) (names_left (expanded_in machine) (own machine) (members_at (members machine) all_taken)) all_taken distinct) unclaimed ordered searched_last;
     group = searched_group;
-    alike = λ other lld. takes_alike object_in (members machine) (in_group (own machine)) all_taken other (first_of_distinct (members machine) (names_left object_in (own machine) (members_at (members machine) all_taken)) all_taken distinct) (are_first_of_distinct (members machine) (names_left object_in (own machine) other) other distinct (taken_are object_in (members machine) (own machine) whole other lld.in_turn)) whole group_unclaimed group_ordered searched_group lld;
+    alike = λ other lld. takes_alike (expanded_in machine) (members machine) (in_group (own machine)) all_taken other (first_of_distinct (members machine) (names_left (expanded_in machine) (own machine) (members_at (members machine) all_taken)) all_taken distinct) (are_first_of_distinct (members machine) (names_left (expanded_in machine) (own machine) other) other distinct (taken_are (expanded_in machine) (members machine) (own machine) whole other lld.in_turn)) whole group_unclaimed group_ordered searched_group lld;
   },
   record {
     archive = archive;
     ready = ready;
-    searches = record { libraries_are = refl; first = first_of_distinct (members machine) (names_left object_in (own machine) (members_at (members machine) all_taken)) all_taken distinct; by_name = by_name; unclaimed = unclaimed; ordered = inl ordered; whole = whole; searches = searched_last };
+    searches = record { libraries_are = refl; first = first_of_distinct (members machine) (names_left (expanded_in machine) (own machine) (members_at (members machine) all_taken)) all_taken distinct; by_name = by_name; unclaimed = unclaimed; ordered = inl ordered; whole = whole; searches = searched_last };
     given = given;
     exists = exists;
   },
@@ -112,19 +109,19 @@ worked machine _ = (
     distinct : IsDistinct bytes_eq (listed_in (members machine))
     distinct = distinct_by (listed_in (members machine)) refl
 
-    whole : AreListedWhole object_in (members machine)
-    whole = whole_by object_in (members machine) (refl, (refl, (refl, (refl, tt))))
+    whole : AreListedWhole (expanded_in machine) (members machine)
+    whole = whole_by (expanded_in machine) (members machine) (refl, (refl, (refl, (refl, tt))))
 
-    searched_last : SearchesCommandLine object_in (members machine) (library_last (own machine)) all_taken
+    searched_last : SearchesCommandLine (expanded_in machine) (members machine) (library_last (own machine)) all_taken
     searched_last = (of_quit, record { rounds = 1; taken = (of_quit, (of_quit, record { count = 1; taken = refl; ended = refl }, refl), refl); ended = (refl, tt) }, (all_taken, record { rounds = 1; taken = (all_taken, (all_taken, record { count = 3; taken = refl; ended = refl }, refl), refl); ended = (refl, tt) }, refl))
 
-    searched_group : SearchesCommandLine object_in (members machine) (in_group (own machine)) all_taken
+    searched_group : SearchesCommandLine (expanded_in machine) (members machine) (in_group (own machine)) all_taken
     searched_group = (all_taken, record { rounds = 2; taken = (of_quit, ([], record { count = 0; taken = refl; ended = refl }, (of_quit, record { count = 1; taken = refl; ended = refl }, refl)), (all_taken, (all_taken, record { count = 3; taken = refl; ended = refl }, (all_taken, record { count = 0; taken = refl; ended = refl }, refl)), refl)); ended = (refl, (refl, tt)) }, refl)
 
-    ordered : IsOrdered object_in (members machine) (library_last (own machine))
+    ordered : IsOrdered (expanded_in machine) (members machine) (library_last (own machine))
     ordered = ((tt, tt), ((tt, tt), (((refl, tt), ((refl, tt), ((refl, tt), tt))), tt)))
 
-    group_ordered : IsOrdered object_in (members machine) (in_group (own machine))
+    group_ordered : IsOrdered (expanded_in machine) (members machine) (in_group (own machine))
     group_ordered = ((tt, tt), ((tt, (tt, (tt, (tt, tt)))), tt))
 
     unclaimed : AreUnclaimedBehind (members machine) [] (library_last (own machine))
@@ -133,26 +130,26 @@ worked machine _ = (
     group_unclaimed : AreUnclaimedBehind (members machine) [] (in_group (own machine))
     group_unclaimed = ((tt, tt), (tt, tt))
 
-    by_name : ImportsByName object_in (members machine) (own machine) (members_at (members machine) all_taken)
+    by_name : ImportsByName (expanded_in machine) (members machine) (own machine) (members_at (members machine) all_taken)
     by_name = record { left = refl; claimed = refl }
 
-    given : AreGiven machine ((kernel_on machine (exit machine)) ∷ []) (given_with object_in is_quit (own machine) (members_at (members machine) all_taken))
+    given : AreGiven machine ((gnu_kernel machine (exit machine)) ∷ []) (given_with (expanded_in machine) is_quit (own machine) (members_at (members machine) all_taken))
     given = record {
       claims = (
-        claims_none_by (symbols_kept machine ((kernel_on machine (exit machine)) ∷ []) (given_with object_in is_quit (own machine) (members_at (members machine) all_taken))) (object_at (given_with object_in is_quit (own machine) (members_at (members machine) all_taken)) 0) refl,
-        (claims_none_by (symbols_kept machine ((kernel_on machine (exit machine)) ∷ []) (given_with object_in is_quit (own machine) (members_at (members machine) all_taken))) (object_at (given_with object_in is_quit (own machine) (members_at (members machine) all_taken)) 1) refl, tt),
+        claims_none_by (symbols_kept machine ((gnu_kernel machine (exit machine)) ∷ []) (given_with (expanded_in machine) is_quit (own machine) (members_at (members machine) all_taken))) (object_at (given_with (expanded_in machine) is_quit (own machine) (members_at (members machine) all_taken)) 0) refl,
+        (claims_none_by (symbols_kept machine ((gnu_kernel machine (exit machine)) ∷ []) (given_with (expanded_in machine) is_quit (own machine) (members_at (members machine) all_taken))) (object_at (given_with (expanded_in machine) is_quit (own machine) (members_at (members machine) all_taken)) 1) refl, tt),
       );
-      names = (record { head = refl; name = refl }, tt);
+      names = record { gnu = (record { head = refl; name = refl }, tt); msvc = tt };
     }
 
-    ready : HaveArchive Coff Second (archive_of (kernel_on machine (exit machine) ∷ []))
+    ready : HaveArchive Coff Second (archive_of_both (gnu_kernel machine (exit machine) ∷ []))
     ready = record { accepted = refl; has = tt }
 
-    archive : IsArchive machine (kernel_on machine (exit machine) ∷ [])
-    archive = record { made = (record { accepted = refl; made = refl; ordinals = refl }, tt); distinct = distinct_by (flat_map (symbols_of_library machine) (kernel_on machine (exit machine) ∷ [])) refl }
+    archive : IsFlavorArchive machine (gnu_kernel machine (exit machine) ∷ [])
+    archive = archive_by (record { accepted = refl; made = refl; ordinals = refl }, tt) tt tt refl refl refl
 
-    exists : HasClosed machine (kernel_on machine (exit machine) ∷ []) (given_with object_in is_quit (own machine) (members_at (members machine) all_taken)) 0x2000
-    exists = closed_exists machine (kernel_on machine (exit machine) ∷ []) (given_with object_in is_quit (own machine) (members_at (members machine) all_taken)) 0x2000 archive given (refl, (refl, tt)) (omega arith) (omega arith)
+    exists : HasClosed machine (gnu_kernel machine (exit machine) ∷ []) (given_with (expanded_in machine) is_quit (own machine) (members_at (members machine) all_taken)) 0x2000
+    exists = both_exists machine (gnu_kernel machine (exit machine) ∷ []) (given_with (expanded_in machine) is_quit (own machine) (members_at (members machine) all_taken)) 0x2000 archive given (refl, (refl, tt)) (omega arith) (omega arith)
 
 pub worked_command_lines : WorkedCommandLines
 worked_command_lines = record { amd64 = (worked AMD64 tt).0; i386 = (worked I386 tt).0; libraries = (worked AMD64 tt).1; i386_libraries = (worked I386 tt).1 }

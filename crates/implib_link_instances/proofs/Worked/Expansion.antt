@@ -3,8 +3,7 @@ use Rattle.std.proofs.Common.{refl}
 use Rattle.implib.specs.Formats.Bytes.{u16_bytes}
 use Rattle.implib.specs.Formats.Object.{bytes_at, object_in, u16_at, u32_at}
 use Rattle.implib.specs.Formats.ShortImport.{short_import_in}
-use Rattle.implib_link.specs.Flavors.Expansion.{import_object, descriptor_symbol_by_name, expanded_in}
-use Rattle.implib_link.specs.Flavors.SectionSymbols.{with_section_symbols}
+use Rattle.implib_link.specs.Flavors.Expansion.{import_object, descriptor_symbol_by_name, expanded_in, with_section_symbols}
 use Rattle.implib_link_instances.specs.Worked.Expansion.{WorkedExpansion}
 
 pub worked_expansion : WorkedExpansion

@@ -16,10 +16,10 @@ use Rattle.implib_dll.specs.Sections.{contents_at, section_at}
 use Rattle.implib_link.specs.Image.Files.{mapped_file}
 use Rattle.implib_link.specs.Gnu.Fields.{ranges_of_codes}
 use Rattle.implib_link_instances.specs.Worked.Files.{WorkedFile, WorkedFiles, WorkedHeaders, amd64_headers, arm64_headers, file_on, gnu_data, gnu_file, gnu_headers, gnu_idata, gnu_mapped, gnu_reloc, gnu_text, i386_headers, mapped_on}
-use Rattle.implib_link_instances.specs.Worked.LldPrograms.{addresses_on, lld_image_on, shorts_on}
+use Rattle.implib_link_instances.specs.Worked.Programs.{addresses_on, lld_image_on, shorts_on}
 use Rattle.implib_link_instances.specs.Worked.Stored.{holding_codes, holding_placed}
-use Rattle.implib_link.proofs.TablesOfPrograms.{lld_tables}
-use Rattle.implib_link_instances.proofs.Worked.LldPrograms.{lld_opened}
+use Rattle.implib_link.proofs.Tables.{lld_tables}
+use Rattle.implib_link_instances.proofs.Worked.Programs.{lld_opened}
 use Rattle.implib_link_instances.proofs.Worked.Stored.{holding_beside, holding_further, holding_program}
 use Rattle.implib_link_instances.proofs.Worked.Lemmas.{IsX86, NotThumb, are_located, differ, is_each_located}
 use Rattle.implib.specs.Import.{Ask}

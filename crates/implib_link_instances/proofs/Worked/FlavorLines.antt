@@ -7,16 +7,14 @@ use Rattle.implib.specs.declared.machine.MachineType.TheVariants.{AMD64, ARM64, 
 use Rattle.implib.specs.Machine.{is_32bit}
 use Rattle.implib.specs.Members.MemberSpec.{MemberView}
 use Rattle.implib_link.specs.Flavors.Expansion.{expanded_in}
-use Rattle.implib_link.specs.Search.BothFlavors.{AreGivenForBoth, FlavorLibrary, archive_of_both, kept_of_both}
-use Rattle.implib_link.specs.Search.Closed.{listed_in}
+use Rattle.implib_link.specs.Search.Libraries.{AreGiven, FlavorLibrary, archive_of_both, symbols_kept}
+use Rattle.implib_link.specs.Search.Search.{listed_in, members_at, sweeps, swept}
 use Rattle.implib_link.specs.Search.CommandLines.{AreListedWhole, AreRounds, AreSwept, AreUnclaimedBehind, Input, IsOrdered, NoneIsLost, SearchesCommandLine, SearchesFlavors, SearchesFrom, names_left}
-use Rattle.implib_link.specs.Search.Sweeps.{members_at, sweeps, swept}
 use Rattle.implib_link.proofs.Search.CommandLines.{first_of_distinct, takes_of_libraries}
-use Rattle.implib_link_instances.specs.Worked.CommandLines.{is_quit}
-use Rattle.implib_link_instances.specs.Worked.FlavorLines.{WorkedFlavorLine, WorkedFlavorLines, amd64_kernels, amd64_shorts, i386_kernels, i386_shorts, shorts_grouped, shorts_last, shorts_taken, with_quit}
+use Rattle.implib_link_instances.specs.Worked.CommandLines.{is_quit, WorkedFlavorLine, WorkedFlavorLines, amd64_kernels, amd64_shorts, i386_kernels, i386_shorts, shorts_grouped, shorts_last, shorts_taken, with_quit}
 use Rattle.implib_link_instances.proofs.Worked.BothFlavors.{archive_by}
 use Rattle.implib_link_instances.proofs.Worked.CommandLines.{object_at, own, whole_by}
-use Rattle.implib_link_instances.proofs.Worked.Opened.{searched, archived}
+use Rattle.implib_link_instances.proofs.Worked.Search.{searched, archived}
 use Rattle.implib_link_instances.proofs.Worked.Lemmas.{IsX86}
 use Rattle.implib_link_instances.proofs.Worked.Programs.{claims_none_by, distinct_by}
 
@@ -91,11 +89,11 @@ worked machine is = record {
       searches = searched_line machine is;
     }
 
-    given : AreGivenForBoth machine (kernels machine) (with_quit machine (shorts machine) (own machine))
+    given : AreGiven machine (kernels machine) (with_quit machine (shorts machine) (own machine))
     given = record {
       claims = (
-        claims_none_by (kept_of_both machine (kernels machine) (with_quit machine (shorts machine) (own machine))) (object_at (with_quit machine (shorts machine) (own machine)) 0) refl,
-        (claims_none_by (kept_of_both machine (kernels machine) (with_quit machine (shorts machine) (own machine))) (object_at (with_quit machine (shorts machine) (own machine)) 1) refl, tt),
+        claims_none_by (symbols_kept machine (kernels machine) (with_quit machine (shorts machine) (own machine))) (object_at (with_quit machine (shorts machine) (own machine)) 0) refl,
+        (claims_none_by (symbols_kept machine (kernels machine) (with_quit machine (shorts machine) (own machine))) (object_at (with_quit machine (shorts machine) (own machine)) 1) refl, tt),
       );
       names = record { gnu = tt; msvc = (record { descriptor = refl; null_descriptor = refl; null_thunk = refl }, tt) };
     }

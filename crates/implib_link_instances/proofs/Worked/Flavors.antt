@@ -17,11 +17,8 @@ use Rattle.implib.specs.Members.MsvcMembers.{descriptor_spec, header_specs, null
 use Rattle.implib.specs.Members.MsvcObjects.{base_name, descriptor, descriptor_symbol, null_descriptor, null_descriptor_symbol, null_thunk, null_thunk_symbol}
 use Rattle.implib.specs.Formats.ShortImport.{short_import_in}
 use Rattle.implib.specs.Members.WeakExternal.{weak_object}
-use Rattle.implib_link.specs.Flavors.Expansion.{import_object, descriptor_symbol_by_name, expanded_in}
-use Rattle.implib_link.specs.Flavors.Program.{OfMember, all_members, symbols_listed, FlavorInput, IsFoundByName, dll_names_in, null_member, objects_taken, AreProgramObjects}
-use Rattle.implib_link.specs.Gnu.Packed.{group_end, sections_end}
-use Rattle.implib_link.specs.Gnu.Program.{has_tables}
-use Rattle.implib_link.specs.Flavors.SectionSymbols.{with_section_symbols}
+use Rattle.implib_link.specs.Flavors.Expansion.{import_object, descriptor_symbol_by_name, expanded_in, with_section_symbols}
+use Rattle.implib_link.specs.Flavors.Program.{OfMember, all_members, symbols_listed, FlavorInput, IsFoundByName, dll_names_in, null_member, objects_taken, AreProgramObjects, has_tables, group_end, sections_end}
 use Rattle.implib_link_instances.specs.Worked.Flavors.{WorkedFlavorProgram, WorkedFlavors, both_inputs, flavor_bases_4, flavor_bases_8, flavor_expected_4, flavor_expected_8, foo_input}
 use Rattle.implib.specs.LibraryName.{linked_dll}
 use Rattle.std.specs.List.{AllByRecursion, Contains, filter}

@@ -7,11 +7,8 @@ use Rattle.implib.specs.Formats.Object.{Object}
 use Rattle.implib.specs.Link.Image.{IsAdmissible}
 use Rattle.implib.specs.Link.LinkedMembers.{IsMade, LinkInput, all_linked, objects_in}
 use Rattle.implib.specs.Link.Placement.{Bases}
-use Rattle.implib_link.specs.Flavors.Program.{IsProgram, OfLinker, gnu_input}
-use Rattle.implib_link.specs.Gnu.Packed.{packed, packed_end}
-use Rattle.implib_link.specs.Gnu.Program.{has_tables, linked_symbols, null_descriptor}
-use Rattle.implib_link.proofs.Flavors.GnuPrograms.{gnu_ended, gnu_made, members_are_objects}
-use Rattle.implib_link.proofs.Flavors.Packed.{packed_admissible, packed_objects}
+use Rattle.implib_link.specs.Flavors.Program.{IsProgram, OfLinker, gnu_input, has_tables, linked_symbols, null_descriptor, packed, packed_end}
+use Rattle.implib_link.proofs.Flavors.Program.{gnu_ended, gnu_made, members_are_objects, packed_admissible, packed_objects}
 
 pub packed_is_admissible : (machine : MachineType) (first : ℕ) (inputs : List LinkInput) (objects : List Object) → AllByRecursion (IsMade machine) inputs →
     filter has_tables objects ≡ objects_in (all_linked machine inputs) ++ null_descriptor ∷ [] → 0 < first → packed_end first objects < 2 ^ 31 → IsAdmissible machine (packed first objects) objects

@@ -1,22 +1,21 @@
 -- What instances share: numbers that differ, bytes in images, and what no list has.
-use Rattle.std.proofs.Common.{Bool, List, None, Option, Some, [], ap, arith, false, inl, inr, length, refl, sym, true, ℕ, ◌++◌, ◌+◌, ◌<◌, ◌∙◌, ◌∷◌, ◌≡◌}
+use Rattle.std.proofs.Common.{Bool, List, None, Option, Some, [], ap, arith, false, inl, inr, length, refl, sym, true, ℕ, ◌+◌, ◌<◌, ◌∙◌, ◌∷◌, ◌≡◌}
 use Rattle.std.specs.Prelude.{if◌then◌else◌, nat_eq, slice_get, ◌&&◌}
 use Rattle.implib.proofs.Link.Ranges.{Among}
-use Rattle.implib.specs.Link.Image.{AllApart, AreApart, Range, byte_at}
+use Rattle.implib.specs.Link.Image.{Range, byte_at}
 use Rattle.implib.specs.Link.Load.{BytesAt, NumberAt, number_in}
 use Rattle.implib.specs.Link.Resolution.{SymbolDefinition}
 use Rattle.implib_link.proofs.Search.Lists.{contains_among}
 use Rattle.implib_link_instances.specs.Worked.Operands.{or_else}
 use Rattle.std.proofs.lemmas.Bool.{and_parts, eqb-true, or_parts, true≢false}
-use Rattle.std.specs.List.{AllByRecursion, Contains, list_any}
-use Rattle.implib.proofs.Link.Linked.{all_append}
+use Rattle.std.specs.List.{Contains, list_any}
 use Rattle.implib.specs.declared.machine.MachineType.{MachineType}
 use Rattle.implib.specs.declared.machine.MachineType.TheVariants.{AMD64, ARM64, ARMNT, I386}
 use Rattle.implib.specs.Formats.Constants.{i386_dir32}
 use Rattle.implib.specs.Machine.{is_32bit}
 use Rattle.implib.specs.Link.Placement.{Bases}
 use Rattle.implib_link_instances.specs.Worked.Programs.{touching_4, touching_8}
-use Rattle.implib_link.specs.Gnu.Calls.{amd64_addr64, arm64_addr64}
+use Rattle.implib_link.specs.Gnu.Fields.{amd64_addr64, arm64_addr64}
 use Rattle.implib_link.specs.Gnu.Stored.{amd64_addr32nb, arm64_addr32nb, i386_dir32nb}
 
 -- numbers that are not equal
@@ -58,9 +57,6 @@ same_bytes memory (x ∷ xs) [] a first second long = absurd (omega arith)
 same_bytes memory (x ∷ xs) (y ∷ ys) a first second long =
     rw (value x y (sym first.0 ∙ second.0), same_bytes memory xs ys (a + 1) first.1 second.1 (omega arith)) refl
 
-pub entry_is : (base entry place : ℕ) → Some (base + place) ≡ Some (base + entry) → entry ≡ place
-entry_is base entry place is = let same : base + place ≡ base + entry = value (base + place) (base + entry) is in omega arith
-
 none_passes_among : {X : Type 0} (p : X → Bool) (x : X) (xs : List X) → list_any p xs ≡ false → Among x xs → p x ≡ true → ⊥
 unfolding Among
 none_passes_among p x [] none held is = absurd held
@@ -79,13 +75,6 @@ none_at i x is = cc
 
 pub no_definition : (d : SymbolDefinition) → [] ≡ d ∷ [] → ⊥
 no_definition d is = cc
-
--- Code.
-
--- a range after others that is apart from each
-pub put_last : (ranges : List Range) (r : Range) → AllByRecursion (AreApart r) ranges → AllApart ranges → AllApart (ranges ++ r ∷ [])
-put_last [] r each apart = (tt, tt)
-put_last (x ∷ ranges) r each apart = (all_append (AreApart x) ranges (r ∷ []) apart.0 ((λ address here there. each.0 address there here), tt), put_last ranges r each.1 apart.1)
 
 -- Machines. A lemma whose last clause is of `machine` computes at each machine that is left.
 

@@ -5,32 +5,24 @@ use Rattle.implib.specs.Formats.Object.{Object}
 use Rattle.implib.specs.Link.LinkedMembers.{IsMade}
 use Rattle.implib.specs.Link.Placement.{Bases, placed_from}
 use Rattle.std.specs.List.{AllByRecursion}
-use Rattle.std.proofs.Common.{◌≡◌, ℕ, List, [], ◌∷◌, codes, length, map, refl, arith, subst, sym, ◌∙◌}
-use Rattle.implib.specs.declared.machine.MachineType.TheVariants.{AMD64, ARM64, ARMNT, I386}
-use Rattle.implib.specs.Machine.{is_32bit}
-use Rattle.std.specs.Prelude.{if◌then◌else◌}
+use Rattle.std.proofs.Common.{◌≡◌, ℕ, List, [], ◌∷◌, length, map, refl, subst, sym, ◌∙◌}
+use Rattle.implib.specs.declared.machine.MachineType.TheVariants.{AMD64, I386}
 use Rattle.implib.specs.Import.{Ask, Name, Ordinal}
 use Rattle.implib.specs.Members.GnuMembers.{alias_specs}
 use Rattle.implib.specs.Members.ImportTables.{thunk_width}
 use Rattle.implib.specs.Members.WeakExternal.{weak_object}
 use Rattle.implib.specs.Formats.Layout.{encoded_size}
-use Rattle.implib.specs.Worked.Statements.{plain_export}
 use Rattle.implib_link.specs.Directory.{imported}
-use Rattle.implib_link.specs.Gnu.Loaded.{Writes, entries_written}
-use Rattle.implib_link.specs.Gnu.Program.{has_tables}
-use Rattle.implib_link.specs.Flavors.Program.{IsProgram, Ending, FlavorInput, IsMadeFor, IsProgramOf, OfLinker, gnu_input, imported_in}
-use Rattle.implib_link.specs.Stub.{CanJump}
-use Rattle.implib_link.proofs.PackedTables.{packed_imports}
-use Rattle.implib_link.proofs.Tables.{tables_load}
-use Rattle.implib_link.proofs.TablesOfPrograms.{inputs_blocks, program_tables}
+use Rattle.implib_link.specs.Gnu.Writing.{Writes, entries_written}
+use Rattle.implib_link.specs.Flavors.Program.{has_tables, IsProgram, Ending, FlavorInput, IsMadeFor, IsProgramOf, OfLinker, gnu_input, imported_in}
+use Rattle.implib_link.proofs.Tables.{packed_imports, tables_load, inputs_blocks, program_tables}
 use Rattle.implib_link.specs.Tables.{AreTablesLoaded, block_of_flavor, tables_at}
-use Rattle.implib_link_instances.specs.Worked.Loads.{WorkedCall, WorkedCalls, WorkedLoad, WorkedLoads, gives_by_hand, written_4, written_8}
-use Rattle.implib_link_instances.specs.Worked.Programs.{both_inputs, foo_input, program_image, program_objects, symbol_on, touching_4, touching_8, zed_input}
-use Rattle.implib_link.proofs.Gnu.Directory.{directory_walk}
+use Rattle.implib_link_instances.specs.Worked.Files.{WorkedLoad, WorkedLoads, gives_by_hand, written_4, written_8}
+use Rattle.implib_link_instances.specs.Worked.Programs.{both_inputs, program_image, program_objects, touching_4, touching_8}
+use Rattle.implib_link.proofs.Gnu.Loaded.{directory_walk}
 use Rattle.implib_link.proofs.Flavors.Program.{program_links}
-use Rattle.implib_link.proofs.Flavors.Stubs.{stubs_jump}
-use Rattle.implib_link_instances.proofs.Worked.Programs.{opened, worked_program, worked_programs}
-use Rattle.implib_link_instances.proofs.Worked.Lemmas.{IsX86, image_base, number, touching}
+use Rattle.implib_link_instances.proofs.Worked.Programs.{opened, worked_programs}
+use Rattle.implib_link_instances.proofs.Worked.Lemmas.{number}
 
 -- a loader that is handed the imports loads the tables
 pub program_loaded : (machine : MachineType) (ending : Ending) (bases : Bases) (inputs : List FlavorInput) (objects : List Object) (gives : List ℕ → Ask → List ℕ) (written : List Range) →
@@ -76,30 +68,8 @@ i386_writes = (
   (number (program_image I386 touching_4) 4 20 92 (92 ∷ 0 ∷ 0 ∷ 0 ∷ []) refl refl refl, (_, (refl, (112, (number (program_image I386 touching_4) 4 40 112 (112 ∷ 0 ∷ 0 ∷ 0 ∷ []) refl refl refl, ([], (refl, refl))))))),
 )
 
-can : (machine : MachineType) → IsX86 machine → CanJump machine (image_base machine) (touching machine)
-can AMD64 _ = tt
-can I386 _ = omega arith
-can _ none = absurd none
-
-call : (machine : MachineType) → IsX86 machine → WorkedCall machine (image_base machine) (touching machine) (if is_32bit machine then 96 else 128) (if is_32bit machine then 112 else 160)
-call ARMNT none = absurd none
-call ARM64 none = absurd none
-call machine is =
-    let program = worked_program machine (λ other. cc) in
-    record {
-      can = (can machine is);
-      open_jumps = stubs_jump machine OfLinker (image_base machine) (touching machine) (map gnu_input (both_inputs machine)) (program_objects machine) 0 1 (gnu_input (foo_input machine)) (record (plain_export (symbol_on machine (codes "open"))) { ordinal = 258 }) program.made program.program (can machine is) refl refl refl;
-      queue_jumps = stubs_jump machine OfLinker (image_base machine) (touching machine) (map gnu_input (both_inputs machine)) (program_objects machine) 1 0 (gnu_input (zed_input machine)) (plain_export (symbol_on machine (codes "queue"))) program.made program.program (can machine is) refl refl refl;
-    }
-
 pub worked_loads : WorkedLoads
 worked_loads = record {
   amd64 = worked AMD64 touching_8 (written_8 AMD64) worked_programs.amd64.made worked_programs.amd64.program (given AMD64) amd64_writes;
   i386 = worked I386 touching_4 (written_4 I386) worked_programs.i386.made worked_programs.i386.program (given I386) i386_writes;
-}
-
-pub worked_calls : WorkedCalls
-worked_calls = record {
-  amd64 = call AMD64 tt;
-  i386 = call I386 tt;
 }

@@ -16,31 +16,21 @@ use Rattle.implib.specs.Members.GnuMembers.{alias_specs}
 use Rattle.implib.specs.Members.Members.{refusal, renamed_refusal}
 use Rattle.implib.specs.Members.WeakExternal.{weak_object}
 use Rattle.implib.proofs.Link.Definitions.{same_text}
-use Rattle.implib_link.specs.Flavors.LldImports.{IsLldProgram, imp_symbols_of}
-use Rattle.implib_link.specs.Flavors.LldTables.{IsAskable}
-use Rattle.implib_link.specs.Flavors.LldThunks.{IsThunk, placed_thunk, thunk_section}
+use Rattle.implib_link.specs.Flavors.LldImports.{IsLldProgram, imp_symbols_of, IsAskable, IsThunk, placed_thunk, thunk_section}
 use Rattle.implib_link.specs.Gnu.Aliases.{StandsFor}
-use Rattle.implib_link.specs.Gnu.Calls.{HasDirectCall, StubAt}
-use Rattle.implib_link.specs.Gnu.Fields.{AreLinkedBeside, DefinesIn, LinkedCode, placed_code, ranges_of_codes}
-use Rattle.implib_link.specs.Gnu.Operands.{HasBranch, HasInstruction, Names}
-use Rattle.implib_link.specs.Gnu.Program.{has_tables}
+use Rattle.implib_link.specs.Gnu.Fields.{HasDirectCall, StubAt, AreLinkedBeside, DefinesIn, LinkedCode, placed_code, ranges_of_codes, HasBranch, HasInstruction, Names}
+use Rattle.implib_link.specs.Flavors.Program.{has_tables}
 use Rattle.implib_link.specs.Parts.{IsProgramOfParts, names_of_parts}
 use Rattle.implib_link.specs.Tables.{AreSteady, AreTables, Table, Tables, tables_of_lld}
 use Rattle.implib_link.proofs.Parts.Members.{parts_steady}
 use Rattle.implib_link.proofs.Parts.Programs.{parts_tables}
 use Rattle.implib_link.proofs.Search.Lists.{contains_among, each_of}
-use Rattle.implib_link.proofs.TablesInMemory.{other_leads, stub_called_otherwise, tables_end_in_memory, thunk_called_otherwise}
-use Rattle.implib_link.proofs.TablesOfPrograms.{lld_tables}
-use Rattle.implib_link_instances.specs.Worked.LldPrograms.{code_of_thunk, lld_image_on, linked_code, linked_thunk, mid_on, object_section, shorts_on, taken_address}
-use Rattle.implib_link_instances.specs.Worked.Parts.{named_start, asking, gnu_bases, gnu_image, start_code, stub_code, table_at, zoo_parts, zoo_tables}
-use Rattle.implib_link_instances.specs.Worked.OtherLibraries.{objects_of}
+use Rattle.implib_link.proofs.Tables.{other_leads, stub_called_otherwise, tables_end_in_memory, thunk_called_otherwise, lld_tables}
+use Rattle.implib_link_instances.specs.Worked.Programs.{code_of_thunk, lld_image_on, linked_code, linked_thunk, mid_on, object_section, shorts_on, taken_address, symbol_of_class}
+use Rattle.implib_link_instances.specs.Worked.Parts.{named_start, asking, gnu_bases, gnu_image, start_code, stub_code, table_at, zoo_parts, zoo_tables, objects_of}
 use Rattle.implib_link_instances.specs.Worked.OtherNames.{HoldsOfSome, eight_zeros, other_tables, WorkedAlternateNames, WorkedOtherNames, lld_other_address, lld_other_code, lld_other_codes, lld_other_linked, lld_other_memory, lld_other_targets, other_address, other_codes, other_linked, other_memory, other_objects, other_placed, other_start, other_targets}
-use Rattle.implib_link_instances.specs.Worked.Programs.{symbol_of_class}
-use Rattle.implib_link_instances.proofs.Worked.LinkedCode.{relocated_by, relocated_test}
-use Rattle.implib_link_instances.proofs.Worked.LldPrograms.{alike, lld_opened, lld_pieces, meet_test, meets_up, takes_outside}
-use Rattle.implib_link_instances.proofs.Worked.OtherLibraries.{all_claim_none}
+use Rattle.implib_link_instances.proofs.Worked.Programs.{relocated_by, relocated_test, alike, lld_opened, lld_pieces, meet_test, meets_up, takes_outside, admissible_by, all_claim_none, distinct_by, instruction_by, opened}
 use Rattle.implib_link_instances.proofs.Worked.Parts.{all_apart, all_apart_test, is_apart, zoo_are, zoo_stores}
-use Rattle.implib_link_instances.proofs.Worked.Programs.{admissible_by, distinct_by, instruction_by, opened}
 
 -- A name that nothing defines is taken to be at one address; it stands for another where that is there.
 

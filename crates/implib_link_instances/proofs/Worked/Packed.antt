@@ -7,9 +7,8 @@ use Rattle.implib.specs.Link.LinkedMembers.{all_linked, objects_in}
 use Rattle.implib.specs.Members.GnuMembers.{alias_specs}
 use Rattle.implib.specs.Members.WeakExternal.{weak_object}
 use Rattle.implib.proofs.Link.LinkedInputs.{gnu_inputs_link}
-use Rattle.implib_link.specs.Gnu.Packed.{group_end, packed_end, sections_end}
-use Rattle.implib_link.specs.Gnu.Program.{has_tables}
-use Rattle.implib_link_instances.specs.Worked.Loads.{WorkedPacking, WorkedPackings, alone, packed_4, packed_8}
+use Rattle.implib_link.specs.Flavors.Program.{group_end, packed_end, sections_end, has_tables}
+use Rattle.implib_link_instances.specs.Worked.Files.{WorkedPacking, WorkedPackings, alone, packed_4, packed_8}
 use Rattle.implib_link_instances.specs.Worked.Programs.{both_inputs, program_objects, touching_8}
 use Rattle.implib_link_instances.proofs.Worked.GnuPacked.{members_are_program, packed_is_admissible, packed_is_program}
 use Rattle.implib_link_instances.proofs.Worked.Programs.{opened, worked_programs, admissible_by}

@@ -15,25 +15,19 @@ use Rattle.implib.specs.Members.GnuMembers.{alias_specs}
 use Rattle.implib.specs.Members.ImportTables.{thunk_width}
 use Rattle.implib.specs.Members.Members.{refusal, renamed_refusal}
 use Rattle.implib.specs.Members.WeakExternal.{weak_object}
-use Rattle.implib_link.specs.Gnu.Fields.{AreLinkedBeside, ranges_of_codes}
+use Rattle.implib_link.specs.Gnu.Fields.{AreLinkedBeside, ranges_of_codes, HasInstruction}
 use Rattle.implib_link.specs.Gnu.Moves.{AreInMemory}
-use Rattle.implib_link.specs.Gnu.Operands.{HasInstruction}
-use Rattle.implib_link.specs.Gnu.Program.{has_tables}
+use Rattle.implib_link.specs.Flavors.Program.{has_tables}
 use Rattle.implib_link.specs.Parts.{AreEntries, BeginWithHead, IsPart, IsProgramOfParts, Part, names_of_parts, stores_none}
 use Rattle.implib_link.specs.Tables.{AreTables, Table, Tables, packed_tables}
-use Rattle.implib_link.proofs.Parts.Members.{members_are_part, members_store_none, parts_steady}
+use Rattle.implib_link.proofs.Parts.Members.{members_are_part, members_store_none, parts_steady, older_part, older_stores_none}
 use Rattle.implib_link.proofs.Parts.Programs.{parts_tables}
-use Rattle.implib_link_instances.specs.Worked.OtherLibraries.{objects_of}
-use Rattle.implib_link_instances.specs.Worked.Parts.{IsWritten, WorkedOlder, WorkedParts, WorkedReach, asking, gnu_bases, gnu_image, i386_gnu_bases, i386_gnu_image, i386_kernel, i386_older_objects, i386_older_parts, i386_older_start, i386_older_zoo, i386_start_bytes, i386_zoo, i386_zoo_objects, i386_zoo_parts, kernel, named_start, older_objects, older_parts, older_zoo, start_bytes, start_code, stub_code, table_at, zoo, zoo_codes, zoo_linked, zoo_memory, zoo_objects, zoo_parts, zoo_tables, zoo_targets}
+use Rattle.implib_link_instances.specs.Worked.Parts.{IsWritten, WorkedOlder, WorkedParts, WorkedReach, asking, gnu_bases, gnu_image, i386_gnu_bases, i386_gnu_image, i386_kernel, i386_older_objects, i386_older_parts, i386_older_start, i386_older_zoo, i386_start_bytes, i386_zoo, i386_zoo_objects, i386_zoo_parts, kernel, named_start, older_objects, older_parts, older_zoo, start_bytes, start_code, stub_code, table_at, zoo, zoo_codes, zoo_linked, zoo_memory, zoo_objects, zoo_parts, zoo_tables, zoo_targets, objects_of}
 use Rattle.implib_link_instances.specs.Worked.Programs.{symbol_of_class}
-use Rattle.implib_link.proofs.TablesInMemory.{tables_lead_in_memory, tables_load_in_memory}
-use Rattle.implib_link_instances.proofs.Worked.LinkedCode.{relocated_by, relocated_test}
-use Rattle.implib_link_instances.proofs.Worked.LldPrograms.{disjoint, meet_test, takes_outside}
-use Rattle.implib_link_instances.proofs.Worked.OtherLibraries.{all_claim_none, all_hold_fields}
-use Rattle.implib_link_instances.proofs.Worked.Programs.{admissible_by, distinct_by, instruction_by, opened}
+use Rattle.implib_link.proofs.Tables.{tables_lead_in_memory, tables_load_in_memory}
+use Rattle.implib_link_instances.proofs.Worked.Programs.{relocated_by, relocated_test, disjoint, meet_test, takes_outside, admissible_by, all_claim_none, all_hold_fields, distinct_by, instruction_by, opened}
 use Rattle.implib.specs.Definition.{ExportView}
 use Rattle.implib.specs.Members.OlderSymbols.{AreOlderMembersOf, older_object, older_refusal, older_renamed_refusal, older_spec}
-use Rattle.implib_link.proofs.Parts.Older.{older_part, older_stores_none}
 
 pub written_by : (machine : MachineType) (bases : Bases) (parts : List Part) (objects : List Object) (written : List Range) (tables : List Table) → AllByRecursion (IsPart machine) parts →
     IsProgramOfParts machine bases parts objects → AllByRecursion (λ (p : Part). list_all (stores_none machine) p.objects ≡ true) parts → image_of machine bases (placed_from bases objects) ≡ written →

@@ -8,22 +8,17 @@ use Rattle.implib.specs.Members.MemberSpec.{MemberView, member_of}
 use Rattle.implib.specs.Members.WeakExternal.{weak_spec}
 use Rattle.implib.proofs.Link.LinkedMembers.{among_contains}
 use Rattle.implib_link.specs.Flavors.Expansion.{expanded_in}
-use Rattle.implib_link.specs.Gnu.Program.{claimed_name}
-use Rattle.implib_link.specs.Search.Archives.{is_weak_entry}
-use Rattle.implib_link.specs.Search.BothFlavors.{FlavorLibrary, IsFlavorArchive, archive_of_both}
-use Rattle.implib_link.specs.Search.Closed.{AreTakenIntoAs, PullsIntoAs, unresolved}
-use Rattle.implib_link.specs.Search.MsvcArchives.{TakesIntoFor}
-use Rattle.implib_link.specs.Search.Plainly.{AreOnlyWeak, without_weak}
-use Rattle.implib_link.specs.Search.Search.{first_listed, objects_as}
+use Rattle.implib_link.specs.Flavors.Program.{claimed_name}
+use Rattle.implib_link.specs.Search.Search.{is_weak_entry, AreTakenIntoAs, PullsIntoAs, unresolved, first_listed, objects_as, AreOnlyWeak, without_weak}
+use Rattle.implib_link.specs.Search.Libraries.{FlavorLibrary, IsFlavorArchive, archive_of_both, TakesIntoFor}
 use Rattle.implib_link.proofs.Search.Lists.{any_among, contains_among, each_of}
 use Rattle.implib_link.proofs.Search.Plainly.{libraries_plain}
 use Rattle.implib_link_instances.specs.Worked.Plainly.{WorkedPlainly, descriptor_on, kernel, kernel_library, kernel_taken, null_on, short_on, thunk_on}
-use Rattle.implib_link_instances.specs.Worked.BothFlavors.{foo_and_zed, mixed_taken}
-use Rattle.implib_link_instances.specs.Worked.Closed.{choosing}
+use Rattle.implib_link_instances.specs.Worked.BothFlavors.{foo_and_zed, mixed_taken, choosing}
 use Rattle.implib_link_instances.specs.Worked.CommandLines.{read_or_none, wants_bytes}
 use Rattle.implib_link_instances.proofs.Worked.BothFlavors.{archive_by, first_symbol, new_by, worked_both}
 use Rattle.implib_link_instances.proofs.Worked.CommandLines.{ended_by}
-use Rattle.implib_link_instances.proofs.Worked.Opened.{searched}
+use Rattle.implib_link_instances.proofs.Worked.Search.{searched}
 
 -- gcc's object and the library of kernel32.dll
 

@@ -8,13 +8,12 @@ use Rattle.implib.specs.Members.GnuMembers.{alias_specs}
 use Rattle.implib.specs.Members.Members.{refusal, renamed_refusal}
 use Rattle.implib.specs.Members.WeakExternal.{weak_object}
 use Rattle.implib.proofs.Link.Ranges.{apart_as_they_rise}
-use Rattle.implib_link.specs.Gnu.Operands.{Names}
-use Rattle.implib_link.specs.Gnu.Program.{has_tables}
+use Rattle.implib_link.specs.Gnu.Fields.{Names}
+use Rattle.implib_link.specs.Flavors.Program.{has_tables}
 use Rattle.implib_link_instances.specs.Worked.Operands.{open_on}
 use Rattle.implib_link_instances.specs.Worked.Programs.{both_inputs, symbol_of_class, touching_8}
-use Rattle.implib_link_instances.specs.Worked.Registered.{WorkedRegistered, WorkedRegistering, registered_stub_at, registering_at, registering_codes, registering_memory, registering_placed, registering_targets}
-use Rattle.implib_link_instances.proofs.Worked.LinkedCode.{relocated_by, relocated_test, takes_by}
-use Rattle.implib_link_instances.proofs.Worked.Programs.{admissible_by, opened, program_by}
+use Rattle.implib_link_instances.specs.Worked.Stored.{WorkedRegistered, WorkedRegistering, registered_stub_at, registering_at, registering_codes, registering_memory, registering_placed, registering_targets}
+use Rattle.implib_link_instances.proofs.Worked.Programs.{relocated_by, relocated_test, takes_by, admissible_by, opened, program_by}
 use Rattle.implib_link_instances.proofs.Worked.Stored.{further_by, further_test}
 use Rattle.implib_link_instances.proofs.Worked.Lemmas.{IsWide, based_type, whole_type}
 

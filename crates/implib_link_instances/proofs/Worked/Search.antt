@@ -1,49 +1,45 @@
--- The search that was done by hand, by computing.
+-- What the computing of searches has to open.
+use Rattle.implib.specs.Formats.Layout.{encoded_size}
+use Rattle.implib.specs.Formats.ShortImport.{short_import_in}
+use Rattle.implib.specs.Members.GnuMembers.{alias_specs}
+use Rattle.implib.specs.Members.Members.{refusal, renamed_refusal}
+use Rattle.implib.specs.Members.MsvcMembers.{descriptor_spec, header_specs, null_descriptor_spec, null_thunk_spec, weak_specs}
+use Rattle.implib.specs.Members.MsvcObjects.{base_name, descriptor, descriptor_symbol, null_descriptor, null_descriptor_symbol, null_thunk, null_thunk_symbol}
+use Rattle.implib.specs.Members.WeakExternal.{weak_object}
+use Rattle.implib_archive.specs.Archive.{entries_from, entries_of, first_linker_size, first_place, front_size, is_long, long_names, name_end, names_bytes, names_size, offset_of, places_from, second_linker_size, strings_of, with_first, with_name}
+use Rattle.implib_archive.specs.Refusal.{has_short_places, has_too_many, member_refusal, members_refusal, name_refusal, places_refusal, refusal_of, symbol_refusal, symbols_refusal}
+use Rattle.implib_link.specs.Flavors.Expansion.{descriptor_symbol_by_name, expanded_in, import_object, with_section_symbols}
+use Rattle.implib_link.specs.Flavors.Program.{has_tables, ClaimsNone}
+use Rattle.implib_link.specs.Search.Search.{archive_of, is_weak, symbols_of_library, claims_of, references_of, claimed_as, left_as, undefined_in, first_listed, AreTakenIntoAs, unresolved, listed_in, TakesIntoAs, SweepsTake, sweeps, swept}
+use Rattle.implib_link.specs.Search.Libraries.{is_weak_in, symbols_of_shorts}
+use Rattle.implib_link_instances.proofs.Worked.Programs.{opened, distinct_by, opened as opened_of_programs}
 use Rattle.std.proofs.Common.{Bool, List, Option, Some, [], ap, arith, codes, false, inl, inr, map, refl, subst, sym, true, ℕ, ◌++◌, ◌<◌, ◌^◌, ◌∙◌, ◌∷◌, ◌≡◌}
 use Rattle.std.specs.Prelude.{bytes_eq, is_none, length, nat_lt, not, ◌&&◌, ◌||◌}
-use Rattle.std.specs.Fmt.{digits}
-use Rattle.std.specs.List.{IsDistinct, flat_map, list_all, list_any}
+use Rattle.std.specs.List.{IsDistinct, list_all, list_any, AllByRecursion}
 use Rattle.std.proofs.lemmas.Bool.{and_parts, ltb-true, not-true, true≢false}
 use Rattle.implib.specs.declared.machine.MachineType.TheVariants.{AMD64}
-use Rattle.implib.specs.Definition.{empty_export}
-use Rattle.implib.specs.Worked.Statements.{plain_export}
-use Rattle.implib.specs.Formats.Bytes.{u16_bytes, u32_bytes}
-use Rattle.implib.specs.Members.Gnu.{export_object, five_digits, head_name, head_object, head_symbol, hint_name, iname_symbol, mangled_name, numbered_name, relocations_of_stub, relocations_of_thunk, stub, tail_name, tail_object, thunk, weak_name}
-use Rattle.implib.specs.Members.MemberSpec.{MemberView, member_of}
-use Rattle.implib.specs.Members.GnuMembers.{alias_specs, export_spec, head_spec, tail_spec}
-use Rattle.implib.specs.Members.Members.{refusal, renamed_refusal}
-use Rattle.implib.specs.Formats.Object.{Object, before_nul, bytes_at, data_at, each_at, entries_at, name_of, object_in, object_of_header, relocation_at, relocation_of, section_at, section_of, strings_at, symbol_of, u16_at, u32_at, up_to_nul}
-use Rattle.implib.specs.Formats.Layout.{auxiliary_bytes, auxiliary_count, contents, contents_offset, contents_size, encoded, encoded_size, header_bytes, name_field, offsets_from, pointer_or_zero, record_count, records, relocation_bytes, section_header, section_headers, string_bytes_of, string_offsets, string_size, string_table, strings_size, symbol_bytes, symbol_table_offset}
-use Rattle.implib.specs.Formats.Writer.{layout_of, long_names, name_location, symbol_written, with_long_name, with_name}
+use Rattle.implib.specs.Members.MemberSpec.{MemberView}
+use Rattle.implib.specs.Formats.Object.{Object}
 use Rattle.implib.proofs.Link.LinkedMembers.{among_contains, among_map}
-use Rattle.implib.proofs.Link.Ranges.{Among}
-use Rattle.implib_link.specs.Search.Search.{AreTakenInTurnAs, IsArranged, IsLinkedWith, PullsInAs, Takes, TakesAs, claimed_as, first_listed, left_as, undefined_in}
-use Rattle.implib_link_instances.specs.Worked.Search.{MayTake, WorkedArchives, WorkedFound, WorkedLibraries, WorkedNamedApart, WorkedSearch, WorkedSearched, WorkedSweeps, as_taken, bar_member, both_wanted, by_name, first_x, given_f, head_member, libraries_objects, members_of, qux_member, reads_by_hand, searched_objects, second_x, tail_member, three, two_libraries, wanted, wants_x}
+use Rattle.implib.proofs.Link.Ranges.{Among, among_back}
+use Rattle.implib_link_instances.specs.Worked.Search.{WorkedFound, WorkedNamedApart, WorkedSweeps, first_x, given_f, reads_by_hand, second_x, two_libraries, wants_x}
 use Rattle.implib_link.proofs.Search.Lists.{among_any, any_among, contains_among}
-use Rattle.implib.specs.LibraryName.{own_names}
-use Rattle.implib.specs.Members.WeakExternal.{weak_object, weak_spec}
-use Rattle.implib_link.specs.Search.Archives.{NamesNoHeadOrTailOf, archive_of, inputs_wanted, is_weak, symbols_of_library, wanted_with}
-use Rattle.implib.specs.Formats.Constants.{class_external}
-use Rattle.implib.specs.Link.LinkedMembers.{IsAscending, LinkInput}
-use Rattle.implib_link.specs.Gnu.Packed.{group_end, packed, packed_end, sections_end}
-use Rattle.implib_link.specs.Gnu.Program.{HaveSame, has_tables, linked_symbols}
-use Rattle.implib_link.specs.Flavors.Program.{IsProgram}
-use Rattle.implib_link_instances.specs.Worked.Programs.{chosen_input, code_object, symbol_of_class}
-use Rattle.implib_link_instances.proofs.Worked.GnuPacked.{packed_is_admissible, packed_is_program}
-use Rattle.implib_link.proofs.Search.Archives.{libraries_link, libraries_taken}
-use Rattle.implib_link.proofs.Search.Arranged.{inputs_made}
-use Rattle.implib_link.proofs.Search.Ends.{search_bounded, search_ends}
-use Rattle.implib_link.proofs.Search.One.{takes_wanted}
-use Rattle.implib_link.proofs.Search.Searched.{linked_in_order, searched_links}
-use Rattle.implib_link.proofs.Search.Sorted.{sorted_is_arranged}
-use Rattle.implib_link_instances.proofs.Worked.Programs.{claims_none_by, distinct_by, opened as opened_of_programs}
-use Rattle.implib_link.specs.Search.Closed.{AreTakenIntoAs, claims_of, references_of}
-use Rattle.implib_link.specs.Search.Sweeps.{SweepsTake, sweeps, swept}
 use Rattle.implib_link.proofs.Search.Sweeps.{sweeps_take}
-use Rattle.implib.specs.Members.MsvcObjects.{base_name, descriptor_symbol}
-use Rattle.implib_link.specs.Flavors.Expansion.{descriptor_symbol_by_name}
 use Rattle.implib_link.specs.Search.NamedApart.{AreNamedApart, names_in, stem}
-use Rattle.implib_link.proofs.Search.NamedApart.{named_apart}
+use Rattle.implib_link.proofs.Search.FlavorGroups.{named_apart}
+use Rattle.implib_link.proofs.Search.Closing.{AreTakenInTurnAs, PullsInAs, TakesAs, claims_apart, takes_into}
+
+-- what the computing has to open
+unfoldable pub searched : Unit {0}
+unfolding opened refusal renamed_refusal alias_specs encoded_size weak_object expanded_in short_import_in import_object descriptor_symbol_by_name with_section_symbols descriptor null_descriptor null_thunk descriptor_symbol null_descriptor_symbol null_thunk_symbol base_name descriptor_spec null_descriptor_spec null_thunk_spec header_specs weak_specs has_tables archive_of is_weak is_weak_in left_as claimed_as undefined_in references_of claims_of symbols_of_library symbols_of_shorts
+searched = tt
+
+-- what is opened of an archive that is not refused
+unfoldable pub archived : Unit {0}
+unfolding entries_from entries_of first_linker_size first_place front_size is_long long_names name_end names_bytes names_size offset_of places_from second_linker_size strings_of with_first with_name has_short_places has_too_many member_refusal members_refusal name_refusal places_refusal refusal_of symbol_refusal symbols_refusal
+archived = tt
+
+-- The search that was done by hand, by computing.
 
 -- whether a name pulls in no member any more
 abbrev is_settled : (List ℕ → Option Object) → List MemberView → List MemberView → List ℕ → Bool
@@ -119,188 +115,17 @@ pub takes_by : {reads : List ℕ → Option Object} {archive : List MemberView} 
     are_in_turn reads wanted names taken ≡ true → list_all (is_settled reads archive taken) (wanted ++ left_as reads taken) ≡ true → TakesAs reads archive wanted taken
 takes_by {reads} {archive} {wanted} {taken} names listed turns settled = record { in_turn = turns_by reads archive wanted names taken listed turns; ended = settled_ends reads archive wanted taken settled }
 
--- what the computing has to open
-unfoldable pub opened : Unit {0}
-unfolding digits u16_bytes u32_bytes export_object five_digits head_name head_object head_symbol hint_name iname_symbol numbered_name relocations_of_stub relocations_of_thunk mangled_name stub tail_name tail_object thunk export_spec head_spec tail_spec before_nul bytes_at data_at each_at entries_at name_of object_in object_of_header relocation_at relocation_of section_at section_of strings_at symbol_of u16_at u32_at up_to_nul auxiliary_bytes auxiliary_count contents contents_offset contents_size header_bytes encoded name_field offsets_from pointer_or_zero record_count records relocation_bytes section_header section_headers string_bytes_of string_offsets string_size string_table strings_size symbol_bytes symbol_table_offset long_names name_location layout_of symbol_written with_long_name with_name
-opened = tt
-
-abbrev pub the_head : MemberView
-the_head = member_of (head_spec AMD64 (codes "foo.dll"))
-
-abbrev pub the_tail : MemberView
-the_tail = member_of (tail_spec AMD64 (own_names (codes "foo.dll")))
-
-abbrev pub bar : MemberView
-bar = member_of (export_spec AMD64 (codes "foo.dll") 0 (plain_export (codes "bar")))
-
-abbrev pub qux : MemberView
-qux = member_of (export_spec AMD64 (codes "foo.dll") 2 (record empty_export { name = codes "qux"; is_data = true }))
-
-pub three_takes : Takes (members_of three) wanted (qux ∷ the_tail ∷ the_head ∷ bar ∷ [])
-unfolding opened alias_specs encoded_size left_as claimed_as undefined_in AreTakenInTurnAs
-three_takes = takes_by (codes "__imp_qux" ∷ codes "foo_dll_iname" ∷ codes "_head_foo_dll" ∷ codes "bar" ∷ []) refl refl refl
-
-takes_three : MayTake three wanted (codes "foo_dll_a_s00002.o" ∷ codes "foo_dll_a_t.o" ∷ codes "foo_dll_a_h.o" ∷ codes "foo_dll_a_s00000.o" ∷ [])
-unfolding opened
-takes_three = (qux ∷ the_tail ∷ the_head ∷ bar ∷ [], three_takes, refl)
-
-takes_nothing : MayTake three (codes "printf" ∷ []) []
-unfolding opened alias_specs encoded_size left_as claimed_as undefined_in AreTakenInTurnAs
-takes_nothing = ([], record { in_turn = tt; ended = settled_ends object_in (members_of three) (codes "printf" ∷ []) [] refl }, refl)
-
-takes_head_and_tail : MayTake three (codes "_head_foo_dll" ∷ []) (codes "foo_dll_a_t.o" ∷ codes "foo_dll_a_h.o" ∷ [])
-unfolding opened alias_specs encoded_size left_as claimed_as undefined_in AreTakenInTurnAs
-takes_head_and_tail = (
-  the_tail ∷ the_head ∷ [],
-  takes_by (codes "foo_dll_iname" ∷ codes "_head_foo_dll" ∷ []) refl refl refl,
-  refl,
-)
-
-pub worked_search : WorkedSearch
-unfolding opened refusal renamed_refusal alias_specs encoded_size IsDistinct
-worked_search = record {
-  made = record { accepted = refl; made = refl; ordinals = refl };
-  distinct = ((refl, (refl, (refl, (refl, (refl, (refl, tt)))))), ((refl, (refl, (refl, (refl, (refl, tt))))), ((refl, (refl, (refl, (refl, tt)))), ((refl, (refl, (refl, tt))), ((refl, (refl, tt)), ((refl, tt), (tt, tt)))))));
-  plain = record { head = refl; name = refl };
-  numbers = refl;
-  firsts = refl;
-  takes = takes_three;
-  nothing = takes_nothing;
-  head_and_tail = takes_head_and_tail;
-  alias_first = refl;
-}
-
-abbrev pub foo_weak : MemberView
-foo_weak = member_of (weak_spec AMD64 (weak_name (codes "foo.dll") 0) (codes "bar") (codes "baz"))
-
-abbrev pub foo_baz : MemberView
-foo_baz = member_of (export_spec AMD64 (codes "foo.dll") 1 (plain_export (codes "baz")))
-
-abbrev pub head_named : List ℕ → MemberView
-head_named dll = member_of (head_spec AMD64 dll)
-
-abbrev pub tail_named : List ℕ → MemberView
-tail_named dll = member_of (tail_spec AMD64 (own_names dll))
-
-abbrev pub zed_queue : MemberView
-zed_queue = member_of (export_spec AMD64 (codes "zed.dll") 0 (plain_export (codes "queue")))
-
-abbrev pub foo_taken : List MemberView
-foo_taken = tail_named (codes "foo.dll") ∷ head_named (codes "foo.dll") ∷ foo_baz ∷ foo_weak ∷ []
-
-abbrev pub both_taken : List MemberView
-both_taken = tail_named (codes "zed.dll") ∷ head_named (codes "zed.dll") ∷ zed_queue ∷ foo_taken
-
-abbrev archive : List MemberView
-archive = archive_of two_libraries
-
-pub both_takes : Takes (archive_of two_libraries) both_wanted both_taken
-unfolding opened alias_specs encoded_size left_as claimed_as undefined_in AreTakenInTurnAs weak_object archive_of
-both_takes = takes_by (codes "zed_dll_iname" ∷ codes "_head_zed_dll" ∷ codes "__imp_queue" ∷ codes "foo_dll_iname" ∷ codes "_head_foo_dll" ∷ codes "baz" ∷ codes "bar" ∷ []) refl refl refl
-
-pub worked_archives : WorkedArchives
-unfolding opened refusal renamed_refusal alias_specs encoded_size IsDistinct weak_object symbols_of_library is_weak left_as undefined_in
-worked_archives = record {
-  archive = record {
-    made = (record { accepted = refl; made = refl; ordinals = refl }, (record { accepted = refl; made = refl; ordinals = refl }, tt));
-    distinct = ((refl, (refl, (refl, (refl, (refl, (refl, (refl, (refl, (refl, (refl, (refl, tt))))))))))), ((refl, (refl, (refl, (refl, (refl, (refl, (refl, (refl, (refl, (refl, tt)))))))))), ((refl, (refl, (refl, (refl, (refl, (refl, (refl, (refl, (refl, tt))))))))), ((refl, (refl, (refl, (refl, (refl, (refl, (refl, (refl, tt)))))))), ((refl, (refl, (refl, (refl, (refl, (refl, (refl, tt))))))), ((refl, (refl, (refl, (refl, (refl, (refl, tt)))))), ((refl, (refl, (refl, (refl, (refl, tt))))), ((refl, (refl, (refl, (refl, tt)))), ((refl, (refl, (refl, tt))), ((refl, (refl, tt)), ((refl, tt), (tt, tt))))))))))));
-  };
-  taken = both_taken;
-  takes = both_takes;
-  names = refl;
-  weak = refl;
-  wanted = refl;
-  plain = (record { head = refl; name = refl }, (record { head = refl; name = refl }, tt));
-  chosen = refl;
-}
-
--- Four members in two orders.
-
-to_order : {X : Type 0} (a b c d x : X) → Among x (c ∷ d ∷ a ∷ b ∷ []) → Among x (a ∷ b ∷ c ∷ d ∷ [])
-unfolding Among
-to_order a b c d x (inl e) = inr (inr (inl e))
-to_order a b c d x (inr (inl e)) = inr (inr (inr (inl e)))
-to_order a b c d x (inr (inr (inl e))) = inl e
-to_order a b c d x (inr (inr (inr (inl e)))) = inr (inl e)
-to_order a b c d x (inr (inr (inr (inr held)))) = absurd held
-
-turned : {X : Type 0} (a b c d : X) → HaveSame (c ∷ d ∷ a ∷ b ∷ []) (a ∷ b ∷ c ∷ d ∷ [])
-turned a b c d x = (
-  λ has. among_contains x (a ∷ b ∷ c ∷ d ∷ []) (to_order a b c d x (contains_among x (c ∷ d ∷ a ∷ b ∷ []) has)),
-  λ has. among_contains x (c ∷ d ∷ a ∷ b ∷ []) (to_order c d a b x (contains_among x (a ∷ b ∷ c ∷ d ∷ []) has)),
-)
-
--- The three exports.
-
-takes : Takes (members_of three) wanted as_taken
-takes = three_takes
-
-ascending : IsAscending (map (λ (m : MemberView). m.name) by_name)
-unfolding opened_of_programs
-ascending = (refl, (refl, (refl, tt)))
-
-arranged : IsArranged AMD64 (own_names (codes "foo.dll")) as_taken by_name
-unfolding opened_of_programs alias_specs encoded_size
-arranged =
-    sorted_is_arranged AMD64 three (members_of three) as_taken by_name wanted 0 worked_search.made worked_search.distinct worked_search.plain takes
-    (0, omega arith, refl) (turned head_member bar_member qux_member tail_member) ascending
+-- What a linker takes for given objects that claim nothing of it, by computing.
+pub into_by : {reads : List ℕ → Option Object} {archive : List MemberView} {own : List Object} {taken : List MemberView} (names : List (List ℕ)) → map (first_listed archive) names ≡ map Some taken →
+    are_in_turn reads (unresolved own) names taken ≡ true → list_all (is_settled reads archive taken) (unresolved own ++ left_as reads taken) ≡ true → AllByRecursion (ClaimsNone (listed_in taken ++ left_as reads taken)) own →
+    TakesIntoAs reads archive own taken
+unfolding left_as
+into_by {reads} {archive} {own} {taken} names listed turns settled claims =
+    takes_into reads archive own taken (λ name left. claims_apart (listed_in taken ++ left_as reads taken) own claims name (among_back name (listed_in taken) (left_as reads taken) left)) (takes_by names listed turns settled)
 
 -- a number below 2^31, by computing
 pub below_limit : (n : ℕ) → nat_lt n (2 ^ 31) ≡ true → n < 2 ^ 31
 below_limit n is = ltb-true n (2 ^ 31) is
-
-plain_names : NamesNoHeadOrTailOf AMD64 two_libraries (wanted_with both_wanted both_taken)
-unfolding opened_of_programs alias_specs encoded_size weak_object is_weak left_as undefined_in
-plain_names = (record { head = refl; name = refl }, (record { head = refl; name = refl }, tt))
-
-abbrev one_input : List LinkInput
-one_input = chosen_input AMD64 three (0 ∷ 2 ∷ []) ∷ []
-
-program : IsLinkedWith AMD64 (own_names (codes "foo.dll")) (packed 1 searched_objects) as_taken searched_objects
-unfolding opened_of_programs alias_specs encoded_size has_tables group_end sections_end
-program = record {
-  arranged = by_name;
-  is_arranged = arranged;
-  tables = refl;
-  others = (claims_none_by (flat_map (λ m. m.symbols) by_name) (code_object (symbol_of_class (codes "main") 1 class_external ∷ symbol_of_class (codes "bar") 0 class_external ∷ [])) refl, tt);
-  admissible = packed_is_admissible AMD64 1 one_input searched_objects (worked_search.made, tt) refl (omega arith) (below_limit (packed_end 1 searched_objects) refl);
-}
-
-pub worked_searched : WorkedSearched
-worked_searched = record {
-  takes = takes;
-  just = takes_wanted AMD64 three (members_of three) as_taken wanted worked_search.made worked_search.distinct worked_search.plain takes;
-  holds_of_some = λ holds. holds AMD64 three (members_of three) as_taken wanted worked_search.made worked_search.distinct worked_search.plain takes;
-  some = (0, omega arith, refl);
-  same = turned head_member bar_member qux_member tail_member;
-  ascending = ascending;
-  arranged = arranged;
-  of_wanted = linked_in_order AMD64 three (members_of three) as_taken by_name wanted worked_search.made worked_search.distinct worked_search.plain takes arranged;
-  program = program;
-  imports = searched_links AMD64 three (members_of three) as_taken wanted (packed 1 searched_objects) searched_objects worked_search.made worked_search.distinct worked_search.plain takes program;
-  ends = search_ends object_in (members_of three) wanted;
-  bounded = search_bounded object_in (members_of three) as_taken wanted takes.in_turn;
-}
-
--- The two libraries.
-
-abbrev libraries_inputs : List LinkInput
-libraries_inputs = inputs_wanted two_libraries (wanted_with both_wanted both_taken)
-
-libraries_program : IsProgram AMD64 (packed 1 (libraries_objects both_taken)) libraries_inputs (libraries_objects both_taken)
-unfolding opened_of_programs alias_specs encoded_size weak_object is_weak left_as undefined_in has_tables group_end sections_end
-libraries_program =
-    packed_is_program AMD64 1 libraries_inputs (inputs_made AMD64 two_libraries (wanted_with both_wanted both_taken) worked_archives.archive.made)
-    (distinct_by (linked_symbols AMD64 libraries_inputs) refl) (omega arith) (below_limit (packed_end 1 (libraries_objects both_taken)) refl)
-
-pub worked_libraries : WorkedLibraries
-worked_libraries = record {
-  taken = both_taken;
-  takes = both_takes;
-  just = libraries_taken AMD64 two_libraries both_taken both_wanted worked_archives.archive plain_names both_takes;
-  program = libraries_program;
-  links = libraries_link AMD64 two_libraries (wanted_with both_wanted both_taken) (packed 1 (libraries_objects both_taken)) (libraries_objects both_taken) worked_archives.archive libraries_program;
-}
 
 twice : SweepsTake reads_by_hand (first_x ∷ wants_x ∷ []) given_f 2 (0 ∷ 1 ∷ [])
 unfolding swept sweeps references_of claims_of undefined_in
@@ -340,10 +165,10 @@ apart = record {
 }
 
 pub worked_named_apart : WorkedNamedApart
-unfolding opened_of_programs
+unfolding opened_of_programs refusal renamed_refusal alias_specs encoded_size weak_object
 worked_named_apart = record {
   stems = refl;
   names = refl;
   apart = apart;
-  archive = named_apart AMD64 two_libraries worked_archives.archive.made apart;
+  archive = named_apart AMD64 two_libraries (record { accepted = refl; made = refl; ordinals = refl }, (record { accepted = refl; made = refl; ordinals = refl }, tt)) apart;
 }

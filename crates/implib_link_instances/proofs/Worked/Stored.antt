@@ -10,23 +10,16 @@ use Rattle.implib.specs.Formats.Constants.{amd64_rel32, class_external}
 use Rattle.implib.specs.Machine.{is_32bit}
 use Rattle.implib.specs.Link.Image.{Range}
 use Rattle.implib.proofs.Link.Ranges.{apart_as_they_rise}
-use Rattle.implib_link.specs.Flavors.LldImports.{IsLldProgram}
-use Rattle.implib_link.specs.Flavors.LldThunks.{placed_thunk, thunk_section}
-use Rattle.implib_link.specs.Gnu.Calls.{field_width}
-use Rattle.implib_link.specs.Gnu.Fields.{AreLinkedBeside, LinkedCode, field_at, range_of_code, ranges_of_codes}
+use Rattle.implib_link.specs.Flavors.LldImports.{IsLldProgram, placed_thunk, thunk_section}
+use Rattle.implib_link.specs.Gnu.Fields.{field_width, AreLinkedBeside, LinkedCode, field_at, range_of_code, ranges_of_codes, Names, IsRebased, table_places}
 use Rattle.implib_link.specs.Gnu.Moves.{AreMoved}
-use Rattle.implib_link.specs.Gnu.Operands.{Names}
-use Rattle.implib_link.specs.Gnu.Rebased.{IsRebased, table_places}
 use Rattle.implib_link.specs.Gnu.Stored.{AreFurtherHeld, AreStoredInMemory, HoldsFurther, amd64_addr32nb, arm64_add, arm64_addr32nb, arm64_pageoffset_12a, i386_dir32nb}
 use Rattle.implib_link.specs.Stub.{bits_of, with_bits}
-use Rattle.implib_link_instances.specs.Worked.LldPrograms.{linked_thunk, lld_image_on, mid_on, shorts_on, tables_on, addresses_on}
-use Rattle.implib_link_instances.specs.Worked.Programs.{symbol_of_class}
+use Rattle.implib_link_instances.specs.Worked.Programs.{linked_thunk, lld_image_on, mid_on, shorts_on, tables_on, addresses_on, symbol_of_class}
 use Rattle.implib_link_instances.specs.Worked.Stored.{WorkedHolding, WorkedHoldings, held_at, held_linked, held_section, holding_codes, holding_memory, holding_moved_memory, holding_placed, holding_places, holding_targets, mid_name, mid_thunk, mid_thunk_at, picking_at, picking_linked, picking_section, placed_holding, unwind_at, unwind_linked, unwind_section}
 use Rattle.implib_link.proofs.Gnu.Fields.{alone_among}
 use Rattle.implib_link.proofs.Search.Lists.{contains_among, each_of}
-use Rattle.implib_link_instances.proofs.Worked.LldPrograms.{lld_opened, disjoint, meet_test, takes_outside, lld_program}
-use Rattle.implib_link_instances.proofs.Worked.LinkedCode.{all_needed, both_equal, only_absolute, rebased_by, relocated_by, relocated_test}
-use Rattle.implib_link_instances.proofs.Worked.Programs.{instruction_by}
+use Rattle.implib_link_instances.proofs.Worked.Programs.{lld_opened, disjoint, meet_test, takes_outside, lld_program, all_needed, both_equal, only_absolute, rebased_by, relocated_by, relocated_test, instruction_by}
 use Rattle.implib_link_instances.proofs.Worked.Lemmas.{NotThumb, image_base, number, whole_type}
 
 -- Fields of further types, by computing.

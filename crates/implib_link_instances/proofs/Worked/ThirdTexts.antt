@@ -7,21 +7,15 @@ use Rattle.implib.specs.Formats.Constants.{amd64_rel32, class_external}
 use Rattle.implib.specs.Link.Resolution.{definitions_of}
 use Rattle.implib.proofs.Link.LinkedMembers.{among_contains}
 use Rattle.implib.proofs.Link.Ranges.{Among}
-use Rattle.implib_link.specs.Flavors.LldTables.{IsAskable, IsImportable, built, built_bytes}
-use Rattle.implib_link.specs.Flavors.LldThunks.{IsThunk, thunk_section}
-use Rattle.implib_link.specs.Gnu.Fields.{AreLinkedBeside, ranges_of_codes}
-use Rattle.implib_link.specs.Gnu.Operands.{HasBranch}
+use Rattle.implib_link.specs.Flavors.LldImports.{IsAskable, IsImportable, built, built_bytes, IsThunk, thunk_section}
+use Rattle.implib_link.specs.Gnu.Fields.{AreLinkedBeside, ranges_of_codes, HasBranch}
 use Rattle.implib_link.specs.Tables.{AreSteady, AreTables, DefineEntries, Table, TableEntry, Tables, imported_by_table}
-use Rattle.implib_link.proofs.Flavors.LldTables.{built_pieces}
-use Rattle.implib_link.proofs.TablesInMemory.{tables_lead_in_memory, thunk_called_in_memory}
-use Rattle.implib_link.proofs.TablesOfPrograms.{pieces_tables}
-use Rattle.implib_link_instances.specs.Worked.Parts.{asking, table_at}
+use Rattle.implib_link.proofs.Flavors.LldImports.{built_pieces}
+use Rattle.implib_link.proofs.Tables.{tables_lead_in_memory, thunk_called_in_memory, pieces_tables}
+use Rattle.implib_link_instances.specs.Worked.Parts.{asking, table_at, PiecesAsk, WorkedThirdTexts, block_asking, third_code, third_codes, third_feed, third_image, third_linked, third_memory, third_section, third_tables, third_targets, third_thunk, third_written}
 use Rattle.implib_link_instances.specs.Worked.Programs.{symbol_of_class}
-use Rattle.implib_link_instances.specs.Worked.ThirdTexts.{PiecesAsk, WorkedThirdTexts, block_asking, third_code, third_codes, third_feed, third_image, third_linked, third_memory, third_section, third_tables, third_targets, third_thunk, third_written}
-use Rattle.implib_link_instances.proofs.Worked.LinkedCode.{relocated_by, relocated_test}
-use Rattle.implib_link_instances.proofs.Worked.LldPrograms.{lld_opened, meet_test, meets_up, takes_outside}
+use Rattle.implib_link_instances.proofs.Worked.Programs.{relocated_by, relocated_test, lld_opened, meet_test, meets_up, takes_outside, instruction_by}
 use Rattle.implib_link_instances.proofs.Worked.Parts.{all_apart, all_apart_test, is_apart}
-use Rattle.implib_link_instances.proofs.Worked.Programs.{instruction_by}
 
 written : built_bytes AMD64 0x2000 (map imported_by_table third_tables) ≡ third_written
 unfolding lld_opened

@@ -2,8 +2,8 @@
 use Rattle.implib.specs.Link.LinkedMembers.{IsMade}
 use Rattle.std.specs.List.{AllByRecursion}
 use Rattle.implib.specs.Link.Placement.{Bases}
-use Rattle.implib_link_instances.specs.Worked.Operands.{moved_memory, passing_codes, passing_objects, passing_targets}
-use Rattle.implib_link_instances.proofs.Worked.Operands.{worked_operands}
+use Rattle.implib_link_instances.specs.Worked.Operands.{moved_memory, passing_codes, passing_objects, passing_targets, given_on}
+use Rattle.implib_link_instances.proofs.Worked.Programs.{worked_operands, opened, worked_programs}
 use Rattle.std.proofs.Common.{◌≡◌, ℕ, List, ◌++◌, length, map, refl, ◌∙◌, subst}
 use Rattle.implib.specs.declared.machine.MachineType.{MachineType}
 use Rattle.implib.specs.declared.machine.MachineType.TheVariants.{I386, AMD64}
@@ -14,20 +14,15 @@ use Rattle.implib.specs.Members.GnuMembers.{alias_specs}
 use Rattle.implib.specs.Members.ImportTables.{thunk_width}
 use Rattle.implib.specs.Members.WeakExternal.{weak_object}
 use Rattle.implib_link.specs.Directory.{Imported, imported}
-use Rattle.implib_link.specs.Gnu.Program.{has_tables}
-use Rattle.implib_link.specs.Flavors.Program.{IsProgram, OfLinker, gnu_input}
+use Rattle.implib_link.specs.Flavors.Program.{has_tables, IsProgram, OfLinker, gnu_input}
 use Rattle.implib_link.specs.Gnu.Writing.{WritesAsItGoes}
-use Rattle.implib_link_instances.specs.Worked.Calls.{given_on}
-use Rattle.implib_link_instances.specs.Worked.Loads.{gives_by_hand}
+use Rattle.implib_link_instances.specs.Worked.Files.{gives_by_hand, WorkedWriting, WorkedWritings, left_4, left_8}
 use Rattle.implib_link_instances.specs.Worked.Programs.{both_inputs, program_image, program_objects, touching_4, touching_8}
-use Rattle.implib_link_instances.specs.Worked.Writing.{WorkedWriting, WorkedWritings, left_4, left_8}
 use Rattle.implib_link.proofs.Gnu.Filling.{all_filled, table_filled}
-use Rattle.implib_link.proofs.Gnu.Keeps.{Keeps}
-use Rattle.implib_link.proofs.Gnu.Writing.{run_can, run_once}
-use Rattle.implib_link.proofs.Flavors.Writing.{program_beside, program_long, writer_ends, writer_loads}
+use Rattle.implib_link.proofs.Gnu.Loaded.{Keeps}
+use Rattle.implib_link.proofs.Flavors.Steady.{run_can, run_once, program_beside, program_long, writer_ends, writer_loads}
 use Rattle.implib_link_instances.proofs.Worked.Calls.{wide}
 use Rattle.implib_link_instances.proofs.Worked.Loads.{given}
-use Rattle.implib_link_instances.proofs.Worked.Programs.{opened, worked_programs}
 
 keeps_itself : (image : List Range) → Keeps image image
 unfolding Keeps

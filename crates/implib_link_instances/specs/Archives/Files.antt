@@ -5,27 +5,23 @@ use Rattle.implib.specs.Worked.Digits.{hex}
 use Rattle.implib_archive.specs.declared.kind.Kind.TheVariants.{Coff, Gnu}
 use Rattle.implib_link.specs.Archives.Files.{ArchiveFile, HasMembers, HasMembersAs}
 use Rattle.implib_link.specs.Archives.Files.{members_in_files}
-use Rattle.implib_link.specs.Search.BothFlavors.{FlavorLibrary, archive_of_both, msvc_among}
+use Rattle.implib_link.specs.Search.Libraries.{FlavorLibrary, archive_of_both, msvc_among}
+use Rattle.implib_link.specs.Search.Libraries.{IsMsvcArchive}
 use Rattle.implib_link_instances.specs.Worked.CommandLines.{i386_quit_bytes, i386_wants_bytes}
-use Rattle.implib_link_instances.specs.Worked.CommandLines.{is_quit, quit_bytes}
-use Rattle.implib_link_instances.specs.Worked.CommandLines.{quit_member, read_or_none, wants_bytes}
-use Rattle.implib_link_instances.specs.Worked.FlavorLines.{amd64_kernels, amd64_shorts}
-use Rattle.implib_link_instances.specs.Worked.FlavorLines.{i386_kernels, i386_shorts}
-use Rattle.implib_link_instances.specs.Worked.FlavorLines.{shorts_grouped, shorts_last}
-use Rattle.implib_link_instances.specs.Worked.FlavorLines.{shorts_taken}
+use Rattle.implib_link_instances.specs.Worked.CommandLines.{is_quit, quit_bytes, quit_member}
+use Rattle.implib_link_instances.specs.Worked.CommandLines.{read_or_none, wants_bytes}
+use Rattle.implib_link_instances.specs.Worked.CommandLines.{amd64_kernels, amd64_shorts}
+use Rattle.implib_link_instances.specs.Worked.CommandLines.{i386_kernels, i386_shorts}
+use Rattle.implib_link_instances.specs.Worked.CommandLines.{shorts_grouped, shorts_last}
+use Rattle.implib_link_instances.specs.Worked.CommandLines.{shorts_taken}
 use Rattle.implib.specs.declared.machine.MachineType.{MachineType}
 use Rattle.implib.specs.declared.machine.MachineType.TheVariants.{AMD64, I386}
 use Rattle.implib.specs.Formats.Object.{Object}
 use Rattle.implib.specs.Members.MemberSpec.{MemberView}
-use Rattle.implib_link.specs.Archives.LldFiles.{SearchesByLld}
-use Rattle.implib_link.specs.Archives.LldWay.{AreCalledAlike, LldArrives, read_by_lld}
-use Rattle.implib_link.specs.Search.CommandLines.{Input, SearchesFlavors, given_with}
-use Rattle.implib_link.specs.Search.CommandLines.{others_of}
-use Rattle.implib_link.specs.Search.MsvcArchives.{IsMsvcArchive}
-use Rattle.implib_link.specs.Search.Sweeps.{members_at}
-use Rattle.implib_link.specs.Archives.Results.{HaveArchive}
-use Rattle.implib_link.specs.Archives.InBytes.{Second}
-use Rattle.implib_link.specs.Search.Archives.{archive_of}
+use Rattle.implib_link.specs.Archives.Ways.{SearchesByLld, AreCalledAlike, LldArrives, read_by_lld}
+use Rattle.implib_link.specs.Search.CommandLines.{Input, SearchesFlavors, given_with, others_of}
+use Rattle.implib_link.specs.Search.Search.{members_at, archive_of}
+use Rattle.implib_link.specs.Archives.InBytes.{HaveArchive, Second}
 
 abbrev pub libquit : List ℕ
 libquit =

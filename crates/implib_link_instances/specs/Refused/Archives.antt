@@ -2,29 +2,28 @@
 -- of `X` what this field refuses.
 use Rattle.std.specs.Prelude.{List, [], codes, map, ℕ, ◌++◌, ◌∷◌}
 use Rattle.implib.specs.declared.machine.MachineType.TheVariants.{AMD64}
-use Rattle.implib.specs.Formats.Object.{Object}
+use Rattle.implib.specs.Formats.Object.{Object, object_in}
 use Rattle.implib.specs.Members.MemberSpec.{MemberView}
 use Rattle.implib.specs.Members.Msvc.{short_import_symbols}
 use Rattle.implib_archive.specs.Worked.{worked_members}
 use Rattle.implib_archive.specs.declared.kind.Kind.TheVariants.{Coff, Gnu}
-use Rattle.implib_link.specs.Archives.BothWay.{BothArrive}
+use Rattle.implib_link.specs.Flavors.Program.{OfMember}
+use Rattle.implib_link.specs.Archives.Ways.{CallsArrive, IsWantedBy, LldArrives, defining}
 use Rattle.implib_link.specs.Archives.Files.{HasMembersAs}
-use Rattle.implib_link.specs.Archives.InBytes.{First, Second, asks_for}
-use Rattle.implib_link.specs.Archives.LldWay.{IsWantedBy, LldArrives, defining}
-use Rattle.implib_link.specs.Archives.Results.{AreHeadersOf, AreMembersAt, IsHeaderOf, IsSearchOf}
-use Rattle.implib_link.specs.Archives.Results.{LeadsToFirst, TakesJust}
-use Rattle.implib_link.specs.Archives.Way.{CallsArrive}
+use Rattle.implib_link.specs.Archives.InBytes.{First, Second, AreHeadersOf, AreMembersAt}
+use Rattle.implib_link.specs.Archives.InBytes.{IsHeaderOf, IsSearchOf, LeadsToFirst, TakesJust}
 use Rattle.implib_link.specs.Image.Files.{DataDirectory}
 use Rattle.implib_link.specs.Image.Laws.{IsInDirectory}
-use Rattle.implib_link.specs.Search.Wanting.{wanting}
+use Rattle.implib_link.specs.Search.Search.{wanting}
 use Rattle.implib_link_instances.specs.Archives.Files.{libquit}
-use Rattle.implib_link_instances.specs.Archives.WorkedLldWay.{lld_libraries, lld_taken}
-use Rattle.implib_link_instances.specs.Refused.Links.{f_library, for_gnu, listing, own}
-use Rattle.implib_link_instances.specs.Refused.Searches.{exportless, f_export}
-use Rattle.implib_link_instances.specs.Refused.Tables.{range_at}
-use Rattle.implib_link_instances.specs.Worked.MsvcSearch.{short_named}
+use Rattle.implib_link_instances.specs.Archives.WorkedWays.{both, own as calling_both}
+use Rattle.implib_link_instances.specs.Archives.WorkedWays.{lld_libraries, lld_taken}
+use Rattle.implib_link_instances.specs.Refused.Links.{f_library, for_gnu, listing, own, exportless}
+use Rattle.implib_link_instances.specs.Refused.Links.{f_export, range_at}
+use Rattle.implib_link_instances.specs.Worked.Search.{short_named}
 use Rattle.implib_link_instances.specs.Worked.Programs.{program_objects, touching_8}
-use Rattle.implib_link_instances.specs.Worked.Search.{members_of, three, wanted}
+use Rattle.implib_link.specs.Search.Libraries.{archive_of_both}
+use Rattle.implib_link.specs.Flavors.Expansion.{expanded_in}
 
 pub record RefusedIsHeaderOf : Type 0 where
   pub header_is : IsHeaderOf [] (listing ∷ []) 8 listing → ⊥
@@ -47,8 +46,8 @@ pub record RefusedAreMembersAt : Type 0 where
 
 -- a member of none; and nothing, though `f` asks for a member
 pub record RefusedIsSearchOf : Type 0 where
-  pub at : IsSearchOf Gnu First [] (asks_for []) (listing ∷ []) → ⊥
-  pub takes : IsSearchOf Gnu First worked_members (asks_for (codes "f" ∷ [])) [] → ⊥
+  pub at : IsSearchOf Gnu First [] object_in [] (listing ∷ []) → ⊥
+  pub takes : IsSearchOf Gnu First worked_members object_in own [] → ⊥
 
 -- a member without a name, which is read as a linker member, that is listed for a name
 abbrev pub nameless_for : List ℕ → List MemberView
@@ -61,12 +60,8 @@ pub record RefusedLeadsToFirst : Type 0 where
 
 -- a library's name that is left, and more DLLs in the image than are imported
 pub record RefusedCallsArrive : Type 0 where
-  pub links : CallsArrive AMD64 (f_library ∷ []) [] [] [] touching_8 own → ⊥
-  pub ends : CallsArrive AMD64 [] [] [] [] touching_8 (program_objects AMD64) → ⊥
-
-pub record RefusedBothArrive : Type 0 where
-  pub links : BothArrive AMD64 (for_gnu f_library) [] [] [] touching_8 own → ⊥
-  pub ends : BothArrive AMD64 [] [] [] [] touching_8 (program_objects AMD64) → ⊥
+  pub links : CallsArrive AMD64 OfMember (for_gnu f_library) [] [] [] touching_8 own → ⊥
+  pub ends : CallsArrive AMD64 OfMember [] [] [] [] touching_8 (program_objects AMD64) → ⊥
 
 -- an object that defines what the export's short import does
 abbrev pub defining_f : List Object
@@ -110,4 +105,4 @@ pub record RefusedHasMembersAs : Type 0 where
 
 pub record RefusedInBytes : Type 0 where
   pub are_headers_of : AreHeadersOf [] [] (8 ∷ []) [] → ⊥
-  pub takes_just : TakesJust Coff Second (members_of three) (asks_for wanted) (λ found. ⊥) → ⊥
+  pub takes_just : TakesJust Coff Second (archive_of_both both) (expanded_in AMD64) calling_both (λ found. ⊥) → ⊥

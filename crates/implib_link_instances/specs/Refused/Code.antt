@@ -7,17 +7,11 @@ use Rattle.implib.specs.Link.Image.{Range}
 use Rattle.implib.specs.Link.Placement.{Addresses, At, Placed, Unplaced}
 use Rattle.implib.specs.Members.Gnu.{section}
 use Rattle.implib.specs.Members.ImportTables.{table_flags, zeros}
-use Rattle.implib_link.specs.Flavors.LldThunks.{BranchArrivesByThunk, ThunkArrives}
-use Rattle.implib_link.specs.Gnu.A32.{A32JumpReads}
-use Rattle.implib_link.specs.Gnu.Calls.{CallArrives, DirectCallArrives, PlacedCode, Resolves}
-use Rattle.implib_link.specs.Gnu.Calls.{StubAt}
-use Rattle.implib_link.specs.Gnu.Fields.{LinkedCode}
-use Rattle.implib_link.specs.Gnu.Operands.{AllLeadTo, AreKept, BranchArrives, BranchStays}
-use Rattle.implib_link.specs.Gnu.Operands.{InstructionArrives, OperandArrives, PairArrives}
-use Rattle.implib_link.specs.Gnu.Operands.{PointerArrives}
-use Rattle.implib_link.specs.Gnu.Pages.{PageArrives}
-use Rattle.implib_link.specs.Gnu.Pointers.{LoadArrives}
-use Rattle.implib_link.specs.Gnu.Rebased.{StubArrives}
+use Rattle.implib_link.specs.Flavors.LldImports.{BranchArrivesByThunk}
+use Rattle.implib_link.specs.Gnu.Fields.{DirectCallArrives, PlacedCode, Resolves, StubAt}
+use Rattle.implib_link.specs.Gnu.Fields.{LinkedCode, AllLeadTo, AreKept, BranchArrives, BranchStays}
+use Rattle.implib_link.specs.Gnu.Fields.{InstructionArrives, OperandArrives, PairArrives}
+use Rattle.implib_link.specs.Gnu.Fields.{JumpArrives, PointerArrives}
 use Rattle.implib_link.specs.Gnu.Stored.{HoldAddress, HoldsFurther, IsFurtherHeld, PointsTo}
 use Rattle.implib_link.specs.Gnu.Stored.{SumArrives, amd64_addr32nb, arm64_pageoffset_12a}
 use Rattle.implib_link_instances.specs.Worked.Operands.{field, imp_open, passing_at}
@@ -31,10 +25,6 @@ abbrev pub nops : List Range
 nops = record { start = 0x1000; bytes = 0x90 ∷ 0x90 ∷ 0x90 ∷ 0x90 ∷ 0x90 ∷ 0x90 ∷ 0x90 ∷ 0x90 ∷ [] }
     ∷ []
 
--- a call, `E8`, of the first of them
-abbrev pub calling_nops : List Range
-calling_nops = record { start = 0xFFB; bytes = 0xE8 ∷ 0 ∷ 0 ∷ 0 ∷ 0 ∷ [] } ∷ nops
-
 -- at 0 a number that leads 65,532 bytes back; and at 16 `adrp x8, -0x1000` and `ldr x8, [x8]`: to
 -- what is in front of the image
 abbrev pub back : List Range
@@ -47,55 +37,17 @@ page_back =
 abbrev pub one : List ℕ
 one = 0 ∷ []
 
--- no memory; and four bytes, which are no load
-pub record RefusedA32JumpReads : Type 0 where
-  pub load_there : A32JumpReads [] 0x1000 0x40_0060 → ⊥
-  pub is_load : A32JumpReads nops 0x1000 0x40_0060 → ⊥
-  pub literal_there : A32JumpReads [] 0x1000 0x40_0060 → ⊥
-  pub jump_there : A32JumpReads [] 0x1000 0x40_0060 → ⊥
-
-pub record RefusedCallArrives : Type 0 where
-  pub here : CallArrives AMD64 base [] 0x1000 [] → ⊥
-  pub whole : CallArrives AMD64 base [] 0x1000 [] → ⊥
-  pub reads : CallArrives AMD64 base nops 0x1000 [] → ⊥
-  pub located : CallArrives AMD64 base [] 0x1000 one → ⊥
-
-pub record RefusedLoadArrives : Type 0 where
-  pub here : LoadArrives AMD64 base [] 0x1000 [] → ⊥
-  pub whole : LoadArrives AMD64 base [] 0x1000 [] → ⊥
-  pub reads : LoadArrives AMD64 base nops 0x1000 [] → ⊥
-  pub located : LoadArrives AMD64 base [] 0x1000 one → ⊥
-
-pub record RefusedStubArrives : Type 0 where
-  pub there : StubArrives AMD64 base [] 0x1000 [] → ⊥
-  pub whole : StubArrives AMD64 base [] 0x1000 [] → ⊥
-  pub reads : StubArrives AMD64 base nops 0x1000 [] → ⊥
-  pub located : StubArrives AMD64 base [] 0x1000 one → ⊥
-
-pub record RefusedThunkArrives : Type 0 where
-  pub there : ThunkArrives AMD64 base [] 0x1000 [] → ⊥
-  pub whole : ThunkArrives AMD64 base [] 0x1000 [] → ⊥
-  pub reads : ThunkArrives AMD64 base nops 0x1000 [] → ⊥
-  pub located : ThunkArrives AMD64 base [] 0x1000 one → ⊥
+pub record RefusedJumpArrives : Type 0 where
+  pub there : JumpArrives AMD64 8 base [] 0x1000 [] → ⊥
+  pub whole : JumpArrives AMD64 8 base [] 0x1000 [] → ⊥
+  pub reads : JumpArrives AMD64 8 base nops 0x1000 [] → ⊥
+  pub located : JumpArrives AMD64 8 base [] 0x1000 one → ⊥
 
 pub record RefusedDirectCallArrives : Type 0 where
   pub here : DirectCallArrives AMD64 base [] 0x1000 [] → ⊥
   pub whole : DirectCallArrives AMD64 base [] 0x1000 [] → ⊥
   pub leads : DirectCallArrives AMD64 base nops 0x1000 [] → ⊥
-  pub there : DirectCallArrives AMD64 base [] 0x1000 [] → ⊥
-  pub whole_stub : DirectCallArrives AMD64 base [] 0x1000 [] → ⊥
-  pub reads : DirectCallArrives AMD64 base calling_nops 0xFFB [] → ⊥
-  pub located : DirectCallArrives AMD64 base [] 0x1000 one → ⊥
-
-pub record RefusedPageArrives : Type 0 where
-  pub adrp_there : PageArrives base [] 16 20 8 8 [] → ⊥
-  pub adrp_whole : PageArrives base [] 16 20 8 8 [] → ⊥
-  pub is_adrp : PageArrives base nops 0x1000 0x1000 8 8 [] → ⊥
-  pub ldr_there : PageArrives base [] 16 20 8 8 [] → ⊥
-  pub ldr_whole : PageArrives base [] 16 20 8 8 [] → ⊥
-  pub is_ldr : PageArrives base nops 0x1000 0x1000 8 8 [] → ⊥
-  pub leads : PageArrives base page_back 16 20 8 8 [] → ⊥
-  pub located : PageArrives base [] 16 20 8 8 one → ⊥
+  pub jumps : DirectCallArrives AMD64 base [] 0x1000 [] → ⊥
 
 pub record RefusedPairArrives : Type 0 where
   pub adrp_there : PairArrives base [] [] 16 20 0 0 (codes "f") [] → ⊥

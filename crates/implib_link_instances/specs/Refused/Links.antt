@@ -1,32 +1,147 @@
--- What no link gives. A record `RefusedX` has for each field of `X` what this field refuses: mostly
--- links of nothing.
-use Rattle.std.specs.Prelude.{List, [], codes, ℕ, ◌++◌, ◌∷◌}
-use Rattle.implib.specs.declared.flavor.Flavor.TheVariants.{Gnu, Msvc}
-use Rattle.implib.specs.declared.machine.MachineType.TheVariants.{AMD64, I386}
-use Rattle.implib.specs.Formats.Constants.{amd64_rel32, class_external, class_static}
-use Rattle.implib.specs.Formats.Object.{ASymbol, Object, ObjectSection, ObjectSymbol}
-use Rattle.implib.specs.Formats.ShortImport.{ShortImport}
-use Rattle.implib.specs.Link.LinkedMembers.{LinkInput}
-use Rattle.implib.specs.Link.Placement.{Placed, Unplaced}
+-- What is said of no import tables, and what no loader finds or writes. A record `RefusedX` has for
+-- each field of `X` what this field refuses.
+use Rattle.std.specs.Prelude.{List, Some, [], codes, ℕ, ◌≡◌, ◌∷◌, ◌++◌}
+use Rattle.implib.specs.declared.machine.MachineType.TheVariants.{AMD64}
+use Rattle.implib.specs.Formats.Constants.{class_external, amd64_rel32}
+use Rattle.implib.specs.Import.{Ask, Ordinal}
+use Rattle.implib.specs.Link.Image.{Range}
+use Rattle.implib.specs.Link.Placement.{Addresses, At, Placed, Unplaced}
 use Rattle.implib.specs.Members.Gnu.{section}
 use Rattle.implib.specs.Members.ImportTables.{table_flags, zeros}
+use Rattle.implib_link.specs.Directory.{DirectoryAt, FindsBy, Imported, StopsAt, WalkFinds}
+use Rattle.implib_link.specs.Flavors.Program.{AreClaimed, OfLinker, OfMember, SymbolsAt, SymbolsGet}
+use Rattle.implib_link.specs.Flavors.Program.{WhereMember, GetsAddress, null_descriptor}
+use Rattle.implib_link.specs.Flavors.Program.{FlavorInput, InputImports, IsTaken, ProgramLinks}
+use Rattle.implib_link.specs.Flavors.Program.{gnu_input, HaveSame}
+use Rattle.implib_link.specs.Gnu.Fields.{amd64_addr64}
+use Rattle.implib_link.specs.Gnu.Writing.{HoldsAt, Writes, ReadsAndWrites, AreAlike, FillsBy}
+use Rattle.implib_link.specs.Gnu.Writing.{FillsTable, WritesAsItGoes}
+use Rattle.implib_link.specs.Search.Libraries.{LieWithin, FlavorLibrary, IsImported, LinksClosed}
+use Rattle.implib_link.specs.Search.Libraries.{IsUsedIn, IsWeakOfLibraries, TakesOfLibraries}
+use Rattle.implib_link.specs.Search.Libraries.{IsWeakShort, IsWeakTaken}
+use Rattle.implib_link.specs.Tables.{AreSteady, AreTables, AreTablesLoaded, IsInTable, RiseFrom}
+use Rattle.implib_link.specs.Tables.{Table, Tables}
+use Rattle.implib_link_instances.specs.Worked.Operands.{field}
+use Rattle.implib_link_instances.specs.Worked.Programs.{code_object, symbol_of_class, touching_8}
+use Rattle.implib.specs.declared.flavor.Flavor.TheVariants.{Gnu, Msvc}
+use Rattle.implib.specs.Formats.Object.{ASymbol, Object, object_in}
+use Rattle.implib.specs.Formats.ShortImport.{ShortImport}
+use Rattle.implib.specs.Link.LinkedMembers.{LinkInput}
 use Rattle.implib.specs.Members.MemberSpec.{MemberView}
 use Rattle.implib.specs.Worked.Members.{of_dll}
 use Rattle.implib.specs.Worked.Statements.{plain_export}
 use Rattle.implib_link.specs.Flavors.LldImports.{IsImportedBy, LldLinks}
-use Rattle.implib_link.specs.Flavors.Program.{FlavorInput, InputImports, IsTaken, OfLinker}
-use Rattle.implib_link.specs.Flavors.Program.{OfMember, ProgramLinks, gnu_input}
 use Rattle.implib_link.specs.Flavors.Texts.{FlavorTextLinks, FlavorTextsLink}
-use Rattle.implib_link.specs.Gnu.OtherLibraries.{LinksBeside, Run, RunLinks}
-use Rattle.implib_link.specs.Search.Archives.{Library}
-use Rattle.implib_link.specs.Search.BothFlavors.{FlavorLibrary, IsImportedOfBoth}
-use Rattle.implib_link.specs.Search.BothFlavors.{LinksClosedForBoth}
-use Rattle.implib_link.specs.Search.Closed.{IsImported, LinksClosed}
-use Rattle.implib_link.specs.Stub.{JumpsThrough}
-use Rattle.implib_link_instances.specs.Refused.Tables.{asking, zero_image}
+use Rattle.implib_link.specs.Search.Search.{Library, IsWeakData, AreTakenIntoAs, PullsIntoAs}
+use Rattle.implib_link.specs.Search.Search.{TakesIntoAs, IsWeakAmong}
 use Rattle.implib_link_instances.specs.Worked.Search.{library_of}
-use Rattle.implib_link_instances.specs.Worked.Programs.{code_object, symbol_of_class, touching_8}
-use Rattle.implib_link_instances.specs.Worked.Sources.{source_in, zed_meant, zed_text}
+use Rattle.implib_link_instances.specs.Worked.Flavors.{source_in, zed_meant, zed_text}
+use Rattle.implib.specs.Definition.{ExportView}
+use Rattle.implib_link_instances.specs.Worked.BothFlavors.{foo_alias}
+
+-- an empty range at an address, and the descriptor of no DLL at 0x1000
+abbrev pub range_at : ℕ → Range
+range_at start = record { start = start; bytes = [] }
+
+abbrev pub zero_image : List Range
+zero_image = record { start = 0x1000; bytes = zeros 20 } ∷ []
+
+abbrev pub gives_zeros : List ℕ → Ask → List ℕ
+gives_zeros dll ask = zeros 8
+
+-- f.dll, of which the ordinal 5 is asked
+abbrev pub five : Imported
+five = record { dll = codes "f.dll"; asks = Ordinal 5 ∷ [] }
+
+pub record RefusedFindsBy : Type 0 where
+  pub name_field : FindsBy [] 8 0x1000 five → ⊥
+  pub has_name : FindsBy zero_image 8 0x1000 five → ⊥
+  pub name_text : FindsBy [] 8 0x1000 five → ⊥
+  pub addresses_field : FindsBy [] 8 0x1000 five → ⊥
+  pub has_addresses : FindsBy zero_image 8 0x1000 five → ⊥
+  pub table_field : FindsBy [] 8 0x1000 five → ⊥
+  pub thunks : FindsBy [] 8 0x1000 five → ⊥
+
+pub record RefusedFillsBy : Type 0 where
+  pub name_field : FillsBy 8 gives_zeros 0x1000 [] five [] → ⊥
+  pub has_name : FillsBy 8 gives_zeros 0x1000 zero_image five [] → ⊥
+  pub name_text : FillsBy 8 gives_zeros 0x1000 [] five [] → ⊥
+  pub addresses_field : FillsBy 8 gives_zeros 0x1000 [] five [] → ⊥
+  pub has_addresses : FillsBy 8 gives_zeros 0x1000 zero_image five [] → ⊥
+  pub lookups_field : FillsBy 8 gives_zeros 0x1000 [] five [] → ⊥
+  pub fills : FillsBy 8 gives_zeros 0x1000 [] five [] → ⊥
+
+pub record RefusedHoldsAt : Type 0 where
+  pub once : HoldsAt [] [] (codes "f") [] → ⊥
+  pub located : HoldsAt [] [] (codes "f") (zeros 8) → ⊥
+
+-- a table without entries at an address, and one of `f`
+abbrev pub table_at : ℕ → Table
+table_at address = record { dll = codes "f.dll"; address = address; entries = [] }
+
+abbrev pub table_of_f : Table
+table_of_f = record (table_at 0x1000) {
+  entries = record { ask = Ordinal 5; symbol = Some (codes "f") } ∷ [];
+}
+
+abbrev pub tables_of : List Range → List Table → Tables
+tables_of image tables =
+    record { image = image; linked = []; directory = 0x1000; tables = tables }
+
+pub record RefusedIsInTable : Type 0 where
+  pub held : IsInTable 8 [] (range_at 0x1000) → ⊥
+  pub from : IsInTable 8 (table_at 0x1000 ∷ []) (range_at 0xFFF) → ⊥
+  pub to : IsInTable 8 (table_at 0x1000 ∷ []) (range_at 0x1001) → ⊥
+
+-- a range at 0, one that ends at 2^31, no directory, no field, two tables that fall, and no object
+pub record RefusedAreTables : Type 0 where
+  pub starts : AreTables AMD64 (tables_of (range_at 0 ∷ []) []) → ⊥
+  pub ends : AreTables AMD64 (tables_of (range_at 0x8000_0000 ∷ []) []) → ⊥
+  pub directory : AreTables AMD64 (tables_of [] []) → ⊥
+  pub addresses : AreTables AMD64 (tables_of [] (table_at 0x1000 ∷ [])) → ⊥
+  pub rise : AreTables AMD64 (tables_of [] (table_at 0x1000 ∷ table_at 0x0FFF ∷ [])) → ⊥
+  pub symbols : AreTables AMD64 (tables_of [] (table_of_f ∷ [])) → ⊥
+
+pub record RefusedAreTablesLoaded : Type 0 where
+  pub entries : AreTablesLoaded AMD64 (tables_of [] (table_of_f ∷ [])) gives_zeros [] → ⊥
+  pub within : AreTablesLoaded AMD64 (tables_of [] []) gives_zeros (range_at 0x1000 ∷ []) → ⊥
+
+-- an object that leaves `f` to others
+abbrev pub asking : Placed
+asking = record {
+  object = code_object (symbol_of_class (codes "f") 0 class_external ∷ []);
+  section_addresses = Unplaced ∷ [];
+}
+
+-- a whole address in an address table
+abbrev pub with_address : Placed
+with_address = record {
+  object = record null_descriptor {
+    sections = section (codes ".idata$5") table_flags (zeros 8) (field 0 0 amd64_addr64 ∷ []) ∷ [];
+  };
+  section_addresses = At Addresses 0x1000 ∷ [];
+}
+
+pub record RefusedLoaders : Type 0 where
+  pub directory_at : DirectoryAt [] 8 0x1000 [] → ⊥
+  pub stops_at : StopsAt [] 0x1000 → ⊥
+  pub walk_finds : WalkFinds [] 8 0x1000 [] → ⊥
+  pub writes : Writes [] 8 gives_zeros 0x1000 [] (range_at 0 ∷ []) → ⊥
+  pub reads_and_writes : ReadsAndWrites [] 8 gives_zeros 0 0x1000 [] → ⊥
+  pub fills_table : FillsTable 8 (gives_zeros []) 0x1000 0x1000 [] [] [] → ⊥
+  pub writes_as_it_goes : WritesAsItGoes 8 gives_zeros 0x1000 [] [] [] → ⊥
+  pub are_alike : AreAlike [] zero_image → ⊥
+  pub symbols_at : SymbolsAt [] 8 0x1000 (codes "f" ∷ []) → ⊥
+  pub symbols_get : SymbolsGet (asking ∷ []) 8 0x1000 (codes "f" ∷ []) → ⊥
+  pub gets_address : GetsAddress (asking ∷ []) (codes "f") 0x1000 → ⊥
+  pub rise_from : RiseFrom 8 0x1001 (table_at 0x1000 ∷ []) → ⊥
+  pub are_steady : AreSteady AMD64 (with_address ∷ []) → ⊥
+  pub lie_within : LieWithin 0x1001 0x2000 (range_at 0x1000 ∷ []) → ⊥
+  pub where_member : WhereMember OfMember (codes "f" ≡ codes "g") → ⊥
+  pub are_claimed : AreClaimed OfLinker [] (codes "f" ∷ []) → ⊥
+
+-- What no link gives. A record `RefusedX` has for each field of `X` what this field refuses: mostly
+-- links of nothing.
 
 -- f.dll with the function `f`, without its members; and a short import of it
 abbrev pub f_input : LinkInput
@@ -134,26 +249,6 @@ pub record RefusedProgramLinks : Type 0 where
   pub listed : ProgramLinks AMD64 OfLinker touching_8 f_inputs [] → ⊥
   pub claimed : ProgramLinks AMD64 OfMember touching_8 [] (claiming_more ∷ []) → ⊥
 
--- f.dll's members; and another library without imports, which has four bytes among the descriptors
-abbrev pub f_run : Run
-f_run = record { objects = []; imports = []; inputs = f_input ∷ [] }
-
-abbrev pub four_before : Run
-four_before =
-    record { objects = table_of (codes ".idata$2") (zeros 4) ∷ []; imports = []; inputs = [] }
-
-pub record RefusedRunLinks : Type 0 where
-  pub imports : RunLinks AMD64 [] [] touching_8 f_run → ⊥
-  pub targets : RunLinks AMD64 [] [] touching_8 f_run → ⊥
-  pub defined : RunLinks AMD64 [] [] touching_8 f_run → ⊥
-
-pub record RefusedLinksBeside : Type 0 where
-  pub linked : LinksBeside AMD64 touching_8 (f_run ∷ []) [] → ⊥
-  pub members : LinksBeside AMD64 touching_8 (f_run ∷ []) [] → ⊥
-  pub rows : LinksBeside AMD64 touching_8 (four_before ∷ []) [] → ⊥
-  pub directory : LinksBeside AMD64 touching_8 [] [] → ⊥
-  pub listed : LinksBeside AMD64 touching_8 (f_run ∷ []) [] → ⊥
-
 -- a member without an object, that is listed for `f`; f.dll's library, and it without its members
 abbrev pub listing : MemberView
 listing = record { name = codes "listing"; bytes = []; symbols = codes "f" ∷ [] }
@@ -171,18 +266,11 @@ abbrev pub own : List Object
 own = asking.object ∷ []
 
 pub record RefusedLinksClosed : Type 0 where
-  pub taken_is : LinksClosed AMD64 [] [] (listing ∷ []) [] touching_8 [] → ⊥
-  pub program : LinksClosed AMD64 [] [] [] [] touching_8 [] → ⊥
-  pub links : LinksClosed AMD64 [] own [] (memberless ∷ []) touching_8 [] → ⊥
-  pub resolved : LinksClosed AMD64 (f_library ∷ []) own [] [] touching_8 [] → ⊥
-  pub closed : LinksClosed AMD64 (f_library ∷ []) [] [] [] touching_8 own → ⊥
-
-pub record RefusedLinksClosedForBoth : Type 0 where
-  pub taken_is : LinksClosedForBoth AMD64 [] [] (listing ∷ []) [] touching_8 [] → ⊥
-  pub program : LinksClosedForBoth AMD64 [] [] [] [] touching_8 [] → ⊥
-  pub links : LinksClosedForBoth AMD64 [] own [] (for_gnu memberless) touching_8 [] → ⊥
-  pub resolved : LinksClosedForBoth AMD64 (for_gnu f_library) own [] [] touching_8 [] → ⊥
-  pub closed : LinksClosedForBoth AMD64 (for_gnu f_library) [] [] [] touching_8 own → ⊥
+  pub taken_is : LinksClosed AMD64 OfMember [] [] (listing ∷ []) [] touching_8 [] → ⊥
+  pub program : LinksClosed AMD64 OfMember [] [] [] [] touching_8 [] → ⊥
+  pub links : LinksClosed AMD64 OfMember [] own [] (for_gnu memberless) touching_8 [] → ⊥
+  pub resolved : LinksClosed AMD64 OfMember (for_gnu f_library) own [] [] touching_8 [] → ⊥
+  pub closed : LinksClosed AMD64 OfMember (for_gnu f_library) [] [] [] touching_8 own → ⊥
 
 -- nothing is chosen of f.dll
 abbrev pub unchosen : LinkInput
@@ -190,13 +278,8 @@ unchosen = record f_input { chosen = [] }
 
 pub record RefusedIsImported : Type 0 where
   pub input_is : IsImported AMD64 [] touching_8 [] (codes "f") → ⊥
-  pub export_is : IsImported AMD64 [] touching_8 (unchosen ∷ []) (codes "f") → ⊥
-  pub by : IsImported AMD64 [] touching_8 (f_input ∷ []) (codes "f") → ⊥
-
-pub record RefusedIsImportedOfBoth : Type 0 where
-  pub input_is : IsImportedOfBoth AMD64 [] touching_8 [] (codes "f") → ⊥
-  pub export_is : IsImportedOfBoth AMD64 [] touching_8 (gnu_input unchosen ∷ []) (codes "f") → ⊥
-  pub by : IsImportedOfBoth AMD64 [] touching_8 f_inputs (codes "f") → ⊥
+  pub export_is : IsImported AMD64 [] touching_8 (gnu_input unchosen ∷ []) (codes "f") → ⊥
+  pub by : IsImported AMD64 [] touching_8 f_inputs (codes "f") → ⊥
 
 -- the text of zed.dll, of which nothing is linked
 pub record RefusedFlavorTextLinks : Type 0 where
@@ -208,29 +291,49 @@ pub record RefusedFlavorTextsLink : Type 0 where
   pub imports : FlavorTextsLink AMD64 OfLinker touching_8
       (source_in Gnu AMD64 zed_text (zed_meant AMD64) (0 ∷ []) ∷ []) [] → ⊥
 
--- an object with one symbol and these sections; I386's `jmp [0]`; and `f`
-abbrev pub with_symbol : ObjectSymbol → List ObjectSection → List Placed
-with_symbol s sections = record {
-  object = record (code_object (s ∷ [])) { sections = sections };
-  section_addresses = Unplaced ∷ [];
-} ∷ []
+-- What no search takes. A record `RefusedX` has for each field of `X` what this field refuses:
+-- mostly searches of no members, or for no names.
 
-abbrev pub jump : List ObjectSection
-jump = section (codes ".text") table_flags (0xFF ∷ 0x25 ∷ 0 ∷ 0 ∷ 0 ∷ 0 ∷ []) [] ∷ []
+pub record RefusedPullsIntoAs : Type 0 where
+  pub named : PullsIntoAs object_in (listing ∷ []) [] [] (codes "f") listing → ⊥
+  pub listed : PullsIntoAs object_in [] own [] (codes "f") listing → ⊥
+  pub new : PullsIntoAs object_in (listing ∷ []) own (listing ∷ []) (codes "f") listing → ⊥
 
-abbrev pub f_in : ℕ → ObjectSymbol
-f_in number = symbol_of_class (codes "f") number class_external
+pub record RefusedTakesIntoAs : Type 0 where
+  pub in_turn : TakesIntoAs object_in (listing ∷ []) [] (listing ∷ []) → ⊥
+  pub ended : TakesIntoAs object_in (listing ∷ []) own [] → ⊥
 
-pub record RefusedJumpsThrough : Type 0 where
-  pub once : JumpsThrough I386 0 [] (codes "f") 0x60 → ⊥
-  pub held : JumpsThrough I386 0 [] (codes "f") 0x60 → ⊥
-  pub defined : JumpsThrough I386 0
-      (record { object = code_object []; section_addresses = [] } ∷ []) (codes "f") 0x60 → ⊥
-  pub named : JumpsThrough I386 0 (with_symbol (f_in 1) jump) (codes "g") 0x60 → ⊥
-  pub shared : JumpsThrough I386 0
-      (with_symbol (symbol_of_class (codes "f") 1 class_static) jump) (codes "f") 0x60 → ⊥
-  pub first : JumpsThrough I386 0 (with_symbol (f_in 2) jump) (codes "f") 0x60 → ⊥
-  pub begins : JumpsThrough I386 0 (with_symbol (record (f_in 1) { value = 8 }) jump) (codes "f")
-      0x60 → ⊥
-  pub here : JumpsThrough I386 0 (with_symbol (f_in 1) []) (codes "f") 0x60 → ⊥
-  pub jumps : JumpsThrough I386 0 (with_symbol (f_in 1) jump) (codes "f") 0x60 → ⊥
+-- a member that is taken of no library, and an alias
+pub record RefusedTakesOfLibraries : Type 0 where
+  pub inputs : TakesOfLibraries AMD64 [] [] (listing ∷ []) → ⊥
+  pub weak : TakesOfLibraries AMD64 [] [] (foo_alias ∷ []) → ⊥
+
+-- a library without exports
+abbrev pub exportless : Library
+exportless = library_of (of_dll (codes "e.dll") [])
+
+abbrev pub f_export : ExportView
+f_export = plain_export (codes "f")
+
+pub record RefusedIsWeakData : Type 0 where
+  pub held : IsWeakData [] [] listing → ⊥
+  pub among : IsWeakData (exportless ∷ []) [] listing → ⊥
+  pub data_alone : IsWeakData (f_library ∷ []) [] listing → ⊥
+  pub named : IsWeakData (f_library ∷ []) [] listing → ⊥
+  pub listed : IsWeakData (f_library ∷ []) [] (record listing { symbols = [] }) → ⊥
+
+pub record RefusedIsWeakShort : Type 0 where
+  pub held : IsWeakShort [] [] listing → ⊥
+  pub among : IsWeakShort (exportless ∷ []) [] listing → ⊥
+  pub alias : IsWeakShort (f_library ∷ []) [] listing → ⊥
+  pub is : IsWeakShort (f_library ∷ []) (codes "g" ∷ []) listing → ⊥
+  pub named : IsWeakShort (f_library ∷ []) [] listing → ⊥
+  pub listed : IsWeakShort (f_library ∷ []) [] (record listing { symbols = [] }) → ⊥
+
+pub record RefusedSearches : Type 0 where
+  pub have_same : HaveSame (codes "f" ∷ []) [] → ⊥
+  pub are_taken_into_as : AreTakenIntoAs object_in (listing ∷ []) [] (listing ∷ []) → ⊥
+  pub is_used_in : IsUsedIn Gnu [] f_export → ⊥
+  pub is_weak_among : IsWeakAmong object_in [] (codes "f") → ⊥
+  pub is_weak_of_both : IsWeakOfLibraries [] [] listing → ⊥
+  pub is_weak_taken : IsWeakTaken AMD64 [] (codes "f") → ⊥

@@ -1,31 +1,97 @@
--- A closed program by hand of an archive of both flavours: of foo.dll's members for GNU's linker,
--- some of them of an alias, and of zed.dll's for Microsoft's.
-use Rattle.std.specs.Prelude.{List, Some, [], codes, length, map, ◌++◌, ◌<◌, ◌∷◌, ◌≡◌}
-use Rattle.implib.specs.declared.flavor.Flavor.TheVariants.{Gnu, Msvc}
+-- The objects of a closed program by hand, of two libraries, one of which has an alias.
+use Rattle.std.specs.Prelude.{List, [], ◌∷◌, ◌++◌, codes, Some, length, map, ◌≡◌, ◌≤◌}
 use Rattle.implib.specs.declared.machine.MachineType.TheVariants.{AMD64}
+use Rattle.implib.specs.Formats.Constants.{class_external}
 use Rattle.implib.specs.Formats.Object.{Object}
-use Rattle.implib.specs.LibraryName.{own_names}
+use Rattle.implib.specs.Link.LinkedMembers.{objects_in}
 use Rattle.implib.specs.Link.Placement.{Bases, placed_from}
-use Rattle.implib.specs.Link.Resolution.{definitions_of}
+use Rattle.implib.specs.Members.Gnu.{weak_name}
 use Rattle.implib.specs.Members.GnuMembers.{export_spec, head_spec, tail_spec}
 use Rattle.implib.specs.Members.MemberSpec.{MemberView, member_of}
+use Rattle.implib.specs.Members.WeakExternal.{weak_spec}
 use Rattle.implib.specs.Worked.Statements.{plain_export}
-use Rattle.implib_link.specs.Flavors.Program.{FlavorInput, objects_taken}
-use Rattle.implib_link.specs.Gnu.Packed.{packed, packed_end}
-use Rattle.implib_link.specs.Search.BothFlavors.{AreClosedForBoth, AreGivenForBoth, FlavorLibrary}
-use Rattle.implib_link.specs.Search.BothFlavors.{IsClosedForBoth, IsFlavorArchive}
-use Rattle.implib_link.specs.Search.BothFlavors.{LinksClosedForBoth, TakesOfBoth, archive_of_both}
-use Rattle.implib_link.specs.Search.BothFlavors.{inputs_of_both, kept_of_both, msvc_among}
-use Rattle.implib_link.specs.Search.Closed.{unresolved}
-use Rattle.implib_link.specs.Search.MsvcArchives.{PullsIntoFor, TakesIntoFor, short_inputs}
-use Rattle.implib_link.specs.Search.MsvcArchives.{wanted_for}
-use Rattle.implib_link_instances.specs.Worked.Search.{aliased, library_of}
-use Rattle.implib_link_instances.specs.Worked.Closed.{choosing, clashing, foo_alias, foo_linked}
-use Rattle.implib_link_instances.specs.Worked.MsvcSearch.{descriptor_named, msvc_zed, null_named}
-use Rattle.implib_link_instances.specs.Worked.MsvcSearch.{short_named, thunk_named, zed_members}
+use Rattle.implib_link.specs.Flavors.Program.{packed, packed_end, null_descriptor, FlavorInput}
+use Rattle.implib_link.specs.Flavors.Program.{OfMember, objects_taken, OfLinker}
+use Rattle.implib_link_instances.specs.Worked.Programs.{code_object, symbol_of_class}
+use Rattle.implib.specs.LibraryName.{own_names}
+use Rattle.implib.specs.declared.flavor.Flavor.TheVariants.{Gnu, Msvc}
+use Rattle.implib.specs.Link.Resolution.{definitions_of}
+use Rattle.implib_link.specs.Search.Libraries.{AreClosed, AreGiven, FlavorLibrary, IsClosed}
+use Rattle.implib_link.specs.Search.Libraries.{IsFlavorArchive, LinksClosed, TakesOfLibraries}
+use Rattle.implib_link.specs.Search.Libraries.{archive_of_both, inputs_in, symbols_kept}
+use Rattle.implib_link.specs.Search.Libraries.{TakesIntoFor, wanted_for, HasClosed, tables_end_by}
+use Rattle.implib_link.specs.Search.Libraries.{LieWithin}
+use Rattle.implib_link.specs.Search.Search.{unresolved, PullsIntoAs}
+use Rattle.implib_link_instances.specs.Worked.Search.{aliased, library_of, descriptor_named}
+use Rattle.implib_link_instances.specs.Worked.Search.{msvc_zed, null_named, short_named}
+use Rattle.implib_link_instances.specs.Worked.Search.{thunk_named, zed_members, msvc_library}
 use Rattle.implib.specs.Link.Image.{image_of}
-use Rattle.implib_link.specs.Search.BothExists.{HasClosedForBoth, tables_end_of_both}
-use Rattle.implib_link.specs.Search.Exists.{LieWithin}
+use Rattle.implib.specs.Worked.Members.{of_dll}
+use Rattle.implib_link.specs.Flavors.Expansion.{expanded_in}
+
+-- an object that names data of foo.dll by its alias, a function of zed.dll by its pointer, and one
+-- of another library; and that has a function of its own, `stack`, which zed.dll exports, too
+abbrev pub choosing : Object
+choosing = code_object (
+    symbol_of_class (codes "main") 1 class_external
+    ∷ symbol_of_class (codes "stack") 1 class_external
+    ∷ symbol_of_class (codes "bar") 0 class_external
+    ∷ symbol_of_class (codes "__imp_queue") 0 class_external
+    ∷ symbol_of_class (codes "printf") 0 class_external
+    ∷ [])
+
+-- the same with `queue` for `stack`: of its own, and by its pointer from zed.dll
+abbrev pub clashing : Object
+clashing = code_object (
+    symbol_of_class (codes "main") 1 class_external
+    ∷ symbol_of_class (codes "queue") 1 class_external
+    ∷ symbol_of_class (codes "bar") 0 class_external
+    ∷ symbol_of_class (codes "__imp_queue") 0 class_external
+    ∷ symbol_of_class (codes "printf") 0 class_external
+    ∷ [])
+
+-- the members that are taken: of foo.dll the alias, and of both the head, an export's member and
+-- the tail
+abbrev pub foo_alias : MemberView
+foo_alias = member_of (weak_spec AMD64 (weak_name (codes "foo.dll") 0) (codes "bar") (codes "baz"))
+
+abbrev pub foo_linked : List MemberView
+foo_linked =
+    member_of (head_spec AMD64 (codes "foo.dll"))
+    ∷ member_of (export_spec AMD64 (codes "foo.dll") 1 (plain_export (codes "baz")))
+    ∷ member_of (tail_spec AMD64 (own_names (codes "foo.dll")))
+    ∷ []
+
+abbrev pub zed_linked : List MemberView
+zed_linked =
+    member_of (head_spec AMD64 (codes "zed.dll"))
+    ∷ member_of (export_spec AMD64 (codes "zed.dll") 0 (plain_export (codes "queue")))
+    ∷ member_of (tail_spec AMD64 (own_names (codes "zed.dll")))
+    ∷ []
+
+-- as a linker takes them, the last one first
+abbrev pub closed_taken : List MemberView
+closed_taken =
+    member_of (tail_spec AMD64 (own_names (codes "zed.dll")))
+    ∷ member_of (head_spec AMD64 (codes "zed.dll"))
+    ∷ member_of (export_spec AMD64 (codes "zed.dll") 0 (plain_export (codes "queue")))
+    ∷ member_of (tail_spec AMD64 (own_names (codes "foo.dll")))
+    ∷ member_of (head_spec AMD64 (codes "foo.dll"))
+    ∷ member_of (export_spec AMD64 (codes "foo.dll") 1 (plain_export (codes "baz")))
+    ∷ foo_alias
+    ∷ []
+
+-- what is linked: the alias, zed.dll's members, the object, foo.dll's members, the null descriptor
+abbrev pub closed_objects : List Object
+closed_objects =
+    objects_in (foo_alias ∷ zed_linked) ++ choosing
+    ∷ (objects_in foo_linked ++ null_descriptor ∷ [])
+
+abbrev pub closed_bases : Bases
+closed_bases = packed 0x2000 closed_objects
+
+-- A closed program by hand of an archive of both flavours: of foo.dll's members for GNU's linker,
+-- some of them of an alias, and of zed.dll's for Microsoft's.
 
 -- foo.dll with data `bar`, an alias of the function `baz`, and zed.dll with two functions
 abbrev pub gnu_foo : FlavorLibrary
@@ -71,7 +137,7 @@ abbrev pub mixed_bases : Bases
 mixed_bases = packed 0x2000 mixed_objects
 
 abbrev pub mixed_inputs : List FlavorInput
-mixed_inputs = inputs_of_both AMD64 zed_and_foo (choosing ∷ []) mixed_taken
+mixed_inputs = inputs_in AMD64 zed_and_foo (choosing ∷ []) mixed_taken
 
 -- For the object a linker takes eight members of both flavours, and with them it is a closed
 -- program, in which `printf` alone is left. The pointer to `queue` is zed.dll's first entry, and
@@ -83,11 +149,11 @@ pub record WorkedBoth : Type 0 where
   pub takes : TakesIntoFor AMD64 (archive_of_both foo_and_zed) (choosing ∷ []) mixed_taken
   pub wanted : wanted_for AMD64 (choosing ∷ []) mixed_taken
       ≡ codes "bar" ∷ codes "__imp_queue" ∷ codes "printf" ∷ codes "baz" ∷ []
-  pub just : TakesOfBoth AMD64 foo_and_zed (unresolved (choosing ∷ [])) mixed_taken
+  pub just : TakesOfLibraries AMD64 foo_and_zed (unresolved (choosing ∷ [])) mixed_taken
   pub chosen : map (λ p. p.input.chosen) mixed_inputs ≡ (0 ∷ []) ∷ (1 ∷ []) ∷ []
-  pub closed : IsClosedForBoth AMD64 foo_and_zed (choosing ∷ []) mixed_taken zed_and_foo mixed_bases
-      mixed_objects
-  pub links : LinksClosedForBoth AMD64 foo_and_zed (choosing ∷ []) mixed_taken zed_and_foo
+  pub closed : IsClosed AMD64 OfMember foo_and_zed (choosing ∷ []) mixed_taken zed_and_foo
+      mixed_bases mixed_objects
+  pub links : LinksClosed AMD64 OfMember foo_and_zed (choosing ∷ []) mixed_taken zed_and_foo
       mixed_bases mixed_objects
   pub left : unresolved mixed_objects ≡ codes "printf" ∷ []
   pub queue : definitions_of (codes "__imp_queue") (placed_from mixed_bases mixed_objects)
@@ -97,52 +163,22 @@ pub record WorkedBoth : Type 0 where
   pub stopped : TakesIntoFor AMD64 (archive_of_both foo_and_zed) (choosing ∷ [])
       mixed_without_last → ⊥
   pub claimed : (taken : List MemberView) (m : MemberView) →
-      PullsIntoFor AMD64 (archive_of_both foo_and_zed) (choosing ∷ []) taken (codes "stack") m → ⊥
+      PullsIntoAs (expanded_in AMD64) (archive_of_both foo_and_zed) (choosing ∷ []) taken (codes "stack") m → ⊥
   pub clashes : (arranged : List FlavorLibrary) (objects : List Object) →
-      AreClosedForBoth AMD64 foo_and_zed (clashing ∷ []) mixed_taken arranged objects → ⊥
+      AreClosed AMD64 OfMember foo_and_zed (clashing ∷ []) mixed_taken arranged objects → ⊥
 
--- The object may be given, and wants the import of `queue` by itself. What members alone may claim
--- are these names.
-pub record WorkedGivenForBoth : Type 0 where
-  pub given : AreGivenForBoth AMD64 foo_and_zed (choosing ∷ [])
-  pub kept : kept_of_both AMD64 foo_and_zed (choosing ∷ [])
+-- The object may be given. What members alone may claim are these names. A search for it ends, and
+-- takes no more members than there are.
+pub record WorkedGiven : Type 0 where
+  pub given : AreGiven AMD64 foo_and_zed (choosing ∷ [])
+  pub kept : symbols_kept AMD64 foo_and_zed (choosing ∷ [])
       ≡ codes "_head_foo_dll" ∷ codes "foo_dll_iname"
       ∷ codes "__NULL_IMPORT_DESCRIPTOR" ∷ codes "__IMPORT_DESCRIPTOR_zed"
       ∷ (0x7F ∷ codes "zed_NULL_THUNK_DATA")
       ∷ codes "baz" ∷ codes "baz" ∷ codes "__imp_baz" ∷ codes "__imp_queue" ∷ codes "queue" ∷ []
-  pub wants : 0 < length (short_inputs (msvc_among foo_and_zed) (unresolved (choosing ∷ [])))
   pub ends : (taken : List MemberView)
       × TakesIntoFor AMD64 (archive_of_both foo_and_zed) (choosing ∷ []) taken
-
--- what is linked: the object, the alias, foo.dll's members, zed.dll's, and its null descriptor
-abbrev pub reversed_objects : List Object
-reversed_objects =
-    choosing
-    ∷ (objects_taken AMD64 (foo_alias ∷ [])
-    ++ objects_taken AMD64 (foo_linked ++ (zed_members ++ null_named (codes "zed.dll") ∷ [])))
-
-abbrev pub reversed_bases : Bases
-reversed_bases = packed 0x71000 reversed_objects
-
-abbrev pub reversed_inputs : List FlavorInput
-reversed_inputs = inputs_of_both AMD64 foo_and_zed (choosing ∷ []) mixed_taken
-
--- A linker takes the same members, and they are a closed program. The pointer to `baz` is foo.dll's
--- first entry, and that to `queue` zed.dll's.
-pub record WorkedReversed : Type 0 where
-  pub archive : IsFlavorArchive AMD64 zed_and_foo
-  pub takes : TakesIntoFor AMD64 (archive_of_both zed_and_foo) (choosing ∷ []) mixed_taken
-  pub just : TakesOfBoth AMD64 zed_and_foo (unresolved (choosing ∷ [])) mixed_taken
-  pub chosen : map (λ p. p.input.chosen) reversed_inputs ≡ (1 ∷ []) ∷ (0 ∷ []) ∷ []
-  pub closed : IsClosedForBoth AMD64 zed_and_foo (choosing ∷ []) mixed_taken foo_and_zed
-      reversed_bases reversed_objects
-  pub links : LinksClosedForBoth AMD64 zed_and_foo (choosing ∷ []) mixed_taken foo_and_zed
-      reversed_bases reversed_objects
-  pub left : unresolved reversed_objects ≡ codes "printf" ∷ []
-  pub baz : definitions_of (codes "__imp_baz") (placed_from reversed_bases reversed_objects)
-      ≡ record { name = codes "__imp_baz"; address = Some 0x71060 } ∷ []
-  pub queue : definitions_of (codes "__imp_queue") (placed_from reversed_bases reversed_objects)
-      ≡ record { name = codes "__imp_queue"; address = Some 0x71070 } ∷ []
+  pub bounded : length mixed_taken ≤ length (archive_of_both foo_and_zed)
 
 -- The tables of the two libraries that begin at 0x2000 end by 0x218E: of foo.dll, for GNU's linker,
 -- there are at most 64 bytes, 7 for its name, and 43 for each of `bar` and `baz`; of zed.dll, for
@@ -150,24 +186,58 @@ pub record WorkedReversed : Type 0 where
 -- program; the one that was linked by hand lies there, and ends at 0x20A4.
 -- From address 0 on there is none.
 pub record WorkedBothExists : Type 0 where
-  pub room : tables_end_of_both 0x2000 foo_and_zed ≡ 0x218E
+  pub room : tables_end_by 0x2000 foo_and_zed ≡ 0x218E
   pub end : packed_end 0x2000 mixed_objects ≡ 0x20A4
-  pub objects_are : AreClosedForBoth AMD64 foo_and_zed (choosing ∷ []) mixed_taken zed_and_foo
-      mixed_objects
-  pub closed : IsClosedForBoth AMD64 foo_and_zed (choosing ∷ []) mixed_taken zed_and_foo mixed_bases
-      mixed_objects
+  pub objects_are : AreClosed AMD64 OfMember foo_and_zed (choosing ∷ []) mixed_taken
+      zed_and_foo mixed_objects
+  pub closed : IsClosed AMD64 OfMember foo_and_zed (choosing ∷ []) mixed_taken zed_and_foo
+      mixed_bases mixed_objects
   pub within : LieWithin 0x2000 0x218E
       (image_of AMD64 mixed_bases (placed_from mixed_bases mixed_objects))
-  pub exists : HasClosedForBoth AMD64 foo_and_zed (choosing ∷ []) 0x2000
-  pub at_zero : HasClosedForBoth AMD64 foo_and_zed (choosing ∷ []) 0 → ⊥
+  pub exists : HasClosed AMD64 foo_and_zed (choosing ∷ []) 0x2000
+  pub at_zero : HasClosed AMD64 foo_and_zed (choosing ∷ []) 0 → ⊥
 
--- With the libraries in the other order, and from 0x71000 on, they end by 0x7118E, and the tables
--- by hand at 0x710A4.
-pub record WorkedReversedExists : Type 0 where
-  pub room : tables_end_of_both 0x71000 zed_and_foo ≡ 0x7118E
-  pub end : packed_end 0x71000 reversed_objects ≡ 0x710A4
-  pub closed : IsClosedForBoth AMD64 zed_and_foo (choosing ∷ []) mixed_taken foo_and_zed
-      reversed_bases reversed_objects
-  pub within : LieWithin 0x71000 0x7118E
-      (image_of AMD64 reversed_bases (placed_from reversed_bases reversed_objects))
-  pub exists : HasClosedForBoth AMD64 zed_and_foo (choosing ∷ []) 0x71000
+-- A closed program by hand of libraries of which one is for Microsoft's linker and nothing of it is
+-- wanted, so that the linker's null descriptor ends it.
+
+-- foo.dll and zed.dll for GNU's linker, and between them far.dll for Microsoft's
+abbrev pub short_far : FlavorLibrary
+short_far = record {
+  flavor = Msvc;
+  library = msvc_library (of_dll (codes "far.dll") (plain_export (codes "pop") ∷ []));
+}
+
+abbrev pub gnu_zed : FlavorLibrary
+gnu_zed = record {
+  flavor = Gnu;
+  library = library_of
+      (of_dll (codes "zed.dll") (plain_export (codes "queue") ∷ plain_export (codes "stack") ∷ []));
+}
+
+abbrev pub with_far : List FlavorLibrary
+with_far = gnu_foo ∷ short_far ∷ gnu_zed ∷ []
+
+-- as they are linked, zed.dll first
+abbrev pub zed_first : List FlavorLibrary
+zed_first = gnu_zed ∷ short_far ∷ gnu_foo ∷ []
+
+-- For the object a linker takes seven members, none of far.dll, and with them it is a closed program,
+-- in which `printf` alone is left. The pointer to `queue` is zed.dll's first entry, and that to
+-- `baz` foo.dll's. The object may be given, and so there is a closed program.
+pub record WorkedByLinker : Type 0 where
+  pub archive : IsFlavorArchive AMD64 with_far
+  pub takes : TakesIntoFor AMD64 (archive_of_both with_far) (choosing ∷ []) closed_taken
+  pub chosen :
+      map (λ p. p.input.chosen) (inputs_in AMD64 zed_first (choosing ∷ []) closed_taken)
+      ≡ (0 ∷ []) ∷ (1 ∷ []) ∷ []
+  pub closed : IsClosed AMD64 OfLinker with_far (choosing ∷ []) closed_taken zed_first
+      closed_bases closed_objects
+  pub links : LinksClosed AMD64 OfLinker with_far (choosing ∷ []) closed_taken zed_first
+      closed_bases closed_objects
+  pub left : unresolved closed_objects ≡ codes "printf" ∷ []
+  pub queue : definitions_of (codes "__imp_queue") (placed_from closed_bases closed_objects)
+      ≡ record { name = codes "__imp_queue"; address = Some 0x2060 } ∷ []
+  pub baz : definitions_of (codes "__imp_baz") (placed_from closed_bases closed_objects)
+      ≡ record { name = codes "__imp_baz"; address = Some 0x2070 } ∷ []
+  pub given : AreGiven AMD64 with_far (choosing ∷ [])
+  pub exists : HasClosed AMD64 with_far (choosing ∷ []) 0x2000

@@ -4,9 +4,9 @@
 -- GNU ld 2.40 says of the library in front of the archive "undefined reference to `ExitProcess'",
 -- and links them in the other order, in a group, and with the library a second time behind; ld.lld
 -- and lld-link 14.0.6 link them in any order.
-use Rattle.std.specs.Prelude.{ℕ, Bool, List, [], ◌∷◌, ◌++◌, bytes_eq, codes, map}
+use Rattle.std.specs.Prelude.{ℕ, Bool, List, [], ◌∷◌, ◌++◌, bytes_eq, codes, map, ◌<◌, Some, length}
 use Rattle.std.specs.List.{IsDistinct}
-use Rattle.implib.specs.declared.flavor.Flavor.TheVariants.{Gnu}
+use Rattle.implib.specs.declared.flavor.Flavor.TheVariants.{Gnu, Msvc}
 use Rattle.implib.specs.declared.machine.MachineType.{MachineType}
 use Rattle.implib.specs.declared.machine.MachineType.TheVariants.{AMD64, I386}
 use Rattle.implib.specs.Formats.Object.{Object, object_in}
@@ -15,19 +15,19 @@ use Rattle.implib.specs.Members.Members.{member_specs}
 use Rattle.implib.specs.Renaming.{renamed}
 use Rattle.implib.specs.Worked.Members.{of_dll}
 use Rattle.implib.specs.Worked.Statements.{plain_export}
-use Rattle.implib_link.specs.Gnu.Program.{HaveSame}
-use Rattle.implib_link.specs.Search.Archives.{IsArchive, Library, archive_of}
-use Rattle.implib_link.specs.Search.Closed.{TakesIntoAs, listed_in}
+use Rattle.implib_link.specs.Flavors.Program.{HaveSame}
+use Rattle.implib_link.specs.Flavors.Expansion.{expanded_in}
+use Rattle.implib_link.specs.Search.Search.{Library, listed_in, objects_as, TakesIntoAs, unresolved}
+use Rattle.implib_link.specs.Search.Search.{members_at}
+use Rattle.implib_link.specs.Search.Libraries.{HasClosed, AreGiven, FlavorLibrary, IsFlavorArchive}
+use Rattle.implib_link.specs.Search.Libraries.{archive_of_both, TakesIntoFor, msvc_among}
+use Rattle.implib_link.specs.Search.Libraries.{short_inputs}
 use Rattle.implib_link.specs.Search.CommandLines.{AnObject, Archives, AreListedWhole, Input}
-use Rattle.implib_link.specs.Search.CommandLines.{IsOrdered, SearchesCommandLine}
-use Rattle.implib_link.specs.Search.CommandLines.{SearchesLibraries, given_with}
-use Rattle.implib_link.specs.Search.Given.{AreGiven}
-use Rattle.implib_link.specs.Search.Search.{objects_as}
-use Rattle.implib_link.specs.Search.Sweeps.{members_at}
-use Rattle.implib_link.specs.Archives.Results.{HaveArchive}
-use Rattle.implib_link.specs.Archives.InBytes.{Second}
+use Rattle.implib_link.specs.Search.CommandLines.{IsOrdered, SearchesCommandLine, SearchesFlavors}
+use Rattle.implib_link.specs.Search.CommandLines.{given_with, others_of}
+use Rattle.implib_link.specs.Archives.InBytes.{HaveArchive, Second}
 use Rattle.implib_archive.specs.declared.kind.Kind.TheVariants.{Coff}
-use Rattle.implib_link.specs.Search.Exists.{HasClosed}
+use Rattle.implib.specs.Definition.{ExportView}
 
 abbrev pub wants_bytes : List ℕ
 wants_bytes =
@@ -155,36 +155,109 @@ in_group own = inputs_of own ++ Archives (of_kernel ∷ of_quit ∷ []) ∷ []
 abbrev pub all_taken : List ℕ
 all_taken = 0 ∷ 1 ∷ 2 ∷ 3 ∷ []
 
+-- the library, as one for GNU's linker
+abbrev pub gnu_kernel : MachineType → List ℕ → FlavorLibrary
+gnu_kernel machine symbol = record { flavor = Gnu; library = kernel_on machine symbol }
+
 -- On one machine, where `own` is the object:
 -- `first`, `ordered`, `takes`: with the library last GNU ld takes all, and by the law as one search
--- of all does, as lld's is;
+-- of all does;
 -- `group`: so it does in a group;
--- `alike`: by the law lld takes the same as GNU ld of the group.
-pub record WorkedCommandLine (members : List MemberView) (own : List Object) : Type 0 where
+-- `alike`: by the law another search takes the same as GNU ld of the group.
+pub record WorkedCommandLine (machine : MachineType) (members : List MemberView)
+    (own : List Object) : Type 0 where
   pub distinct : IsDistinct bytes_eq (listed_in members)
-  pub whole : AreListedWhole object_in members
-  pub first : SearchesCommandLine object_in members (library_last own) all_taken
-  pub ordered : IsOrdered object_in members (library_last own)
-  pub takes : TakesIntoAs object_in members own (members_at members all_taken)
-  pub group : SearchesCommandLine object_in members (in_group own) all_taken
-  pub alike : (other : List MemberView) → TakesIntoAs object_in members own other →
+  pub whole : AreListedWhole (expanded_in machine) members
+  pub first : SearchesCommandLine (expanded_in machine) members (library_last own) all_taken
+  pub ordered : IsOrdered (expanded_in machine) members (library_last own)
+  pub takes : TakesIntoFor machine members own (members_at members all_taken)
+  pub group : SearchesCommandLine (expanded_in machine) members (in_group own) all_taken
+  pub alike : (other : List MemberView) → TakesIntoFor machine members own other →
       HaveSame (members_at members all_taken) other
 
 -- as a search of libraries: the archive's member is as given; and there is a closed program
-pub record WorkedLibraries (machine : MachineType) (l : Library) (members : List MemberView)
+pub record WorkedLibraries (machine : MachineType) (l : FlavorLibrary) (members : List MemberView)
     (own : List Object) : Type 0 where
-  pub archive : IsArchive machine (l ∷ [])
-  pub ready : HaveArchive Coff Second (archive_of (l ∷ []))
-  pub searches : SearchesLibraries machine (l ∷ []) members (library_last own) is_quit all_taken
+  pub archive : IsFlavorArchive machine (l ∷ [])
+  pub ready : HaveArchive Coff Second (archive_of_both (l ∷ []))
+  pub searches : SearchesFlavors machine (l ∷ []) members (library_last own) is_quit all_taken
   pub given : AreGiven machine (l ∷ [])
-      (given_with object_in is_quit own (members_at members all_taken))
+      (given_with (expanded_in machine) is_quit own (members_at members all_taken))
   pub exists : HasClosed machine (l ∷ [])
-      (given_with object_in is_quit own (members_at members all_taken)) 0x2000
+      (given_with (expanded_in machine) is_quit own (members_at members all_taken)) 0x2000
 
 pub record WorkedCommandLines : Type 0 where
-  pub amd64 : WorkedCommandLine amd64_members (read_or_none wants_bytes)
-  pub i386 : WorkedCommandLine i386_members (read_or_none i386_wants_bytes)
-  pub libraries : WorkedLibraries AMD64 (kernel_on AMD64 (codes "ExitProcess")) amd64_members
+  pub amd64 : WorkedCommandLine AMD64 amd64_members (read_or_none wants_bytes)
+  pub i386 : WorkedCommandLine I386 i386_members (read_or_none i386_wants_bytes)
+  pub libraries : WorkedLibraries AMD64 (gnu_kernel AMD64 (codes "ExitProcess")) amd64_members
       (read_or_none wants_bytes)
-  pub i386_libraries : WorkedLibraries I386 (kernel_on I386 (codes "_ExitProcess@4")) i386_members
+  pub i386_libraries : WorkedLibraries I386 (gnu_kernel I386 (codes "_ExitProcess@4")) i386_members
       (read_or_none i386_wants_bytes)
+
+-- Command lines of an object, an archive and a library for Microsoft's linker, for GNU `ld`, which
+-- expands short imports.
+
+-- the library of kernel32.dll for Microsoft's linker, with one function
+abbrev pub kernels_on : MachineType → ExportView → List FlavorLibrary
+kernels_on machine export =
+    let d = of_dll (codes "kernel32.dll") (export ∷ []) in
+    record {
+      flavor = Msvc;
+      library = record {
+        definition = d;
+        members = map member_of (member_specs (renamed d) machine Msvc);
+      };
+    } ∷ []
+
+abbrev pub amd64_kernels : List FlavorLibrary
+amd64_kernels = kernels_on AMD64 (plain_export (codes "ExitProcess"))
+
+abbrev pub i386_kernels : List FlavorLibrary
+i386_kernels = kernels_on I386
+    (record (plain_export (codes "_ExitProcess@4")) { asked_name = Some (codes "ExitProcess@4") })
+
+-- The members: the import descriptor 0, the null descriptor 1, the null thunk 2, the short import
+-- 3, and that of the archive, 4.
+abbrev pub amd64_shorts : List MemberView
+amd64_shorts = archive_of_both amd64_kernels ++ quit_member (codes "quit") quit_bytes ∷ []
+
+abbrev pub i386_shorts : List MemberView
+i386_shorts = archive_of_both i386_kernels ++ quit_member (codes "_quit") i386_quit_bytes ∷ []
+
+-- the command lines: the object, the archive and the library; and both in a group, the library
+-- first
+abbrev pub shorts_last : List Object → List Input
+shorts_last own = inputs_of own ++ Archives ((4 ∷ []) ∷ []) ∷ Archives ((0 ∷ 1 ∷ 2 ∷ 3 ∷ []) ∷ []) ∷ []
+
+abbrev pub shorts_grouped : List Object → List Input
+shorts_grouped own = inputs_of own ++ Archives ((0 ∷ 1 ∷ 2 ∷ 3 ∷ []) ∷ (4 ∷ []) ∷ []) ∷ []
+
+-- what is taken, the last one first: the short import leaves the descriptor, and this the two
+-- others
+abbrev pub shorts_taken : List ℕ
+shorts_taken = 2 ∷ 1 ∷ 0 ∷ 3 ∷ 4 ∷ []
+
+-- the given objects, and the archive's
+abbrev pub with_quit : MachineType → List MemberView → List Object → List Object
+with_quit machine members own =
+    given_with (expanded_in machine) is_quit own (members_at members shorts_taken)
+
+-- On one machine: the premises of the whole way, of this command line; and by the law what is taken
+-- of the library, for the given objects and the archive's.
+pub record WorkedFlavorLine (machine : MachineType) (libraries : List FlavorLibrary)
+    (members : List MemberView) (own : List Object) (inputs : List Input) : Type 0 where
+  pub archive : IsFlavorArchive machine libraries
+  pub ready : HaveArchive Coff Second (archive_of_both libraries)
+  pub searches : SearchesFlavors machine libraries members inputs is_quit shorts_taken
+  pub given : AreGiven machine libraries (with_quit machine members own)
+  pub some : 0
+      < length (short_inputs (msvc_among libraries) (unresolved (with_quit machine members own)))
+  pub takes : TakesIntoAs (expanded_in machine) (archive_of_both libraries)
+      (with_quit machine members own)
+      (others_of is_quit (members_at members shorts_taken))
+
+pub record WorkedFlavorLines : Type 0 where
+  pub amd64 : WorkedFlavorLine AMD64 amd64_kernels amd64_shorts (read_or_none wants_bytes)
+      (shorts_last (read_or_none wants_bytes))
+  pub i386 : WorkedFlavorLine I386 i386_kernels i386_shorts (read_or_none i386_wants_bytes)
+      (shorts_grouped (read_or_none i386_wants_bytes))

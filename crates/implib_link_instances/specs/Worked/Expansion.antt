@@ -4,8 +4,7 @@ use Rattle.implib.specs.declared.coff.object.Relocation.{Relocation}
 use Rattle.implib.specs.declared.machine.MachineType.TheVariants.{I386, AMD64, ARM64}
 use Rattle.implib.specs.Formats.Object.{ASymbol, Entry, Object, ObjectSection}
 use Rattle.implib_link.specs.Flavors.Expansion.{before_last_stop, descriptor_symbol_by_name, entry}
-use Rattle.implib_link.specs.Flavors.Expansion.{expanded_in}
-use Rattle.implib_link.specs.Flavors.SectionSymbols.{with_section_symbols}
+use Rattle.implib_link.specs.Flavors.Expansion.{expanded_in, with_section_symbols}
 
 -- a short import: the machine's two bytes, the size of the two texts, the ordinal, the types, the
 -- texts

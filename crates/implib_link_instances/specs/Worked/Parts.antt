@@ -1,34 +1,44 @@
 -- Programs of libraries of GNU dlltool 2.40 and of ones made here, by the parts that they are of:
--- the program of OtherLibraries, and one of kernel32.dll and zoo.dll that GNU ld 2.40 and ld.lld
--- 19.1.7 linked on AMD64 and on I386, whose files are here byte by byte.
+-- one of kernel32.dll and zoo.dll that GNU ld 2.40 and ld.lld 19.1.7 linked on AMD64 and on I386,
+-- whose files are here byte by byte.
 use Rattle.std.specs.Prelude.{Bool, List, None, Option, Some, [], bytes_eq, codes, drop, false}
 use Rattle.std.specs.Prelude.{if◌then◌else◌, length, map, slice_get, take, true, ℕ, ◌++◌, ◌-◌, ◌∷◌}
-use Rattle.std.specs.Prelude.{◌≡◌}
-use Rattle.std.specs.List.{AllByRecursion}
+use Rattle.std.specs.Prelude.{◌≡◌, ◌+◌}
+use Rattle.std.specs.List.{AllByRecursion, filter_map}
 use Rattle.implib.specs.declared.machine.MachineType.{MachineType}
 use Rattle.implib.specs.declared.machine.MachineType.TheVariants.{AMD64, I386}
-use Rattle.implib.specs.Formats.Object.{Object, ObjectSection}
+use Rattle.implib.specs.Formats.Object.{Object, ObjectSection, object_in}
 use Rattle.implib.specs.Import.{Ask, Name}
 use Rattle.implib.specs.Link.Image.{Range, image_of}
 use Rattle.implib.specs.Link.LinkedMembers.{LinkInput}
-use Rattle.implib.specs.Link.Placement.{Bases, Placed, placed_from}
-use Rattle.implib.specs.Members.Gnu.{section}
+use Rattle.implib.specs.Link.Placement.{Bases, Placed, placed_from, Unplaced}
+use Rattle.implib.specs.Members.Gnu.{section, text_name}
 use Rattle.implib.specs.Worked.Members.{of_dll}
 use Rattle.implib.specs.Worked.Statements.{plain_export}
-use Rattle.implib_link.specs.Gnu.Fields.{LinkedCode, ranges_of_codes}
+use Rattle.implib_link.specs.Gnu.Fields.{LinkedCode, ranges_of_codes, HasInstruction}
+use Rattle.implib_link.specs.Gnu.Fields.{InstructionArrives, AreLinkedBeside, AllLead, HasBranch}
 use Rattle.implib_link.specs.Gnu.Moves.{AreInMemory}
-use Rattle.implib_link.specs.Gnu.Operands.{HasInstruction, InstructionArrives}
-use Rattle.implib_link.specs.Gnu.Program.{null_descriptor}
-use Rattle.implib_link.specs.Gnu.Reading.{ReadsAndWrites}
+use Rattle.implib_link.specs.Flavors.Program.{null_descriptor}
+use Rattle.implib_link.specs.Gnu.Writing.{ReadsAndWrites}
 use Rattle.implib_link.specs.Parts.{IsPart, IsProgramOfParts, Part, older_part_of, part_of}
-use Rattle.implib_link.specs.Tables.{AreSteady, AreTables, Table, TableEntry}
-use Rattle.implib_link_instances.specs.Worked.LldPrograms.{taken_address}
-use Rattle.implib_link_instances.specs.Worked.OtherLibraries.{objects_of}
-use Rattle.implib_link_instances.specs.Worked.Programs.{chosen_input, input_objects}
+use Rattle.implib_link.specs.Tables.{AreSteady, AreTables, Table, TableEntry, Block}
+use Rattle.implib_link.specs.Tables.{imported_by_table, packed_tables}
+use Rattle.implib_link_instances.specs.Worked.Programs.{taken_address, chosen_input, input_objects}
+use Rattle.implib_link_instances.specs.Worked.Programs.{short_on, object_with, symbol_of_class}
 use Rattle.implib.specs.Definition.{DefinitionView, ExportView}
 use Rattle.implib.specs.Members.MemberSpec.{member_of}
 use Rattle.implib.specs.Members.OlderSymbols.{AreOlderMembersOf, older_specs}
 use Rattle.implib.specs.Renaming.{renamed}
+use Rattle.implib.specs.Formats.Constants.{align_16bytes, amd64_rel32, class_external, cnt_code}
+use Rattle.implib.specs.Formats.Constants.{mem_execute_read}
+use Rattle.implib.specs.Formats.ShortImport.{ShortImport}
+use Rattle.implib.specs.Machine.{machine_number}
+use Rattle.implib_link.specs.Flavors.LldImports.{placed_by_lld, ArePiecesAt, built_bytes}
+use Rattle.implib_link.specs.Flavors.LldImports.{BranchArrivesByThunk, placed_thunk, thunk_section}
+
+-- the objects in some bytes
+abbrev pub objects_of : List (List ℕ) → List Object
+objects_of files = filter_map object_in files
 
 -- dlltool's files for kernel32.dll on AMD64, head, export and tail; and an object of GNU C, which
 -- calls through entries and by a bare name
@@ -539,3 +549,118 @@ pub record WorkedOlder : Type 0 where
       ∷ table_at (codes "zoo.dll") 0x3054
       (asking (codes "zoo_open") 0 (codes "___imp_zoo_open") ∷ [])
       ∷ [])
+
+-- Import tables that lld-link 19.1.7 wrote on AMD64 of llvm-dlltool 19.1.7's short imports of
+-- zoo.dll: `feed`, for which its third text has the DLL asked for `hay`, and `pat`. The code calls
+-- through the entry of `feed`, calls it by its bare name, through lld's thunk at 0x1020, and loads
+-- the entry of `pat`.
+
+-- the section `.rdata`, from 0x2000 on
+abbrev pub third_written : List ℕ
+third_written =
+    0x28 ∷ 0x20 ∷ 0 ∷ 0 ∷ 0 ∷ 0 ∷ 0 ∷ 0 ∷ 0 ∷ 0 ∷ 0 ∷ 0 ∷ 0x64 ∷ 0x20 ∷ 0 ∷ 0 ∷ 0x40 ∷ 0x20 ∷ 0 ∷ 0 ∷ 0 ∷ 0 ∷ 0 ∷ 0 ∷ 0 ∷
+    0 ∷ 0 ∷ 0 ∷ 0 ∷ 0 ∷ 0 ∷ 0 ∷ 0 ∷ 0 ∷ 0 ∷ 0 ∷ 0 ∷ 0 ∷ 0 ∷ 0 ∷ 0x58 ∷ 0x20 ∷ 0 ∷ 0 ∷ 0 ∷ 0 ∷ 0 ∷ 0 ∷ 0x5E ∷ 0x20 ∷ 0 ∷ 0 ∷
+    0 ∷ 0 ∷ 0 ∷ 0 ∷ 0 ∷ 0 ∷ 0 ∷ 0 ∷ 0 ∷ 0 ∷ 0 ∷ 0 ∷ 0x58 ∷ 0x20 ∷ 0 ∷ 0 ∷ 0 ∷ 0 ∷ 0 ∷ 0 ∷ 0x5E ∷ 0x20 ∷ 0 ∷ 0 ∷ 0 ∷ 0 ∷ 0 ∷
+    0 ∷ 0 ∷ 0 ∷ 0 ∷ 0 ∷ 0 ∷ 0 ∷ 0 ∷ 0 ∷ 0 ∷ 0 ∷ 0x68 ∷ 0x61 ∷ 0x79 ∷ 0 ∷ 3 ∷ 0 ∷ 0x70 ∷ 0x61 ∷ 0x74 ∷ 0 ∷ 0x7A ∷ 0x6F ∷ 0x6F
+    ∷ 0x2E ∷ 0x64 ∷ 0x6C ∷ 0x6C ∷ 0 ∷ []
+
+abbrev pub third_image : List Range
+third_image = record { start = 0x2000; bytes = third_written } ∷ []
+
+-- what its DLL is asked for, under which symbols
+abbrev pub block_asking : List ℕ → Block
+block_asking name = record {
+  dll = codes "zoo.dll";
+  entries = asking name 0 (codes "__imp_feed") ∷ asking (codes "pat") 3 (codes "__imp_pat") ∷ [];
+}
+
+abbrev pub third_tables : List Table
+third_tables = packed_tables 8 0x2040 (block_asking (codes "hay") ∷ [])
+
+-- the short imports, by their symbols, as lld's tables define these
+abbrev pub third_feed : ShortImport
+third_feed = short_on AMD64 (codes "zoo.dll") (codes "feed") 0 1
+
+abbrev pub third_shorts : List ShortImport
+third_shorts = short_on AMD64 (codes "zoo.dll") (codes "pat") 3 1 ∷ third_feed ∷ []
+
+abbrev pub third_section : ObjectSection
+third_section = section text_name (cnt_code + align_16bytes + mem_execute_read)
+    (0xFF ∷ 0x15 ∷ 0 ∷ 0 ∷ 0 ∷ 0 ∷ 0xE8 ∷ 0 ∷ 0 ∷ 0 ∷ 0 ∷ 0x48 ∷ 0x8B ∷ 5 ∷ 0 ∷ 0 ∷ 0 ∷ 0 ∷ 0xC3 ∷ [])
+    (record { offset = 2; symbol = 1; kind = amd64_rel32 }
+    ∷ record { offset = 7; symbol = 2; kind = amd64_rel32 }
+    ∷ record { offset = 14; symbol = 3; kind = amd64_rel32 }
+    ∷ [])
+
+abbrev pub third_object : Placed
+third_object = record {
+  object = object_with (machine_number AMD64) (third_section ∷ []) (
+      symbol_of_class (codes "main") 1 class_external
+      ∷ symbol_of_class (codes "__imp_feed") 0 class_external
+      ∷ symbol_of_class (codes "feed") 0 class_external
+      ∷ symbol_of_class (codes "__imp_pat") 0 class_external
+      ∷ []);
+  section_addresses = Unplaced ∷ [];
+}
+
+abbrev pub third_linked : List Placed
+third_linked =
+    third_object ∷ placed_by_lld AMD64 0x2040 third_shorts ∷ placed_thunk AMD64 third_feed ∷ []
+
+abbrev pub third_code : LinkedCode
+third_code = record {
+  from = third_object;
+  number = 1;
+  code = third_section;
+  position = 0x1000;
+  bytes = 0xFF ∷ 0x15 ∷ 0x3A ∷ 0x10 ∷ 0 ∷ 0 ∷ 0xE8 ∷ 0x15 ∷ 0 ∷ 0 ∷ 0 ∷ 0x48 ∷ 0x8B ∷ 5 ∷ 0x36 ∷ 0x10 ∷ 0 ∷ 0 ∷ 0xC3 ∷ [];
+}
+
+abbrev pub third_thunk : LinkedCode
+third_thunk = record {
+  from = placed_thunk AMD64 third_feed;
+  number = 1;
+  code = thunk_section AMD64;
+  position = 0x1020;
+  bytes = 0xFF ∷ 0x25 ∷ 0x1A ∷ 0x10 ∷ 0 ∷ 0 ∷ [];
+}
+
+abbrev pub third_codes : List LinkedCode
+third_codes = third_code ∷ third_thunk ∷ []
+
+abbrev pub third_targets : LinkedCode → ℕ → ℕ
+third_targets c index =
+    taken_address (λ name. 0x1020) third_linked c.from (slice_get c.from.object.entries index)
+
+abbrev pub third_memory : List Range
+third_memory = third_image ++ ranges_of_codes third_codes
+
+abbrev pub PiecesAsk : List ℕ → Type 0
+PiecesAsk name = ArePiecesAt AMD64 third_image 0x2000 0x2028 0x2040 0x2058 0x2064
+    (map imported_by_table (packed_tables 8 0x2040 (block_asking name ∷ [])))
+
+-- The tables are these, and the code is beside them; so where a loader that knows nothing else has
+-- read them, what goes by `feed` goes to what the DLL gives for `hay`.
+pub record WorkedThirdTexts : Type 0 where
+  pub written : built_bytes AMD64 0x2000 (map imported_by_table third_tables) ≡ third_written
+  pub pieces : PiecesAsk (codes "hay")
+  pub tables : AreTables AMD64
+      (record {
+        image = third_image;
+        linked = third_linked;
+        directory = 0x2000;
+        tables = third_tables;
+      })
+  pub steady : AreSteady AMD64 third_linked
+  pub beside : AreLinkedBeside AMD64 0x1_4000_0000 third_image third_linked third_codes
+      third_targets
+  pub through_entry : HasInstruction AMD64 third_code 0 (0xFF ∷ 0x15 ∷ []) [] (codes "__imp_feed")
+  pub call : HasBranch AMD64 third_code 7 0 (codes "feed")
+  pub arrive : (gives : List ℕ → Ask → List ℕ) (n : ℕ) (written : List Range) →
+      ((dll : List ℕ) (ask : Ask) → length (gives dll ask) ≡ 8) →
+      ReadsAndWrites third_memory 8 gives n 0x2000 written →
+      AllLead AMD64 0x1_4000_0000 third_linked third_codes (written ++ third_memory)
+      (codes "__imp_feed")
+      (gives (codes "zoo.dll") (Name (codes "hay") 0))
+      × BranchArrivesByThunk AMD64 0x1_4000_0000 (written ++ third_memory) 0x1007 0
+      (gives (codes "zoo.dll") (Name (codes "hay") 0))

@@ -16,14 +16,12 @@ use Rattle.implib.specs.Formats.Object.{Object}
 use Rattle.implib.specs.Members.WeakExternal.{weak_spec}
 use Rattle.implib.specs.Worked.Members.{of_dll}
 use Rattle.implib_link.specs.Flavors.Expansion.{expanded_in}
-use Rattle.implib_link.specs.Search.BothFlavors.{FlavorLibrary, archive_of_both}
-use Rattle.implib_link.specs.Search.Closed.{unresolved}
-use Rattle.implib_link.specs.Search.Plainly.{AreOnlyWeak, HaveNoWeak, TakesPlainly, left_plainly}
-use Rattle.implib_link.specs.Search.Search.{objects_as}
-use Rattle.implib_link_instances.specs.Worked.BothFlavors.{foo_and_zed, mixed_taken}
-use Rattle.implib_link_instances.specs.Worked.Closed.{choosing}
+use Rattle.implib_link.specs.Search.Libraries.{FlavorLibrary, archive_of_both}
+use Rattle.implib_link.specs.Search.Search.{unresolved, objects_as, AreOnlyWeak, HaveNoWeak}
+use Rattle.implib_link.specs.Search.Search.{TakesPlainly, left_plainly}
+use Rattle.implib_link_instances.specs.Worked.BothFlavors.{foo_and_zed, mixed_taken, choosing}
 use Rattle.implib_link_instances.specs.Worked.CommandLines.{read_or_none, wants_bytes}
-use Rattle.implib_link_instances.specs.Worked.MsvcSearch.{msvc_library}
+use Rattle.implib_link_instances.specs.Worked.Search.{msvc_library}
 
 -- members for Microsoft's linker
 abbrev pub descriptor_on : MachineType → List ℕ → MemberView

@@ -1,48 +1,61 @@
--- Searches of the members for GNU's linker that were done by hand: of one library, of two, by
--- sweeps; and what is taken by names.
-use Rattle.std.specs.Prelude.{List, None, Option, Some, [], bytes_eq, codes, if◌then◌else◌, length}
-use Rattle.std.specs.Prelude.{map, true, ℕ, ◌++◌, ◌==◌, ◌∷◌, ◌≡◌, ◌≤◌}
-use Rattle.std.specs.List.{Contains, IsDistinct, flat_map}
-use Rattle.std.specs.Option.{option_map}
-use Rattle.implib.specs.declared.flavor.Flavor.TheVariants.{Gnu, Msvc}
+-- Searches of the members for Microsoft's linker that were done by hand, also of two libraries.
+use Rattle.std.specs.Prelude.{List, [], codes, map, ℕ, ◌∷◌, None, Option, Some, bytes_eq}
+use Rattle.std.specs.Prelude.{if◌then◌else◌, true, ◌==◌, ◌≡◌}
+use Rattle.implib.specs.declared.flavor.Flavor.TheVariants.{Msvc, Gnu}
 use Rattle.implib.specs.declared.machine.MachineType.TheVariants.{AMD64}
-use Rattle.implib.specs.Definition.{DefinitionView, ExportView, empty_export}
-use Rattle.implib.specs.Members.Members.{AreMembersOf, member_specs}
+use Rattle.implib.specs.Definition.{DefinitionView, empty_export}
+use Rattle.implib.specs.Members.Members.{member_specs}
 use Rattle.implib.specs.Members.MemberSpec.{MemberView, member_of}
+use Rattle.implib.specs.Members.MsvcMembers.{descriptor_spec, null_descriptor_spec, null_thunk_spec}
+use Rattle.implib.specs.Members.MsvcMembers.{short_import_spec}
 use Rattle.implib.specs.Renaming.{renamed}
 use Rattle.implib.specs.Worked.Members.{of_dll}
 use Rattle.implib.specs.Worked.Statements.{plain_export}
-use Rattle.implib_link.specs.Search.Search.{ImportsWanted, IsArranged, IsLinkedOfWanted}
-use Rattle.implib_link.specs.Search.Search.{IsLinkedWith, NamesNoHeadOrTail, OfTaken, Takes}
-use Rattle.implib_link.specs.Search.Search.{exports_wanted, first_listed, linked_if_any}
-use Rattle.implib_link.specs.Search.Archives.{IsArchive, Library, NamesNoHeadOrTailOf}
-use Rattle.implib_link.specs.Search.Archives.{TakesOfLibraries, archive_of, inputs_wanted}
-use Rattle.implib_link.specs.Search.Archives.{wanted_with, weak_among}
+use Rattle.implib.specs.LibraryName.{own_names, names_for}
+use Rattle.implib_link.specs.Search.Search.{Library, IsArchive, TakesIntoAs, SweepsTake}
+use Rattle.std.specs.List.{IsDistinct, flat_map}
 use Rattle.implib.specs.Formats.Constants.{class_external}
 use Rattle.implib.specs.Formats.Object.{Object}
-use Rattle.implib.specs.Link.LinkedMembers.{IsAscending, all_linked, objects_in}
-use Rattle.implib.specs.Members.GnuMembers.{export_spec, head_spec, tail_spec}
-use Rattle.implib_link.specs.Gnu.Packed.{packed}
-use Rattle.implib_link.specs.Gnu.Program.{HaveSame, null_descriptor}
-use Rattle.implib_link.specs.Flavors.Program.{IsFoundByName, IsProgram, LinksAmong}
+use Rattle.implib_link.specs.Flavors.Program.{IsFoundByName}
 use Rattle.implib_link_instances.specs.Worked.Programs.{code_object, symbol_of_class}
-use Rattle.implib.specs.LibraryName.{names_for, own_names}
-use Rattle.implib_link.specs.Search.Closed.{TakesIntoAs}
-use Rattle.implib_link.specs.Search.Sweeps.{SweepsTake}
 use Rattle.implib.specs.Worked.LibraryNames.{of_library}
 use Rattle.implib_link.specs.Search.NamedApart.{AreNamedApart, names_in, stem}
+
+abbrev pub msvc_library : DefinitionView → Library
+msvc_library d =
+    record { definition = d; members = map member_of (member_specs (renamed d) AMD64 Msvc) }
+
+abbrev pub msvc_zed : Library
+msvc_zed =
+    msvc_library
+    (of_dll (codes "zed.dll") (plain_export (codes "queue") ∷ plain_export (codes "stack") ∷ []))
+
+abbrev pub descriptor_named : List ℕ → MemberView
+descriptor_named dll = member_of (descriptor_spec AMD64 (own_names dll))
+
+abbrev pub null_named : List ℕ → MemberView
+null_named dll = member_of (null_descriptor_spec AMD64 dll)
+
+abbrev pub thunk_named : List ℕ → MemberView
+thunk_named dll = member_of (null_thunk_spec AMD64 dll)
+
+abbrev pub short_named : List ℕ → List ℕ → MemberView
+short_named dll name = member_of (short_import_spec AMD64 (own_names dll) (plain_export name))
+
+-- the members of both, and foo.dll's null descriptor between them
+abbrev pub zed_members : List MemberView
+zed_members =
+    descriptor_named (codes "zed.dll")
+    ∷ short_named (codes "zed.dll") (codes "queue")
+    ∷ thunk_named (codes "zed.dll")
+    ∷ []
+
+-- Searches of the members for GNU's linker that were done by hand: of one library, of two, by
+-- sweeps; and what is taken by names.
 
 -- the members of a definition on AMD64
 abbrev pub members_of : DefinitionView → List MemberView
 members_of d = map member_of (member_specs (renamed d) AMD64 Gnu)
-
--- foo.dll with two functions and a variable
-abbrev pub three : DefinitionView
-three = of_dll (codes "foo.dll")
-    (plain_export (codes "bar")
-    ∷ plain_export (codes "baz")
-    ∷ record empty_export { name = codes "qux"; is_data = true }
-    ∷ [])
 
 -- foo.dll with a variable that has a function for its alias
 abbrev pub aliased : DefinitionView
@@ -50,44 +63,6 @@ aliased = of_dll (codes "foo.dll")
     (record empty_export { name = codes "bar"; alias_target = codes "baz"; is_data = true }
     ∷ plain_export (codes "baz")
     ∷ [])
-
--- what a program wants: a function by both of its symbols, the variable, and a function of another
--- library
-abbrev pub wanted : List (List ℕ)
-wanted = codes "bar" ∷ codes "__imp_bar" ∷ codes "printf" ∷ codes "__imp_qux" ∷ []
-
--- the name of the first member that a name is listed for
-abbrev pub found : DefinitionView → List ℕ → Option (List ℕ)
-found d name = option_map (λ m. m.name) (first_listed (members_of d) name)
-
--- a linker may take the members of these names, the last one first
-abbrev pub MayTake : DefinitionView → List (List ℕ) → List (List ℕ) → Type 0
-MayTake d names taken_names =
-    (taken : List MemberView) × Takes (members_of d) names taken
-    × (map (λ m. m.name) taken ≡ taken_names)
-
--- The members of three exports are an archive that the law speaks of. For these names a linker may
--- take the first function's member, then the head, for it the tail, and at last the variable's; not
--- the other function's. A name of another library takes nothing. The descriptor's symbol takes the
--- head and the tail and no export, which the laws leave out; a variable's bare name finds its
--- alias, where it has one.
-pub record WorkedSearch : Type 0 where
-  pub made : AreMembersOf three AMD64 Gnu (members_of three)
-  pub distinct : IsDistinct bytes_eq (flat_map (λ m. m.symbols) (members_of three))
-  pub plain : NamesNoHeadOrTail AMD64 (codes "foo.dll") wanted
-  pub numbers : exports_wanted three wanted ≡ 0 ∷ 2 ∷ []
-  pub firsts :
-      map (found three)
-      (codes "bar" ∷ codes "__imp_bar" ∷ codes "printf" ∷ codes "__imp_qux" ∷ codes "qux" ∷ [])
-      ≡ Some (codes "foo_dll_a_s00000.o") ∷ Some (codes "foo_dll_a_s00000.o") ∷ None
-      ∷ Some (codes "foo_dll_a_s00002.o") ∷ None ∷ []
-  pub takes : MayTake three wanted
-      (codes "foo_dll_a_s00002.o" ∷ codes "foo_dll_a_t.o" ∷ codes "foo_dll_a_h.o"
-      ∷ codes "foo_dll_a_s00000.o" ∷ [])
-  pub nothing : MayTake three (codes "printf" ∷ []) []
-  pub head_and_tail : MayTake three (codes "_head_foo_dll" ∷ [])
-      (codes "foo_dll_a_t.o" ∷ codes "foo_dll_a_h.o" ∷ [])
-  pub alias_first : found aliased (codes "bar") ≡ Some (codes "foo_dll_a_w00000.o")
 
 abbrev pub library_of : DefinitionView → Library
 library_of d = record { definition = d; members = members_of d }
@@ -99,96 +74,6 @@ two_libraries =
     ∷ library_of
     (of_dll (codes "zed.dll") (plain_export (codes "queue") ∷ plain_export (codes "stack") ∷ []))
     ∷ []
-
--- what a program wants: the data by its bare name, a function of zed.dll, and a name of another
--- library
-abbrev pub both_wanted : List (List ℕ)
-both_wanted = codes "bar" ∷ codes "__imp_queue" ∷ codes "printf" ∷ []
-
--- The two are an archive that the law speaks of. For `bar` a linker takes its weak external, for
--- which `baz` is wanted, and `baz` brings the head and the tail of foo.dll; for `__imp_queue` it
--- takes the members of zed.dll that belong to it.
-pub record WorkedArchives : Type 0 where
-  pub archive : IsArchive AMD64 two_libraries
-  pub taken : List MemberView
-  pub takes : Takes (archive_of two_libraries) both_wanted taken
-  pub names : map (λ m. m.name) taken
-      ≡ codes "zed_dll_a_t.o" ∷ codes "zed_dll_a_h.o" ∷ codes "zed_dll_a_s00000.o"
-      ∷ codes "foo_dll_a_t.o" ∷ codes "foo_dll_a_h.o" ∷ codes "foo_dll_a_s00001.o"
-      ∷ codes "foo_dll_a_w00000.o" ∷ []
-  pub weak : map (λ m. m.name) (weak_among taken) ≡ codes "foo_dll_a_w00000.o" ∷ []
-  pub wanted : wanted_with both_wanted taken
-      ≡ codes "bar" ∷ codes "__imp_queue" ∷ codes "printf" ∷ codes "baz" ∷ []
-  pub plain : NamesNoHeadOrTailOf AMD64 two_libraries (wanted_with both_wanted taken)
-  pub chosen : map (λ p. p.chosen) (inputs_wanted two_libraries (wanted_with both_wanted taken))
-      ≡ (1 ∷ []) ∷ (0 ∷ []) ∷ []
-
--- the members that are taken of the three exports' archive: the head, `bar`, `qux` and the tail
-abbrev pub head_member : MemberView
-head_member = member_of (head_spec AMD64 (codes "foo.dll"))
-
-abbrev pub bar_member : MemberView
-bar_member = member_of (export_spec AMD64 (codes "foo.dll") 0 (plain_export (codes "bar")))
-
-abbrev pub qux_export : ExportView
-qux_export = record empty_export { name = codes "qux"; is_data = true }
-
-abbrev pub qux_member : MemberView
-qux_member = member_of (export_spec AMD64 (codes "foo.dll") 2 qux_export)
-
-abbrev pub tail_member : MemberView
-tail_member = member_of (tail_spec AMD64 (own_names (codes "foo.dll")))
-
--- as a linker took them, the last one first, and in the order of their names
-abbrev pub as_taken : List MemberView
-as_taken = qux_member ∷ tail_member ∷ head_member ∷ bar_member ∷ []
-
-abbrev pub by_name : List MemberView
-by_name = head_member ∷ bar_member ∷ qux_member ∷ tail_member ∷ []
-
--- what is linked: a program's own code, these, and the null descriptor
-abbrev pub searched_objects : List Object
-searched_objects =
-    code_object (symbol_of_class (codes "main") 1 class_external
-    ∷ symbol_of_class (codes "bar") 0 class_external ∷ [])
-    ∷ (objects_in by_name ++ null_descriptor ∷ [])
-
--- What was taken for the wanted names is exactly what the law says; by names it is in order; a
--- program of it imports `bar` and `qux` alone. A search ends, and this one took no more members
--- than there are.
-pub record WorkedSearched : Type 0 where
-  pub takes : Takes (members_of three) wanted as_taken
-  pub just : HaveSame as_taken (linked_if_any three AMD64 (0 ∷ 2 ∷ []))
-  pub holds_of_some : OfTaken (λ machine d members taken wanted. ⊥) → ⊥
-  pub some : Contains (exports_wanted three wanted) 0
-  pub same : HaveSame as_taken by_name
-  pub ascending : IsAscending (map (λ m. m.name) by_name)
-  pub arranged : IsArranged AMD64 (own_names (codes "foo.dll")) as_taken by_name
-  pub of_wanted : IsLinkedOfWanted AMD64 three wanted by_name
-  pub program : IsLinkedWith AMD64 (own_names (codes "foo.dll")) (packed 1 searched_objects)
-      as_taken searched_objects
-  pub imports : ImportsWanted AMD64 three (members_of three) wanted (packed 1 searched_objects)
-      searched_objects
-  pub ends : (taken : List MemberView) × Takes (members_of three) wanted taken
-  pub bounded : length as_taken ≤ length (members_of three)
-
--- what is linked of the two libraries: of foo.dll `baz`, of zed.dll `queue`, with the null
--- descriptor
-abbrev pub libraries_objects : List MemberView → List Object
-libraries_objects taken =
-    objects_in (all_linked AMD64 (inputs_wanted two_libraries (wanted_with both_wanted taken)))
-    ++ null_descriptor ∷ []
-
--- What was taken of the two libraries is exactly what the law says, and a program of it imports
--- exactly the wanted exports.
-pub record WorkedLibraries : Type 0 where
-  pub taken : List MemberView
-  pub takes : Takes (archive_of two_libraries) both_wanted taken
-  pub just : TakesOfLibraries AMD64 two_libraries both_wanted taken
-  pub program : IsProgram AMD64 (packed 1 (libraries_objects taken))
-      (inputs_wanted two_libraries (wanted_with both_wanted taken)) (libraries_objects taken)
-  pub links : LinksAmong AMD64 (packed 1 (libraries_objects taken))
-      (inputs_wanted two_libraries (wanted_with both_wanted taken)) (libraries_objects taken)
 
 -- an object that defines `x`, and one that defines `f` and leaves `x` to others
 abbrev pub of_x : Object

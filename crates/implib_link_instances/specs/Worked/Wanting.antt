@@ -5,13 +5,10 @@ use Rattle.std.specs.Prelude.{◌≡◌, ℕ, List, [], ◌∷◌, codes}
 use Rattle.implib.specs.declared.machine.MachineType.TheVariants.{I386, AMD64}
 use Rattle.implib.specs.Formats.Constants.{class_external}
 use Rattle.implib.specs.Formats.Object.{ASymbol, Object}
-use Rattle.implib_link.specs.Flavors.Program.{IsProgram}
-use Rattle.implib_link.specs.Gnu.Program.{claimed_names}
-use Rattle.implib_link.specs.Search.Archives.{archive_of}
-use Rattle.implib_link.specs.Search.Closed.{TakesInto, unresolved}
-use Rattle.implib_link.specs.Search.Wanting.{wanting}
-use Rattle.implib_link_instances.specs.Worked.Search.{two_libraries}
-use Rattle.implib_link_instances.specs.Worked.Closed.{closed_taken}
+use Rattle.implib_link.specs.Flavors.Program.{IsProgram, claimed_names}
+use Rattle.implib_link.specs.Search.Libraries.{archive_of_both, TakesIntoFor}
+use Rattle.implib_link.specs.Search.Search.{unresolved, wanting}
+use Rattle.implib_link_instances.specs.Worked.BothFlavors.{with_far, closed_taken}
 use Rattle.implib_link_instances.specs.Worked.Programs.{both_inputs, code_object, program_objects}
 use Rattle.implib_link_instances.specs.Worked.Programs.{symbol_of_class, touching_4, touching_8}
 
@@ -52,7 +49,7 @@ pub record WorkedWanting : Type 0 where
       ≡ codes "baz" ∷ codes "printf" ∷ []
   pub none : claimed_names (wanting listed_names) ≡ []
   pub common : claimed_names common_bar ≡ codes "bar" ∷ []
-  pub takes : TakesInto (archive_of two_libraries) with_names closed_taken
+  pub takes : TakesIntoFor AMD64 (archive_of_both with_far) with_names closed_taken
   pub amd64 : IsProgram AMD64 touching_8 (both_inputs AMD64)
       (wanting listed_names ∷ program_objects AMD64)
   pub i386 : IsProgram I386 touching_4 (both_inputs I386)

@@ -1,19 +1,11 @@
 //! Calls and stubs in linked programs, and the instructions of compilers.
 
-ghost use Rattle.implib_link_instances.specs.Worked.A32.{WorkedArmntStubs};
-ghost use Rattle.implib_link_instances.specs.Worked.Calls.{WorkedReading};
-ghost use Rattle.implib_link_instances.specs.Worked.Calls.{WorkedChoices};
-ghost use Rattle.implib_link_instances.specs.Worked.Calls.{WorkedPointers};
+ghost use Rattle.implib_link_instances.specs.Worked.Operands.{WorkedReading, WorkedChoices};
 
-/// Loads of pointers that were relocated by hand read their entries, on AMD64 and I386; a
-/// loader that reads the image of a program that was linked by hand loads it.
-///
-/// ARMNT's stub by hand, behind the import tables and in front of them.
+/// A loader that reads the image of a program that was linked by hand loads it.
 ///
 /// Code that was placed by hand has addresses for its symbols.
 pub fn worked_calls()
-    ensures worked_pointers { WorkedPointers }
     ensures worked_reading { WorkedReading }
-    ensures worked_armnt_stubs { WorkedArmntStubs }
     ensures worked_choices { WorkedChoices }
 {}

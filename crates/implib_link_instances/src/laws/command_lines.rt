@@ -1,7 +1,7 @@
 //! Command lines of several archives.
 
 ghost use Rattle.implib_link_instances.specs.Worked.CommandLines.{WorkedCommandLines};
-ghost use Rattle.implib_link_instances.specs.Worked.FlavorLines.{WorkedFlavorLines};
+ghost use Rattle.implib_link_instances.specs.Worked.CommandLines.{WorkedFlavorLines};
 
 /// On AMD64 and I386: with the library last and in a group GNU `ld` takes all, as one search, and
 /// so lld's, does; there is a closed program of what they take. On AMD64 and, in a group, on I386

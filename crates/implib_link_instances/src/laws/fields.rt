@@ -1,11 +1,8 @@
 //! Fields of code against imports, stored addresses, and the bounds of tables.
 
-ghost use Rattle.implib_link_instances.specs.Worked.Loads.{WorkedBounds};
 ghost use Rattle.implib_link_instances.specs.Worked.Operands.{AdjacentCalls, MovableCode};
-ghost use Rattle.implib_link_instances.specs.Worked.Operands.{PassingFields};
-ghost use Rattle.implib_link_instances.specs.Worked.Operands.{WorkedOperands};
-ghost use Rattle.implib_link_instances.specs.Worked.Registered.{WorkedRegistering};
-ghost use Rattle.implib_link_instances.specs.Worked.Stored.{WorkedHoldings};
+ghost use Rattle.implib_link_instances.specs.Worked.Operands.{PassingFields, WorkedOperands};
+ghost use Rattle.implib_link_instances.specs.Worked.Stored.{WorkedRegistering, WorkedHoldings};
 
 /// Code as compilers write it, worked by hand on AMD64, I386 and ARM64: fields that follow one
 /// another without a gap, some of types of which nothing is said, are in memory at two bases, and
@@ -14,8 +11,6 @@ ghost use Rattle.implib_link_instances.specs.Worked.Stored.{WorkedHoldings};
 /// Programs that lld wrote for I386, AMD64 and ARM64 of an object that clang made: pointers, a
 /// handler and code that name an import by its bare name are in memory at two bases. So are those
 /// that name a stub for GNU's linker, by hand.
-///
-/// The programs that were linked by hand are bounded as the law says, on AMD64 and I386.
 pub fn worked_fields()
     ensures passing_fields { PassingFields }
     ensures adjacent_calls { AdjacentCalls }
@@ -23,5 +18,4 @@ pub fn worked_fields()
     ensures movable_code { MovableCode }
     ensures worked_holdings { WorkedHoldings }
     ensures worked_registering { WorkedRegistering }
-    ensures worked_bounds { WorkedBounds }
 {}

@@ -1,8 +1,7 @@
 //! Files of command lines, and linked images.
 
 ghost use Rattle.implib.specs.Import.{Ask};
-ghost use Rattle.implib_link_instances.specs.Worked.Files.{WorkedFiles};
-ghost use Rattle.implib_link_instances.specs.Worked.Files.{WorkedHeaders};
+ghost use Rattle.implib_link_instances.specs.Worked.Files.{WorkedFiles, WorkedHeaders};
 ghost use Rattle.std.specs.Prelude.{List, ℕ};
 
 /// Files that lld wrote for I386, AMD64 and ARM64, byte for byte, are those of programs of the laws

@@ -1,13 +1,10 @@
 //! Searches in the bytes of archives, and the whole way from them to a call.
 
-ghost use Rattle.implib_link_instances.specs.Archives.Files.{WorkedFileLines};
-ghost use Rattle.implib_link_instances.specs.Archives.Files.{WorkedFiles};
-ghost use Rattle.implib_link_instances.specs.Archives.Worked.{WorkedLibraries, WorkedSearches};
-ghost use Rattle.implib_link_instances.specs.Archives.WorkedBothWay.{WorkedBothWay};
-ghost use Rattle.implib_link_instances.specs.Archives.WorkedLldWay.{WorkedLldWay};
+ghost use Rattle.implib_link_instances.specs.Archives.Files.{WorkedFileLines, WorkedFiles};
+ghost use Rattle.implib_link_instances.specs.Archives.Worked.{WorkedSearches};
+ghost use Rattle.implib_link_instances.specs.Archives.WorkedWays.{WorkedBothWay, WorkedLldWay};
 
-/// Searches by hand in the bytes of archives of two members, of a definition's members, and of
-/// libraries.
+/// Searches by hand in the bytes of archives of two members.
 ///
 /// The members in the bytes of archives that GNU `ar` wrote, and of libraries of llvm-dlltool 19;
 /// command lines of these files, by lld to its program and by GNU `ld`.
@@ -19,7 +16,6 @@ ghost use Rattle.implib_link_instances.specs.Archives.WorkedLldWay.{WorkedLldWay
 /// each flavour's import, which arrive at what their DLLs give.
 pub fn worked_in_bytes()
     ensures worked_searches { WorkedSearches }
-    ensures worked_libraries { WorkedLibraries }
     ensures worked_files { WorkedFiles }
     ensures worked_file_lines { WorkedFileLines }
     ensures worked_lld_way { WorkedLldWay }

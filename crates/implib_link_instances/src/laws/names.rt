@@ -1,9 +1,7 @@
 //! Names that stand for others, and names that are wanted otherwise.
 
-ghost use Rattle.implib_link_instances.specs.Worked.Aliases.{WorkedAlias};
-ghost use Rattle.implib_link_instances.specs.Worked.Aliases.{WorkedFlavorAlias};
-ghost use Rattle.implib_link_instances.specs.Worked.OtherNames.{HoldsOfSome};
-ghost use Rattle.implib_link_instances.specs.Worked.OtherNames.{WorkedAlternateNames};
+ghost use Rattle.implib_link_instances.specs.Worked.OtherNames.{WorkedAlias, WorkedFlavorAlias};
+ghost use Rattle.implib_link_instances.specs.Worked.OtherNames.{HoldsOfSome, WorkedAlternateNames};
 ghost use Rattle.implib_link_instances.specs.Worked.OtherNames.{WorkedOtherNames};
 ghost use Rattle.implib_link_instances.specs.Worked.Wanting.{WorkedWanting};
 

@@ -1,13 +1,9 @@
 //! Programs that were linked by hand, what a loader makes of them, and images that are wrong.
 
 ghost use Rattle.implib_link_instances.specs.Worked.Expansion.{WorkedExpansion};
-ghost use Rattle.implib_link_instances.specs.Worked.Flavors.{WorkedFlavors};
-ghost use Rattle.implib_link_instances.specs.Worked.Loads.{WorkedCalls, WorkedLoads};
-ghost use Rattle.implib_link_instances.specs.Worked.MsvcSearch.{WorkedMsvcSearches};
-ghost use Rattle.implib_link_instances.specs.Worked.Loads.{WorkedPackings};
+ghost use Rattle.implib_link_instances.specs.Worked.Flavors.{WorkedFlavors, WorkedSources};
+ghost use Rattle.implib_link_instances.specs.Worked.Files.{WorkedLoads, WorkedPackings};
 ghost use Rattle.implib_link_instances.specs.Worked.Programs.{WorkedPrograms};
-ghost use Rattle.implib_link_instances.specs.Worked.Search.{WorkedLibraries, WorkedSearched};
-ghost use Rattle.implib_link_instances.specs.Worked.Sources.{WorkedSources};
 
 /// Programs that were linked by hand, on AMD64, I386 and ARMNT, meet what the laws ask for and have
 /// these tables.
@@ -17,14 +13,8 @@ ghost use Rattle.implib_link_instances.specs.Worked.Sources.{WorkedSources};
 /// Programs of DLLs in both flavours that were linked by hand meet what the law asks for and have
 /// these tables.
 ///
-/// On AMD64 and I386, a search by hand of the members for Microsoft's linker takes exactly what the
-/// law says.
-///
 /// The programs that were linked by hand link as the laws say; loaded by hand, they hold what the
 /// DLLs give, and their stubs jump through their entries.
-///
-/// Programs of what was taken by hand of an archive, and of two libraries, are as the laws of the
-/// search say.
 ///
 /// The programs that were linked by hand, packed, are as the law says.
 ///
@@ -33,11 +23,7 @@ pub fn worked_programs()
     ensures worked_programs { WorkedPrograms }
     ensures worked_expansion { WorkedExpansion }
     ensures worked_flavors { WorkedFlavors }
-    ensures worked_msvc_searches { WorkedMsvcSearches }
     ensures worked_loads { WorkedLoads }
-    ensures worked_calls { WorkedCalls }
-    ensures worked_searched { WorkedSearched }
-    ensures worked_libraries { WorkedLibraries }
     ensures worked_packings { WorkedPackings }
     ensures worked_sources { WorkedSources }
 {}

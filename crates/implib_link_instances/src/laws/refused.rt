@@ -1,46 +1,32 @@
 //! What the conclusions of the laws refuse: a record `RefusedX` has for each field of `X` something
 //! that this field refuses.
 
-ghost use Rattle.implib_link_instances.specs.Refused.Code.{RefusedA32JumpReads, RefusedAllLeadTo};
-ghost use Rattle.implib_link_instances.specs.Refused.Code.{RefusedBranchArrives};
+ghost use Rattle.implib_link_instances.specs.Refused.Code.{RefusedAllLeadTo, RefusedBranchArrives};
 ghost use Rattle.implib_link_instances.specs.Refused.Code.{RefusedBranchArrivesByThunk};
-ghost use Rattle.implib_link_instances.specs.Refused.Code.{RefusedBranchStays, RefusedCallArrives};
+ghost use Rattle.implib_link_instances.specs.Refused.Code.{RefusedBranchStays};
 ghost use Rattle.implib_link_instances.specs.Refused.Code.{RefusedDirectCallArrives, RefusedFields};
 ghost use Rattle.implib_link_instances.specs.Refused.Code.{RefusedHoldAddress, RefusedHoldsFurther};
 ghost use Rattle.implib_link_instances.specs.Refused.Code.{RefusedInstructionArrives};
-ghost use Rattle.implib_link_instances.specs.Refused.Code.{RefusedLoadArrives};
 ghost use Rattle.implib_link_instances.specs.Refused.Code.{RefusedOperandArrives};
-ghost use Rattle.implib_link_instances.specs.Refused.Code.{RefusedPageArrives, RefusedPairArrives};
+ghost use Rattle.implib_link_instances.specs.Refused.Code.{RefusedPairArrives};
 ghost use Rattle.implib_link_instances.specs.Refused.Code.{RefusedPointerArrives, RefusedPointsTo};
-ghost use Rattle.implib_link_instances.specs.Refused.Code.{RefusedResolves, RefusedStubArrives};
+ghost use Rattle.implib_link_instances.specs.Refused.Code.{RefusedResolves, RefusedJumpArrives};
 ghost use Rattle.implib_link_instances.specs.Refused.Code.{RefusedStubAt, RefusedSumArrives};
-ghost use Rattle.implib_link_instances.specs.Refused.Code.{RefusedThunkArrives};
-ghost use Rattle.implib_link_instances.specs.Refused.Tables.{RefusedAreBounded, RefusedAreTables};
-ghost use Rattle.implib_link_instances.specs.Refused.Tables.{RefusedAreTablesLoaded};
-ghost use Rattle.implib_link_instances.specs.Refused.Tables.{RefusedBeginsWith, RefusedFillsBy};
-ghost use Rattle.implib_link_instances.specs.Refused.Tables.{RefusedFindsBy, RefusedHoldsAt};
-ghost use Rattle.implib_link_instances.specs.Refused.Tables.{RefusedIsInEntry, RefusedIsInTable};
-ghost use Rattle.implib_link_instances.specs.Refused.Tables.{RefusedLoaders};
+ghost use Rattle.implib_link_instances.specs.Refused.Links.{RefusedAreTables};
+ghost use Rattle.implib_link_instances.specs.Refused.Links.{RefusedAreTablesLoaded, RefusedFillsBy};
+ghost use Rattle.implib_link_instances.specs.Refused.Links.{RefusedFindsBy, RefusedHoldsAt};
+ghost use Rattle.implib_link_instances.specs.Refused.Links.{RefusedIsInTable, RefusedLoaders};
 ghost use Rattle.implib_link_instances.specs.Refused.Links.{RefusedFlavorTextLinks};
 ghost use Rattle.implib_link_instances.specs.Refused.Links.{RefusedFlavorTextsLink};
-ghost use Rattle.implib_link_instances.specs.Refused.Links.{RefusedInputImports, RefusedIsImported};
-ghost use Rattle.implib_link_instances.specs.Refused.Links.{RefusedIsImportedBy};
-ghost use Rattle.implib_link_instances.specs.Refused.Links.{RefusedIsImportedOfBoth};
-ghost use Rattle.implib_link_instances.specs.Refused.Links.{RefusedIsTaken, RefusedJumpsThrough};
-ghost use Rattle.implib_link_instances.specs.Refused.Links.{RefusedLinksBeside, RefusedLinksClosed};
-ghost use Rattle.implib_link_instances.specs.Refused.Links.{RefusedLinksClosedForBoth};
+ghost use Rattle.implib_link_instances.specs.Refused.Links.{RefusedInputImports};
+ghost use Rattle.implib_link_instances.specs.Refused.Links.{RefusedIsImportedBy, RefusedIsImported};
+ghost use Rattle.implib_link_instances.specs.Refused.Links.{RefusedIsTaken, RefusedLinksClosed};
 ghost use Rattle.implib_link_instances.specs.Refused.Links.{RefusedLldLinks, RefusedProgramLinks};
-ghost use Rattle.implib_link_instances.specs.Refused.Links.{RefusedRunLinks};
-ghost use Rattle.implib_link_instances.specs.Refused.Searches.{RefusedImportsWanted};
-ghost use Rattle.implib_link_instances.specs.Refused.Searches.{RefusedIsLinkedOfWanted};
-ghost use Rattle.implib_link_instances.specs.Refused.Searches.{RefusedIsWeakData};
-ghost use Rattle.implib_link_instances.specs.Refused.Searches.{RefusedIsWeakShort};
-ghost use Rattle.implib_link_instances.specs.Refused.Searches.{RefusedPullsIntoAs, RefusedSearches};
-ghost use Rattle.implib_link_instances.specs.Refused.Searches.{RefusedTakesAs, RefusedTakesIntoAs};
-ghost use Rattle.implib_link_instances.specs.Refused.Searches.{RefusedTakesOfBoth};
-ghost use Rattle.implib_link_instances.specs.Refused.Searches.{RefusedTakesOfLibraries};
+ghost use Rattle.implib_link_instances.specs.Refused.Links.{RefusedIsWeakData, RefusedIsWeakShort};
+ghost use Rattle.implib_link_instances.specs.Refused.Links.{RefusedPullsIntoAs, RefusedSearches};
+ghost use Rattle.implib_link_instances.specs.Refused.Links.{RefusedTakesIntoAs};
+ghost use Rattle.implib_link_instances.specs.Refused.Links.{RefusedTakesOfLibraries};
 ghost use Rattle.implib_link_instances.specs.Refused.Archives.{RefusedAreMembersAt};
-ghost use Rattle.implib_link_instances.specs.Refused.Archives.{RefusedBothArrive};
 ghost use Rattle.implib_link_instances.specs.Refused.Archives.{RefusedCallsArrive};
 ghost use Rattle.implib_link_instances.specs.Refused.Archives.{RefusedHasMembersAs, RefusedInBytes};
 ghost use Rattle.implib_link_instances.specs.Refused.Archives.{RefusedIsHeaderOf};
@@ -52,13 +38,8 @@ ghost use Rattle.implib_link_instances.specs.Refused.Archives.{RefusedLldArrives
 
 /// Code of `nop`s and no memory are no calls, loads, stubs or held addresses.
 pub fn refused_code()
-    ensures refused_a32_jump_reads { RefusedA32JumpReads }
-    ensures refused_call_arrives { RefusedCallArrives }
-    ensures refused_load_arrives { RefusedLoadArrives }
-    ensures refused_stub_arrives { RefusedStubArrives }
-    ensures refused_thunk_arrives { RefusedThunkArrives }
+    ensures refused_jump_arrives { RefusedJumpArrives }
     ensures refused_direct_call_arrives { RefusedDirectCallArrives }
-    ensures refused_page_arrives { RefusedPageArrives }
     ensures refused_pair_arrives { RefusedPairArrives }
     ensures refused_sum_arrives { RefusedSumArrives }
     ensures refused_operand_arrives { RefusedOperandArrives }
@@ -81,13 +62,10 @@ pub fn refused_tables()
     ensures refused_finds_by { RefusedFindsBy }
     ensures refused_fills_by { RefusedFillsBy }
     ensures refused_holds_at { RefusedHoldsAt }
-    ensures refused_is_in_entry { RefusedIsInEntry }
-    ensures refused_begins_with { RefusedBeginsWith }
     ensures refused_is_in_table { RefusedIsInTable }
     ensures refused_are_tables { RefusedAreTables }
     ensures refused_are_tables_loaded { RefusedAreTablesLoaded }
     ensures refused_loaders { RefusedLoaders }
-    ensures refused_are_bounded { RefusedAreBounded }
 {}
 
 /// No objects are no link of what is imported.
@@ -97,28 +75,19 @@ pub fn refused_links()
     ensures refused_lld_links { RefusedLldLinks }
     ensures refused_is_taken { RefusedIsTaken }
     ensures refused_program_links { RefusedProgramLinks }
-    ensures refused_run_links { RefusedRunLinks }
-    ensures refused_links_beside { RefusedLinksBeside }
     ensures refused_links_closed { RefusedLinksClosed }
-    ensures refused_links_closed_for_both { RefusedLinksClosedForBoth }
     ensures refused_is_imported { RefusedIsImported }
-    ensures refused_is_imported_of_both { RefusedIsImportedOfBoth }
     ensures refused_flavor_text_links { RefusedFlavorTextLinks }
     ensures refused_flavor_texts_link { RefusedFlavorTextsLink }
-    ensures refused_jumps_through { RefusedJumpsThrough }
 {}
 
 /// No members are what a search finds.
 pub fn refused_searches()
     ensures refused_pulls_into { RefusedPullsIntoAs }
-    ensures refused_takes { RefusedTakesAs }
     ensures refused_takes_into { RefusedTakesIntoAs }
     ensures refused_takes_of_libraries { RefusedTakesOfLibraries }
-    ensures refused_takes_of_both { RefusedTakesOfBoth }
     ensures refused_is_weak_data { RefusedIsWeakData }
     ensures refused_is_weak_short { RefusedIsWeakShort }
-    ensures refused_is_linked_of_wanted { RefusedIsLinkedOfWanted }
-    ensures refused_imports_wanted { RefusedImportsWanted }
     ensures refused_searches { RefusedSearches }
 {}
 
@@ -129,7 +98,6 @@ pub fn refused_archives()
     ensures refused_is_search_of { RefusedIsSearchOf }
     ensures refused_leads_to_first { RefusedLeadsToFirst }
     ensures refused_calls_arrive { RefusedCallsArrive }
-    ensures refused_both_arrive { RefusedBothArrive }
     ensures refused_is_wanted_by { RefusedIsWantedBy }
     ensures refused_lld_arrives { RefusedLldArrives }
     ensures refused_is_in_directory { RefusedIsInDirectory }

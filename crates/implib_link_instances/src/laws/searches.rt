@@ -1,15 +1,9 @@
 //! Archive searches.
 
-ghost use Rattle.implib_link_instances.specs.Worked.Search.{WorkedArchives};
-ghost use Rattle.implib_link_instances.specs.Worked.Search.{WorkedFound};
-ghost use Rattle.implib_link_instances.specs.Worked.MsvcSearch.{WorkedMsvcArchives};
-ghost use Rattle.implib_link_instances.specs.Worked.Search.{WorkedNamedApart};
 ghost use Rattle.implib_link_instances.specs.Worked.Plainly.{WorkedPlainly};
-ghost use Rattle.implib_link_instances.specs.Worked.Search.{WorkedSearch};
+ghost use Rattle.implib_link_instances.specs.Worked.Search.{WorkedFound, WorkedNamedApart};
 ghost use Rattle.implib_link_instances.specs.Worked.Search.{WorkedSweeps};
 
-/// Searches by hand: of the members of three exports, and of two libraries with an alias.
-///
 /// Sweeps by hand, as GNU `ld` searches: in one of them it takes another member than the first that
 /// lists a name.
 ///
@@ -18,14 +12,9 @@ ghost use Rattle.implib_link_instances.specs.Worked.Search.{WorkedSweeps};
 /// Libraries whose descriptors are found by the DLL's name, and others.
 ///
 /// Libraries that are named apart, by hand.
-///
-/// Searches by hand of two libraries, one of which has an alias.
 pub fn worked_searches()
-    ensures worked_search { WorkedSearch }
-    ensures worked_archives { WorkedArchives }
     ensures worked_sweeps { WorkedSweeps }
     ensures worked_plainly { WorkedPlainly }
     ensures worked_found { WorkedFound }
     ensures worked_named_apart { WorkedNamedApart }
-    ensures worked_msvc_archives { WorkedMsvcArchives }
 {}

@@ -1,6 +1,6 @@
 use Rattle.std.proofs.Common.{◌++◌, ◌+◌, subst}
 use Rattle.implib.specs.Members.ImportTables.{thunk_width}
-use Rattle.implib_link.specs.Gnu.Calls.{DirectCallArrives}
+use Rattle.implib_link.specs.Gnu.Fields.{DirectCallArrives}
 use Rattle.implib_system.specs.System.{given}
 use Rattle.implib_system.proofs.System.{given_is, length_given}
 use Rattle.implib_system.proofs.laws.calls_reach_exports.Goals as goal

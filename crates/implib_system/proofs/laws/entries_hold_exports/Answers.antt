@@ -1,6 +1,6 @@
 use Rattle.std.proofs.Common.{◌++◌, subst}
 use Rattle.implib.specs.Members.ImportTables.{thunk_width}
-use Rattle.implib_link.specs.Gnu.Loaded.{HoldsAt}
+use Rattle.implib_link.specs.Gnu.Writing.{HoldsAt}
 use Rattle.implib_system.specs.System.{given}
 use Rattle.implib_system.proofs.System.{given_is, length_given}
 use Rattle.implib_system.proofs.laws.entries_hold_exports.Goals as goal

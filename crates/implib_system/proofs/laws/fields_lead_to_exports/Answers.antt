@@ -1,6 +1,6 @@
 use Rattle.std.proofs.Common.{◌++◌, subst}
 use Rattle.implib.specs.Members.ImportTables.{thunk_width}
-use Rattle.implib_link.specs.Gnu.Operands.{AllLead}
+use Rattle.implib_link.specs.Gnu.Fields.{AllLead}
 use Rattle.implib_system.specs.System.{given}
 use Rattle.implib_system.proofs.System.{given_is, length_given}
 use Rattle.implib_system.proofs.laws.fields_lead_to_exports.Goals as goal

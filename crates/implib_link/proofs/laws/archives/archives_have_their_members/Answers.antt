@@ -1,6 +1,6 @@
 use Rattle.std.proofs.Common.{inl, inr, refl}
 use Rattle.implib_archive.specs.declared.kind.Kind.TheVariants.{Coff, Gnu}
-use Rattle.implib_link.proofs.Archives.Files.{archive_has_members}
+use Rattle.implib_link.proofs.Archives.InBytes.{archive_has_members}
 use Rattle.implib_link.proofs.laws.archives.archives_have_their_members.Goals as goal
 
 pub returns-clause-gnu : goal.returns-clause-gnu

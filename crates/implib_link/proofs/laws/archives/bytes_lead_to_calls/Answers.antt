@@ -1,5 +1,5 @@
-use Rattle.implib_link.proofs.Archives.Way.{bytes_lead_to_calls}
+use Rattle.implib_link.proofs.Archives.Ways.{bytes_lead_to_both}
 use Rattle.implib_link.proofs.laws.archives.bytes_lead_to_calls.Goals as goal
 
 pub returns : goal.returns
-returns c = bytes_lead_to_calls
+returns c = bytes_lead_to_both

@@ -1,7 +1,6 @@
 use Rattle.implib.specs.Link.Placement.{placed_from}
 use Rattle.implib_link.proofs.Gnu.Choices.{choice, choice_resolves}
-use Rattle.implib_link.proofs.Gnu.LinkedBytes.{linked_bytes, linked_further}
-use Rattle.implib_link.proofs.Gnu.LinkedCodes.{codes_can_be_linked, linked_beside}
+use Rattle.implib_link.proofs.Gnu.LinkedBytes.{linked_bytes, linked_further, codes_can_be_linked, linked_beside}
 use Rattle.implib_link.proofs.laws.choices.code_can_be_linked.Goals as goal
 
 pub returns : goal.returns

@@ -1,5 +1,4 @@
-use Rattle.implib_link.proofs.Gnu.Aliases.{weak_is_weak}
-use Rattle.implib_link.proofs.TablesInMemory.{alias_leads, other_leads, stub_called_otherwise, thunk_called_otherwise}
+use Rattle.implib_link.proofs.Tables.{weak_is_weak, alias_leads, other_leads, stub_called_otherwise, thunk_called_otherwise}
 use Rattle.implib_link.proofs.laws.other_names.other_names_lead.Goals as goal
 
 pub returns : goal.returns

@@ -1,4 +1,4 @@
-use Rattle.implib_link.proofs.Flavors.Packed.{packed_admissible, packed_objects}
+use Rattle.implib_link.proofs.Flavors.Program.{packed_admissible, packed_objects}
 use Rattle.implib_link.proofs.Gnu.Packed.{packed_eights}
 use Rattle.implib_link.proofs.laws.packed.packed_is_program.Goals as goal
 

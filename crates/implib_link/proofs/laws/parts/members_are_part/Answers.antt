@@ -1,6 +1,5 @@
-use Rattle.implib_link.proofs.Parts.Members.{members_are_part, members_store_none}
-use Rattle.implib_link.proofs.Parts.OfMembers.{program_of_parts}
-use Rattle.implib_link.proofs.Parts.Older.{older_held, older_part, older_stores_none}
+use Rattle.implib_link.proofs.Parts.Members.{members_are_part, members_store_none, older_held, older_part, older_stores_none}
+use Rattle.implib_link.proofs.Parts.Programs.{program_of_parts}
 use Rattle.implib_link.proofs.laws.parts.members_are_part.Goals as goal
 
 pub returns : goal.returns

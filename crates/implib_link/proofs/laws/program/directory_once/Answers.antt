@@ -1,4 +1,4 @@
-use Rattle.implib_link.proofs.Gnu.Directory.{directory_walk, walk_once}
+use Rattle.implib_link.proofs.Gnu.Loaded.{directory_walk, walk_once}
 use Rattle.implib_link.proofs.laws.program.directory_once.Goals as goal
 
 pub returns : goal.returns

@@ -1,5 +1,4 @@
-use Rattle.implib_link.proofs.Flavors.GnuPrograms.{gnu_objects, members_are_objects}
-use Rattle.implib_link.proofs.Gnu.FullNames.{members_by_full_names}
+use Rattle.implib_link.proofs.Flavors.Program.{gnu_objects, members_are_objects, members_by_full_names}
 use Rattle.implib_link.proofs.laws.program.members_are_program.Goals as goal
 
 pub returns : goal.returns

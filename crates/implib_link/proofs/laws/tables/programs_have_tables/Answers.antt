@@ -1,5 +1,5 @@
 use Rattle.implib_link.proofs.Flavors.Steady.{program_tables_none}
-use Rattle.implib_link.proofs.TablesOfPrograms.{lld_steady, lld_tables, program_tables}
+use Rattle.implib_link.proofs.Tables.{lld_steady, lld_tables, program_tables}
 use Rattle.implib_link.proofs.laws.tables.programs_have_tables.Goals as goal
 
 pub returns : goal.returns

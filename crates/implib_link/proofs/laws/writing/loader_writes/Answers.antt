@@ -1,4 +1,4 @@
-use Rattle.implib_link.proofs.Flavors.Writing.{writer_ends, writer_loads}
+use Rattle.implib_link.proofs.Flavors.Steady.{writer_ends, writer_loads}
 use Rattle.implib_link.proofs.laws.writing.loader_writes.Goals as goal
 
 pub returns : goal.returns

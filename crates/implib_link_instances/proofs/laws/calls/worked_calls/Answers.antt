@@ -1,11 +1,8 @@
-use Rattle.implib_link_instances.proofs.Worked.A32.{worked_armnt_stubs}
-use Rattle.implib_link_instances.proofs.Worked.Calls.{worked_reading, worked_choices, worked_pointers}
+use Rattle.implib_link_instances.proofs.Worked.Calls.{worked_reading, worked_choices}
 use Rattle.implib_link_instances.proofs.laws.calls.worked_calls.Goals as goal
 
 pub returns : goal.returns
 returns c = record {
-  worked_pointers = worked_pointers;
   worked_reading = worked_reading;
-  worked_armnt_stubs = worked_armnt_stubs;
   worked_choices = worked_choices;
 }

@@ -1,5 +1,4 @@
-use Rattle.implib_link_instances.proofs.Worked.Bounds.{worked_bounds}
-use Rattle.implib_link_instances.proofs.Worked.Operands.{adjacent_calls, movable_code, passing_fields, worked_operands}
+use Rattle.implib_link_instances.proofs.Worked.Programs.{adjacent_calls, movable_code, passing_fields, worked_operands}
 use Rattle.implib_link_instances.proofs.Worked.Registered.{worked_registering}
 use Rattle.implib_link_instances.proofs.Worked.Stored.{worked_holdings}
 use Rattle.implib_link_instances.proofs.laws.fields.worked_fields.Goals as goal
@@ -12,5 +11,4 @@ returns c = record {
   movable_code = movable_code;
   worked_holdings = worked_holdings;
   worked_registering = worked_registering;
-  worked_bounds = worked_bounds;
 }

@@ -1,11 +1,9 @@
 use Rattle.implib_link_instances.proofs.Worked.Expansion.{worked_expansion}
 use Rattle.implib_link_instances.proofs.Worked.Flavors.{worked_flavors}
-use Rattle.implib_link_instances.proofs.Worked.Loads.{worked_calls, worked_loads}
-use Rattle.implib_link_instances.proofs.Worked.MsvcSearch.{worked_msvc_searches}
+use Rattle.implib_link_instances.proofs.Worked.Loads.{worked_loads}
 use Rattle.implib_link_instances.proofs.Worked.Packed.{worked_packings}
 use Rattle.implib_link_instances.proofs.Worked.Programs.{worked_programs}
-use Rattle.implib_link_instances.proofs.Worked.Search.{worked_libraries, worked_searched}
-use Rattle.implib_link_instances.proofs.Worked.Sources.{worked_sources}
+use Rattle.implib_link_instances.proofs.Worked.Aliases.{worked_sources}
 use Rattle.implib_link_instances.proofs.laws.programs.worked_programs.Goals as goal
 
 pub returns : goal.returns
@@ -13,11 +11,7 @@ returns c = record {
   worked_programs = worked_programs;
   worked_expansion = worked_expansion;
   worked_flavors = worked_flavors;
-  worked_msvc_searches = worked_msvc_searches;
   worked_loads = worked_loads;
-  worked_calls = worked_calls;
-  worked_searched = worked_searched;
-  worked_libraries = worked_libraries;
   worked_packings = worked_packings;
   worked_sources = worked_sources;
 }

@@ -1,4 +1,4 @@
-use Rattle.implib_link_instances.proofs.Refused.Links.{refused_flavor_text_links, refused_flavor_texts_link, refused_input_imports, refused_is_imported, refused_is_imported_by, refused_is_imported_of_both, refused_is_taken, refused_jumps_through, refused_links_beside, refused_links_closed, refused_links_closed_for_both, refused_lld_links, refused_program_links, refused_run_links}
+use Rattle.implib_link_instances.proofs.Refused.Links.{refused_flavor_text_links, refused_flavor_texts_link, refused_input_imports, refused_is_imported_by, refused_is_imported, refused_is_taken, refused_links_closed, refused_lld_links, refused_program_links}
 use Rattle.implib_link_instances.proofs.laws.refused.refused_links.Goals as goal
 
 pub returns : goal.returns
@@ -8,13 +8,8 @@ returns c = record {
   refused_lld_links = refused_lld_links;
   refused_is_taken = refused_is_taken;
   refused_program_links = refused_program_links;
-  refused_run_links = refused_run_links;
-  refused_links_beside = refused_links_beside;
   refused_links_closed = refused_links_closed;
-  refused_links_closed_for_both = refused_links_closed_for_both;
   refused_is_imported = refused_is_imported;
-  refused_is_imported_of_both = refused_is_imported_of_both;
   refused_flavor_text_links = refused_flavor_text_links;
   refused_flavor_texts_link = refused_flavor_texts_link;
-  refused_jumps_through = refused_jumps_through;
 }

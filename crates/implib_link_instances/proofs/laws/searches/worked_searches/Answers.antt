@@ -1,15 +1,11 @@
-use Rattle.implib_link_instances.proofs.Worked.Search.{worked_archives, worked_found, worked_named_apart, worked_search, worked_sweeps}
-use Rattle.implib_link_instances.proofs.Worked.MsvcSearch.{worked_msvc_archives}
+use Rattle.implib_link_instances.proofs.Worked.Search.{worked_found, worked_named_apart, worked_sweeps}
 use Rattle.implib_link_instances.proofs.Worked.Plainly.{worked_plainly}
 use Rattle.implib_link_instances.proofs.laws.searches.worked_searches.Goals as goal
 
 pub returns : goal.returns
 returns c = record {
-  worked_search = worked_search;
-  worked_archives = worked_archives;
   worked_sweeps = worked_sweeps;
   worked_plainly = worked_plainly;
   worked_found = worked_found;
   worked_named_apart = worked_named_apart;
-  worked_msvc_archives = worked_msvc_archives;
 }
