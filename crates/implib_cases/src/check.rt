@@ -9,7 +9,7 @@ mod files;
 
 use crate::lines::{Case, Line, push_alike, push_calls, push_lines, short_answer};
 use files::{Files, files_of};
-use implib_check_driver::program::run;
+use implib_check_driver::program::{run, status_of};
 use implib_check_driver::task::CommandLine;
 use std::alloc::Global;
 use std::io;
@@ -62,7 +62,8 @@ fn answer_call(alloc: Global, text: &mut String, files: &Files, call: &str) -> R
     let words = command_line(alloc, call)?;
     let mut printed = Vec::new(alloc);
     let mut said = Vec::new(alloc);
-    let status = run(alloc, files, &words, &mut printed, &mut said);
+    let done = run(alloc, files, &words, &mut printed, &mut said);
+    let status = status_of(&mut said, done);
     write!(text, "call {call}\n  status {status}\n")?;
     push_lines(text, "out", printed.as_slice())?;
     push_lines(text, "error", said.as_slice())?;
@@ -79,7 +80,8 @@ fn answer_failed(
 ) -> Result<(), Fail> {
     let words = command_line(alloc, call)?;
     let mut said = Vec::new(alloc);
-    let status = run(alloc, files, &words, &mut Failing(why), &mut said);
+    let done = run(alloc, files, &words, &mut Failing(why), &mut said);
+    let status = status_of(&mut said, done);
     write!(text, "failing {call}\n  status {status}\n")?;
     push_lines(text, "error", said.as_slice())?;
     Ok(())
@@ -93,7 +95,8 @@ fn answer_each(alloc: Global, text: &mut String, files: &Files, line: &Line) -> 
         let line = command_line(alloc, call.as_str())?;
         let mut printed = Vec::new(alloc);
         let mut said = Vec::new(alloc);
-        let status = run(alloc, files, &line, &mut printed, &mut said);
+        let done = run(alloc, files, &line, &mut printed, &mut said);
+        let status = status_of(&mut said, done);
         let answer = short_answer(alloc, status, printed.as_slice(), said.as_slice())?;
         push_alike(alloc, text, part.trim(), answer.as_str())?;
     }
@@ -108,7 +111,8 @@ pub fn imports_in(alloc: Global, bytes: Vec<u8>) -> Result<String, Fail> {
     let mut printed = Vec::new(alloc);
     let mut said = Vec::new(alloc);
     let files = Files { all };
-    run(alloc, &files, &line, &mut printed, &mut said);
+    let done = run(alloc, &files, &line, &mut printed, &mut said);
+    status_of(&mut said, done);
     let mut text = String::new(alloc);
     for line in str::from_utf8(printed.as_slice()).unwrap_or("?").lines() {
         text.push(';')?;

@@ -15,7 +15,7 @@ use Rattle.serde_json.specs.Data.{Data, Members, member, no_members, number, put
 use Rattle.serde_json.specs.Written.{has_float, members_have_float}
 use Rattle.implib_dll_check.specs.declared.forwarder.Stop.{Stop}
 use Rattle.implib_check_driver.specs.Json.{Clash, CutApart, Different, FaultOf, FaultView, FindingView, InDefinition, InLibrary, Listed, Missing, MisleadingEntry, NoIndex, NotOnePart, SeveralDlls, SideView, SiteView, UnreadableIndex}
-use Rattle.implib_check_driver.specs.Json.{LostIn, NoFile, UnmetBy, UnmetView, with_ask_of, with_program, with_unmet}
+use Rattle.implib_check_driver.specs.Json.{LostIn, NoExports, NoFile, Unread, UnmetBy, UnmetView, with_ask_of, with_unmet}
 use Rattle.implib_check_driver.specs.Json.{ExportView, Exported, Lost, Searched, StoppedAt, Unasked, address_word, loss_words, stop_words, with_export, with_loss, with_stop, with_named, with_target}
 use Rattle.implib_check_driver.specs.Json.{kind_word, object_of, piece_words, side_object, site_object, text_of, what_of, with_asked, with_class, with_fault, with_finding, with_member, with_name, with_number, with_position, with_side, with_sides, with_site, with_word}
 
@@ -171,6 +171,10 @@ ask_of_floatless (Some (ByOrdinal ordinal)) fields others = number_floatless (co
 
 unmet_floatless : (unmet : UnmetView) (fields : Members) → AreFloatless fields → AreFloatless (with_unmet unmet fields)
 unmet_floatless NoFile fields others = word_floatless (codes "why") (codes "no file") fields others
+unmet_floatless (NoExports path) fields others =
+    word_floatless (codes "dll_file") path (with_word (codes "why") (codes "no export") fields) (word_floatless (codes "why") (codes "no export") fields others)
+unmet_floatless (Unread path) fields others =
+    word_floatless (codes "dll_file") path (with_word (codes "why") (codes "not read") fields) (word_floatless (codes "why") (codes "not read") fields others)
 unmet_floatless (LostIn path loss ask) fields others =
     let why = with_word (codes "why") (loss_words loss) fields in
     ask_of_floatless ask (with_word (codes "dll_file") path why)

@@ -1,22 +1,18 @@
 -- What is known of the DLLs that were loaded is what there is of them in the folders.
-use Rattle.std.proofs.Common.{◌≡◌, ◌∙◌, ℕ, All, Bool, true, false, List, [], ◌∷◌, ◌++◌, Err, IfErr, IfOk, None, Ok, Option, Result, Some, ap, cond, inl, inr, map, refl, subst, sym}
+use Rattle.std.proofs.Common.{◌≡◌, ◌∙◌, ℕ, All, Bool, true, false, List, [], ◌∷◌, ◌++◌, None, Ok, Option, Some, ap, cond, map, refl, subst, sym}
 use Rattle.std.specs.List.{list_any}
 use Rattle.std.proofs.lemmas.List.Elements.{All-cons, All-head, All-nil, All-tail}
 use Rattle.implib_dll.specs.Exports.{Exports}
 use Rattle.implib_dll.specs.Outcome.{Read}
-use Rattle.implib_dll_check.specs.Forwarding.{Content, End, Holds, Known, ends, is_unknown, known_in}
-use Rattle.implib_dll_check.specs.Laws.{KnownDllsDecide}
-use Rattle.implib_read.specs.Classes.{MemberRead}
-use Rattle.implib_dll_check.specs.declared.import.Judgement.{Judgement}
-use Rattle.implib_compare.specs.Comparison.{has_unread}
-use Rattle.implib_dll_check.specs.Imports.{judgements}
-use Rattle.implib_check_driver.specs.Against.{held_status, members_against, names_of}
-use Rattle.implib_check_driver.specs.Answers.{OrFailed}
-use Rattle.implib_check_driver.specs.Calls.{CheckView, is_searching}
 use Rattle.implib_dll_check.specs.Folders.{IsRight, Listing, RightDllsExtend, content_at, content_of, loaded_view}
-use Rattle.implib_check_driver.specs.Through.{ends_through, through}
-use Rattle.implib_check_driver.specs.declared.report.Failure.{Failure}
+use Rattle.implib_dll_check.specs.Forwarding.{End, Holds, Known, ends, is_unknown, known_in}
+use Rattle.implib_dll_check.specs.Laws.{KnownDllsDecide}
 use Rattle.implib_dll_check.specs.declared.folder.Loaded.{Loaded}
+use Rattle.implib_read.specs.Classes.{MemberRead}
+use Rattle.implib_check_driver.specs.Against.{IsAgainst, IsHeldAs, OrEndless, names_of}
+use Rattle.implib_check_driver.specs.Answer.{AnswerView}
+use Rattle.implib_check_driver.specs.Calls.{CheckView, is_searching}
+use Rattle.implib_check_driver.specs.Through.{ends_through, through}
 
 -- where forwarders lead through what was loaded, they lead through the folders
 pub through_right : (file : List ℕ → List ℕ) (folders : List Listing) (dlls : List Known) (e : Exports) (names : List (List ℕ))
@@ -44,25 +40,17 @@ same_exports seen e read held is =
     let both : Holds seen ≡ Holds e = held ∙ ap content_of is in
     cc
 
--- the status that is written, by where forwarders lead
-pub status_through : (file : List ℕ → List ℕ) (folders : List Listing) (loaded dlls : List Known) (seen e : Exports)
-    (names : List (List ℕ)) (members : List MemberRead) (found : List (Option End)) (judged : Exports → List Judgement) (unread : Bool) (status : ℕ)
-    → KnownDllsDecide → RightDllsExtend → seen ≡ e → dlls ≡ loaded → All (IsRight file folders) loaded
-    → found ≡ ends (record { exports = seen; names = names; others = known_in dlls }) members → list_any is_unknown found ≡ false
-    → OrFailed status (status ≡ held_status (judged seen) found unread)
-    → OrFailed status (status ≡ held_status (judged e) (ends_through (Some (content_at file folders)) e names members) unread)
-status_through file folders loaded dlls seen e names members found judged unread status decide extend same read right is known (inl failed) = inl failed
-status_through file folders loaded dlls seen e names members found judged unread status decide extend same read right is known (inr written) =
+-- the answer, by where forwarders lead
+pub held_through : (file : List ℕ → List ℕ) (folders : List Listing) (loaded dlls : List Known) (seen e : Exports) (names : List (List ℕ))
+    (members : List MemberRead) (found : List (Option End)) (a : AnswerView) → KnownDllsDecide → RightDllsExtend → seen ≡ e → dlls ≡ loaded
+    → All (IsRight file folders) loaded → found ≡ ends (record { exports = seen; names = names; others = known_in dlls }) members
+    → list_any is_unknown found ≡ false → IsHeldAs seen names members found a
+    → IsHeldAs e names members (ends_through (Some (content_at file folders)) e names members) a
+held_through file folders loaded dlls seen e names members found a decide extend same read right is known held =
     let here : found ≡ ends_through (Some (content_at file folders)) seen names members =
     through_right file folders dlls seen names members found decide extend (subst (λ (l : List Known). All (IsRight file folders) l) (sym read) right) is known in
-    inr (written ∙ (ap (λ (f : List (Option End)). held_status (judged seen) f unread) here
-    ∙ ap (λ (x : Exports). held_status (judged x) (ends_through (Some (content_at file folders)) x names members) unread) same))
-
--- the status of what was written, or 3
-pub written : (done : Result ℕ Failure) (status wanted : ℕ) → IfOk done (λ s. s ≡ wanted) → IfOk done (λ s. status ≡ s)
-    → IfErr done (λ failure. status ≡ 3) → OrFailed status (status ≡ wanted)
-written (Ok s) status wanted right is failed = inr (is ∙ right)
-written (Err failure) status wanted right is failed = inl failed
+    subst (λ (x : Exports). IsHeldAs x names members (ends_through (Some (content_at file folders)) x names members) a) same
+    (subst (λ (f : List (Option End)). IsHeldAs seen names members f a) here held)
 
 -- folders count only where forwarders are followed
 pub through_same : (file : List ℕ → List ℕ) (here there : List Listing) (check : CheckView) → (is_searching check ≡ true → here ≡ there)
@@ -73,14 +61,13 @@ through_same file here there check same = by (is_searching check) same
     by true same = ap (λ (f : List Listing). Some (content_at file f)) (same refl)
     by false same = refl
 
--- the status of members through folders is theirs where forwarders are followed
-pub members_through : (file : List ℕ → List ℕ) (folders : List Listing) (check : CheckView) (e : Exports) (names : List (List ℕ))
-    (members : List MemberRead) (status : ℕ) → is_searching check ≡ true → names ≡ names_of check.dll check.definition
-    → OrFailed status (status ≡ held_status (judgements e names members) (ends_through (Some (content_at file folders)) e names members) (has_unread members))
-    → OrFailed status (status ≡ members_against (through file folders check) check e members)
-members_through file folders check e names members status searching named written =
-    let own = names_of check.dll check.definition in
-    subst (λ (s : Bool). OrFailed status (status ≡ held_status (judgements e own members)
-    (ends_through (cond s (Some (content_at file folders)) None) e own members) (has_unread members))) (sym searching)
-    (subst (λ (n : List (List ℕ)). OrFailed status (status ≡ held_status (judgements e n members)
-    (ends_through (Some (content_at file folders)) e n members) (has_unread members))) named written)
+-- the answer for members through folders is theirs where forwarders are followed
+pub against_through : (file : List ℕ → List ℕ) (folders : List Listing) (check : CheckView) (e : Exports) (names : List (List ℕ))
+    (members : List MemberRead) (a : AnswerView) → is_searching check ≡ true → names ≡ names_of check.dll check.definition
+    → OrEndless check.definition a (IsHeldAs e names members (ends_through (Some (content_at file folders)) e names members) a)
+    → OrEndless check.definition a (IsAgainst (through file folders check) check e members a)
+against_through file folders check e names members a searching named held =
+    subst (λ (s : Bool). OrEndless check.definition a (IsHeldAs e (names_of check.dll check.definition) members
+    (ends_through (cond s (Some (content_at file folders)) None) e (names_of check.dll check.definition) members) a)) (sym searching)
+    (subst (λ (n : List (List ℕ)). OrEndless check.definition a (IsHeldAs e n members
+    (ends_through (Some (content_at file folders)) e n members) a)) named held)

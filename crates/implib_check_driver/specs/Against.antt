@@ -1,9 +1,8 @@
 -- What the imports of a library, or of a definition, come to in a DLL (this project's choice;
 -- docs/CHECK.md, "Beside a DLL").
-use Rattle.std.specs.Prelude.{◌≡◌, ◌⊎◌, ℕ, Bool, ◌||◌, List, [], ◌∷◌, Err, None, Ok, Option, Some}
-use Rattle.std.specs.Prelude.{codes, if◌then◌else◌, is_some, nat_eq, unwrap_or}
+use Rattle.std.specs.Prelude.{◌≡◌, ◌⊎◌, ℕ, Bool, true, false, ◌||◌, List, [], ◌∷◌, Err, None, Ok}
+use Rattle.std.specs.Prelude.{Option, Some, codes, if◌then◌else◌, is_some, nat_eq, unwrap_or}
 use Rattle.std.specs.List.{list_any, starts_with}
-use Rattle.std.specs.Option.{option_map_or}
 use Rattle.implib.specs.Conversions.{machine_numbered}
 use Rattle.implib.specs.declared.flavor.Flavor.TheVariants.{Gnu, Msvc}
 use Rattle.implib.specs.declared.machine.MachineType.TheVariants.{AMD64}
@@ -22,8 +21,9 @@ use Rattle.implib_rules.specs.Additions.{no_additions}
 use Rattle.implib_rules.specs.Names.{last_part}
 use Rattle.implib_rules.specs.Options.{LibraryOptionsView}
 use Rattle.implib_rules.specs.declared.library.Refusal.{Refusal}
+use Rattle.implib_check_driver.specs.Answer.{AnswerView, IsRefusedAs, no_library, saying}
 use Rattle.implib_check_driver.specs.Calls.{CheckView}
-use Rattle.implib_check_driver.specs.Status.{no_library_status, refusal_status}
+use Rattle.implib_check_driver.specs.Exported.{IsNoDll}
 use Rattle.implib_check_driver.specs.Through.{Through, ends_through}
 
 -- whether bytes begin as an image does (PE/COFF specification, "MS-DOS Stub (Image Only)"), and as
@@ -52,12 +52,21 @@ against_status found unread =
 abbrev pub held_status : List Judgement → List (Option End) → Bool → ℕ
 held_status found ends unread = if list_any is_stop ends then 1 else against_status found unread
 
--- the status of members in a DLL, and through it in others
-abbrev pub members_against : Through → CheckView → Exports → List MemberRead → ℕ
-members_against others check e members =
-    let names = names_of check.dll check.definition in
-    held_status (judgements e names members) (ends_through others e names members)
-    (has_unread members)
+-- The answer for members in a DLL, by where forwarders lead: its status.
+abbrev pub IsHeldAs : Exports → List (List ℕ) → List MemberRead → List (Option End) →
+    AnswerView → Type 0
+IsHeldAs e names members ends a =
+    a.status ≡ held_status (judgements e names members) ends (has_unread members)
+
+-- the answer for members in a DLL, and through it in others
+abbrev pub IsAgainst : Through → CheckView → Exports → List MemberRead → AnswerView → Type 0
+IsAgainst others check e members a =
+    IsHeldAs e (names_of check.dll check.definition) members
+    (ends_through others e (names_of check.dll check.definition) members) a
+
+-- the answer where the DLLs that forwarders lead through are too many to be read; else this one
+abbrev pub OrEndless : List ℕ → AnswerView → Type 0 → Type 0
+OrEndless path a so = (a ≡ saying 4 path (codes "forwarders lead through too many DLLs")) ⊎ so
 
 -- whether a call has an option that a definition alone is read by
 abbrev pub has_options : CheckView → Bool
@@ -66,12 +75,13 @@ has_options c =
     || (c.naming.is_plain
     || (c.naming.kills_at || (c.naming.exports_as || c.naming.keeps_decorated))))))
 
--- the status of members in the DLL that bytes are read as: 3 where they are refused, and 1 where
--- nothing is exported
-abbrev pub members_in : Through → CheckView → List MemberRead → Read (Option Exports) → ℕ
-members_in others check members (Ok (Some e)) = members_against others check e members
-members_in others check members (Ok None) = 1
-members_in others check members (Err fault) = 3
+-- the answer for members in the DLL that bytes are read as
+abbrev pub IsMembersIn : Through → CheckView → List MemberRead → Read (Option Exports) →
+    AnswerView → Type 0
+IsMembersIn others check members (Ok (Some e)) a =
+    OrEndless check.definition a (IsAgainst others check e members a)
+IsMembersIn others check members (Ok None) a = IsNoDll check.definition (Ok None) a
+IsMembersIn others check members (Err fault) a = IsNoDll check.definition (Err fault) a
 
 -- For which machine and linker a definition is read that is held against a DLL: the machine and the
 -- flavour that the call names, else the DLL's machine, if libraries are made for it, and
@@ -85,35 +95,45 @@ options_against c e = record {
   additions = no_additions;
 }
 
--- The status of a definition in a DLL: of a library that it has for these options, as that is read.
+-- The answer for a definition in a DLL: of a library that it has for these options, as that is
+-- read.
 pub record IsHeld (others : Through) (check : CheckView) (e : Exports) (definition : List ℕ)
-    (status : ℕ) : Type 0 where
+    (a : AnswerView) : Type 0 where
   pub file : List ℕ
   pub is_library : IsLibraryFor check.older_symbols definition (options_against check e) file
   pub meant : List MemberRead
   pub read : library_in file ≡ Some meant
-  pub is : status ≡ members_against others check e meant
+  pub is : OrEndless check.definition a (IsAgainst others check e meant a)
 
--- the status of a definition that is refused
+-- the answer for a definition that is refused
 pub record IsRefused (check : CheckView) (e : Exports) (definition : List ℕ)
-    (status : ℕ) : Type 0 where
+    (a : AnswerView) : Type 0 where
   pub why : Refusal
   pub is_refusal : IsRefusalFor check.older_symbols definition (options_against check e) why
-  pub is : status ≡ refusal_status why
+  pub is : IsRefusedAs 1 a
 
--- The status of a definition beside the DLL of a file's bytes: 3 where these are refused, and 1
--- where nothing is exported.
-abbrev pub DefinitionAgainst : Through → CheckView → List ℕ → Read (Option Exports) → ℕ → Type 0
-DefinitionAgainst others check definition (Ok (Some e)) status =
-    IsHeld others check e definition status ⊎ IsRefused check e definition status
-DefinitionAgainst others check definition (Ok None) status = status ≡ 1
-DefinitionAgainst others check definition (Err fault) status = status ≡ 3
+-- The answer for a definition beside the DLL of a file's bytes.
+abbrev pub DefinitionAgainst : Through → CheckView → List ℕ → Read (Option Exports) →
+    AnswerView → Type 0
+DefinitionAgainst others check definition (Ok (Some e)) a =
+    IsHeld others check e definition a ⊎ IsRefused check e definition a
+DefinitionAgainst others check definition (Ok None) a = IsNoDll check.definition (Ok None) a
+DefinitionAgainst others check definition (Err fault) a = IsNoDll check.definition (Err fault) a
 
--- The status of the library of a file's bytes beside the DLL of another's: 2 where the call has
--- options of definitions.
-abbrev pub library_against : Through → CheckView → List ℕ → List ℕ → ℕ
-library_against others check library dll =
-    if has_options check then 2
-    else option_map_or
-    (λ (a : Archive). members_in others check (members_read a.members) (exports_in File dll))
-    (archive_in library) (no_library_status library)
+-- what is said of the options of a definition
+abbrev pub options_text : List ℕ
+options_text = codes "a library has no need of the options of a definition beside a DLL"
+
+-- The answer for the library of a file's bytes, if they are one, beside the DLL of another's.
+abbrev pub IsArchiveAgainst : Through → CheckView → Option Archive → List ℕ → List ℕ →
+    AnswerView → Type 0
+IsArchiveAgainst others check None library dll a = a ≡ no_library check.library library
+IsArchiveAgainst others check (Some archive) library dll a =
+    IsMembersIn others check (members_read archive.members) (exports_in File dll) a
+
+-- The same: 2 where the call has options of definitions.
+abbrev pub LibraryAgainst : Through → CheckView → List ℕ → List ℕ → AnswerView → Type 0
+LibraryAgainst others check library dll a =
+    (has_options check ≡ true → a ≡ saying 2 check.library options_text)
+    × (has_options check ≡ false →
+    IsArchiveAgainst others check (archive_in library) library dll a)

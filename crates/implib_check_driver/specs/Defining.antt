@@ -5,7 +5,7 @@ use Rattle.implib_rules.specs.Options.{LibraryOptionsView}
 use Rattle.implib_compare.specs.declared.compare.Verdict.{Verdict}
 use Rattle.implib_compare.specs.declared.compare.Verdict.TheVariants.{Different as TheyDiffer}
 use Rattle.implib_check_driver.specs.declared.defining.Undefined.{Undefined}
-use Rattle.implib_check_driver.specs.declared.defining.Undefined.TheVariants.{Different, Failed}
+use Rattle.implib_check_driver.specs.declared.defining.Undefined.TheVariants.{Different, OutOfMemory}
 use Rattle.implib_check_driver.specs.declared.defining.Undefined.TheVariants.{Refused, Unread}
 use Rattle.implib_compare.specs.Comparison.{SayTheSame, has_unread}
 use Rattle.implib_check_driver.specs.DefinitionText.{definition_text}
@@ -44,6 +44,6 @@ abbrev pub IsUndefined : Bool → Bool → LibraryOptionsView → List MemberRea
 IsUndefined hints older options members Unread = has_unread members ≡ true
 IsUndefined hints older options members (Refused refusal) =
     IsRefusalFor older (definition_text hints options members) options refusal
-IsUndefined hints older options members Different =
+IsUndefined hints older options members (Different told) =
     IsVerdictOn older (definition_text hints options members) options members TheyDiffer
-IsUndefined hints older options members (Failed failure) = Unit {0}
+IsUndefined hints older options members OutOfMemory = Unit {0}

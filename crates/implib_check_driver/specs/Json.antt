@@ -72,10 +72,12 @@ pub record ExportView : Type 0 where
   pub target : Target
   pub name : Option (ℕ × List ℕ)
 
--- why a program does not find what it imports from a DLL: no folder has it; or in the DLL of a file
--- this is lost, of one ask or of all
+-- why a program does not find what it imports from a DLL: no folder has it; its file exports
+-- nothing, or is no DLL that can be read; or in the DLL of a file this is lost, of one ask or of all
 pub data UnmetView : Type 0 where
   NoFile : UnmetView
+  NoExports : List ℕ → UnmetView
+  Unread : List ℕ → UnmetView
   LostIn : List ℕ → Loss → Option Asked → UnmetView
 
 -- what is found
@@ -122,6 +124,8 @@ export_view e = record {
 
 abbrev pub unmet_view : Unmet → UnmetView
 unmet_view unmet.NoFile = NoFile
+unmet_view (unmet.NoExports path) = NoExports path.now
+unmet_view (unmet.Unread path) = Unread path.now
 unmet_view (unmet.Lost path loss ask) = LostIn path.now loss (option_map ask_view ask)
 
 abbrev pub finding_view : Finding → FindingView
@@ -363,6 +367,10 @@ with_ask_of (Some (ByOrdinal ordinal)) fields = with_number (codes "ordinal") or
 -- why a program does not find what it imports from a DLL
 abbrev pub with_unmet : UnmetView → Members → Members
 with_unmet NoFile fields = with_word (codes "why") (codes "no file") fields
+with_unmet (NoExports path) fields =
+    with_word (codes "dll_file") path (with_word (codes "why") (codes "no export") fields)
+with_unmet (Unread path) fields =
+    with_word (codes "dll_file") path (with_word (codes "why") (codes "not read") fields)
 with_unmet (LostIn path loss ask) fields =
     with_ask_of ask
     (with_word (codes "dll_file") path (with_word (codes "why") (loss_words loss) fields))

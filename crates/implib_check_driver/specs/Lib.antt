@@ -15,7 +15,13 @@ pub mod Through
 pub mod Together
 pub mod Starting
 pub mod Status
-pub mod Worked
 pub mod WorkedExportAs
 pub mod OfDlls
 pub mod Answers
+pub mod Text
+pub mod Answer
+pub mod Listing
+pub mod Differences
+pub mod Exported
+pub mod Checking
+pub mod Run

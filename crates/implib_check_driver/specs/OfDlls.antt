@@ -1,7 +1,7 @@
 -- The library of a DLL, of which `--def` writes a definition (this project's choice): the one that
 -- implib_dlltool makes of the DLL. What is no DLL with exports has its status here, too.
-use Rattle.std.specs.Prelude.{◌≡◌, ◌⊎◌, ℕ, Bool, false, true, List, Err, Ok, Option, None, Some}
-use Rattle.std.specs.Prelude.{IfSome, unwrap_or}
+use Rattle.std.specs.Prelude.{◌≡◌, ◌⊎◌, ℕ, false, true, List, Ok, None, Some}
+use Rattle.std.specs.Prelude.{IfSome, codes, unwrap_or}
 use Rattle.implib.specs.Conversions.{machine_numbered}
 use Rattle.implib.specs.Members.MemberSpec.{MemberView}
 use Rattle.implib.specs.declared.flavor.Flavor.{Flavor}
@@ -11,7 +11,6 @@ use Rattle.implib_archive.specs.Archive.{archive_of}
 use Rattle.implib_archive.specs.Refusal.{refusal_of}
 use Rattle.implib_archive.specs.declared.error.Fault.{Fault}
 use Rattle.implib_dll.specs.Exports.{Exports, exports_in}
-use Rattle.implib_dll.specs.Outcome.{Read}
 use Rattle.implib_dll.specs.declared.section.Layout.TheVariants.{File}
 use Rattle.implib_libraries.specs.OfDll.Members.{IsUnmade, MembersOfDll}
 use Rattle.implib_libraries.specs.declared.of_dll.members.Unmade.{Unmade}
@@ -19,14 +18,9 @@ use Rattle.implib_libraries.specs.declared.of_dll.members.Unmade.TheVariants as 
 use Rattle.implib_rules.specs.Additions.{no_additions}
 use Rattle.implib_rules.specs.Library.{kind_of}
 use Rattle.implib_rules.specs.Options.{LibraryOptionsView}
+use Rattle.implib_check_driver.specs.Answer.{AnswerView, IsSaid, saying}
 use Rattle.implib_check_driver.specs.Calls.{DefineView}
-
--- the status of bytes that are no DLL with exports: 3 where they are refused, and 1 where nothing
--- is exported
-abbrev pub IsNoDll : Read (Option Exports) → ℕ → Type 0
-IsNoDll (Ok (Some e)) status = ⊥
-IsNoDll (Ok None) status = status ≡ 1
-IsNoDll (Err fault) status = status ≡ 3
+use Rattle.implib_check_driver.specs.Exported.{IsNoDll}
 
 -- what the library is made for: Microsoft's linker, where a call names no flavour
 abbrev pub options_for_dll : DefineView → MachineType → LibraryOptionsView
@@ -103,10 +97,14 @@ pub record IsDllUnmade (define : DefineView) (dll : List ℕ) : Type 0 where
   pub read : exports_in File dll ≡ Ok (Some exports)
   pub unmade : HaveNoLibrary define exports
 
--- the status of a DLL without a library: 2 where older symbols are asked for, that of what is no
+-- what is said where older symbols are asked for
+abbrev pub older_text : List ℕ
+older_text = codes "a DLL, whose library has no older symbols (-C)"
+
+-- the answer for a DLL without a library: 2 where older symbols are asked for, that of what is no
 -- DLL, and else 1
-abbrev pub HasNoLibrary : DefineView → List ℕ → ℕ → Type 0
-HasNoLibrary define dll status =
-    (define.older_symbols ≡ true → status ≡ 2)
-    × (define.older_symbols ≡ false →
-    IsNoDll (exports_in File dll) status ⊎ ((status ≡ 1) × IsDllUnmade define dll))
+abbrev pub HasNoLibrary : DefineView → List ℕ → AnswerView → Type 0
+HasNoLibrary define dll a =
+    (define.older_symbols ≡ true → a ≡ saying 2 define.library older_text)
+    × (define.older_symbols ≡ false → IsNoDll define.library (exports_in File dll) a
+    ⊎ (IsSaid 1 define.library a × IsDllUnmade define dll))

@@ -1,6 +1,7 @@
 -- What several libraries do to each other in one link (this project's choice; docs/CHECK.md,
 -- "Together"). A linker takes a symbol from the first library that declares it.
-use Rattle.std.specs.Prelude.{ℕ, ◌+◌, ◌==◌, ◌||◌, Bool, List, [], ◌∷◌, ◌++◌, Option, None, Some}
+use Rattle.std.specs.Prelude.{◌≡◌, ℕ, ◌+◌, ◌==◌, ◌||◌, Bool, false, List, [], ◌∷◌, ◌++◌}
+use Rattle.std.specs.Prelude.{Option, None, Some}
 use Rattle.std.specs.Prelude.{bytes_eq, if◌then◌else◌, map, slice_get, unwrap_or}
 use Rattle.std.specs.Char.{to_ascii_lowercase}
 use Rattle.std.specs.List.{list_any}
@@ -8,7 +9,9 @@ use Rattle.std.specs.Option.{is_some, option_and_then, option_or}
 use Rattle.implib_read.specs.Classes.{Class, AnImport, AnAlias, Descriptor, NullDescriptor}
 use Rattle.implib_read.specs.Classes.{NullThunk, Head, Tail, DelayImport, Other, NotUnderstood}
 use Rattle.implib_read.specs.Classes.{MemberRead, library_in}
-use Rattle.implib_check_driver.specs.Status.{no_library_status, together_status}
+use Rattle.implib_check_driver.specs.Answer.{AnswerView, no_library}
+use Rattle.implib_check_driver.specs.Listing.{doubts}
+use Rattle.implib_check_driver.specs.Status.{together_status}
 use Rattle.implib_check_driver.specs.declared.together.Claim.{Claim}
 use Rattle.implib_compare.specs.Comparison.{has_unread}
 use Rattle.implib_compare.specs.Facts.{asked_by, asked_key, text_key}
@@ -101,18 +104,38 @@ claims_of_all library (members ∷ libraries) =
 abbrev pub is_clash : List (List MemberRead) → Bool
 is_clash libraries = list_any is_some (clashes (claims_of_all 0 libraries))
 
--- the status of the first of these files that is no library, if one is none
-abbrev pub status_of_none : List (List ℕ) → Option ℕ
-status_of_none [] = None
-status_of_none (bytes ∷ files) =
-    if is_some (library_in bytes) then status_of_none files else Some (no_library_status bytes)
-
 -- the members of the libraries that files are
 abbrev pub members_of_all : List (List ℕ) → List (List MemberRead)
 members_of_all files = map (λ bytes. unwrap_or (library_in bytes) []) files
 
--- The status of files in one link: that of the first that is no library, and else 4 where a member
--- may import what is not read, and 1 where two clash.
-abbrev pub joined_status : List (List ℕ) → ℕ
-joined_status files = unwrap_or (status_of_none files)
-    (together_status (list_any has_unread (members_of_all files)) (is_clash (members_of_all files)))
+-- what is said of members of libraries that leave the answer open
+abbrev pub doubts_of_all : List (List ℕ) → List (List MemberRead) → List ℕ
+doubts_of_all [] libraries = []
+doubts_of_all (path ∷ paths) [] = []
+doubts_of_all (path ∷ paths) (members ∷ libraries) =
+    doubts false path members ++ doubts_of_all paths libraries
+
+-- The answer to libraries in one link: 4 where a member may import what is not read, and 1 where
+-- two clash.
+pub record IsJoined (paths : List (List ℕ)) (libraries : List (List MemberRead))
+    (a : AnswerView) : Type 0 where
+  -- the lines of the clashes
+  pub clashes : List ℕ
+  pub is : a ≡ record {
+    status = together_status (list_any has_unread libraries) (is_clash libraries);
+    out = clashes;
+    err = doubts_of_all paths libraries;
+  }
+
+-- the answer to the first of these files that is no library, if one is none
+abbrev pub first_none : List (List ℕ) → List (List ℕ) → Option AnswerView
+first_none [] files = None
+first_none (path ∷ paths) [] = None
+first_none (path ∷ paths) (bytes ∷ files) =
+    if is_some (library_in bytes) then first_none paths files else Some (no_library path bytes)
+
+-- The answer to files in one link: that of the first that is no library, and else that of the
+-- libraries that they are.
+abbrev pub IsJoinedAnswer : List (List ℕ) → List (List ℕ) → Option AnswerView → AnswerView → Type 0
+IsJoinedAnswer paths files (Some none) a = a ≡ none
+IsJoinedAnswer paths files None a = IsJoined paths (members_of_all files) a

@@ -7,7 +7,8 @@
 
 ghost use Rattle.implib_check_driver.specs.Against.{against_status, begins_archive, begins_dll};
 ghost use Rattle.implib_check_driver.specs.Against.{has_options, held_status, is_library, names_of};
-ghost use Rattle.implib_check_driver.specs.Against.{options_against};
+ghost use Rattle.implib_check_driver.specs.Against.{IsHeldAs, options_against};
+ghost use Rattle.implib_check_driver.specs.Answer.{answer_view};
 ghost use Rattle.implib.specs.Conversions.{machine_numbered};
 ghost use Rattle.implib.specs.declared.machine.MachineType.TheVariants.{AMD64};
 ghost use Rattle.implib_rules.specs.Options.{library_options_view};
@@ -22,10 +23,12 @@ ghost use Rattle.std.specs.List.{list_any};
 ghost use Rattle.std.specs.Option.{option_map};
 ghost use Rattle.std.specs.Prelude.{◌≡◌, IfOk, map, unwrap_or};
 
+use crate::answer::Answer;
 use crate::call::Check;
 use crate::exported::{export_at, first_positions};
 use crate::finding::{Finding, Source};
-use crate::report::{Failure, Form, tell};
+use crate::list::doubt;
+use crate::report::{Form, tell};
 use implib::{Flavor, MachineType};
 use implib_compare::compare::has_unread;
 use implib_dll::Exports;
@@ -35,7 +38,6 @@ use implib_rules::additions::Additions;
 use implib_rules::name::last_part;
 use implib_rules::options::LibraryOptions;
 use std::alloc::{AllocError, Global};
-use std::io::Write;
 
 /// Whether bytes begin as an image does.
 pub fn begins_dll(bytes: &[u8]) -> bool
@@ -169,22 +171,18 @@ fn against_status(found: &[Judgement], unread: bool) -> u8
     }
 }
 
-// Writes which imports are lost.
-fn tell_lost<O: Write>(
+// Adds which imports are lost.
+fn tell_lost(
     form: Form,
-    printer: &mut O,
+    out: &mut Vec<u8>,
     source: Source,
     members: &[MemberRead],
     path: &str,
     found: &[Judgement],
-) -> Result<(), Failure> {
+) -> Result<(), AllocError> {
     for (member, one) in members.iter().zip(found) {
         if let Judgement::Lost(loss) = *one {
-            tell(
-                form,
-                printer,
-                &Finding::Lost(source.side(member), path, loss),
-            )?;
+            tell(form, out, &Finding::Lost(source.side(member), path, loss))?;
         }
     }
     Ok(())
@@ -223,79 +221,95 @@ fn held_status(found: &[Judgement], ends: &[Option<End>], unread: bool) -> u8
     }
 }
 
-// Writes which imports are forwarded to nothing.
-fn tell_stops<O: Write>(
+// Adds which imports are forwarded to nothing.
+fn tell_stops(
     form: Form,
-    printer: &mut O,
+    out: &mut Vec<u8>,
     source: Source,
     members: &[MemberRead],
     path: &str,
     ends: &[Option<End>],
-) -> Result<(), Failure> {
+) -> Result<(), AllocError> {
     for (member, end) in members.iter().zip(ends) {
         if let Some(End::Stops(text, stop)) = end {
             let side = source.side(member);
-            tell(form, printer, &Finding::Stopped(side, path, text, *stop))?;
+            tell(form, out, &Finding::Stopped(side, path, text, *stop))?;
         }
     }
     Ok(())
 }
 
-// Writes how many imports a loader searches for, if it does for any.
-fn tell_searched<O: Write>(
+// Adds how many imports a loader searches for, if it does for any.
+fn tell_searched(
     form: Form,
-    printer: &mut O,
+    out: &mut Vec<u8>,
     source: Source,
     found: &[Judgement],
-) -> Result<(), Failure> {
+) -> Result<(), AllocError> {
     let count = found.iter().filter(|one| one.is_searched()).count();
     if count > 0 {
-        tell(form, printer, &Finding::Searched(source.file(), count))?;
+        tell(form, out, &Finding::Searched(source.file(), count))?;
     }
     Ok(())
 }
 
-// Writes which exports no import asks for.
-fn tell_unasked<O: Write>(
+// Adds which exports no import asks for.
+fn tell_unasked(
     form: Form,
-    printer: &mut O,
+    out: &mut Vec<u8>,
     members: &[MemberRead],
     dll: &Dll,
-) -> Result<(), Failure> {
+) -> Result<(), AllocError> {
     let exports = &dll.exports;
     let asks = asks_in(form.alloc, &dll.names, members)?;
     let positions = first_positions(form.alloc, exports)?;
     for index in missing(form.alloc, exports, &asks)? {
         let export = export_at(exports, &positions, index);
-        tell(form, printer, &Finding::Unasked(dll.path, export))?;
+        tell(form, out, &Finding::Unasked(dll.path, export))?;
     }
     Ok(())
 }
 
-/// Holds imports against a DLL: writes which are lost, which are forwarded to nothing, by where
-/// forwarders lead, if they are followed, how many a loader searches for and, where that is asked
-/// for, which exports no import asks for; and gives the exit status.
-pub fn hold_against<O: Write>(
+// The lines for imports in a DLL: which are lost, which are forwarded to nothing, how many a loader
+// searches for and, where that is asked for, which exports no import asks for.
+fn held_lines(
     form: Form,
-    printer: &mut O,
+    source: Source,
+    members: &[MemberRead],
+    dll: &Dll,
+    found: &[Judgement],
+    ends: &[Option<End>],
+    lists: bool,
+) -> Result<Vec<u8>, AllocError> {
+    let mut out = Vec::new(form.alloc);
+    tell_lost(form, &mut out, source, members, dll.path, found)?;
+    tell_stops(form, &mut out, source, members, dll.path, ends)?;
+    tell_searched(form, &mut out, source, found)?;
+    if lists {
+        tell_unasked(form, &mut out, members, dll)?;
+    }
+    Ok(out)
+}
+
+/// The answer for imports in a DLL, by where forwarders lead, if they are followed.
+pub(crate) fn hold(
+    form: Form,
     source: Source,
     members: &[MemberRead],
     dll: &Dll,
     ends: &[Option<End>],
-    lists_unasked: bool,
-) -> Result<u8, Failure>
-    ensures { IfOk result (λ status. status ≡ held_status
-        (judgements (exports_view dll.now.exports) (map (λ name. name.items) dll.now.names.items)
-        (map member_read_view members.now))
-        (map (option_map end_view) ends.now)
-        (has_unread (map member_read_view members.now))) }
+    lists: bool,
+) -> Result<Answer, AllocError>
+    ensures { IfOk result (λ a. IsHeldAs (exports_view dll.now.exports)
+        (map (λ name. name.items) dll.now.names.items) (map member_read_view members.now)
+        (map (option_map end_view) ends.now) (answer_view a)) }
 {
+    let mut err = Vec::new(form.alloc);
+    doubt(form.alloc, &mut err, source.file().path(), members, false)?;
     let found = judgements(form.alloc, &dll.exports, &dll.names, members)?;
-    tell_lost(form, printer, source, members, dll.path, &found)?;
-    tell_stops(form, printer, source, members, dll.path, ends)?;
-    tell_searched(form, printer, source, &found)?;
-    if lists_unasked {
-        tell_unasked(form, printer, members, dll)?;
-    }
-    Ok(held_status(&found, ends, has_unread(members)))
+    Ok(Answer {
+        status: held_status(&found, ends, has_unread(members)),
+        out: held_lines(form, source, members, dll, &found, ends, lists)?,
+        err,
+    })
 }

@@ -4,17 +4,17 @@ ghost use Rattle.std.specs.Option.{option_map};
 ghost use Rattle.std.specs.Prelude.{◌≡◌, [], map, IfErr, IfOk, None, Some, unwrap_or};
 ghost use Rattle.implib_check_driver.specs.Calls.{check_view};
 ghost use Rattle.implib_check_driver.specs.Refused.{IsRefusalOfArm64ec};
-ghost use Rattle.implib_check_driver.specs.Status.{arm64ec_status};
+ghost use Rattle.implib_check_driver.specs.Answer.{IsRefusedAs, answer_view};
 ghost use Rattle.implib_compare.specs.Meant.{IsArm64ecVerdictOn};
 ghost use Rattle.implib_read.specs.ClassViews.{member_read_view};
 ghost use Rattle.implib_rules.specs.Options.{library_options_view};
 
+use crate::answer::{Answer, refused, refused_as};
 use crate::call::Check;
-use crate::console::refuse;
-use crate::differences::tell_both;
+use crate::differences::differences;
 use crate::finding::{Source, Written};
 use crate::positions::Positions;
-use crate::report::{Failure, Form, Lines};
+use crate::report::Form;
 use implib::def::Position;
 use implib::{Fault, Flavor, MachineType};
 use implib_arm64ec::ImportsFault;
@@ -29,16 +29,14 @@ use implib_rules::options::LibraryOptions;
 use implib_rules::{FaultMessage, ShownPlace, position_of};
 use std::alloc::{AllocError, Global};
 use std::fmt;
-use std::fmt::Write as _;
-use std::io::Write;
 
 /// Why a library is not compared with definitions for ARM64EC.
 #[derive(Drop)]
 pub enum Arm64ecError {
     /// The definitions have no library.
     Refused(Arm64ecFault),
-    /// A write or an allocation failed.
-    Failed(Failure),
+    /// An allocation failed.
+    OutOfMemory,
 }
 
 impl From<Arm64ecFault> for Arm64ecError {
@@ -52,26 +50,14 @@ impl From<Arm64ecFault> for Arm64ecError {
     }
 }
 
-impl From<Failure> for Arm64ecError {
-    ghost use Rattle.implib_check_driver.specs.declared.arm64ec.Arm64ecError.TheVariants.{Failed};
-    ghost use Rattle.std.specs.Prelude.{◌≡◌};
-
-    ghost from_gives = { λ failure error. error ≡ Failed failure };
-
-    fn from(failure: Failure) -> Arm64ecError {
-        Arm64ecError::Failed(failure)
-    }
-}
-
 impl From<AllocError> for Arm64ecError {
-    ghost use Rattle.implib_check_driver.specs.declared.arm64ec.Arm64ecError.TheVariants.{Failed};
-    ghost use Rattle.implib_check_driver.specs.declared.report.Failure.TheVariants.{OutOfMemory};
+    ghost use Rattle.implib_check_driver.specs.declared.arm64ec.Arm64ecError.TheVariants.{OutOfMemory};
     ghost use Rattle.std.specs.Prelude.{◌≡◌};
 
-    ghost from_gives = { λ _ error. error ≡ Failed OutOfMemory };
+    ghost from_gives = { λ _ error. error ≡ OutOfMemory };
 
     fn from(_refused: AllocError) -> Arm64ecError {
-        Arm64ecError::Failed(Failure::OutOfMemory)
+        Arm64ecError::OutOfMemory
     }
 }
 
@@ -114,15 +100,14 @@ fn native_path<'a>(check: &Check<'a>) -> &'a str {
     check.native.unwrap_or(check.definition)
 }
 
-// Writes the differences of a library and that of definitions.
-fn tell_arm64ec<O: Write>(
+// The differences of a library and that of definitions.
+fn arm64ec_differences(
     form: Form,
-    printer: &mut O,
     check: &Check,
     positions: (&Positions, &Positions),
     members: (&[MemberRead], &[MemberRead]),
     found: &Comparison,
-) -> Result<(), Failure> {
+) -> Result<Vec<u8>, AllocError> {
     let own = Written {
         path: check.definition,
         positions: positions.0,
@@ -135,28 +120,27 @@ fn tell_arm64ec<O: Write>(
         Source::Library(check.library),
         Source::Definitions(own, native),
     );
-    tell_both(form, printer, sources, members.0, members.1, found)
+    differences(form, sources, members.0, members.1, found)
 }
 
-/// Compares a library with the one for ARM64EC of a definition and, if there is one, of a native
-/// definition, and writes the differences.
+/// The verdict on a library and the one for ARM64EC of a definition and, if there is one, of a native
+/// definition, and the differences.
 ///
 /// # Errors
 ///
-/// `Refused`: the definitions have no library. `Failed`: a write or an allocation.
+/// `Refused`: the definitions have no library. `OutOfMemory`: an allocation failed.
 #[tactic(auto, using(crate::proofs::MeantLibraries::arm64ec_file_is_read))]
-pub fn check_arm64ec<O: Write>(
+pub fn check_arm64ec(
     form: Form,
-    printer: &mut O,
     check: &Check,
     members: &[MemberRead],
     definition: &[u8],
     native: Option<&[u8]>,
     options: &LibraryOptions,
-) -> Result<Verdict, Arm64ecError>
-    ensures verdict { IfOk result
-        (IsArm64ecVerdictOn definition.now (option_map (λ text. text.now) native.entry)
-        (library_options_view options.now) (map member_read_view members.now)) }
+) -> Result<(Verdict, Vec<u8>), Arm64ecError>
+    ensures verdict { IfOk result (λ found.
+        IsArm64ecVerdictOn definition.now (option_map (λ text. text.now) native.entry)
+        (library_options_view options.now) (map member_read_view members.now) found.0) }
     ensures refused { IfErr result
         (IsRefusalOfArm64ec definition.now (option_map (λ text. text.now) native.entry)
         (library_options_view options.now)) }
@@ -171,8 +155,8 @@ pub fn check_arm64ec<O: Write>(
     let own = own_positions(alloc, definition, options)?;
     let others = native_positions(alloc, native, options)?;
     let both = (members, meant.members.as_slice());
-    tell_arm64ec(form, printer, check, (&own, &others), both, &found)?;
-    Ok(found.verdict)
+    let told = arm64ec_differences(form, check, (&own, &others), both, &found)?;
+    Ok((found.verdict, told))
 }
 
 // Why a definition has no short imports for ARM64EC, in the words of `implib_dlltool`.
@@ -215,33 +199,36 @@ fn native_told<'a>(check: &Check<'a>, refusal: &Refusal) -> &'a str {
     }
 }
 
-// Says why a definition has no short imports, and gives the exit status.
-fn refuse_imports<E: Write>(faults: &mut E, path: &str, why: Unimported) -> u8
-    ensures { result ≡ 1 }
-{
-    let place = ShownPlace(path, position_of_unimported(why));
-    let mut lines = Lines { writer: faults };
-    let _ = writeln!(lines, "{place} {}", UnimportedMessage(why));
-    1
+// Why a definition has no short imports, with its place.
+#[derive(Clone, Copy)]
+struct Unmet<'p>(&'p str, Unimported);
+
+impl<'p> fmt::Display for Unmet<'p> {
+    fn fmt<W: fmt::Write>(&self, f: &mut fmt::Formatter<W>) -> fmt::Result {
+        let place = ShownPlace(self.0, position_of_unimported(self.1));
+        write!(f, "{place} {}", UnimportedMessage(self.1))
+    }
 }
 
-/// Says why definitions have no library for ARM64EC, and gives the exit status.
-pub(crate) fn refuse_arm64ec<E: Write>(faults: &mut E, check: &Check, fault: &Arm64ecFault) -> u8
-    ensures { result ≡ arm64ec_status fault.now }
+/// The answer where definitions have no library for ARM64EC.
+pub(crate) fn refused_arm64ec(
+    alloc: Global,
+    check: &Check,
+    fault: &Arm64ecFault,
+) -> Result<Answer, AllocError>
+    ensures { IfOk result (λ a. IsRefusedAs 1 (answer_view a)) }
 {
     match fault {
         Arm64ecFault::OfTexts(Arm64ecRefusal::OfDefinition(why)) => {
-            refuse(faults, check.definition, why)
+            refused(alloc, check.definition, why)
         }
         Arm64ecFault::OfTexts(Arm64ecRefusal::OfImports(why)) => {
-            refuse_imports(faults, check.definition, *why)
+            refused_as(alloc, 1, Unmet(check.definition, *why))
         }
         Arm64ecFault::OfTexts(Arm64ecRefusal::OfNative(why)) => {
-            refuse(faults, native_told(check, why), why)
+            refused(alloc, native_told(check, why), why)
         }
-        Arm64ecFault::OfTexts(Arm64ecRefusal::OutOfMemory) => {
-            refuse(faults, check.definition, &Refusal::OutOfMemory)
-        }
-        Arm64ecFault::OfArchive(why) => refuse(faults, check.definition, why),
+        Arm64ecFault::OfTexts(Arm64ecRefusal::OutOfMemory) => Err(AllocError),
+        Arm64ecFault::OfArchive(why) => refused(alloc, check.definition, why),
     }
 }

@@ -1,11 +1,14 @@
 //! The call that compares a library with a definition, or holds one of them against a DLL.
 
 ghost use Rattle.std.specs.Option.{option_map};
-ghost use Rattle.std.specs.Prelude.{◌≡◌, ℕ, List, map, true};
-ghost use Rattle.implib_check_driver.specs.Answers.{AnswersBeside, CheckedAs, IsAnswerWith};
-ghost use Rattle.implib_check_driver.specs.Answers.{IsCheckedBeside, IsCheckedForArm64ec};
-ghost use Rattle.implib_check_driver.specs.Answers.{IsCheckedOrdinary, OrFailed, asks_for_dll};
+ghost use Rattle.std.specs.Prelude.{◌≡◌, ℕ, ◌++◌, IfErr, IfOk, List, OnOk, map, true};
+ghost use Rattle.implib_check_driver.specs.Answer.{IsHalt, answer_view};
+ghost use Rattle.implib_check_driver.specs.Answers.{AnswersBeside, IsAnswerWith, asks_for_dll};
 ghost use Rattle.implib_check_driver.specs.Calls.{check_view, is_searching as IsSearching};
+ghost use Rattle.implib_check_driver.specs.Checking.{CheckedAs, IsCheckedBeside};
+ghost use Rattle.implib_check_driver.specs.Checking.{IsCheckedForArm64ec, IsCheckedOrdinary};
+ghost use Rattle.implib_check_driver.specs.Checking.{unfit_text};
+ghost use Rattle.implib_check_driver.specs.Listing.{broken_if_same, doubts};
 ghost use Rattle.implib_check_driver.specs.Status.{comparison_status};
 ghost use Rattle.implib_check_driver.specs.Through.{through};
 ghost use Rattle.implib_compare.specs.Working.{working_of};
@@ -16,11 +19,12 @@ ghost use Rattle.implib_read.specs.ClassViews.{member_read_view};
 ghost use Rattle.implib_read.specs.Classes.{members_read};
 
 use crate::against::{begins_dll, is_library};
-use crate::arm64ec::{Arm64ecError, check_arm64ec, refuse_arm64ec};
-use crate::beside::run_against;
+use crate::answer::{Answer, Halt, NAME, bytes_of, library_of, refused, saying};
+use crate::arm64ec::{Arm64ecError, check_arm64ec, refused_arm64ec};
+use crate::beside::against;
 use crate::call::{Check, is_searching};
-use crate::console::{NAME, bytes_of, complain, doubt, library_of, refuse, status_of};
 use crate::definition::{CheckError, check_definition};
+use crate::list::doubt;
 use crate::report::Form;
 use crate::shelf::Shelf;
 use crate::starting::folders_of;
@@ -30,96 +34,102 @@ use crate::works::tell_working_if_same;
 use implib_compare::compare::Verdict;
 use implib_dll_check::Folder;
 use implib_read::Library;
-use std::alloc::Global;
-use std::io::Write;
+use std::alloc::AllocError;
 
-// Writes why a library that means what a definition means does not work, if it does not; and gives
+// Adds why a library that means what a definition means does not work, if it does not; and gives
 // the exit status.
-fn tell_checked<O: Write, E: Write>(
+fn tell_checked(
     form: Form,
-    printer: &mut O,
-    faults: &mut E,
+    out: &mut Vec<u8>,
     verdict: Verdict,
     path: &str,
     library: &Library,
-) -> u8
-    ensures { OrFailed result (result ≡ comparison_status verdict
+) -> Result<u8, AllocError>
+    ensures status { IfOk result (λ status. status ≡ comparison_status verdict
         (working_of (archive_view library.now.archive)
         (map member_read_view library.now.members.items))) }
+    ensures told { OnOk result (out.new.items ≡ out.old.items ++ broken_if_same verdict
+        form.is_json path.now (archive_view library.now.archive)
+        (map member_read_view library.now.members.items)) }
 {
-    match tell_working_if_same(form, printer, verdict, path, library) {
-        Ok(working) => comparison_status(verdict, working),
-        Err(failure) => status_of(faults, Err(failure), 3),
-    }
+    let working = tell_working_if_same(form, out, verdict, path, library)?;
+    Ok(comparison_status(verdict, working))
 }
 
-// Compares a library that is read with a definition, and gives the exit status.
-#[tactic(auto, using(crate::proofs::Answers::checked_refused))]
-fn check_ordinary<O: Write, E: Write>(
+// The answer of a verdict whose differences are told.
+fn checked(
     form: Form,
-    printer: &mut O,
-    faults: &mut E,
+    told: Vec<u8>,
+    verdict: Verdict,
+    check: &Check,
+    library: &Library,
+) -> Result<Answer, AllocError>
+    ensures { IfOk result (λ a. answer_view a ≡ record {
+      status = comparison_status verdict (working_of (archive_view library.now.archive)
+          (map member_read_view library.now.members.items));
+      out = told.items ++ broken_if_same verdict form.is_json check.now.library.now
+          (archive_view library.now.archive) (map member_read_view library.now.members.items);
+      err = doubts true check.now.library.now (map member_read_view library.now.members.items);
+    }) }
+{
+    let mut out = told;
+    let mut err = Vec::new(form.alloc);
+    doubt(form.alloc, &mut err, check.library, &library.members, true)?;
+    let status = tell_checked(form, &mut out, verdict, check.library, library)?;
+    Ok(Answer { status, out, err })
+}
+
+// Compares a library that is read with a definition.
+fn check_ordinary(
+    form: Form,
     check: &Check,
     library: &Library,
     definition: &[u8],
-) -> u8
+) -> Result<Answer, AllocError>
     requires { map member_read_view library.now.members.items
         ≡ members_read (archive_view library.now.archive).members }
-    ensures { OrFailed result
-        (IsCheckedOrdinary (check_view check.now) (archive_view library.now.archive) definition.now
-        result) }
+    ensures { IfOk result (λ a. IsCheckedOrdinary form.is_json (check_view check.now)
+        (archive_view library.now.archive) definition.now (answer_view a)) }
 {
     let members = library.members.as_slice();
     let options = options_for(check, members);
     let paths = (check.library, check.definition);
-    let checked = check_definition(
-        form,
-        printer,
-        paths,
-        members,
-        definition,
-        &options,
-        check.older_symbols,
-    );
-    match checked {
-        Ok(verdict) => tell_checked(form, printer, faults, verdict, check.library, library),
-        Err(CheckError::Refused(refusal)) => refuse(faults, check.definition, &refusal),
-        Err(CheckError::Failed(failure)) => status_of(faults, Err(failure), 3),
+    let older = check.older_symbols;
+    match check_definition(form, paths, members, definition, &options, older) {
+        Ok((verdict, told)) => checked(form, told, verdict, check, library),
+        Err(CheckError::Refused(why)) => refused(form.alloc, check.definition, &why),
+        Err(CheckError::OutOfMemory) => Err(AllocError),
     }
 }
 
-// Compares a library that is read with the definitions of one for ARM64EC, and gives the exit
-// status.
-#[tactic(auto, using(crate::proofs::Answers::checked_arm64ec_refused))]
-fn check_for_arm64ec<O: Write, E: Write>(
+// Compares a library that is read with the definitions of one for ARM64EC.
+fn check_for_arm64ec(
     form: Form,
-    printer: &mut O,
-    faults: &mut E,
     check: &Check,
     library: &Library,
     definition: &[u8],
     native: Option<&[u8]>,
-) -> u8
+) -> Result<Answer, AllocError>
     requires { map member_read_view library.now.members.items
         ≡ members_read (archive_view library.now.archive).members }
-    ensures { OrFailed result
-        (IsCheckedForArm64ec (check_view check.now) (archive_view library.now.archive)
-        definition.now
-        (option_map (λ text. text.now) native.entry) result) }
+    ensures { IfOk result (λ a. IsCheckedForArm64ec form.is_json (check_view check.now)
+        (archive_view library.now.archive) definition.now
+        (option_map (λ text. text.now) native.entry) (answer_view a)) }
 {
     let members = library.members.as_slice();
     let options = options_for(check, members);
-    let checked = check_arm64ec(form, printer, check, members, definition, native, &options);
-    match checked {
-        Ok(verdict) => tell_checked(form, printer, faults, verdict, check.library, library),
-        Err(Arm64ecError::Refused(fault)) => refuse_arm64ec(faults, check, &fault),
-        Err(Arm64ecError::Failed(failure)) => status_of(faults, Err(failure), 3),
+    match check_arm64ec(form, check, members, definition, native, &options) {
+        Ok((verdict, told)) => checked(form, told, verdict, check, library),
+        Err(Arm64ecError::Refused(fault)) => Ok(refused_arm64ec(form.alloc, check, &fault)?),
+        Err(Arm64ecError::OutOfMemory) => Err(AllocError),
     }
 }
 
 // What is said of a call that asks for what a library for ARM64EC, or another one, is not made
 // with.
-fn unfit_text(is_for_arm64ec: bool) -> &'static str {
+fn unfit_text(is_for_arm64ec: bool) -> &'static str
+    ensures { result.now ≡ unfit_text is_for_arm64ec }
+{
     if is_for_arm64ec {
         "arm64ec: not supported for GNU's linker; leave out -C, and --flavor or make it msvc"
     } else {
@@ -127,58 +137,55 @@ fn unfit_text(is_for_arm64ec: bool) -> &'static str {
     }
 }
 
-// Compares a library that is read with a definition, and gives the exit status.
-#[tactic(auto, using(crate::proofs::Answers::checked_unfit, crate::proofs::Answers::checked_for_arm64ec, crate::proofs::Answers::checked_ordinary))]
-fn check_read<O: Write, E: Write>(
+// Compares a library that is read with a definition.
+fn check_read(
     form: Form,
-    printer: &mut O,
-    faults: &mut E,
     check: &Check,
     library: &Library,
     definition: &[u8],
     native: Option<&[u8]>,
-) -> u8
+) -> Result<Answer, AllocError>
     requires { map member_read_view library.now.members.items
         ≡ members_read (archive_view library.now.archive).members }
-    ensures { OrFailed result
-        (IsCheckedBeside (check_view check.now) (archive_view library.now.archive) definition.now
-        (option_map (λ text. text.now) native.entry) result) }
+    ensures { IfOk result (λ a. IsCheckedBeside form.is_json (check_view check.now)
+        (archive_view library.now.archive) definition.now
+        (option_map (λ text. text.now) native.entry) (answer_view a)) }
 {
     let members = library.members.as_slice();
     if is_unfit(check, members) {
         let message = unfit_text(is_for_arm64ec(check, members));
-        return complain(faults, NAME, message, 2);
+        return saying(form.alloc, 2, NAME, message);
     }
-    doubt(faults, check.library, members, true);
     if is_for_arm64ec(check, members) {
-        check_for_arm64ec(form, printer, faults, check, library, definition, native)
+        check_for_arm64ec(form, check, library, definition, native)
     } else {
-        check_ordinary(form, printer, faults, check, library, definition)
+        check_ordinary(form, check, library, definition)
     }
 }
 
-// Compares a library with a definition, and gives the exit status.
-fn check_library<O: Write, E: Write>(
+// Compares a library with a definition.
+fn check_library(
     form: Form,
-    printer: &mut O,
-    faults: &mut E,
     check: &Check,
     bytes: &[u8],
     definition: &[u8],
     native: Option<&[u8]>,
-) -> u8
-    ensures { OrFailed result (CheckedAs (check_view check.now) bytes.now definition.now
-        (option_map (λ text. text.now) native.entry) (archive_in bytes.now) result) }
+) -> Result<Answer, AllocError>
+    ensures { IfOk result (λ a. CheckedAs form.is_json (check_view check.now) bytes.now
+        definition.now (option_map (λ text. text.now) native.entry) (archive_in bytes.now)
+        (answer_view a)) }
 {
-    let library = match library_of(form.alloc, faults, check.library, bytes) {
+    let library = match library_of(form.alloc, check.library, bytes)? {
         Ok(library) => library,
-        Err(status) => return status,
+        Err(answer) => return Ok(answer),
     };
     if is_library(definition) {
         let message = "a library, and no definition; --same LIB LIB compares two libraries";
-        return complain(faults, check.definition, message, 2);
+        let answer = saying(form.alloc, 2, check.definition, message)?;
+        return Ok(answer);
     }
-    check_read(form, printer, faults, check, &library, definition, native)
+    let answer = check_read(form, check, &library, definition, native)?;
+    Ok(answer)
 }
 
 // Whether a call asks for more of a DLL: its exports, or where its forwarders lead.
@@ -188,89 +195,60 @@ fn asks_for_dll(check: &Check) -> bool
     check.lists_unasked || is_searching(check)
 }
 
-// Compares bytes with a definition, or holds them against a DLL, and gives the exit status.
-#[tactic(auto, using(crate::proofs::BesideDlls::beside_dll, crate::proofs::BesideDlls::beside_all, crate::proofs::BesideDlls::beside_definition))]
-fn check_bytes<S: Shelf, O: Write, E: Write>(
+// Compares bytes with a definition, or holds them against a DLL.
+fn check_bytes<S: Shelf>(
     form: Form,
     shelf: &S,
-    printer: &mut O,
-    faults: &mut E,
     check: &Check,
     bytes: &[u8],
     definition: &[u8],
     native: Option<&[u8]>,
     folders: &[Folder],
-) -> u8
-    ensures { (file : List ℕ → List ℕ)
+) -> Result<Answer, Halt>
+    ensures held { IfOk result (λ a. (file : List ℕ → List ℕ)
         → (IsSearching (check_view check.now) ≡ true → AreKnown (S.seen shelf.now) file)
-        → OrFailed result
-        (IsAnswerWith (through file (map folder_view folders.now) (check_view check.now))
+        → IsAnswerWith form.is_json
+        (through file (map folder_view folders.now) (check_view check.now))
         (check_view check.now) bytes.now definition.now (option_map (λ text. text.now) native.entry)
-        result) }
+        (answer_view a)) }
+    ensures halted { IfErr result (IsHalt (S.may_fail shelf.now)) }
 {
     if begins_dll(definition) {
-        return run_against(
-            form, shelf, printer, faults, check, bytes, definition, folders,
-        );
+        let answer = against(form, shelf, check, bytes, definition, folders)?;
+        return Ok(answer);
     }
     if asks_for_dll(check) {
         let message = "no DLL, and --all or --search asks for one";
-        return complain(faults, check.definition, message, 2);
+        return Ok(saying(form.alloc, 2, check.definition, message)?);
     }
-    check_library(form, printer, faults, check, bytes, definition, native)
+    let answer = check_library(form, check, bytes, definition, native)?;
+    Ok(answer)
 }
 
-// Compares a library with a definition, or holds one of them against a DLL, and gives the exit
-// status.
-#[tactic(auto, using(crate::proofs::BesideDlls::beside_failed, crate::proofs::BesideDlls::beside_files))]
-pub(crate) fn run_check<S: Shelf, O: Write, E: Write>(
-    alloc: Global,
-    shelf: &S,
-    form: Form,
-    printer: &mut O,
-    faults: &mut E,
-    check: &Check,
-) -> u8
-    ensures { AnswersBeside (S.seen shelf.now) (S.listed shelf.now) (check_view check.now) result }
+/// The answer to the call that compares a library with a definition, or holds one of them against a
+/// DLL.
+///
+/// # Errors
+///
+/// `Ends`: a file or a folder cannot be read.
+pub(crate) fn check<S: Shelf>(form: Form, shelf: &S, check: &Check) -> Result<Answer, Halt>
+    ensures answered { IfOk result (λ a. AnswersBeside form.is_json (S.seen shelf.now)
+        (S.listed shelf.now) (check_view check.now) (answer_view a)) }
+    ensures halted { IfErr result (IsHalt (S.may_fail shelf.now)) }
 {
-    let bytes = match bytes_of(alloc, shelf, faults, check.library) {
-        Ok(bytes) => bytes,
-        Err(status) => return status,
-    };
-    let definition = match bytes_of(alloc, shelf, faults, check.definition) {
-        Ok(definition) => definition,
-        Err(status) => return status,
-    };
-    let folders = match folders_of(alloc, shelf, faults, check.folders) {
-        Ok(folders) => folders,
-        Err(status) => return status,
-    };
+    let alloc = form.alloc;
+    let bytes = bytes_of(alloc, shelf, check.library)?;
+    let definition = bytes_of(alloc, shelf, check.definition)?;
+    let folders = folders_of(alloc, shelf, check.folders)?;
+    let first = bytes.as_slice();
+    let second = definition.as_slice();
+    let listed = folders.as_slice();
     let Some(path) = check.native else {
-        return check_bytes(
-            form,
-            shelf,
-            printer,
-            faults,
-            check,
-            &bytes,
-            &definition,
-            None,
-            &folders,
-        );
+        let answer = check_bytes(form, shelf, check, first, second, None, listed)?;
+        return Ok(answer);
     };
-    let native = match bytes_of(alloc, shelf, faults, path) {
-        Ok(native) => native,
-        Err(status) => return status,
-    };
-    check_bytes(
-        form,
-        shelf,
-        printer,
-        faults,
-        check,
-        &bytes,
-        &definition,
-        Some(native.as_slice()),
-        &folders,
-    )
+    let native = bytes_of(alloc, shelf, path)?;
+    let native = Some(native.as_slice());
+    let answer = check_bytes(form, shelf, check, first, second, native, listed)?;
+    Ok(answer)
 }

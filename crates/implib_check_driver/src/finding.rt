@@ -1,14 +1,25 @@
 //! What is found in libraries, and the line of text that says it.
 
-ghost use Rattle.std.specs.Prelude.{◌≡◌};
-ghost use Rattle.implib_check_driver.specs.Json.{address_word, loss_words, piece_words, stop_words};
+ghost use Rattle.std.specs.Prelude.{◌≡◌, Some};
+ghost use Rattle.implib_check_driver.specs.Json.{address_word, export_view, fault_view, site_view};
+ghost use Rattle.implib_check_driver.specs.Json.{finding_view, loss_words, piece_words, side_view};
+ghost use Rattle.implib_check_driver.specs.Json.{stop_words, unmet_view};
+ghost use Rattle.implib_check_driver.specs.Listing.{library_side, symbol_of};
+ghost use Rattle.implib_check_driver.specs.Text.{asked_by_program, before_last, export_named};
+ghost use Rattle.implib_check_driver.specs.Text.{export_row, fault_text, finding_text, forwarded};
+ghost use Rattle.implib_check_driver.specs.Text.{forwards};
+ghost use Rattle.implib_check_driver.specs.Text.{index_words, loss_said, name_columns, place, row};
+ghost use Rattle.implib_check_driver.specs.Text.{stopped, target_columns, unmet_text};
+ghost use Rattle.implib_dll.specs.Views.{ask_view, target_view};
+ghost use Rattle.implib_read.specs.ClassViews.{member_read_view};
+ghost use Rattle.std.specs.Option.{option_map};
 
 use crate::positions::Positions;
 use crate::target::ARM64EC;
-use crate::text::{Listed, Place, Said, Shown, Site, symbol_of_member};
+use crate::text::{DllColumn, ImportColumns, Place, Said, Shown, Site, symbol_of_member};
 use implib_compare::working::Piece;
 use implib_dll::{AddressKind, Ask, Target};
-use implib_dll_check::{Loss, MOST_FORWARDERS, Stop};
+use implib_dll_check::{Loss, Stop, split_last};
 use implib_read::{CutApart, DeclaredFound, IndexEntry, MemberClass, MemberRead};
 use std::fmt;
 
@@ -68,6 +79,38 @@ impl<'p> Written<'p> {
     }
 }
 
+// A member that is at this place.
+fn side_at<'p, 'm, 'a>(site: Site<'p>, member: &'m MemberRead<'a>) -> Side<'p, 'm, 'a>
+    ensures { side_view result ≡ record {
+      site = site_view site.entry;
+      symbol = symbol_of (member_read_view member.now).class;
+      member = member_read_view member.now;
+    } }
+{
+    Side {
+        site,
+        symbol: symbol_of_member(member),
+        member,
+    }
+}
+
+/// A member of the library of a file.
+pub fn library_side<'p, 'm, 'a>(path: &'p str, member: &'m MemberRead<'a>) -> Side<'p, 'm, 'a>
+    ensures { side_view result ≡ library_side path.now (member_read_view member.now) }
+{
+    side_at(Site::Library(path), member)
+}
+
+// Where an export for ARM64EC is, in one of two definitions.
+fn site_of_two<'p>(own: Written<'p>, native: Written<'p>, member: &MemberRead) -> Site<'p> {
+    let written = if is_native(&member.class) {
+        native
+    } else {
+        own
+    };
+    written.site(symbol_of_member(member), &member.class)
+}
+
 impl<'p> Source<'p> {
     /// The file.
     pub fn file(self) -> Site<'p> {
@@ -80,23 +123,13 @@ impl<'p> Source<'p> {
 
     /// An import or an alias that is from here.
     pub fn side<'m, 'a>(self, member: &'m MemberRead<'a>) -> Side<'p, 'm, 'a> {
-        let symbol = symbol_of_member(member);
-        let site = match self {
-            Source::Library(path) => Site::Library(path),
-            Source::Definition(path, positions) => Site::Definition(path, positions.at(symbol)),
-            Source::Definitions(own, native) => {
-                let written = if is_native(&member.class) {
-                    native
-                } else {
-                    own
-                };
-                written.site(symbol, &member.class)
+        match self {
+            Source::Library(path) => library_side(path, member),
+            Source::Definition(path, positions) => {
+                let position = positions.at(symbol_of_member(member));
+                side_at(Site::Definition(path, position), member)
             }
-        };
-        Side {
-            site,
-            symbol,
-            member,
+            Source::Definitions(own, native) => side_at(site_of_two(own, native, member), member),
         }
     }
 }
@@ -140,6 +173,10 @@ pub struct Export<'a> {
 pub enum Unmet<'q, 'a> {
     /// No folder has the DLL.
     NoFile,
+    /// The DLL of this file exports nothing.
+    NoExports(&'q str),
+    /// This file is no DLL that can be read.
+    Unread(&'q str),
     /// In the DLL of this file, this is lost, or all of it.
     Lost(&'q str, Loss, Option<Ask<'a>>),
 }
@@ -209,7 +246,9 @@ pub fn address_word(kind: AddressKind) -> &'static str
 }
 
 // What a DLL says against an import that is lost in it.
-fn loss_said(loss: Loss) -> &'static str {
+fn loss_said(loss: Loss) -> &'static str
+    ensures { result.now ≡ loss_said loss }
+{
     match loss {
         Loss::OtherDll => "is another DLL",
         Loss::OtherMachine => "is for another machine",
@@ -234,19 +273,26 @@ pub fn stop_words(stop: Stop) -> &'static str
     }
 }
 
-// The DLL that a forwarder names, with an ending.
+// What a forwarder has before its last full stop.
+fn before_last(text: &[u8]) -> &[u8]
+    ensures { result.now ≡ before_last text.now }
+{
+    match split_last(text) {
+        Some((front, _)) => front,
+        None => b"",
+    }
+}
+
+// The file of the DLL that a forwarder names: without an ending it has `.dll`.
 #[derive(Clone, Copy)]
 struct Forwarded<'q>(&'q [u8]);
 
 impl<'q> fmt::Display for Forwarded<'q> {
+    ghost output = { λ d. Some (forwarded d.0.now) };
+
+    #[tactic(auto, unfolding(crate::specs::Text::forwarded))]
     fn fmt<W: fmt::Write>(&self, f: &mut fmt::Formatter<W>) -> fmt::Result {
-        let mut name = self.0;
-        while let [front @ .., last] = name {
-            name = front;
-            if *last == b'.' {
-                break;
-            }
-        }
+        let name = before_last(self.0);
         let ending = if name.contains(&b'.') { "" } else { ".dll" };
         write!(f, "{}{ending}", Shown(name))
     }
@@ -257,6 +303,9 @@ impl<'q> fmt::Display for Forwarded<'q> {
 struct Stopped<'q>(&'q [u8], Stop);
 
 impl<'q> fmt::Display for Stopped<'q> {
+    ghost output = { λ s. Some (stopped s.0.now s.1) };
+
+    #[tactic(auto, unfolding(crate::specs::Text::stopped))]
     fn fmt<W: fmt::Write>(&self, f: &mut fmt::Formatter<W>) -> fmt::Result {
         let dll = Forwarded(self.0);
         match self.1 {
@@ -264,20 +313,41 @@ impl<'q> fmt::Display for Stopped<'q> {
             Stop::NoFile => write!(f, "and no folder has {dll}"),
             Stop::Refused => write!(f, "and {dll} is no DLL that can be read"),
             Stop::NoExports => write!(f, "and {dll} exports nothing"),
-            Stop::OtherMachine => write!(f, "and {dll} {}", loss_said(Loss::OtherMachine)),
-            Stop::NotExported => write!(f, "and {dll} {}", loss_said(Loss::NotFound)),
-            Stop::DataAsFunction => write!(f, "and {dll} {}", loss_said(Loss::DataAsFunction)),
-            Stop::Endless => write!(f, "in a circle, or through {MOST_FORWARDERS} others"),
+            Stop::OtherMachine => write!(f, "and {dll} is for another machine"),
+            Stop::NotExported => write!(f, "and {dll} does not export that"),
+            Stop::DataAsFunction => {
+                write!(f, "and {dll} has data there, and a function is imported")
+            }
+            Stop::Endless => f.write_str("in a circle, or through 32 others"),
         }
     }
 }
 
+// The last forwarder of an import, and what is said against it.
+#[derive(Clone, Copy)]
+struct Forwards<'q>(&'q [u8], Stop);
+
+impl<'q> fmt::Display for Forwards<'q> {
+    ghost output = { λ s. Some (forwards s.0.now s.1) };
+
+    #[tactic(auto, unfolding(crate::specs::Text::forwards))]
+    fn fmt<W: fmt::Write>(&self, f: &mut fmt::Formatter<W>) -> fmt::Result {
+        let last = Shown(self.0);
+        let why = Stopped(self.0, self.1);
+        write!(f, "{last}, {why}")
+    }
+}
+
 // The words for an index.
-fn index_words(number: u8) -> &'static str {
-    match number {
-        1 => "the index",
-        2 => "the second index",
-        _ => "the EC index",
+fn index_words(number: u8) -> &'static str
+    ensures { result.now ≡ index_words number }
+{
+    if number == 1 {
+        "the index"
+    } else if number == 2 {
+        "the second index"
+    } else {
+        "the EC index"
     }
 }
 
@@ -286,6 +356,8 @@ fn index_words(number: u8) -> &'static str {
 struct Asked<'a>(Ask<'a>);
 
 impl<'a> fmt::Display for Asked<'a> {
+    ghost output = { λ a. Some (asked_by_program (ask_view a.0)) };
+
     fn fmt<W: fmt::Write>(&self, f: &mut fmt::Formatter<W>) -> fmt::Result {
         match self.0 {
             Ask::Name { text, .. } => write!(f, "{}", Shown(text)),
@@ -295,29 +367,60 @@ impl<'a> fmt::Display for Asked<'a> {
 }
 
 impl<'q, 'a> fmt::Display for Unmet<'q, 'a> {
+    ghost output = { λ u. Some (unmet_text (unmet_view u)) };
+
+    #[tactic(auto, unfolding(crate::specs::Text::unmet_text))]
     fn fmt<W: fmt::Write>(&self, f: &mut fmt::Formatter<W>) -> fmt::Result {
         match self {
             Unmet::NoFile => f.write_str("no folder has it"),
-            Unmet::Lost(path, loss, Some(ask)) => {
-                write!(f, "asks for {}; {path} {}", Asked(*ask), loss_said(*loss))
+            Unmet::NoExports(path) => write!(f, "{path} exports nothing"),
+            Unmet::Unread(path) => write!(f, "{path} is no DLL that can be read"),
+            Unmet::Lost(path, loss, ask) => {
+                let said = loss_said(*loss);
+                match ask {
+                    Some(ask) => write!(f, "asks for {}; {path} {said}", Asked(*ask)),
+                    None => write!(f, "{path} {said}"),
+                }
             }
-            Unmet::Lost(path, loss, None) => write!(f, "{path} {}", loss_said(*loss)),
         }
     }
 }
 
 impl<'p, 'm, 'a> fmt::Display for Side<'p, 'm, 'a> {
+    ghost output = { λ s. Some (place (side_view s).site (side_view s).member) };
+
     fn fmt<W: fmt::Write>(&self, f: &mut fmt::Formatter<W>) -> fmt::Result {
         write!(f, "{}", Place(self.site, self.member))
     }
 }
 
+// A row of the list.
+#[derive(Clone, Copy)]
+struct Row<'s, 'p, 'm, 'a>(&'s Side<'p, 'm, 'a>);
+
+impl<'s, 'p, 'm, 'a> fmt::Display for Row<'s, 'p, 'm, 'a> {
+    ghost output = { λ r. Some (row (side_view r.0.now)) };
+
+    #[tactic(auto, unfolding(crate::specs::Text::row))]
+    fn fmt<W: fmt::Write>(&self, f: &mut fmt::Formatter<W>) -> fmt::Result {
+        let offset = self.0.member.offset;
+        let dll = DllColumn(self.0.member);
+        let symbol = Shown(self.0.symbol);
+        let rest = ImportColumns(self.0.member);
+        write!(f, "0x{offset:x}\t{dll}\t{symbol}\t{rest}")
+    }
+}
+
 impl<'e, 'a> fmt::Display for Fault<'e, 'a> {
+    ghost output = { λ x. Some (fault_text (fault_view x)) };
+
+    #[tactic(auto, unfolding(crate::specs::Text::fault_text))]
     fn fmt<W: fmt::Write>(&self, f: &mut fmt::Formatter<W>) -> fmt::Result {
         match self {
             Fault::NoIndex => f.write_str("no index"),
             Fault::UnreadableIndex(number) => {
-                write!(f, "{} cannot be read", index_words(*number))
+                let index = index_words(*number);
+                write!(f, "{index} cannot be read")
             }
             Fault::MisleadingEntry(number, entry) => {
                 let index = index_words(*number);
@@ -338,7 +441,10 @@ impl<'e, 'a> fmt::Display for Fault<'e, 'a> {
                     "{symbol}, at 0x{offset:x}: lld asks for {by_lld}, GNU ld for {by_gnu}"
                 )
             }
-            Fault::NotOnePart(piece) => write!(f, "no {}, or two or more", piece_words(*piece)),
+            Fault::NotOnePart(piece) => {
+                let part = piece_words(*piece);
+                write!(f, "no {part}, or two or more")
+            }
             Fault::SeveralDlls => {
                 f.write_str("imports from two or more DLLs, whose tables are not told apart")
             }
@@ -346,20 +452,51 @@ impl<'e, 'a> fmt::Display for Fault<'e, 'a> {
     }
 }
 
+// Where an export leads, in two columns.
+#[derive(Clone, Copy)]
+struct TargetColumns<'a>(Target<'a>);
+
+impl<'a> fmt::Display for TargetColumns<'a> {
+    ghost output = { λ t. Some (target_columns (target_view t.0)) };
+
+    #[tactic(auto, unfolding(crate::specs::Text::target_columns))]
+    fn fmt<W: fmt::Write>(&self, f: &mut fmt::Formatter<W>) -> fmt::Result {
+        match self.0 {
+            Target::Empty => f.write_str("\t"),
+            Target::Address(address, kind) => {
+                let word = address_word(kind);
+                write!(f, "{word}\t0x{address:x}")
+            }
+            Target::Forwarder(text) => write!(f, "forwarder\t{}", Shown(text)),
+        }
+    }
+}
+
+// The position of a name, and the name.
+#[derive(Clone, Copy)]
+struct NameColumns<'a>(Option<(usize, &'a [u8])>);
+
+impl<'a> fmt::Display for NameColumns<'a> {
+    ghost output = { λ n. Some (name_columns (option_map (λ found. (found.0, found.1.now)) n.0)) };
+
+    #[tactic(auto, unfolding(crate::specs::Text::name_columns))]
+    fn fmt<W: fmt::Write>(&self, f: &mut fmt::Formatter<W>) -> fmt::Result {
+        match self.0 {
+            Some((position, name)) => write!(f, "{position}\t{}", Shown(name)),
+            None => f.write_str("\t"),
+        }
+    }
+}
+
 impl<'a> fmt::Display for Export<'a> {
+    ghost output = { λ e. Some (export_row (export_view e)) };
+
+    #[tactic(auto, unfolding(crate::specs::Text::export_row))]
     fn fmt<W: fmt::Write>(&self, f: &mut fmt::Formatter<W>) -> fmt::Result {
         let ordinal = self.ordinal;
-        match self.target {
-            Target::Empty => write!(f, "{ordinal}\t\t")?,
-            Target::Address(address, kind) => {
-                write!(f, "{ordinal}\t{}\t0x{address:x}", address_word(kind))?;
-            }
-            Target::Forwarder(text) => write!(f, "{ordinal}\tforwarder\t{}", Shown(text))?,
-        }
-        match self.name {
-            Some((position, name)) => write!(f, "\t{position}\t{}", Shown(name)),
-            None => f.write_str("\t\t"),
-        }
+        let target = TargetColumns(self.target);
+        let name = NameColumns(self.name);
+        write!(f, "{ordinal}\t{target}\t{name}")
     }
 }
 
@@ -368,6 +505,9 @@ impl<'a> fmt::Display for Export<'a> {
 struct Named<'e, 'a>(&'e Export<'a>);
 
 impl<'e, 'a> fmt::Display for Named<'e, 'a> {
+    ghost output = { λ e. Some (export_named (export_view e.0.now)) };
+
+    #[tactic(auto, unfolding(crate::specs::Text::export_named))]
     fn fmt<W: fmt::Write>(&self, f: &mut fmt::Formatter<W>) -> fmt::Result {
         let ordinal = self.0.ordinal;
         match self.0.name {
@@ -378,9 +518,12 @@ impl<'e, 'a> fmt::Display for Named<'e, 'a> {
 }
 
 impl<'p, 'q, 'm, 'a> fmt::Display for Finding<'p, 'q, 'm, 'a> {
+    ghost output = { λ x. Some (finding_text (finding_view x)) };
+
+    #[tactic(auto, unfolding(crate::specs::Text::finding_text))]
     fn fmt<W: fmt::Write>(&self, f: &mut fmt::Formatter<W>) -> fmt::Result {
         match self {
-            Finding::Listed(side) => write!(f, "{}", Listed(side.member)),
+            Finding::Listed(side) => write!(f, "{}", Row(side)),
             Finding::Different(here, there) => {
                 let symbol = Shown(here.symbol);
                 let said = Said(here.member);
@@ -390,7 +533,8 @@ impl<'p, 'q, 'm, 'a> fmt::Display for Finding<'p, 'q, 'm, 'a> {
             Finding::Missing(here, there) => {
                 let symbol = Shown(here.symbol);
                 let said = Said(here.member);
-                write!(f, "{here}: {symbol}: {said}; not so in {}", there.path())
+                let path = there.path();
+                write!(f, "{here}: {symbol}: {said}; not so in {path}")
             }
             Finding::Clash(symbol, first, later) => {
                 let symbol = Shown(symbol);
@@ -402,17 +546,14 @@ impl<'p, 'q, 'm, 'a> fmt::Display for Finding<'p, 'q, 'm, 'a> {
             Finding::Lost(side, dll, loss) => {
                 let symbol = Shown(side.symbol);
                 let said = Said(side.member);
-                write!(f, "{side}: {symbol}: {said}; {dll} {}", loss_said(*loss))
+                let lost = loss_said(*loss);
+                write!(f, "{side}: {symbol}: {said}; {dll} {lost}")
             }
             Finding::Stopped(side, dll, text, stop) => {
                 let symbol = Shown(side.symbol);
                 let said = Said(side.member);
-                let last = Shown(text);
-                let why = Stopped(text, *stop);
-                write!(
-                    f,
-                    "{side}: {symbol}: {said}; {dll} forwards that to {last}, {why}"
-                )
+                let end = Forwards(text, *stop);
+                write!(f, "{side}: {symbol}: {said}; {dll} forwards that to {end}")
             }
             Finding::Searched(site, count) => {
                 let path = site.path();
@@ -422,12 +563,13 @@ impl<'p, 'q, 'm, 'a> fmt::Display for Finding<'p, 'q, 'm, 'a> {
                 )
             }
             Finding::Unasked(path, export) => {
-                write!(f, "{path}: no import asks for {}", Named(export))
+                let named = Named(export);
+                write!(f, "{path}: no import asks for {named}")
             }
             Finding::Exported(_, export) => write!(f, "{export}"),
             Finding::Unmet(program, dll, unmet) => {
-                let dll = Shown(dll);
-                write!(f, "{program}: imports from {dll}: {unmet}")
+                let name = Shown(dll);
+                write!(f, "{program}: imports from {name}: {unmet}")
             }
         }
     }

@@ -2,119 +2,49 @@
 
 ghost use Rattle.std.specs.List.{list_any};
 ghost use Rattle.std.specs.Option.{is_some};
-ghost use Rattle.std.specs.Prelude.{◌≡◌, ℕ, IfErr, IfOk, List, None, OnOk, Some, map};
+ghost use Rattle.std.specs.Prelude.{◌≡◌, ℕ, ◌++◌, IfErr, IfOk, List, None, OnOk, Some, length, map};
 ghost use Rattle.std.specs.String.{string_bytes};
-ghost use Rattle.implib_check_driver.specs.Answers.{AnswersJoined, OrFailed};
-ghost use Rattle.implib_dll_check.specs.Folders.{AreKnown};
-ghost use Rattle.implib_check_driver.specs.Status.{no_library_status};
-ghost use Rattle.implib_check_driver.specs.Together.{claim_view, claims_of_all, is_clash};
-ghost use Rattle.implib_check_driver.specs.Together.{members_of_all, status_of_none};
+ghost use Rattle.implib_check_driver.specs.Answer.{IsHalt, answer_view, no_library};
+ghost use Rattle.implib_check_driver.specs.Together.{IsJoined, IsJoinedAnswer, claim_view};
+ghost use Rattle.implib_check_driver.specs.Together.{claims_of_all, doubts_of_all, first_none};
+ghost use Rattle.implib_check_driver.specs.Together.{members_of_all};
 ghost use Rattle.implib_compare.specs.Comparison.{has_unread};
-ghost use Rattle.implib_read.specs.Classes.{library_in};
+ghost use Rattle.implib_dll_check.specs.Folders.{AreKnown};
 ghost use Rattle.implib_read.specs.ClassViews.{member_read_view};
+ghost use Rattle.implib_read.specs.Classes.{library_in};
 
-use crate::console::{NAME, bytes_of, complain, doubt, library_of, status_of};
-use crate::finding::{Finding, Side, Source};
-use crate::report::{Failure, Form, tell};
+use crate::answer::{Answer, Halt, bytes_of, library_of};
+use crate::finding::{Finding, Side, library_side};
+use crate::list::doubt;
+use crate::report::{Form, tell};
 use crate::shelf::Shelf;
 use crate::status::together_status;
 use crate::together::{Claim, add_claims, clashes};
 use implib_compare::compare::has_unread;
 use implib_read::Library;
 use std::alloc::{AllocError, Global};
-use std::io::Write;
 
-// The bytes of a file, or an exit status.
-fn bytes_at<S: Shelf, E: Write>(
+/// The bytes of files.
+///
+/// # Errors
+///
+/// `Ends`: a file cannot be read.
+pub(crate) fn all_bytes<S: Shelf>(
     alloc: Global,
     shelf: &S,
-    faults: &mut E,
-    path: &str,
-) -> Result<Vec<u8>, u8>
-    ensures read { IfOk result (λ bytes. (file : List ℕ → List ℕ) → AreKnown (S.seen shelf.now) file
-        → bytes.items ≡ file path.now) }
-    ensures failed { IfErr result (λ status. status ≡ 3) }
-{
-    match bytes_of(alloc, shelf, faults, path) {
-        Ok(bytes) => Ok(bytes),
-        Err(status) => Err(status),
-    }
-}
-
-// The bytes of files, or an exit status.
-fn all_bytes<S: Shelf, E: Write>(
-    alloc: Global,
-    shelf: &S,
-    faults: &mut E,
     paths: &[String],
-) -> Result<Vec<Vec<u8>>, u8>
+) -> Result<Vec<Vec<u8>>, Halt>
     ensures read { IfOk result (λ files. (file : List ℕ → List ℕ) → AreKnown (S.seen shelf.now) file
         → map (λ bytes. bytes.items) files.items ≡ map file (map string_bytes paths.now)) }
-    ensures failed { IfErr result (λ status. status ≡ 3) }
+    ensures length { IfOk result (λ files. length files.items ≡ length paths.now) }
+    ensures halted { IfErr result (IsHalt (S.may_fail shelf.now)) }
 {
     let mut files = Vec::new(alloc);
     for path in paths {
-        let bytes = match bytes_at(alloc, shelf, faults, path) {
-            Ok(bytes) => bytes,
-            Err(status) => return Err(status),
-        };
-        if files.push(bytes).is_err() {
-            return Err(complain(faults, NAME, "out of memory", 3));
-        }
+        let bytes = bytes_of(alloc, shelf, path)?;
+        files.push(bytes)?;
     }
     Ok(files)
-}
-
-// The library that a file is, or an exit status.
-#[tactic(auto, unfolding(implib_read::specs::Classes::library_in))]
-fn library_at<'a, E: Write>(
-    alloc: Global,
-    faults: &mut E,
-    path: &str,
-    bytes: &'a [u8],
-) -> Result<Library<'a>, u8>
-    ensures read { IfOk result (λ library. library_in bytes.now
-        ≡ Some (map member_read_view library.members.items)) }
-    ensures none { IfErr result (λ status. OrFailed status
-        ((library_in bytes.now ≡ None) × (status ≡ no_library_status bytes.now))) }
-{
-    match library_of(alloc, faults, path, bytes) {
-        Ok(library) => Ok(library),
-        Err(status) => Err(status),
-    }
-}
-
-// The libraries that files are, or an exit status.
-fn all_libraries<'a, E: Write>(
-    alloc: Global,
-    faults: &mut E,
-    paths: &[String],
-    files: &'a [Vec<u8>],
-) -> Result<Vec<Library<'a>>, u8>
-    ensures read { IfOk result
-        (λ libraries. map (λ library. map member_read_view library.members.items) libraries.items
-        ≡ members_of_all (map (λ bytes. bytes.items) files.now)) }
-    ensures all { OnOk result (status_of_none (map (λ bytes. bytes.items) files.now) ≡ None) }
-    ensures none { IfErr result (λ status. OrFailed status
-        (status_of_none (map (λ bytes. bytes.items) files.now) ≡ Some status)) }
-{
-    let mut libraries = Vec::new(alloc);
-    let mut names = paths.iter();
-    for bytes in files {
-        let path = match names.next() {
-            Some(path) => path.as_str(),
-            None => NAME,
-        };
-        let library = match library_at(alloc, faults, path, bytes) {
-            Ok(library) => library,
-            Err(status) => return Err(status),
-        };
-        doubt(faults, path, &library.members, false);
-        if libraries.push(library).is_err() {
-            return Err(complain(faults, NAME, "out of memory", 3));
-        }
-    }
-    Ok(libraries)
 }
 
 // Whether a library has a member that may import what is not read.
@@ -139,46 +69,42 @@ fn side_of_claim<'p, 'm, 'a>(
 ) -> Option<Side<'p, 'm, 'a>> {
     let path = paths.get(claim.library)?;
     let member = libraries.get(claim.library)?.members.get(claim.member)?;
-    Some(Source::Library(path).side(member))
+    Some(library_side(path, member))
 }
 
-// Writes a claim, and the first claim of its symbol, with which it clashes.
-fn tell_clash<O: Write>(
+// Adds a claim, and the first claim of its symbol, with which it clashes.
+fn tell_clash(
     form: Form,
-    printer: &mut O,
+    out: &mut Vec<u8>,
     paths: &[String],
     libraries: &[Library],
     claim: &Claim,
     first: &Claim,
-) -> Result<(), Failure> {
+) -> Result<(), AllocError> {
     let Some(here) = side_of_claim(paths, libraries, first) else {
         return Ok(());
     };
     let Some(there) = side_of_claim(paths, libraries, claim) else {
         return Ok(());
     };
-    tell(form, printer, &Finding::Clash(&claim.symbol, here, there))
+    tell(form, out, &Finding::Clash(&claim.symbol, here, there))
 }
 
-// Writes which claims clash.
-fn tell_clashes<O: Write>(
+// The lines of the claims that clash.
+fn clash_lines(
     form: Form,
-    printer: &mut O,
     paths: &[String],
     libraries: &[Library],
     claims: &[Claim],
     found: &[Option<usize>],
-) -> Result<(), Failure> {
+) -> Result<Vec<u8>, AllocError> {
+    let mut out = Vec::new(form.alloc);
     for (claim, number) in claims.iter().zip(found) {
-        let Some(number) = *number else {
-            continue;
-        };
-        let Some(first) = claims.get(number) else {
-            continue;
-        };
-        tell_clash(form, printer, paths, libraries, claim, first)?;
+        if let Some(first) = number.and_then(|number| claims.get(number)) {
+            tell_clash(form, &mut out, paths, libraries, claim, first)?;
+        }
     }
-    Ok(())
+    Ok(out)
 }
 
 // Whether a claim clashes with another.
@@ -206,43 +132,93 @@ fn all_claims(alloc: Global, libraries: &[Library]) -> Result<Vec<Claim>, AllocE
     Ok(claims)
 }
 
-// Writes what libraries do to each other, and whether two clash.
-fn tell_together<O: Write>(
-    form: Form,
-    printer: &mut O,
-    paths: &[String],
-    libraries: &[Library],
-) -> Result<bool, Failure>
-    ensures { IfOk result (λ clash. clash
-        ≡ is_clash (map (λ library. map member_read_view library.members.items) libraries.now)) }
+// The library that a file is, or the answer where it is none.
+#[tactic(auto, unfolding(implib_read::specs::Classes::library_in))]
+fn library_at<'a>(
+    alloc: Global,
+    path: &String,
+    bytes: &'a [u8],
+) -> Result<Result<Library<'a>, Answer>, AllocError>
+    ensures read { IfOk result (λ found. IfOk found (λ library. library_in bytes.now
+        ≡ Some (map member_read_view library.members.items))) }
+    ensures none { IfOk result (λ found. IfErr found (λ a. (library_in bytes.now ≡ None)
+        × (answer_view a ≡ no_library (string_bytes path.now) bytes.now))) }
 {
-    let claims = all_claims(form.alloc, libraries)?;
-    let found = clashes(form.alloc, &claims)?;
-    tell_clashes(form, printer, paths, libraries, &claims, &found)?;
-    Ok(is_any_clash(&found))
+    library_of(alloc, path.as_str(), bytes)
 }
 
-/// Says what libraries of one link do to each other, and gives the exit status.
-pub(crate) fn run_together<S: Shelf, O: Write, E: Write>(
+// The libraries that files are; or the answer where one is none.
+fn all_libraries<'a>(
     alloc: Global,
-    shelf: &S,
-    form: Form,
-    printer: &mut O,
-    faults: &mut E,
     paths: &[String],
-) -> u8
-    ensures { AnswersJoined (S.seen shelf.now) (map string_bytes paths.now) result }
+    files: &'a [Vec<u8>],
+) -> Result<Result<Vec<Library<'a>>, Answer>, AllocError>
+    requires { length paths.now ≡ length files.now }
+    ensures read { IfOk result (λ found. IfOk found (λ libraries.
+        map (λ library. map member_read_view library.members.items) libraries.items
+        ≡ members_of_all (map (λ bytes. bytes.items) files.now))) }
+    ensures all { IfOk result (λ found. IfOk found (λ libraries.
+        first_none (map string_bytes paths.now) (map (λ bytes. bytes.items) files.now) ≡ None)) }
+    ensures none { IfOk result (λ found. IfErr found (λ a.
+        first_none (map string_bytes paths.now) (map (λ bytes. bytes.items) files.now)
+        ≡ Some (answer_view a))) }
 {
-    let files = match all_bytes(alloc, shelf, faults, paths) {
-        Ok(files) => files,
-        Err(status) => return status,
-    };
-    let libraries = match all_libraries(alloc, faults, paths, &files) {
-        Ok(libraries) => libraries,
-        Err(status) => return status,
-    };
-    match tell_together(form, printer, paths, &libraries) {
-        Ok(clash) => together_status(is_some_unread(&libraries), clash),
-        Err(failure) => status_of(faults, Err(failure), 3),
+    let mut libraries = Vec::new(alloc);
+    for i in 0..files.len() {
+        match library_at(alloc, &paths[i], &files[i])? {
+            Ok(library) => libraries.push(library)?,
+            Err(answer) => return Ok(Err(answer)),
+        }
+    }
+    Ok(Ok(libraries))
+}
+
+// Adds which members of libraries leave the answer open.
+fn doubt_all(
+    alloc: Global,
+    err: &mut Vec<u8>,
+    paths: &[String],
+    libraries: &[Library],
+) -> Result<(), AllocError>
+    requires { length paths.now ≡ length libraries.now }
+    ensures { OnOk result (err.new.items ≡ err.old.items
+        ++ doubts_of_all (map string_bytes paths.now)
+        (map (λ library. map member_read_view library.members.items) libraries.now)) }
+{
+    for i in 0..libraries.len() {
+        doubt(alloc, err, paths[i].as_str(), &libraries[i].members, false)?;
+    }
+    Ok(())
+}
+
+// The answer to libraries in one link.
+fn joined(form: Form, paths: &[String], libraries: &[Library]) -> Result<Answer, AllocError>
+    requires { length paths.now ≡ length libraries.now }
+    ensures { IfOk result (λ a. IsJoined (map string_bytes paths.now)
+        (map (λ library. map member_read_view library.members.items) libraries.now)
+        (answer_view a)) }
+{
+    let mut err = Vec::new(form.alloc);
+    doubt_all(form.alloc, &mut err, paths, libraries)?;
+    let claims = all_claims(form.alloc, libraries)?;
+    let found = clashes(form.alloc, &claims)?;
+    Ok(Answer {
+        status: together_status(is_some_unread(libraries), is_any_clash(&found)),
+        out: clash_lines(form, paths, libraries, &claims, &found)?,
+        err,
+    })
+}
+
+/// The answer to the call that says what the libraries of files do to each other in one link.
+pub fn together(form: Form, paths: &[String], files: &[Vec<u8>]) -> Result<Answer, AllocError>
+    requires { length paths.now ≡ length files.now }
+    ensures { IfOk result (λ a. IsJoinedAnswer (map string_bytes paths.now)
+        (map (λ bytes. bytes.items) files.now)
+        (first_none (map string_bytes paths.now) (map (λ bytes. bytes.items) files.now))
+        (answer_view a)) }
+{
+    match all_libraries(form.alloc, paths, files)? {
+        Ok(libraries) => joined(form, paths, &libraries),
+        Err(answer) => Ok(answer),
     }
 }

@@ -408,6 +408,14 @@ fn put_unmet(fields: &mut Fields, alloc: Global, unmet: &Unmet) -> Result<(), Al
 {
     match unmet {
         Unmet::NoFile => put_word(fields, alloc, "why", "no file"),
+        Unmet::NoExports(path) => {
+            put_word(fields, alloc, "why", "no export")?;
+            put_word(fields, alloc, "dll_file", path)
+        }
+        Unmet::Unread(path) => {
+            put_word(fields, alloc, "why", "not read")?;
+            put_word(fields, alloc, "dll_file", path)
+        }
         Unmet::Lost(path, loss, ask) => {
             put_word(fields, alloc, "why", loss_words(*loss))?;
             put_word(fields, alloc, "dll_file", path)?;

@@ -6,7 +6,6 @@ ghost use Rattle.implib_check_driver.specs.OwnIndexes.{OwnIndexesLead};
 ghost use Rattle.implib_check_driver.specs.OwnLibraries.{MeantIsDefined, OwnLibrariesAreTheSame};
 ghost use Rattle.implib_check_driver.specs.OwnLibraries.{SameSaysTheDefined};
 ghost use Rattle.implib_check_driver.specs.OwnTables.{OwnTablesAreWhole};
-ghost use Rattle.implib_check_driver.specs.Worked.{WorkedStatuses};
 ghost use Rattle.implib_check_driver.specs.WorkedExportAs.{WorkedExportAs};
 
 use implib_read::laws::{
@@ -62,11 +61,6 @@ pub fn own_tables_are_whole()
     own_gnu_libraries();
     meant_is_made();
 }
-
-/// The exit statuses where memory is refused, and for an archive of too many members.
-pub fn worked_statuses()
-    ensures { WorkedStatuses }
-{}
 
 /// What is read of the library of a definition is what the definition says, also where short
 /// imports have a third text.

@@ -1,47 +1,39 @@
 //! The program: its arguments, its files, what it writes, and its exit status.
 
-ghost use Rattle.std.specs.Prelude.{◌≡◌, false, length, map, IfOk};
-ghost use Rattle.implib_check_driver.specs.Answers.{AnswersDefine, AnswersOf, AnswersOfBoth};
-ghost use Rattle.implib_check_driver.specs.Answers.{AnswersTask, DefinedAs, OrFailed};
-ghost use Rattle.implib_check_driver.specs.Answers.{compared_as, identified, listed};
-ghost use Rattle.implib_check_driver.specs.Calls.{define_view};
-ghost use Rattle.implib_compare.specs.Comparison.{has_unread, verdict};
-ghost use Rattle.implib_read.specs.Archives.{archive_in};
-ghost use Rattle.implib_read.specs.ClassViews.{member_read_view};
-ghost use Rattle.implib_check_driver.specs.Tasks.{in_form, task_named};
 ghost use Rattle.std.specs.Option.{option_and_then};
+ghost use Rattle.std.specs.Prelude.{◌≡◌, ℕ, IfErr, IfOk, IfSome, List, map};
 ghost use Rattle.std.specs.String.{string_bytes};
-ghost use Rattle.implib_read.specs.Identity.{dlls_of};
-ghost use Rattle.implib_check_driver.specs.Status.{identity_status};
-ghost use Rattle.implib_check_driver.specs.Status.{undefined_status};
+ghost use Rattle.implib_check_driver.specs.Answer.{IsHalt, answer_view};
+ghost use Rattle.implib_check_driver.specs.Answers.{AnswersTask, IsDefineAnswer, IsText};
+ghost use Rattle.implib_check_driver.specs.Calls.{define_view};
+ghost use Rattle.implib_check_driver.specs.Differences.{IsSameAnswer};
+ghost use Rattle.implib_check_driver.specs.Exported.{IsExportsAnswer};
+ghost use Rattle.implib_check_driver.specs.Listing.{identify_answer, list_answer, works_answer};
+ghost use Rattle.implib_check_driver.specs.Run.{IsWritten, Runs};
+ghost use Rattle.implib_check_driver.specs.Tasks.{in_form, task_named};
+ghost use Rattle.implib_check_driver.specs.Together.{IsJoinedAnswer, first_none};
+ghost use Rattle.implib_dll.specs.Exports.{exports_in};
+ghost use Rattle.implib_dll.specs.declared.section.Layout.TheVariants.{File};
+ghost use Rattle.implib_dll_check.specs.Folders.{AreKnown};
+ghost use Rattle.implib_read.specs.Archives.{archive_in};
 
-use crate::against::begins_dll;
-use crate::beside::run_exports;
+use crate::answer::{Answer, Halt, NAME, bytes_of, saying};
 use crate::call::Define;
-use crate::checking::run_check;
-use crate::console::{NAME, bytes_of, complain, doubt, library_of, print, status_of};
-use crate::defining::{Undefined, definition_of};
-use crate::differences::tell_both;
-use crate::finding::{Finding, Source};
-use crate::joined::run_together;
-use crate::of_dll::library_of_dll;
-use crate::report::{BUFFER, Failure, Form, Lines, flushed, tell};
+use crate::checking::check;
+use crate::defining::define;
+use crate::differences::same;
+use crate::exported::exports;
+use crate::joined::{all_bytes, together};
+use crate::list::{identify, list};
+use crate::report::Form;
 use crate::shelf::Shelf;
-use crate::starting::run_program;
-use crate::status::{comparison_status, identity_status, list_status, undefined_status};
-use crate::target::{has_arm64ec, options_of};
+use crate::starting::start;
 use crate::task::{CommandLine, Task, call_named};
-use crate::text::{Place, Shown, Site, fault_of, is_listed};
-use crate::works::{run_works, tell_working_if_same};
-use implib_compare::compare::{Comparison, compare, has_unread};
-use implib_compare::working::both_work;
-use implib_read::{Library, MemberRead, dlls_of};
-use indexmap::IndexSet;
+use crate::works::works;
 use std::alloc::{AllocError, Global};
 use std::env::Env;
-use std::fmt::Write as _;
-use std::io::{BufWriter, Write};
-use std::{env, fmt};
+use std::io::{ErrorKind, Write};
+use std::{env, io};
 
 // What the program prints for `--help`.
 const HELP: &str = "\
@@ -117,349 +109,103 @@ understood.
 // What the program prints for `--version`.
 const VERSION: &str = "implib_check 0.1.0\n";
 
-// Writes the imports and aliases of a library.
-fn list<O: Write>(
-    form: Form,
-    printer: &mut O,
-    path: &str,
-    members: &[MemberRead],
-) -> Result<(), Failure> {
-    for member in members {
-        if is_listed(&member.class) {
-            tell(
-                form,
-                printer,
-                &Finding::Listed(Source::Library(path).side(member)),
-            )?;
-        }
-    }
-    Ok(())
-}
-
-// Writes names of DLLs.
-fn write_names<O: Write>(printer: &mut O, names: &IndexSet<&[u8]>) -> Result<(), Failure> {
-    let mut lines = Lines { writer: printer };
-    for name in names.iter() {
-        writeln!(lines, "{}", Shown(name))?;
-    }
-    Ok(())
-}
-
-// Lists a library, and gives the exit status.
-#[tactic(auto, using(crate::proofs::Answers::answered_failed, crate::proofs::Answers::answered_none, crate::proofs::Answers::answered_read))]
-fn run_list<S: Shelf, O: Write, E: Write>(
-    alloc: Global,
-    shelf: &S,
-    form: Form,
-    printer: &mut O,
-    faults: &mut E,
-    path: &str,
-) -> u8
-    ensures { AnswersOf listed (S.seen shelf.now path.now) result }
+// The answer of a text alone.
+fn text_alone(alloc: Global, text: &str) -> Result<Answer, AllocError>
+    ensures { IfOk result (λ a. IsText (answer_view a)) }
 {
-    let bytes = match bytes_of(alloc, shelf, faults, path) {
-        Ok(bytes) => bytes,
-        Err(status) => return status,
-    };
-    let library = match library_of(alloc, faults, path, &bytes) {
-        Ok(library) => library,
-        Err(status) => return status,
-    };
-    let members = library.members.as_slice();
-    let written = list_buffered(form, printer, path, members);
-    doubt(faults, path, members, false);
-    status_of(faults, written, list_status(has_unread(members)))
+    let mut out = Vec::new(alloc);
+    out.extend_from_slice(text.as_bytes())?;
+    Ok(Answer {
+        status: 0,
+        out,
+        err: Vec::new(alloc),
+    })
 }
 
-// Writes the imports and aliases of a library through a buffer.
-fn list_buffered<O: Write>(
-    form: Form,
-    printer: &mut O,
-    path: &str,
-    members: &[MemberRead],
-) -> Result<(), Failure> {
-    let mut buffered = BufWriter::with_capacity(form.alloc, BUFFER, printer)?;
-    let written = list(form, &mut buffered, path, members);
-    flushed(&mut buffered, written)
-}
-
-// Names the DLLs of a library that is read, and gives the exit status.
-fn identify<O: Write, E: Write>(
-    alloc: Global,
-    printer: &mut O,
-    faults: &mut E,
-    path: &str,
-    members: &[MemberRead],
-    is_strict: bool,
-) -> u8
-    ensures { OrFailed result
-        (result ≡ identity_status (has_unread (map member_read_view members.now))
-        (length (dlls_of (map member_read_view members.now))) is_strict) }
+// The list of the library of a file.
+#[tactic(auto, using(crate::proofs::Answers::of_file))]
+fn list_file<S: Shelf>(form: Form, shelf: &S, path: &str) -> Result<Answer, Halt>
+    ensures answered { IfOk result (λ a. IfSome (S.seen shelf.now path.now)
+        (λ f. answer_view a ≡ list_answer form.is_json path.now f)) }
+    ensures halted { IfErr result (IsHalt (S.may_fail shelf.now)) }
 {
-    let names = match dlls_of(alloc, members) {
-        Ok(names) => names,
-        Err(_) => return complain(faults, NAME, "out of memory", 3),
-    };
-    let status = identity_status(has_unread(members), names.len(), is_strict);
-    if is_strict && names.len() > 1 {
-        return complain(faults, path, "imports from two or more DLLs", status);
-    }
-    if names.is_empty() {
-        return complain(faults, path, "imports from no DLL", status);
-    }
-    let written = write_names(printer, &names);
-    status_of(faults, written, status)
+    let bytes = bytes_of(form.alloc, shelf, path)?;
+    Ok(list(form, path, &bytes)?)
 }
 
-// Names the DLLs of a library, and gives the exit status.
-#[tactic(auto, using(crate::proofs::Answers::answered_failed, crate::proofs::Answers::answered_none, crate::proofs::Answers::answered_read))]
-fn run_identify<S: Shelf, O: Write, E: Write>(
-    alloc: Global,
+// The exports of the DLL of a file.
+#[tactic(auto, using(crate::proofs::Answers::of_file))]
+fn exports_of_file<S: Shelf>(form: Form, shelf: &S, path: &str) -> Result<Answer, Halt>
+    ensures answered { IfOk result (λ a. IfSome (S.seen shelf.now path.now)
+        (λ f. IsExportsAnswer path.now (exports_in File f) (answer_view a))) }
+    ensures halted { IfErr result (IsHalt (S.may_fail shelf.now)) }
+{
+    let bytes = bytes_of(form.alloc, shelf, path)?;
+    Ok(exports(form, path, &bytes)?)
+}
+
+// The names of the DLLs of the library of a file.
+#[tactic(auto, using(crate::proofs::Answers::of_file))]
+fn identify_file<S: Shelf>(
+    form: Form,
     shelf: &S,
-    printer: &mut O,
-    faults: &mut E,
     path: &str,
     is_strict: bool,
-) -> u8
-    ensures { AnswersOf (identified is_strict) (S.seen shelf.now path.now) result }
+) -> Result<Answer, Halt>
+    ensures answered { IfOk result (λ a. IfSome (S.seen shelf.now path.now)
+        (λ f. answer_view a ≡ identify_answer is_strict path.now f)) }
+    ensures halted { IfErr result (IsHalt (S.may_fail shelf.now)) }
 {
-    let bytes = match bytes_of(alloc, shelf, faults, path) {
-        Ok(bytes) => bytes,
-        Err(status) => return status,
-    };
-    let library = match library_of(alloc, faults, path, &bytes) {
-        Ok(library) => library,
-        Err(status) => return status,
-    };
-    let members = library.members.as_slice();
-    doubt(faults, path, members, false);
-    identify(alloc, printer, faults, path, members, is_strict)
+    let bytes = bytes_of(form.alloc, shelf, path)?;
+    Ok(identify(form.alloc, path, is_strict, &bytes)?)
 }
 
-// Writes in what two libraries differ, or why one does not work; and gives the exit status.
-fn tell_same<O: Write>(
-    form: Form,
-    printer: &mut O,
-    paths: (&str, &str),
-    libraries: (&Library, &Library),
-    found: &Comparison,
-) -> Result<u8, Failure>
-    ensures { IfOk result
-        (λ status. found.now.verdict
-        ≡ verdict (map member_read_view libraries.entry.0.now.members.items)
-        (map member_read_view libraries.entry.1.now.members.items)
-        → status ≡ compared_as libraries.entry.0.now libraries.entry.1.now) }
+// Whether the library of a file works.
+#[tactic(auto, using(crate::proofs::Answers::of_file))]
+fn works_file<S: Shelf>(form: Form, shelf: &S, path: &str) -> Result<Answer, Halt>
+    ensures answered { IfOk result (λ a. IfSome (S.seen shelf.now path.now)
+        (λ f. answer_view a ≡ works_answer form.is_json path.now f)) }
+    ensures halted { IfErr result (IsHalt (S.may_fail shelf.now)) }
 {
-    let sources = (Source::Library(paths.0), Source::Library(paths.1));
-    let (left, right) = libraries;
-    tell_both(form, printer, sources, &left.members, &right.members, found)?;
-    let first = tell_working_if_same(form, printer, found.verdict, paths.0, left)?;
-    let second = tell_working_if_same(form, printer, found.verdict, paths.1, right)?;
-    Ok(comparison_status(found.verdict, both_work(first, second)))
+    let bytes = bytes_of(form.alloc, shelf, path)?;
+    Ok(works(form, path, &bytes)?)
 }
 
-// Compares two libraries that are read, and gives the exit status.
-fn same<O: Write, E: Write>(
-    form: Form,
-    printer: &mut O,
-    faults: &mut E,
-    paths: (&str, &str),
-    left: &Library,
-    right: &Library,
-) -> u8
-    ensures { OrFailed result (result ≡ compared_as left.now right.now) }
+// Whether the libraries of two files are the same.
+#[tactic(auto, using(crate::proofs::Answers::of_files))]
+fn same_files<S: Shelf>(form: Form, shelf: &S, left: &str, right: &str) -> Result<Answer, Halt>
+    ensures answered { IfOk result (λ a. IfSome (S.seen shelf.now left.now)
+        (λ l. IfSome (S.seen shelf.now right.now)
+        (λ r. IsSameAnswer form.is_json left.now right.now l r (archive_in l) (archive_in r)
+        (answer_view a)))) }
+    ensures halted { IfErr result (IsHalt (S.may_fail shelf.now)) }
 {
-    let found = match compare(form.alloc, &left.members, &right.members) {
-        Ok(found) => found,
-        Err(_) => return complain(faults, NAME, "out of memory", 3),
-    };
-    doubt(faults, paths.0, &left.members, true);
-    doubt(faults, paths.1, &right.members, true);
-    match tell_same(form, printer, paths, (left, right), &found) {
-        Ok(status) => status,
-        Err(failure) => status_of(faults, Err(failure), 3),
-    }
+    let first = bytes_of(form.alloc, shelf, left)?;
+    let second = bytes_of(form.alloc, shelf, right)?;
+    Ok(same(form, (left, right), &first, &second)?)
 }
 
-// Compares two libraries, and gives the exit status.
-#[tactic(auto, using(crate::proofs::Answers::both_failed))]
-fn run_same<S: Shelf, O: Write, E: Write>(
-    alloc: Global,
-    shelf: &S,
-    form: Form,
-    printer: &mut O,
-    faults: &mut E,
-    left_path: &str,
-    right_path: &str,
-) -> u8
-    ensures { AnswersOfBoth (S.seen shelf.now left_path.now) (S.seen shelf.now right_path.now)
-        result }
+// The definition of the library or the DLL of a file.
+#[tactic(auto, using(crate::proofs::Answers::of_file))]
+fn define_file<S: Shelf>(form: Form, shelf: &S, asked: &Define) -> Result<Answer, Halt>
+    ensures answered { IfOk result (λ a. IfSome (S.seen shelf.now asked.now.library.now)
+        (λ f. IsDefineAnswer (define_view asked.now) f (answer_view a))) }
+    ensures halted { IfErr result (IsHalt (S.may_fail shelf.now)) }
 {
-    let left_bytes = match bytes_of(alloc, shelf, faults, left_path) {
-        Ok(bytes) => bytes,
-        Err(status) => return status,
-    };
-    let right_bytes = match bytes_of(alloc, shelf, faults, right_path) {
-        Ok(bytes) => bytes,
-        Err(status) => return status,
-    };
-    let left = match library_of(alloc, faults, left_path, &left_bytes) {
-        Ok(library) => library,
-        Err(status) => return status,
-    };
-    let right = match library_of(alloc, faults, right_path, &right_bytes) {
-        Ok(library) => library,
-        Err(status) => return status,
-    };
-    same(
-        form,
-        printer,
-        faults,
-        (left_path, right_path),
-        &left,
-        &right,
-    )
+    let bytes = bytes_of(form.alloc, shelf, asked.library)?;
+    Ok(define(form.alloc, asked, &bytes)?)
 }
 
-// What the differences of a library call the definition that is tried.
-const TRIED: &str = "the definition";
-
-// Says why a library has no definition, and gives the exit status.
-fn say_undefined<E: Write>(
-    faults: &mut E,
-    path: &str,
-    members: &[MemberRead],
-    why: &Undefined,
-) -> u8
-    ensures { result ≡ undefined_status why.now }
+// What the libraries of files do to each other.
+fn together_files<S: Shelf>(form: Form, shelf: &S, paths: &[String]) -> Result<Answer, Halt>
+    ensures answered { IfOk result (λ a. (file : List ℕ → List ℕ) → AreKnown (S.seen shelf.now) file
+        → IsJoinedAnswer (map string_bytes paths.now) (map file (map string_bytes paths.now))
+        (first_none (map string_bytes paths.now) (map file (map string_bytes paths.now)))
+        (answer_view a)) }
+    ensures halted { IfErr result (IsHalt (S.may_fail shelf.now)) }
 {
-    let status = undefined_status(why);
-    match why {
-        Undefined::Unread => status,
-        Undefined::Different => complain(faults, path, "no definition says this", status),
-        Undefined::Failed(Failure::Writing) => {
-            complain(faults, NAME, "standard error failed", status)
-        }
-        Undefined::Failed(Failure::OutOfMemory) => {
-            complain(faults, NAME, "out of memory", status)
-        }
-        Undefined::Refused(refusal) => {
-            let mut lines = Lines { writer: faults };
-            let mut is_named = false;
-            for member in members {
-                if let Some(what) = fault_of(&member.class) {
-                    let _ = writeln!(lines, "{}: {what}", Place(Site::Library(path), member));
-                    is_named = true;
-                }
-            }
-            if !is_named {
-                let _ = writeln!(lines, "{path}: no definition says this: {refusal}");
-            }
-            status
-        }
-    }
-}
-
-// Says of which DLLs a library is that has more than one, and gives the exit status.
-fn say_dlls<E: Write>(faults: &mut E, path: &str, names: &IndexSet<&[u8]>) -> u8
-    ensures { result ≡ 1 }
-{
-    let mut lines = Lines { writer: faults };
-    for name in names.iter() {
-        let _ = writeln!(
-            lines,
-            "{path}: imports from {}; a definition is of one DLL",
-            Shown(name)
-        );
-    }
-    1
-}
-
-// Writes the definition of a library or of a DLL, and gives the exit status.
-fn run_define<S: Shelf, O: Write, E: Write>(
-    alloc: Global,
-    shelf: &S,
-    printer: &mut O,
-    faults: &mut E,
-    define: &Define,
-) -> u8
-    ensures { AnswersDefine (define_view define.now) (S.seen shelf.now define.now.library.now)
-        result }
-{
-    let bytes = match bytes_of(alloc, shelf, faults, define.library) {
-        Ok(bytes) => bytes,
-        Err(status) => return status,
-    };
-    if !begins_dll(&bytes) {
-        return define_library(alloc, printer, faults, define, &bytes, false);
-    }
-    match library_of_dll(alloc, faults, define, &bytes) {
-        Ok(file) => define_library(alloc, printer, faults, define, &file, true),
-        Err(status) => status,
-    }
-}
-
-// Writes the definition of a library, with its hints as ordinals or as comments, and gives the exit
-// status.
-fn define_library<O: Write, E: Write>(
-    alloc: Global,
-    printer: &mut O,
-    faults: &mut E,
-    define: &Define,
-    bytes: &[u8],
-    hints: bool,
-) -> u8
-    ensures { OrFailed result
-        (DefinedAs hints (define_view define.now) bytes.now (archive_in bytes.now) result) }
-{
-    let path = define.library;
-    let library = match library_of(alloc, faults, path, bytes) {
-        Ok(library) => library,
-        Err(status) => return status,
-    };
-    let members = library.members.as_slice();
-    let options = options_of(define, members);
-    doubt(faults, path, members, true);
-    let names = match dlls_of(alloc, members) {
-        Ok(names) => names,
-        Err(_) => return complain(faults, NAME, "out of memory", 3),
-    };
-    let count = names.len();
-    if count == 0 {
-        return complain(faults, path, "imports from no DLL", 1);
-    }
-    if count > 1 {
-        return say_dlls(faults, path, &names);
-    }
-    if has_arm64ec(members) {
-        return complain(
-            faults,
-            path,
-            "imports for arm64ec, of which --def writes no definition",
-            1,
-        );
-    }
-    let form = Form {
-        alloc,
-        is_json: false,
-    };
-    let paths = (path, TRIED);
-    let found = definition_of(
-        form,
-        faults,
-        paths,
-        members,
-        &options,
-        hints,
-        define.older_symbols,
-    );
-    match found {
-        Ok(text) => match printer.write_all(&text) {
-            Ok(()) => 0,
-            Err(error) => complain(faults, NAME, error, 3),
-        },
-        Err(why) => say_undefined(faults, path, members, &why),
-    }
+    let files = all_bytes(form.alloc, shelf, paths)?;
+    Ok(together(form, paths, &files)?)
 }
 
 // What is said of words that ask for nothing.
@@ -473,64 +219,152 @@ fn wrong_call(words: &[String]) -> &'static str {
     }
 }
 
-/// Does what a command line asks for, and gives the exit status.
-pub fn run<S: Shelf, O: Write, E: Write>(
+/// The answer to what a command line asks for.
+///
+/// # Errors
+///
+/// `Ends`: a file or a folder cannot be read, and the answer says so, with status 3.
+pub fn answer<S: Shelf>(
     alloc: Global,
     shelf: &S,
     command_line: &CommandLine,
-    printer: &mut O,
-    faults: &mut E,
-) -> u8
-    ensures { AnswersTask (S.seen shelf.now) (S.listed shelf.now)
-        (option_and_then (in_form command_line.now.is_json)
-        (task_named (map string_bytes command_line.now.words.items))) result }
+) -> Result<Answer, Halt>
+    ensures answered { IfOk result (λ a. AnswersTask command_line.now.is_json (S.seen shelf.now)
+        (S.listed shelf.now) (option_and_then (in_form command_line.now.is_json)
+        (task_named (map string_bytes command_line.now.words.items))) (answer_view a)) }
+    ensures halted { IfErr result (IsHalt (S.may_fail shelf.now)) }
 {
     let form = Form {
         alloc,
         is_json: command_line.is_json,
     };
     match call_named(command_line) {
-        Some(Task::Help) => print(printer, faults, HELP),
-        Some(Task::Version) => print(printer, faults, VERSION),
-        Some(Task::List(path)) => run_list(alloc, shelf, form, printer, faults, path),
-        Some(Task::Exports(path)) => run_exports(alloc, shelf, form, printer, faults, path),
-        Some(Task::Identify(path, is_strict)) => run_identify(
-            alloc, shelf, printer, faults, path, is_strict,
-        ),
-        Some(Task::Works(path)) => run_works(alloc, shelf, form, printer, faults, path),
-        Some(Task::Same(left, right)) => {
-            run_same(alloc, shelf, form, printer, faults, left, right)
-        },
-        Some(Task::Together(paths)) => run_together(alloc, shelf, form, printer, faults, paths),
-        Some(Task::Check(check)) => run_check(alloc, shelf, form, printer, faults, &check),
-        Some(Task::Define(define)) => run_define(alloc, shelf, printer, faults, &define),
-        Some(Task::Program(path, folders)) => {
-            run_program(alloc, shelf, form, printer, faults, path, folders)
-        },
-        None => complain(faults, NAME, wrong_call(&command_line.words), 2),
+        Some(Task::Help) => Ok(text_alone(alloc, HELP)?),
+        Some(Task::Version) => Ok(text_alone(alloc, VERSION)?),
+        Some(Task::List(path)) => list_file(form, shelf, path),
+        Some(Task::Exports(path)) => exports_of_file(form, shelf, path),
+        Some(Task::Identify(path, is_strict)) => identify_file(form, shelf, path, is_strict),
+        Some(Task::Works(path)) => works_file(form, shelf, path),
+        Some(Task::Same(left, right)) => same_files(form, shelf, left, right),
+        Some(Task::Together(paths)) => together_files(form, shelf, paths),
+        Some(Task::Check(asked)) => check(form, shelf, &asked),
+        Some(Task::Define(asked)) => define_file(form, shelf, &asked),
+        Some(Task::Program(path, folders)) => start(form, shelf, path, folders),
+        None => Ok(saying(alloc, 2, NAME, wrong_call(&command_line.words))?),
     }
 }
 
-/// Runs the program with the command line of the process, and gives the exit status: 0 where it is
-/// done or the libraries are the same, 1 where they differ, a definition is refused or there is no
-/// DLL or no definition, 2 where the call is wrong, 3 where a file or an allocation failed, and 4
-/// where a member that may matter was not understood.
+/// Why a call has no exit status of its own.
+#[derive(Drop)]
+pub enum Failure {
+    /// Standard output failed.
+    Output(io::Error),
+    /// Standard error failed.
+    Errors,
+    /// An allocation failed.
+    OutOfMemory,
+}
+
+// Writes an answer, first what goes to standard error, and gives its status.
+fn write_answer<O: Write, E: Write>(
+    printer: &mut O,
+    faults: &mut E,
+    found: &Answer,
+) -> Result<u8, Failure>
+    ensures { IfOk result (IsWritten (answer_view found.now)
+        (O.contents printer.old) (O.contents printer.new)
+        (E.contents faults.old) (E.contents faults.new)) }
+{
+    let said = faults.write_all(&found.err);
+    if let Err(error) = printer.write_all(&found.out) {
+        return Err(Failure::Output(error));
+    }
+    match said {
+        Ok(()) => Ok(found.status),
+        Err(_) => Err(Failure::Errors),
+    }
+}
+
+/// Does what a command line asks for: reads, finds the answer, and then writes it, first what goes
+/// to standard error; and gives the exit status: 0 where it is done or the libraries are the same, 1
+/// where they differ, or a content is refused, 2 where the call is wrong, 3 where a file or a folder
+/// cannot be read, and 4 where a member that may matter was not understood.
+///
+/// # Errors
+///
+/// `Output`, `Errors`: a stream failed. `OutOfMemory`: an allocation.
+pub fn run<S: Shelf, O: Write, E: Write>(
+    alloc: Global,
+    shelf: &S,
+    command_line: &CommandLine,
+    printer: &mut O,
+    faults: &mut E,
+) -> Result<u8, Failure>
+    ensures { IfOk result (Runs (S.may_fail shelf.now) command_line.now.is_json (S.seen shelf.now)
+        (S.listed shelf.now) (option_and_then (in_form command_line.now.is_json)
+        (task_named (map string_bytes command_line.now.words.items)))
+        (O.contents printer.old) (O.contents printer.new)
+        (E.contents faults.old) (E.contents faults.new)) }
+{
+    match answer(alloc, shelf, command_line) {
+        Ok(found) => {
+            let status = write_answer(printer, faults, &found)?;
+            Ok(status)
+        }
+        Err(Halt::Ends(found)) => {
+            let status = write_answer(printer, faults, &found)?;
+            Ok(status)
+        }
+        Err(Halt::OutOfMemory) => Err(Failure::OutOfMemory),
+    }
+}
+
+// Writes a line of standard error, and gives status 3. A failure of the writer is ignored.
+fn fail<E: Write>(faults: &mut E, text: &str) -> u8 {
+    let _ = faults.write_all(NAME.as_bytes());
+    let _ = faults.write_all(b": ");
+    let _ = faults.write_all(text.as_bytes());
+    let _ = faults.write_all(b"\n");
+    3
+}
+
+/// The exit status of a call; what failed is said on standard error, and has status 3.
+pub fn status_of<E: Write>(faults: &mut E, done: Result<u8, Failure>) -> u8
+    ensures { IfOk done (λ status. result ≡ status) }
+{
+    match done {
+        Ok(status) => status,
+        Err(Failure::OutOfMemory) => fail(faults, "out of memory"),
+        Err(Failure::Errors) => 3,
+        Err(Failure::Output(error)) => match error.kind() {
+            ErrorKind::OutOfMemory => fail(faults, "out of memory"),
+            _ => fail(faults, "standard output failed"),
+        },
+    }
+}
+
+// The words of the process, as the program reads them.
+fn words_of<R: Env + AllocGlobal>(rt: &R) -> io::Result<CommandLine> {
+    let arguments: Result<Vec<String>, AllocError> = env::args(rt)?.skip(1).collect(rt.alloc());
+    Ok(CommandLine::read(rt.alloc(), &arguments?)?)
+}
+
+/// Runs the program with the command line of the process, and gives the exit status.
 pub fn perform<R: Env + AllocGlobal, S: Shelf, O: Write, E: Write>(
     rt: &R,
     shelf: &S,
     printer: &mut O,
     faults: &mut E,
 ) -> u8 {
-    let command_line = match env::args(rt) {
+    let command_line = match words_of(rt) {
         Ok(command_line) => command_line,
-        Err(error) => return complain(faults, NAME, error, 3),
+        Err(error) => {
+            let Ok(text) = error.to_string(rt.alloc()) else {
+                return fail(faults, "out of memory");
+            };
+            return fail(faults, text.as_str());
+        }
     };
-    let arguments: Result<Vec<String>, AllocError> = command_line.skip(1).collect(rt.alloc());
-    let Ok(arguments) = arguments else {
-        return complain(faults, NAME, "out of memory", 3);
-    };
-    match CommandLine::read(rt.alloc(), &arguments) {
-        Ok(command_line) => run(rt.alloc(), shelf, &command_line, printer, faults),
-        Err(_) => complain(faults, NAME, "out of memory", 3),
-    }
+    let done = run(rt.alloc(), shelf, &command_line, printer, faults);
+    status_of(faults, done)
 }

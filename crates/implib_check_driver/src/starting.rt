@@ -5,70 +5,78 @@
 //! a DLL of which nothing is asked a loader needs none. What DLLs import themselves, and where
 //! forwarders lead, is not looked at.
 
+ghost use Rattle.std.specs.List.{flat_map};
 ghost use Rattle.std.specs.Option.{option_map};
-ghost use Rattle.std.specs.Prelude.{◌≡◌, ℕ, IfErr, IfOk, List, if◌then◌else◌, map};
+ghost use Rattle.std.specs.Prelude.{◌≡◌, ℕ, ◌++◌, ◌∷◌, [], IfErr, IfOk, List, OnOk, map};
 ghost use Rattle.std.specs.String.{string_bytes};
-ghost use Rattle.implib_check_driver.specs.Answers.{AnswersProgram, OrFailed};
-ghost use Rattle.implib_check_driver.specs.Starting.{dll_status, dlls_status, program_status};
-ghost use Rattle.implib_check_driver.specs.Starting.{status_in};
-ghost use Rattle.implib_dll_check.specs.Folders.{AreKnown, dll_path, folder_view, listings};
+ghost use Rattle.implib_check_driver.specs.Answer.{IsHalt, answer_view};
+ghost use Rattle.implib_check_driver.specs.Json.{unmet_view};
+ghost use Rattle.implib_check_driver.specs.Starting.{IsProgramAnswer, dlls_lines, dlls_status};
+ghost use Rattle.implib_check_driver.specs.Starting.{lost_of, unmet_at, unmet_by, unmet_lines};
+ghost use Rattle.implib_check_driver.specs.Starting.{unmet_of, unmet_status};
 ghost use Rattle.implib_dll.specs.Exports.{exports_in};
 ghost use Rattle.implib_dll.specs.Imports.{imports_in};
 ghost use Rattle.implib_dll.specs.Views.{ask_view, exports_view, imported_view, imports_view};
 ghost use Rattle.implib_dll.specs.declared.section.Layout.TheVariants.{File};
 ghost use Rattle.implib_dll_check.specs.DllName.{loader_name};
-ghost use Rattle.implib_dll_check.specs.Programs.{finds_all};
+ghost use Rattle.implib_dll_check.specs.Folders.{AreKnown, dll_path, folder_view, listings};
 
-use crate::beside::NoImage;
-use crate::console::{NAME, bytes_of, complain, status_of};
+use crate::answer::{Answer, Halt, bytes_of, said_of};
 use crate::finding::{Finding, Unmet};
-use crate::report::{Failure, Form, tell};
+use crate::report::{Form, tell};
 use crate::shelf::Shelf;
-use implib_dll::{Ask, Exports, ImportedDll, Imports, ReadError};
-use implib_dll_check::{Folder, Loss, dll_path, finds_all, is_asked, judge_ask, loader_name};
+use implib_dll::{Ask, Exports, Fault, ImportedDll, Imports, ReadError};
+use implib_dll_check::{Folder, Loss, dll_path, is_asked, judge_ask, loader_name};
 use std::alloc::{AllocError, Global};
-use std::io::Write;
+use std::fmt;
 
-// The names of the files in a folder, or an exit status.
-fn names_in<S: Shelf, E: Write>(
-    alloc: Global,
-    shelf: &S,
-    faults: &mut E,
-    path: &str,
-) -> Result<Vec<String>, u8>
-    ensures listed { IfOk result (λ found. (names : List ℕ → List (List ℕ))
-        → AreKnown (S.listed shelf.now) names
-        → map string_bytes found.items ≡ names path.now) }
-    ensures failed { IfErr result (λ status. status ≡ 3) }
-{
-    match shelf.names(alloc, path) {
-        Ok(names) => Ok(names),
-        Err(error) => Err(complain(faults, path, error, 3)),
+/// Why a file is no image that is read.
+#[derive(Drop)]
+pub(crate) struct NoImage(pub Fault);
+
+impl fmt::Display for NoImage {
+    fn fmt<W: fmt::Write>(&self, f: &mut fmt::Formatter<W>) -> fmt::Result {
+        let offset = self.0.offset;
+        write!(
+            f,
+            "no program that can be read: {}, at {offset:#x}",
+            self.0.cause
+        )
     }
 }
 
-// The folders of paths, or an exit status.
-pub(crate) fn folders_of<'a, S: Shelf, E: Write>(
+// The names of the files in a folder.
+fn names_in<S: Shelf>(alloc: Global, shelf: &S, path: &str) -> Result<Vec<String>, Halt>
+    ensures listed { IfOk result (λ found. (names : List ℕ → List (List ℕ))
+        → AreKnown (S.listed shelf.now) names
+        → map string_bytes found.items ≡ names path.now) }
+    ensures halted { IfErr result (IsHalt (S.may_fail shelf.now)) }
+{
+    match shelf.names(alloc, path) {
+        Ok(names) => Ok(names),
+        Err(error) => Err(Halt::Ends(said_of(alloc, 3, path, error)?)),
+    }
+}
+
+/// The folders of paths.
+///
+/// # Errors
+///
+/// `Ends`: a folder cannot be read.
+pub(crate) fn folders_of<'a, S: Shelf>(
     alloc: Global,
     shelf: &S,
-    faults: &mut E,
     paths: &'a [String],
-) -> Result<Vec<Folder<'a>>, u8>
+) -> Result<Vec<Folder<'a>>, Halt>
     ensures listed { IfOk result (λ folders. (names : List ℕ → List (List ℕ))
         → AreKnown (S.listed shelf.now) names
         → map folder_view folders.items ≡ listings names (map string_bytes paths.now)) }
-    ensures failed { IfErr result (λ status. status ≡ 3) }
+    ensures halted { IfErr result (IsHalt (S.may_fail shelf.now)) }
 {
     let mut folders = Vec::new(alloc);
     for path in paths {
-        let names = match names_in(alloc, shelf, faults, path) {
-            Ok(names) => names,
-            Err(status) => return Err(status),
-        };
-        let folder = Folder { path, names };
-        if folders.push(folder).is_err() {
-            return Err(complain(faults, NAME, "out of memory", 3));
-        }
+        let names = names_in(alloc, shelf, path)?;
+        folders.push(Folder { path, names })?;
     }
     Ok(folders)
 }
@@ -90,143 +98,146 @@ struct Importer<'p, 'i, 'a> {
     imported: &'i ImportedDll<'a>,
 }
 
-// Writes what of a DLL a program does not find there.
-fn tell_unmet<O: Write>(
+// Adds what of a DLL a program does not find, and gives the status of that.
+fn tell_unmet(
     form: Form,
-    printer: &mut O,
+    out: &mut Vec<u8>,
+    importer: Importer,
+    unmet: Unmet,
+) -> Result<u8, AllocError>
+    ensures status { IfOk result (λ status. status ≡ 1) }
+    ensures told { OnOk result (out.new.items ≡ out.old.items ++ unmet_lines form.is_json
+        importer.entry.path.now importer.entry.imported.now.dll.now
+        (unmet_view unmet.entry ∷ [])) }
+{
+    let finding = Finding::Unmet(importer.path, importer.imported.dll, unmet);
+    tell(form, out, &finding)?;
+    Ok(1)
+}
+
+// Adds an ask that a DLL does not meet, and gives its status.
+fn tell_ask(
+    form: Form,
+    out: &mut Vec<u8>,
     importer: Importer,
     path: &str,
     exports: &Exports,
-) -> Result<(), Failure> {
-    let program = importer.path;
-    let dll = importer.imported.dll;
-    if importer.machine != exports.machine {
-        let unmet = Unmet::Lost(path, Loss::OtherMachine, None);
-        return tell(form, printer, &Finding::Unmet(program, dll, unmet));
-    }
-    for ask in importer.imported.asks.iter() {
-        if judge_ask(exports, *ask).is_lost() {
-            let unmet = Unmet::Lost(path, Loss::NotFound, Some(*ask));
-            tell(form, printer, &Finding::Unmet(program, dll, unmet))?;
-        }
-    }
-    Ok(())
-}
-
-// The status of lines that are written, or an exit status.
-fn written_as<E: Write>(faults: &mut E, written: Result<(), Failure>, status: u8) -> Result<u8, u8>
-    ensures written { IfOk result (λ given. given ≡ status) }
-    ensures failed { IfErr result (λ given. given ≡ 3) }
+    ask: Ask,
+) -> Result<u8, AllocError>
+    ensures status { IfOk result (λ status. status
+        ≡ unmet_status (lost_of (exports_view exports.now) path.now (ask_view ask.entry))) }
+    ensures told { OnOk result (out.new.items ≡ out.old.items ++ unmet_lines form.is_json
+        importer.entry.path.now importer.entry.imported.now.dll.now
+        (lost_of (exports_view exports.now) path.now (ask_view ask.entry))) }
 {
-    match written {
-        Ok(()) => Ok(status),
-        Err(failure) => Err(status_of(faults, Err(failure), 3)),
-    }
-}
-
-// The status of what a program asks of a DLL that is read; what is not found is written.
-fn status_beside<O: Write, E: Write>(
-    form: Form,
-    printer: &mut O,
-    faults: &mut E,
-    importer: Importer,
-    path: &str,
-    exports: &Exports,
-) -> Result<u8, u8>
-    ensures found { IfOk result
-        (λ status. status ≡ if finds_all (exports_view exports.now) importer.entry.machine
-        (map ask_view importer.entry.imported.now.asks.items) then 0 else 1) }
-    ensures failed { IfErr result (λ status. status ≡ 3) }
-{
-    if finds_all(exports, importer.machine, &importer.imported.asks) {
+    if !judge_ask(exports, ask).is_lost() {
         return Ok(0);
     }
-    let written = tell_unmet(form, printer, importer, path, exports);
-    written_as(faults, written, 1)
+    let unmet = Unmet::Lost(path, Loss::NotFound, Some(ask));
+    tell_unmet(form, out, importer, unmet)
 }
 
-// The status of what a program asks of a DLL by the bytes of its file.
-fn status_in<O: Write, E: Write>(
+// Adds the asks that a DLL for the machine of a program does not meet, and gives their status.
+fn tell_asks(
     form: Form,
-    printer: &mut O,
-    faults: &mut E,
+    out: &mut Vec<u8>,
+    importer: Importer,
+    path: &str,
+    exports: &Exports,
+) -> Result<u8, AllocError>
+    ensures status { IfOk result (λ status. status ≡ unmet_status (flat_map
+        (lost_of (exports_view exports.now) path.now)
+        (map ask_view importer.entry.imported.now.asks.items))) }
+    ensures told { OnOk result (out.new.items ≡ out.old.items ++ unmet_lines form.is_json
+        importer.entry.path.now importer.entry.imported.now.dll.now (flat_map
+        (lost_of (exports_view exports.now) path.now)
+        (map ask_view importer.entry.imported.now.asks.items))) }
+{
+    let mut status = 0;
+    for ask in importer.imported.asks.iter() {
+        status = tell_ask(form, out, importer, path, exports, *ask)?.max(status);
+    }
+    Ok(status)
+}
+
+// The same of the DLL of a file's bytes.
+fn tell_file(
+    form: Form,
+    out: &mut Vec<u8>,
     importer: Importer,
     path: &str,
     bytes: &[u8],
-) -> Result<u8, u8>
-    ensures found { IfOk result
-        (λ status. status ≡ status_in (exports_in File bytes.now) importer.entry.machine
-        (map ask_view importer.entry.imported.now.asks.items)) }
-    ensures failed { IfErr result (λ status. status ≡ 3) }
+) -> Result<u8, AllocError>
+    ensures status { IfOk result (λ status. status ≡ unmet_status (unmet_by path.now
+        (exports_in File bytes.now) importer.entry.machine
+        (map ask_view importer.entry.imported.now.asks.items))) }
+    ensures told { OnOk result (out.new.items ≡ out.old.items ++ unmet_lines form.is_json
+        importer.entry.path.now importer.entry.imported.now.dll.now (unmet_by path.now
+        (exports_in File bytes.now) importer.entry.machine
+        (map ask_view importer.entry.imported.now.asks.items))) }
 {
-    match Exports::read(form.alloc, bytes) {
-        Ok(Some(exports)) => status_beside(form, printer, faults, importer, path, &exports),
-        Ok(None) => Ok(complain(faults, path, "exports nothing", 1)),
-        Err(ReadError::Refused(fault)) => Ok(complain(faults, path, NoImage(fault), 3)),
-        Err(ReadError::OutOfMemory) => Err(complain(faults, NAME, "out of memory", 3)),
+    let exports = match Exports::read(form.alloc, bytes) {
+        Ok(Some(exports)) => exports,
+        Ok(None) => return tell_unmet(form, out, importer, Unmet::NoExports(path)),
+        Err(ReadError::Refused(_)) => {
+            return tell_unmet(form, out, importer, Unmet::Unread(path));
+        }
+        Err(ReadError::OutOfMemory) => return Err(AllocError),
+    };
+    if importer.machine != exports.machine {
+        let unmet = Unmet::Lost(path, Loss::OtherMachine, None);
+        return tell_unmet(form, out, importer, unmet);
     }
+    tell_asks(form, out, importer, path, &exports)
 }
 
-// The status of a DLL that no folder has, which is written.
-fn status_without<O: Write, E: Write>(
-    form: Form,
-    printer: &mut O,
-    faults: &mut E,
-    importer: Importer,
-) -> Result<u8, u8>
-    ensures told { IfOk result (λ status. status ≡ 1) }
-    ensures failed { IfErr result (λ status. status ≡ 3) }
-{
-    let finding = Finding::Unmet(importer.path, importer.imported.dll, Unmet::NoFile);
-    let written = tell(form, printer, &finding);
-    written_as(faults, written, 1)
-}
-
-// The status of a DLL that a program imports from.
-fn dll_status<S: Shelf, O: Write, E: Write>(
+// The same of a DLL that a program imports from.
+fn tell_dll<S: Shelf>(
     form: Form,
     shelf: &S,
-    printer: &mut O,
-    faults: &mut E,
+    out: &mut Vec<u8>,
     importer: Importer,
     folders: &[Folder],
-) -> Result<u8, u8>
-    ensures found { IfOk result (λ status. (file : List ℕ → List ℕ)
+) -> Result<u8, Halt>
+    ensures status { IfOk result (λ status. (file : List ℕ → List ℕ)
         → AreKnown (S.seen shelf.now) file
-        → status ≡ dll_status file (map folder_view folders.now) importer.entry.machine
-        (imported_view importer.entry.imported.now)) }
-    ensures failed { IfErr result (λ status. status ≡ 3) }
+        → status ≡ unmet_status (unmet_of file (map folder_view folders.now) importer.entry.machine
+        (imported_view importer.entry.imported.now))) }
+    ensures told { OnOk result ((file : List ℕ → List ℕ) → AreKnown (S.seen shelf.now) file
+        → out.new.items ≡ out.old.items ++ unmet_lines form.is_json importer.entry.path.now
+        importer.entry.imported.now.dll.now (unmet_of file (map folder_view folders.now)
+        importer.entry.machine (imported_view importer.entry.imported.now))) }
+    ensures halted { IfErr result (IsHalt (S.may_fail shelf.now)) }
 {
     if !is_asked(importer.imported) {
         return Ok(0);
     }
-    let path = match file_of(form.alloc, folders, importer.imported.dll) {
-        Ok(Some(path)) => path,
-        Ok(None) => return status_without(form, printer, faults, importer),
-        Err(_) => return Err(complain(faults, NAME, "out of memory", 3)),
+    let Some(path) = file_of(form.alloc, folders, importer.imported.dll)? else {
+        return Ok(tell_unmet(form, out, importer, Unmet::NoFile)?);
     };
-    match bytes_of(form.alloc, shelf, faults, &path) {
-        Ok(bytes) => status_in(form, printer, faults, importer, &path, &bytes),
-        Err(status) => Err(status),
-    }
+    let bytes = bytes_of(form.alloc, shelf, &path)?;
+    Ok(tell_file(form, out, importer, &path, &bytes)?)
 }
 
-// The greatest status of the DLLs that a program imports from. What fails ends the call.
-fn dlls_status<S: Shelf, O: Write, E: Write>(
+// The same of all DLLs that a program imports from.
+fn tell_dlls<S: Shelf>(
     form: Form,
     shelf: &S,
-    printer: &mut O,
-    faults: &mut E,
-    program: (&str, &Imports),
+    out: &mut Vec<u8>,
+    path: &str,
+    imports: &Imports,
     folders: &[Folder],
-) -> Result<u8, u8>
-    ensures found { IfOk result (λ status. (file : List ℕ → List ℕ)
+) -> Result<u8, Halt>
+    ensures status { IfOk result (λ status. (file : List ℕ → List ℕ)
         → AreKnown (S.seen shelf.now) file
-        → status ≡ dlls_status file (map folder_view folders.now) program.entry.1.now.machine
-        (map imported_view program.entry.1.now.dlls.items)) }
-    ensures failed { IfErr result (λ status. status ≡ 3) }
+        → status ≡ dlls_status file (map folder_view folders.now) imports.now.machine
+        (map imported_view imports.now.dlls.items)) }
+    ensures told { OnOk result ((file : List ℕ → List ℕ) → AreKnown (S.seen shelf.now) file
+        → out.new.items ≡ out.old.items ++ dlls_lines form.is_json path.now file
+        (map folder_view folders.now) imports.now.machine
+        (map imported_view imports.now.dlls.items)) }
+    ensures halted { IfErr result (IsHalt (S.may_fail shelf.now)) }
 {
-    let (path, imports) = program;
     let mut status = 0;
     for imported in imports.dlls.iter() {
         let importer = Importer {
@@ -234,43 +245,43 @@ fn dlls_status<S: Shelf, O: Write, E: Write>(
             machine: imports.machine,
             imported,
         };
-        match dll_status(form, shelf, printer, faults, importer, folders) {
-            Ok(next) => status = status.max(next),
-            Err(failed) => return Err(failed),
-        }
+        status = tell_dll(form, shelf, out, importer, folders)?.max(status);
     }
     Ok(status)
 }
 
-/// Says whether a program finds what it imports in the DLLs of some folders, and gives the exit
-/// status.
-pub(crate) fn run_program<S: Shelf, O: Write, E: Write>(
-    alloc: Global,
-    shelf: &S,
+/// The answer to the call that says whether a program finds what it imports in the DLLs of some
+/// folders.
+///
+/// # Errors
+///
+/// `Ends`: a file or a folder cannot be read.
+pub fn start<S: Shelf>(
     form: Form,
-    printer: &mut O,
-    faults: &mut E,
+    shelf: &S,
     path: &str,
     folders: &[String],
-) -> u8
-    ensures { AnswersProgram (S.seen shelf.now) (S.listed shelf.now) path.now
-        (map string_bytes folders.now) result }
+) -> Result<Answer, Halt>
+    ensures answered { IfOk result (λ a. (file : List ℕ → List ℕ) (names : List ℕ → List (List ℕ))
+        → AreKnown (S.seen shelf.now) file → AreKnown (S.listed shelf.now) names
+        → IsProgramAnswer form.is_json path.now file
+        (listings names (map string_bytes folders.now)) (imports_in File (file path.now))
+        (answer_view a)) }
+    ensures halted { IfErr result (IsHalt (S.may_fail shelf.now)) }
 {
-    let bytes = match bytes_of(alloc, shelf, faults, path) {
-        Ok(bytes) => bytes,
-        Err(status) => return status,
-    };
+    let alloc = form.alloc;
+    let bytes = bytes_of(alloc, shelf, path)?;
+    let folders = folders_of(alloc, shelf, folders)?;
     let imports = match Imports::read(alloc, &bytes) {
         Ok(imports) => imports,
-        Err(ReadError::Refused(fault)) => return complain(faults, path, NoImage(fault), 3),
-        Err(ReadError::OutOfMemory) => return complain(faults, NAME, "out of memory", 3),
+        Err(ReadError::Refused(fault)) => return Ok(said_of(alloc, 1, path, NoImage(fault))?),
+        Err(ReadError::OutOfMemory) => return Err(Halt::OutOfMemory),
     };
-    let folders = match folders_of(alloc, shelf, faults, folders) {
-        Ok(folders) => folders,
-        Err(status) => return status,
-    };
-    match dlls_status(form, shelf, printer, faults, (path, &imports), &folders) {
-        Ok(status) => status,
-        Err(status) => status,
-    }
+    let mut out = Vec::new(alloc);
+    let status = tell_dlls(form, shelf, &mut out, path, &imports, &folders)?;
+    Ok(Answer {
+        status,
+        out,
+        err: Vec::new(alloc),
+    })
 }

@@ -2,13 +2,10 @@
 
 ghost use Rattle.std.specs.Prelude.{◌≡◌};
 ghost use Rattle.implib_check_driver.specs.Status.{comparison_status, identity_status, list_status};
-ghost use Rattle.implib_check_driver.specs.Status.{refusal_status, together_status};
-ghost use Rattle.implib_check_driver.specs.Status.{undefined_status, verdict_status};
+ghost use Rattle.implib_check_driver.specs.Status.{together_status, verdict_status};
 
-use crate::defining::Undefined;
 use implib_compare::compare::Verdict;
 use implib_compare::working::{Working, working_status};
-use implib_rules::library::Refusal;
 
 /// The exit status of a comparison.
 pub fn verdict_status(verdict: Verdict) -> u8
@@ -49,28 +46,6 @@ pub fn identity_status(unread: bool, count: usize, is_strict: bool) -> u8
         1
     } else {
         0
-    }
-}
-
-/// The exit status of a definition that is refused: it means no library, so no library is the same.
-pub fn refusal_status(refusal: &Refusal) -> u8
-    ensures { result ≡ refusal_status refusal.now }
-{
-    match refusal {
-        Refusal::OutOfMemory => 3,
-        _ => 1,
-    }
-}
-
-/// The exit status of a library without a definition.
-pub fn undefined_status(why: &Undefined) -> u8
-    ensures { result ≡ undefined_status why.now }
-{
-    match why {
-        Undefined::Unread => 4,
-        Undefined::Refused(refusal) => refusal_status(refusal),
-        Undefined::Different => 1,
-        Undefined::Failed(_) => 3,
     }
 }
 

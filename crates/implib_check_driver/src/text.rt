@@ -1,16 +1,20 @@
-//! The lines that are written.
-//!
-//! A row of the list has six columns behind the offset, and a seventh, `arm64ec`, for an import for
-//! ARM64EC alone: rows for other machines stay as they are, and a library for ARM64EC may have the
-//! same import for ARM64.
+//! The texts of members and names.
 
-ghost use Rattle.std.specs.Prelude.{◌≡◌};
-ghost use Rattle.implib_check_driver.specs.Json.{kind_word};
+ghost use Rattle.std.specs.Prelude.{◌≡◌, IfSome, Some};
+ghost use Rattle.implib_check_driver.specs.Json.{kind_word, site_view};
+ghost use Rattle.implib_check_driver.specs.Listing.{doubt_of, is_listed, symbol_of};
+ghost use Rattle.implib_check_driver.specs.Text.{asked_columns, asked_words, dll_column};
+ghost use Rattle.implib_check_driver.specs.Text.{import_columns, is_plain, machine_text};
+ghost use Rattle.implib_check_driver.specs.Text.{mark_column, path_of, place, said, shown};
+ghost use Rattle.implib_check_driver.specs.Text.{shown_byte};
+ghost use Rattle.implib_read.specs.ClassViews.{class_view, member_read_view};
+ghost use Rattle.implib_read.specs.ImportViews.{ask_view};
+ghost use Rattle.std.specs.Option.{option_map};
 
 use crate::target::ARM64EC;
 use implib::def::Position;
 use implib_compare::compare::{is_other, is_unread};
-use implib_read::{AskFound, ImportFound, ImportKind, MemberClass, MemberRead, linked_symbol};
+use implib_read::{AskFound, ImportKind, MemberClass, MemberRead, linked_symbol};
 use std::fmt;
 use std::fmt::Write as _;
 
@@ -20,23 +24,53 @@ use std::fmt::Write as _;
 pub struct Shown<'a>(pub &'a [u8]);
 
 // Whether a byte is shown as it is.
-fn is_plain(byte: u8) -> bool {
+fn is_plain(byte: u8) -> bool
+    ensures { result ≡ is_plain byte }
+{
     0x21 <= byte && byte <= 0x7E && byte != b'\\'
 }
 
-impl<'a> fmt::Display for Shown<'a> {
+// The text of a name whose bytes are all shown as they are.
+#[tactic(auto, unfolding(crate::specs::Text::shown))]
+fn plain_text(name: &[u8]) -> Option<&str>
+    ensures { IfSome result (λ text. text.now ≡ shown name.now) }
+{
+    for byte in name {
+        if !is_plain(*byte) {
+            return None;
+        }
+    }
+    str::from_utf8(name).ok()
+}
+
+// A byte of a name.
+#[derive(Clone, Copy)]
+struct ShownByte(u8);
+
+impl fmt::Display for ShownByte {
+    ghost output = { λ b. Some (shown_byte b.0) };
+
     fn fmt<W: fmt::Write>(&self, f: &mut fmt::Formatter<W>) -> fmt::Result {
-        if self.0.iter().all(|byte| is_plain(*byte)) {
-            if let Ok(text) = str::from_utf8(self.0) {
-                return f.write_str(text);
-            }
+        let byte = self.0;
+        if is_plain(byte) {
+            return f.write_char(byte as char);
+        }
+        let high = byte / 16;
+        let low = byte % 16;
+        write!(f, "\\x{high:x}{low:x}")
+    }
+}
+
+impl<'a> fmt::Display for Shown<'a> {
+    ghost output = { λ s. Some (shown s.0.now) };
+
+    #[tactic(auto, unfolding(crate::specs::Text::shown))]
+    fn fmt<W: fmt::Write>(&self, f: &mut fmt::Formatter<W>) -> fmt::Result {
+        if let Some(text) = plain_text(self.0) {
+            return f.write_str(text);
         }
         for byte in self.0 {
-            if is_plain(*byte) {
-                f.write_char(*byte as char)?;
-            } else {
-                write!(f, "\\x{byte:02x}")?;
-            }
+            write!(f, "{}", ShownByte(*byte))?;
         }
         Ok(())
     }
@@ -56,7 +90,9 @@ pub fn kind_word(kind: ImportKind) -> &'static str
 }
 
 /// The symbol of a member that is an import or an alias.
-pub fn symbol_of_member<'m, 'a: 'm>(member: &'m MemberRead<'a>) -> &'m [u8] {
+pub fn symbol_of_member<'m, 'a: 'm>(member: &'m MemberRead<'a>) -> &'m [u8]
+    ensures { result.now ≡ symbol_of (class_view member.now.class) }
+{
     match &member.class {
         MemberClass::Import(import) => linked_symbol(&import.declared),
         MemberClass::Alias(alias) => alias.weak,
@@ -64,53 +100,102 @@ pub fn symbol_of_member<'m, 'a: 'm>(member: &'m MemberRead<'a>) -> &'m [u8] {
     }
 }
 
-// A row of the list, after its offset.
+// What a DLL is asked for, in columns.
 #[derive(Clone, Copy)]
-struct Row<'m, 'a>(&'m ImportFound<'a>);
+struct AskColumns<'a>(AskFound<'a>);
 
-impl<'m, 'a> fmt::Display for Row<'m, 'a> {
+impl<'a> fmt::Display for AskColumns<'a> {
+    ghost output = { λ a. Some (asked_columns (ask_view a.0)) };
+
     fn fmt<W: fmt::Write>(&self, f: &mut fmt::Formatter<W>) -> fmt::Result {
-        let import = self.0;
-        let dll = Shown(import.dll);
-        let symbol = Shown(linked_symbol(&import.declared));
-        let kind = kind_word(import.kind);
-        write!(f, "{dll}\t{symbol}\t{kind}\t")?;
-        match import.ask {
-            AskFound::Name(name, hint) => write!(f, "name\t{}\t{hint}", Shown(name))?,
-            AskFound::Ordinal(ordinal) => write!(f, "ordinal\t\t{ordinal}")?,
+        match self.0 {
+            AskFound::Name(name, hint) => write!(f, "name\t{}\t{hint}", Shown(name)),
+            AskFound::Ordinal(ordinal) => write!(f, "ordinal\t\t{ordinal}"),
         }
-        if import.machine == ARM64EC {
-            f.write_str("\tarm64ec")?;
+    }
+}
+
+// The column that an import for ARM64EC has more.
+fn mark_column(machine: u16) -> &'static str
+    ensures { result.now ≡ mark_column machine }
+{
+    if machine == ARM64EC { "\tarm64ec" } else { "" }
+}
+
+/// The DLL of a member in a row of the list.
+#[derive(Clone, Copy)]
+pub struct DllColumn<'m, 'a>(pub &'m MemberRead<'a>);
+
+impl<'m, 'a> fmt::Display for DllColumn<'m, 'a> {
+    ghost output = { λ m. Some (dll_column (member_read_view m.0.now).class) };
+
+    #[tactic(auto, unfolding(crate::specs::Text::dll_column))]
+    fn fmt<W: fmt::Write>(&self, f: &mut fmt::Formatter<W>) -> fmt::Result {
+        match &self.0.class {
+            MemberClass::Import(import) => write!(f, "{}", Shown(import.dll)),
+            _ => Ok(()),
         }
-        Ok(())
+    }
+}
+
+/// The columns of a member behind its symbol.
+#[derive(Clone, Copy)]
+pub struct ImportColumns<'m, 'a>(pub &'m MemberRead<'a>);
+
+impl<'m, 'a> fmt::Display for ImportColumns<'m, 'a> {
+    ghost output = { λ m. Some (import_columns (member_read_view m.0.now).class) };
+
+    #[tactic(auto, unfolding(crate::specs::Text::import_columns))]
+    fn fmt<W: fmt::Write>(&self, f: &mut fmt::Formatter<W>) -> fmt::Result {
+        match &self.0.class {
+            MemberClass::Import(import) => {
+                let kind = kind_word(import.kind);
+                let asked = AskColumns(import.ask);
+                let mark = mark_column(import.machine);
+                write!(f, "{kind}\t{asked}{mark}")
+            }
+            MemberClass::Alias(alias) => write!(f, "alias\tsymbol\t{}\t", Shown(alias.target)),
+            _ => Ok(()),
+        }
     }
 }
 
 /// Whether a member is an import or an alias.
-pub fn is_listed(class: &MemberClass) -> bool {
+pub fn is_listed(class: &MemberClass) -> bool
+    ensures { result ≡ is_listed (class_view class.now) }
+{
     match class {
         MemberClass::Import(_) | MemberClass::Alias(_) => true,
         _ => false,
     }
 }
 
-/// The row of a member, if it is an import or an alias.
+// What a DLL is asked for, in words.
 #[derive(Clone, Copy)]
-pub struct Listed<'m, 'a>(pub &'m MemberRead<'a>);
+struct AskWords<'a>(AskFound<'a>);
 
-impl<'m, 'a> fmt::Display for Listed<'m, 'a> {
+impl<'a> fmt::Display for AskWords<'a> {
+    ghost output = { λ a. Some (asked_words (ask_view a.0)) };
+
     fn fmt<W: fmt::Write>(&self, f: &mut fmt::Formatter<W>) -> fmt::Result {
-        let offset = self.0.offset;
-        match &self.0.class {
-            MemberClass::Import(import) => write!(f, "0x{offset:x}\t{}", Row(import)),
-            MemberClass::Alias(alias) => write!(
-                f,
-                "0x{offset:x}\t\t{}\talias\tsymbol\t{}\t",
-                Shown(alias.weak),
-                Shown(alias.target)
-            ),
-            _ => Ok(()),
+        match self.0 {
+            AskFound::Name(name, _) => write!(f, "{}", Shown(name)),
+            AskFound::Ordinal(ordinal) => write!(f, "ordinal {ordinal}"),
         }
+    }
+}
+
+// The number of a machine.
+#[derive(Clone, Copy)]
+struct MachineNumber(u16);
+
+impl fmt::Display for MachineNumber {
+    ghost output = { λ m. Some (machine_text m.0) };
+
+    #[tactic(auto, unfolding(crate::specs::Text::machine_text))]
+    fn fmt<W: fmt::Write>(&self, f: &mut fmt::Formatter<W>) -> fmt::Result {
+        let number = self.0;
+        write!(f, "0x{number:04x}")
     }
 }
 
@@ -119,20 +204,17 @@ impl<'m, 'a> fmt::Display for Listed<'m, 'a> {
 pub struct Said<'m, 'a>(pub &'m MemberRead<'a>);
 
 impl<'m, 'a> fmt::Display for Said<'m, 'a> {
+    ghost output = { λ m. Some (said (member_read_view m.0.now).class) };
+
+    #[tactic(auto, unfolding(crate::specs::Text::said))]
     fn fmt<W: fmt::Write>(&self, f: &mut fmt::Formatter<W>) -> fmt::Result {
         match &self.0.class {
             MemberClass::Import(import) => {
                 let dll = Shown(import.dll);
+                let asked = AskWords(import.ask);
                 let kind = kind_word(import.kind);
-                match import.ask {
-                    AskFound::Name(name, _) => {
-                        write!(f, "asks {dll} for {}, {kind}", Shown(name))?;
-                    }
-                    AskFound::Ordinal(ordinal) => {
-                        write!(f, "asks {dll} for ordinal {ordinal}, {kind}")?;
-                    }
-                }
-                write!(f, ", machine 0x{:04x}", import.machine)
+                let machine = MachineNumber(import.machine);
+                write!(f, "asks {dll} for {asked}, {kind}, machine {machine}")
             }
             MemberClass::Alias(alias) => write!(f, "is an alias of {}", Shown(alias.target)),
             _ => f.write_str("says nothing"),
@@ -151,7 +233,9 @@ pub enum Site<'p> {
 
 impl<'p> Site<'p> {
     /// The file.
-    pub fn path(self) -> &'p str {
+    pub fn path(self) -> &'p str
+        ensures { result.now ≡ path_of (site_view self.entry) }
+    {
         match self {
             Site::Library(path) | Site::Definition(path, _) => path,
         }
@@ -164,11 +248,15 @@ impl<'p> Site<'p> {
 pub struct Place<'p, 'm, 'a>(pub Site<'p>, pub &'m MemberRead<'a>);
 
 impl<'p, 'm, 'a> fmt::Display for Place<'p, 'm, 'a> {
+    ghost output = { λ p. Some (place (site_view p.0) (member_read_view p.1.now)) };
+
+    #[tactic(auto, unfolding(crate::specs::Text::place))]
     fn fmt<W: fmt::Write>(&self, f: &mut fmt::Formatter<W>) -> fmt::Result {
         match self.0 {
             Site::Library(path) => {
+                let name = Shown(self.1.name);
                 let offset = self.1.offset;
-                write!(f, "{path}({}@0x{offset:x})", Shown(self.1.name))
+                write!(f, "{path}({name}@0x{offset:x})")
             }
             Site::Definition(path, position) => match position {
                 Some(Position { line, column, .. }) => write!(f, "{path}:{line}:{column}"),
@@ -179,7 +267,9 @@ impl<'p, 'm, 'a> fmt::Display for Place<'p, 'm, 'a> {
 }
 
 /// What is wrong with a member that leaves a comparison open, or nothing.
-pub fn doubt_of(class: &MemberClass, others: bool) -> Option<&'static str> {
+pub fn doubt_of(class: &MemberClass, others: bool) -> Option<&'static str>
+    ensures { option_map (λ text. text.now) result ≡ doubt_of others (class_view class.now) }
+{
     if is_unread(class) {
         return match class {
             MemberClass::DelayImport => Some("part of delayed imports, and not followed"),

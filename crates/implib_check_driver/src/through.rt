@@ -6,6 +6,7 @@
 //! as one that the DLL does not export, and a file that no forwarder leads to may be anything.
 //! Where forwarders lead that no import comes to is not looked at.
 
+ghost use Rattle.implib_check_driver.specs.Answer.{IsHalt};
 ghost use Rattle.implib_dll_check.specs.Folders.{AreKnown, IsRight, folder_view, loaded_view};
 ghost use Rattle.implib_dll_check.specs.Forwarding.{is_unknown as IsUnknown};
 ghost use Rattle.implib_dll_check.specs.ForwardingViews.{end_view};
@@ -13,43 +14,37 @@ ghost use Rattle.std.specs.List.{list_any};
 ghost use Rattle.std.specs.Option.{option_map};
 ghost use Rattle.std.specs.Prelude.{◌≡◌, ℕ, All, IfErr, IfOk, List, map};
 
-use crate::console::{NAME, bytes_of, complain};
+use crate::answer::{Halt, bytes_of};
 use crate::shelf::Shelf;
 use implib_dll_check::{
     Beside, DllContent, End, Folder, Loaded, content_of, dll_path, ends, loader_name, named_dlls,
 };
 use implib_read::MemberRead;
 use std::alloc::{AllocError, Global};
-use std::io::Write;
 
 // How often the DLLs are read that forwarders lead to in those that were read before.
 const MOST_ROUNDS: usize = 1000;
 
-// The DLL of a loader's name, or an exit status.
-fn load<S: Shelf, E: Write>(
+// The DLL of a loader's name.
+fn load<S: Shelf>(
     alloc: Global,
     shelf: &S,
-    faults: &mut E,
     folders: &[Folder],
     name: Vec<u8>,
-) -> Result<Loaded, u8>
+) -> Result<Loaded, Halt>
     ensures loaded { IfOk result (λ loaded. (file : List ℕ → List ℕ)
         → AreKnown (S.seen shelf.now) file
         → IsRight file (map folder_view folders.now) (loaded_view loaded)) }
-    ensures failed { IfErr result (λ status. status ≡ 3) }
+    ensures halted { IfErr result (IsHalt (S.may_fail shelf.now)) }
 {
-    let path = match dll_path(alloc, folders, &name) {
-        Ok(Some(path)) => path,
-        Ok(None) => return Ok(Loaded { name, bytes: None }),
-        Err(_) => return Err(complain(faults, NAME, "out of memory", 3)),
+    let Some(path) = dll_path(alloc, folders, &name)? else {
+        return Ok(Loaded { name, bytes: None });
     };
-    match bytes_of(alloc, shelf, faults, &path) {
-        Ok(bytes) => Ok(Loaded {
-            name,
-            bytes: Some(bytes),
-        }),
-        Err(status) => Err(status),
-    }
+    let bytes = bytes_of(alloc, shelf, &path)?;
+    Ok(Loaded {
+        name,
+        bytes: Some(bytes),
+    })
 }
 
 // Whether a forwarder leads to a DLL that was not loaded.
@@ -114,64 +109,56 @@ fn names_beside<'x>(
     unknown_names(alloc, &found)
 }
 
-// Loads further DLLs, or gives an exit status.
+// Loads further DLLs.
 #[tactic(auto, using(crate::proofs::LoadedDlls::right_more))]
-fn load_all<S: Shelf, E: Write>(
+fn load_all<S: Shelf>(
     alloc: Global,
     shelf: &S,
-    faults: &mut E,
     folders: &[Folder],
     loaded: &mut Vec<Loaded>,
     names: Vec<Vec<u8>>,
-) -> Result<(), u8>
+) -> Result<(), Halt>
     ensures loaded { IfOk result (λ done. (file : List ℕ → List ℕ)
         → AreKnown (S.seen shelf.now) file
         → All (IsRight file (map folder_view folders.now)) (map loaded_view loaded.old.items)
         → All (IsRight file (map folder_view folders.now)) (map loaded_view loaded.new.items)) }
-    ensures failed { IfErr result (λ status. status ≡ 3) }
+    ensures halted { IfErr result (IsHalt (S.may_fail shelf.now)) }
 {
     for name in names {
-        let next = match load(alloc, shelf, faults, folders, name) {
-            Ok(next) => next,
-            Err(status) => return Err(status),
-        };
-        if loaded.push(next).is_err() {
-            return Err(complain(faults, NAME, "out of memory", 3));
-        }
+        let next = load(alloc, shelf, folders, name)?;
+        loaded.push(next)?;
     }
     Ok(())
 }
 
 /// The DLLs of some folders to which forwarders lead that members come to in the DLL of a file's
-/// bytes, or an exit status.
-pub(crate) fn dlls_behind<S: Shelf, E: Write>(
+/// bytes.
+///
+/// # Errors
+///
+/// `Ends`: a file cannot be read.
+pub(crate) fn dlls_behind<S: Shelf>(
     alloc: Global,
     shelf: &S,
-    faults: &mut E,
     folders: &[Folder],
     bytes: &[u8],
     names: &[Vec<u8>],
     members: &[MemberRead],
-) -> Result<Vec<Loaded>, u8>
+) -> Result<Vec<Loaded>, Halt>
     ensures loaded { IfOk result (λ loaded. (file : List ℕ → List ℕ)
         → AreKnown (S.seen shelf.now) file
         → All (IsRight file (map folder_view folders.now)) (map loaded_view loaded.items)) }
-    ensures failed { IfErr result (λ status. status ≡ 3) }
+    ensures halted { IfErr result (IsHalt (S.may_fail shelf.now)) }
 {
     let mut loaded = Vec::new(alloc);
     let mut left = MOST_ROUNDS;
     while left > 0 {
         left -= 1;
-        let wanted = match names_beside(alloc, bytes, names, &loaded, members) {
-            Ok(wanted) => wanted,
-            Err(_) => return Err(complain(faults, NAME, "out of memory", 3)),
-        };
+        let wanted = names_beside(alloc, bytes, names, &loaded, members)?;
         if wanted.is_empty() {
             break;
         }
-        if let Err(status) = load_all(alloc, shelf, faults, folders, &mut loaded, wanted) {
-            return Err(status);
-        }
+        load_all(alloc, shelf, folders, &mut loaded, wanted)?;
     }
     Ok(loaded)
 }

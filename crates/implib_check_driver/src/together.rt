@@ -253,10 +253,14 @@ pub fn add_claims(
 }
 
 // The numbers of the first claims of symbols.
-type Firsts<'n> = HashMap<&'n [u8], usize>;
+pub(crate) type Firsts<'n> = HashMap<&'n [u8], usize>;
 
 // Notes the number of a claim, unless its symbol has one.
-fn note<'n>(firsts: &mut Firsts<'n>, symbol: &'n [u8], number: usize) -> Result<(), AllocError>
+pub(crate) fn note<'n>(
+    firsts: &mut Firsts<'n>,
+    symbol: &'n [u8],
+    number: usize,
+) -> Result<(), AllocError>
     ensures { OnOk result ((other : List ℕ) → get_by (λ k. bytes_eq other k.now) firsts.new
         ≡ option_or (get_by (λ k. bytes_eq other k.now) firsts.old)
         (if bytes_eq symbol.now other then Some number else None)) }

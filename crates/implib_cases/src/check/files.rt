@@ -39,6 +39,8 @@ impl Shelf for Files {
 
     ghost listed = { λ _ _. None };
 
+    ghost may_fail = { λ _ _. true };
+
     fn read(&self, alloc: Global, path: &str) -> io::Result<Vec<u8>> {
         match self.all.iter().find(|file| file.0.as_str() == path) {
             Some(file) => Ok(Vec::from_slice(alloc, file.1.as_slice())?),
