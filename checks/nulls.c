@@ -21,8 +21,14 @@ static const uint8_t *passed_text;
 static const void *passed_buffer;
 static size_t *passed_first, *passed_second;
 
-static uint32_t pass(const uint8_t *text, size_t text_length, uint16_t machine, uint32_t flavor, uint8_t *buffer,
-                     size_t buffer_length, size_t *length, size_t *place)
+/* What most functions are given, and how they pass it on. */
+#define TEXT const uint8_t *text, size_t text_length
+#define OPTIONS const uint8_t *dll, size_t dll_length, uint32_t has_dll, uint16_t machine, uint32_t flavor, uint32_t flags
+#define ANSWER uint8_t *buffer, size_t buffer_length, size_t *length, size_t *place
+#define PASSED_OPTIONS dll, dll_length, has_dll, machine, flavor, flags
+#define PASSED_ANSWER buffer, buffer_length, length, place
+
+static uint32_t pass(TEXT, uint16_t machine, uint32_t flavor, ANSWER)
 {
     hold(text != NULL && buffer != NULL && length != NULL && place != NULL, "a null pointer is passed on");
     hold(text_length <= 2 && buffer_length <= 3, "another length is passed on");
@@ -36,16 +42,14 @@ static uint32_t pass(const uint8_t *text, size_t text_length, uint16_t machine, 
     return IMPLIB_BUFFER_TOO_SMALL;
 }
 
-uint32_t implib_library_nonnull(const uint8_t *text, size_t text_length, uint16_t machine, uint32_t flavor,
-                                uint8_t *buffer, size_t buffer_length, size_t *length, size_t *place)
+uint32_t implib_library_nonnull(TEXT, uint16_t machine, uint32_t flavor, ANSWER)
 {
-    return pass(text, text_length, machine, flavor, buffer, buffer_length, length, place);
+    return pass(text, text_length, machine, flavor, PASSED_ANSWER);
 }
 
-uint32_t implib_members_nonnull(const uint8_t *text, size_t text_length, uint16_t machine, uint32_t flavor,
-                                uint8_t *buffer, size_t buffer_length, size_t *length, size_t *place)
+uint32_t implib_members_nonnull(TEXT, uint16_t machine, uint32_t flavor, ANSWER)
 {
-    return pass(text, text_length, machine, flavor, buffer, buffer_length, length, place) + 1;
+    return pass(text, text_length, machine, flavor, PASSED_ANSWER) + 1;
 }
 
 /* What a call with options passed on beside. */
@@ -53,105 +57,82 @@ static const uint8_t *passed_dll;
 static size_t passed_dll_length;
 static uint32_t passed_has_dll, passed_flags;
 
-uint32_t implib_library_with_nonnull(const uint8_t *text, size_t text_length, const uint8_t *dll, size_t dll_length,
-                                     uint32_t has_dll, uint16_t machine, uint32_t flavor, uint32_t flags,
-                                     uint8_t *buffer, size_t buffer_length, size_t *length, size_t *place)
+uint32_t implib_library_with_nonnull(TEXT, OPTIONS, ANSWER)
 {
     hold(dll != NULL, "a null pointer is passed on for a name");
     passed_dll = dll;
     passed_dll_length = dll_length;
     passed_has_dll = has_dll;
     passed_flags = flags;
-    return pass(text, text_length, machine, flavor, buffer, buffer_length, length, place) + 2;
+    return pass(text, text_length, machine, flavor, PASSED_ANSWER) + 2;
 }
 
 /* Whether the last call was for delayed imports. */
 static int passed_delayed;
 
-uint32_t implib_delayed_library_nonnull(const uint8_t *text, size_t text_length, const uint8_t *dll,
-                                        size_t dll_length, uint32_t has_dll, uint16_t machine, uint32_t flavor,
-                                        uint32_t flags, uint8_t *buffer, size_t buffer_length, size_t *length,
-                                        size_t *place)
+uint32_t implib_delayed_library_nonnull(TEXT, OPTIONS, ANSWER)
 {
     passed_delayed = 1;
-    return implib_library_with_nonnull(text, text_length, dll, dll_length, has_dll, machine, flavor, flags, buffer,
-                                       buffer_length, length, place);
+    return implib_library_with_nonnull(text, text_length, PASSED_OPTIONS, PASSED_ANSWER);
 }
 
 /* Whether the last call was for a null descriptor named after the DLL. */
 static int passed_named;
 
-uint32_t implib_named_library_nonnull(const uint8_t *text, size_t text_length, const uint8_t *dll, size_t dll_length,
-                                      uint32_t has_dll, uint16_t machine, uint32_t flavor, uint32_t flags,
-                                      uint8_t *buffer, size_t buffer_length, size_t *length, size_t *place)
+uint32_t implib_named_library_nonnull(TEXT, OPTIONS, ANSWER)
 {
     passed_named = 1;
-    return implib_library_with_nonnull(text, text_length, dll, dll_length, has_dll, machine, flavor, flags, buffer,
-                                       buffer_length, length, place);
+    return implib_library_with_nonnull(text, text_length, PASSED_OPTIONS, PASSED_ANSWER);
 }
 
 /* What a call with exports passed on beside. */
 static const struct implib_export *passed_exports;
 
-uint32_t implib_library_of_nonnull(const struct implib_export *exports, size_t count, const uint8_t *dll,
-                                   size_t dll_length, uint32_t has_dll, uint16_t machine, uint32_t flavor,
-                                   uint32_t flags, uint8_t *buffer, size_t buffer_length, size_t *length,
-                                   size_t *place)
+uint32_t implib_library_of_nonnull(const struct implib_export *exports, size_t count, OPTIONS, ANSWER)
 {
     hold(exports != NULL && exports->name != NULL && exports->target != NULL, "a null pointer is passed on for exports");
     hold(count <= 2, "another count is passed on");
     passed_exports = exports;
-    return implib_library_with_nonnull((const uint8_t *)exports, 0, dll, dll_length, has_dll, machine, flavor, flags,
-                                       buffer, buffer_length, length, place) + 1;
+    return implib_library_with_nonnull((const uint8_t *)exports, 0, PASSED_OPTIONS, PASSED_ANSWER) + 1;
 }
 
-uint32_t implib_warnings_nonnull(const uint8_t *text, size_t text_length, const uint8_t *dll, size_t dll_length,
-                                 uint32_t has_dll, uint16_t machine, uint32_t flavor, uint32_t flags,
-                                 uint8_t *buffer, size_t buffer_length, size_t *length, size_t *place)
+uint32_t implib_warnings_nonnull(TEXT, OPTIONS, ANSWER)
 {
-    return implib_library_with_nonnull(text, text_length, dll, dll_length, has_dll, machine, flavor, flags, buffer,
-                                       buffer_length, length, place);
+    return implib_library_with_nonnull(text, text_length, PASSED_OPTIONS, PASSED_ANSWER);
 }
 
 /* The library that a call passed on beside. */
 static const uint8_t *passed_bytes;
 
-uint32_t implib_check_library_nonnull(const uint8_t *bytes, size_t bytes_length, const uint8_t *text,
-                                      size_t text_length, const uint8_t *dll, size_t dll_length, uint32_t has_dll,
-                                      uint16_t machine, uint32_t flavor, uint32_t flags, uint8_t *buffer,
-                                      size_t buffer_length, size_t *length, size_t *place)
+uint32_t implib_check_library_nonnull(const uint8_t *bytes, size_t bytes_length, TEXT, OPTIONS, ANSWER)
 {
     hold(bytes != NULL && bytes_length <= 2, "a null pointer or another length is passed on for a library");
     passed_bytes = bytes;
-    return implib_library_with_nonnull(text, text_length, dll, dll_length, has_dll, machine, flavor, flags, buffer,
-                                       buffer_length, length, place);
+    return implib_library_with_nonnull(text, text_length, PASSED_OPTIONS, PASSED_ANSWER);
 }
 
-uint32_t implib_definition_nonnull(const uint8_t *text, size_t text_length, uint16_t machine, uint8_t *buffer,
-                                   size_t buffer_length, size_t *length, size_t *place)
+uint32_t implib_definition_nonnull(TEXT, uint16_t machine, ANSWER)
 {
-    return pass(text, text_length, machine, IMPLIB_FLAVOR_GNU, buffer, buffer_length, length, place) + 3;
+    return pass(text, text_length, machine, IMPLIB_FLAVOR_GNU, PASSED_ANSWER) + 3;
 }
 
-uint32_t implib_exports_nonnull(const uint8_t *bytes, size_t bytes_length, uint8_t *buffer, size_t buffer_length,
-                                size_t *length, size_t *place)
+uint32_t implib_exports_nonnull(TEXT, ANSWER)
 {
-    return pass(bytes, bytes_length, IMPLIB_MACHINE_ARM64, IMPLIB_FLAVOR_GNU, buffer, buffer_length, length, place) + 3;
+    return pass(text, text_length, IMPLIB_MACHINE_ARM64, IMPLIB_FLAVOR_GNU, PASSED_ANSWER) + 3;
 }
 
-uint32_t implib_check_dll_nonnull(const uint8_t *bytes, size_t bytes_length, const uint8_t *dll, size_t dll_length,
-                                  const uint8_t *name, size_t name_length, uint8_t *buffer, size_t buffer_length,
-                                  size_t *length, size_t *place)
+uint32_t implib_check_dll_nonnull(TEXT, const uint8_t *dll, size_t dll_length, const uint8_t *name, size_t name_length,
+                                  ANSWER)
 {
     hold(dll != NULL && dll_length <= 2, "a null pointer or another length is passed on for a DLL");
     hold(name != NULL && name_length <= 2, "a null pointer or another length is passed on for a name");
     passed_bytes = dll;
     passed_dll = name;
     passed_dll_length = name_length;
-    return pass(bytes, bytes_length, IMPLIB_MACHINE_ARM64, IMPLIB_FLAVOR_GNU, buffer, buffer_length, length, place) + 4;
+    return pass(text, text_length, IMPLIB_MACHINE_ARM64, IMPLIB_FLAVOR_GNU, PASSED_ANSWER) + 4;
 }
 
-void implib_position_nonnull(const uint8_t *text, size_t text_length, size_t offset, size_t *line, size_t *column)
+void implib_position_nonnull(TEXT, size_t offset, size_t *line, size_t *column)
 {
     hold(text != NULL && line != NULL && column != NULL, "a null pointer is passed on for a position");
     hold(text_length <= 2 && offset == 5, "another length or offset is passed on");
@@ -171,27 +152,31 @@ size_t implib_status_text_nonnull(uint32_t status, char *buffer, size_t buffer_l
 }
 
 /* implib_definition, which has no flavour. */
-static uint32_t definition(const uint8_t *text, size_t text_length, uint16_t machine, uint32_t flavor,
-                           uint8_t *buffer, size_t buffer_length, size_t *length, size_t *place)
+static uint32_t definition(TEXT, uint16_t machine, uint32_t flavor, ANSWER)
 {
     hold(flavor == IMPLIB_FLAVOR_GNU, "another flavour");
-    return implib_definition(text, text_length, machine, buffer, buffer_length, length, place) - 1;
+    return implib_definition(text, text_length, machine, PASSED_ANSWER) - 1;
 }
 
 /* implib_exports, of bytes alone. */
-static uint32_t exports(const uint8_t *bytes, size_t bytes_length, uint16_t machine, uint32_t flavor,
-                        uint8_t *buffer, size_t buffer_length, size_t *length, size_t *place)
+static uint32_t exports(TEXT, uint16_t machine, uint32_t flavor, ANSWER)
 {
     hold(machine == IMPLIB_MACHINE_ARM64 && flavor == IMPLIB_FLAVOR_GNU, "another machine or flavour");
-    return implib_exports(bytes, bytes_length, buffer, buffer_length, length, place);
+    return implib_exports(text, text_length, PASSED_ANSWER);
 }
 
-typedef uint32_t callee_with(const struct implib_options *options, const uint8_t *text, size_t text_length,
-                             uint8_t *buffer, size_t buffer_length, size_t *length, size_t *place);
+/* What is passed on and given of the places of an answer, each of which may be null. */
+static void hold_answer(const void *buffer, const size_t *first, const size_t *second, const char *what)
+{
+    hold(buffer == NULL || passed_buffer == buffer, what);
+    hold(first == NULL || (passed_first == first && *first == 11), what);
+    hold(second == NULL || (passed_second == second && *second == 12), what);
+}
+
+typedef uint32_t callee_with(const struct implib_options *options, TEXT, ANSWER);
 
 /* Calls with options of each size, with and without a name of the DLL, of three lengths. */
-static void hold_options(callee_with *own, const uint8_t *text, size_t text_length, uint8_t *buffer, size_t buffer_length, size_t *first,
-                         size_t *second)
+static void hold_options(callee_with *own, TEXT, uint8_t *buffer, size_t buffer_length, size_t *first, size_t *second)
 {
     static const uint8_t name[] = {'c', 'd'};
     for (unsigned given = 0; given < 4; given++) {
@@ -214,9 +199,7 @@ static void hold_options(callee_with *own, const uint8_t *text, size_t text_leng
             }
             hold(status == IMPLIB_BUFFER_TOO_SMALL + 2, "another status is returned with options");
             hold(text == NULL || passed_text == text, "another text is passed on with options");
-            hold(buffer == NULL || passed_buffer == (const void *)buffer, "another buffer is passed on with options");
-            hold(first == NULL || (passed_first == first && *first == 11), "another length is given with options");
-            hold(second == NULL || (passed_second == second && *second == 12), "another place is given with options");
+            hold_answer(buffer, first, second, "another buffer, length or place with options");
             hold(passed_flags == (size < 20 ? 0 : 0x80000003), "other flags are passed on");
             hold(!passed_delayed, "a call without the flag is for delayed imports");
             hold(!passed_named, "a call without the flag is for a named null descriptor");
@@ -236,8 +219,7 @@ static void hold_options(callee_with *own, const uint8_t *text, size_t text_leng
         hold(text == NULL || passed_text == text, "another text is passed on for another kind");
         hold(passed_flags == 0x80000003 && passed_has_dll == 1, "other options are passed on for another kind");
         hold(passed_dll == name && passed_dll_length == 2, "another name is passed on for another kind");
-        hold(first == NULL || (passed_first == first && *first == 11), "another length is given for another kind");
-        hold(second == NULL || (passed_second == second && *second == 12), "another place is given for another kind");
+        hold_answer(buffer, first, second, "another buffer, length or place for another kind");
     }
     hold(own(NULL, text, text_length, buffer, buffer_length, first, second) == IMPLIB_UNKNOWN_OPTIONS,
          "null options are taken");
@@ -246,12 +228,10 @@ static void hold_options(callee_with *own, const uint8_t *text, size_t text_leng
 /* implib_check_library, of this library. */
 static const uint8_t *checked;
 
-static uint32_t check(const struct implib_options *options, const uint8_t *text, size_t text_length, uint8_t *buffer,
-                      size_t buffer_length, size_t *length, size_t *place)
+static uint32_t check(const struct implib_options *options, TEXT, ANSWER)
 {
     passed_bytes = NULL;
-    uint32_t status = implib_check_library(checked, checked == NULL ? 0 : 2, text, text_length, options, buffer,
-                                           buffer_length, length, place);
+    uint32_t status = implib_check_library(checked, checked == NULL ? 0 : 2, text, text_length, options, PASSED_ANSWER);
     hold(status == IMPLIB_UNKNOWN_OPTIONS || checked == NULL || passed_bytes == checked, "another library is passed on");
     return status;
 }
@@ -269,9 +249,7 @@ static void hold_dll(const uint8_t *text, uint8_t *buffer, size_t buffer_length,
         hold(text == NULL || passed_text == text, "another library is passed on beside a DLL");
         hold(dll == NULL || passed_bytes == dll, "another DLL is passed on");
         hold(own == NULL || (passed_dll == own && passed_dll_length == 1), "another name of a DLL is passed on");
-        hold(buffer == NULL || passed_buffer == (const void *)buffer, "another buffer is passed on beside a DLL");
-        hold(first == NULL || (passed_first == first && *first == 11), "another length is given beside a DLL");
-        hold(second == NULL || (passed_second == second && *second == 12), "another place is given beside a DLL");
+        hold_answer(buffer, first, second, "another buffer, length or place beside a DLL");
     }
 }
 
@@ -299,9 +277,7 @@ static void hold_exports(uint8_t *buffer, size_t buffer_length, size_t *first, s
             }
             hold(status == IMPLIB_BUFFER_TOO_SMALL + 3, "another status is returned with exports");
             hold(count == 0 || passed_exports == exports, "other exports are passed on");
-            hold(buffer == NULL || passed_buffer == (const void *)buffer, "another buffer is passed on with exports");
-            hold(first == NULL || (passed_first == first && *first == 11), "another length is given with exports");
-            hold(second == NULL || (passed_second == second && *second == 12), "another place is given with exports");
+            hold_answer(buffer, first, second, "another buffer, length or place with exports");
             hold(passed_flags == 0x80000003 && passed_has_dll == 1, "other options are passed on with exports");
             hold(passed_dll == name && passed_dll_length == 2, "another name is passed on with exports");
         }
@@ -333,16 +309,14 @@ int main(void)
         size_t text_length = given & 1 ? 2 : 0, buffer_length = given & 2 ? 3 : 0;
 
         for (uint32_t call = 0; call < 4; call++) {
-            uint32_t (*own)(const uint8_t *, size_t, uint16_t, uint32_t, uint8_t *, size_t, size_t *, size_t *) =
+            uint32_t (*own)(TEXT, uint16_t machine, uint32_t flavor, ANSWER) =
                 call == 0 ? implib_library : call == 1 ? implib_members : call == 2 ? definition : exports;
             first = second = 0;
             hold(own(some_text, text_length, IMPLIB_MACHINE_ARM64, IMPLIB_FLAVOR_GNU, some_buffer, buffer_length,
                      some_first, some_second) == IMPLIB_BUFFER_TOO_SMALL + call,
                  "another status is returned");
             hold(some_text == NULL || passed_text == text, "another text is passed on");
-            hold(some_buffer == NULL || passed_buffer == (const void *)buffer, "another buffer is passed on");
-            hold(some_first == NULL || (passed_first == &first && first == 11), "another length is given");
-            hold(some_second == NULL || (passed_second == &second && second == 12), "another place is given");
+            hold_answer(some_buffer, some_first, some_second, "another buffer, length or place");
         }
 
         hold_options(implib_library_with, some_text, text_length, some_buffer, buffer_length, some_first, some_second);
