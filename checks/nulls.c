@@ -121,6 +121,12 @@ uint32_t implib_exports_nonnull(TEXT, ANSWER)
     return pass(text, text_length, IMPLIB_MACHINE_ARM64, IMPLIB_FLAVOR_GNU, PASSED_ANSWER) + 3;
 }
 
+uint32_t implib_imports_nonnull(TEXT, uint8_t *buffer, size_t buffer_length, size_t *length)
+{
+    static size_t place;
+    return pass(text, text_length, IMPLIB_MACHINE_ARM64, IMPLIB_FLAVOR_GNU, buffer, buffer_length, length, &place) + 4;
+}
+
 uint32_t implib_check_dll_nonnull(TEXT, const uint8_t *dll, size_t dll_length, const uint8_t *name, size_t name_length,
                                   ANSWER)
 {
@@ -163,6 +169,17 @@ static uint32_t exports(TEXT, uint16_t machine, uint32_t flavor, ANSWER)
 {
     hold(machine == IMPLIB_MACHINE_ARM64 && flavor == IMPLIB_FLAVOR_GNU, "another machine or flavour");
     return implib_exports(text, text_length, PASSED_ANSWER);
+}
+
+/* implib_imports, of bytes alone too, which gives no place. */
+static uint32_t imports(TEXT, uint16_t machine, uint32_t flavor, ANSWER)
+{
+    hold(machine == IMPLIB_MACHINE_ARM64 && flavor == IMPLIB_FLAVOR_GNU, "another machine or flavour");
+    uint32_t status = implib_imports(text, text_length, buffer, buffer_length, length);
+    passed_second = place;
+    if (place != NULL)
+        *place = 12;
+    return status;
 }
 
 /* What is passed on and given of the places of an answer, each of which may be null. */
@@ -308,9 +325,9 @@ int main(void)
         size_t *some_first = given & 4 ? &first : NULL, *some_second = given & 8 ? &second : NULL;
         size_t text_length = given & 1 ? 2 : 0, buffer_length = given & 2 ? 3 : 0;
 
-        for (uint32_t call = 0; call < 4; call++) {
+        for (uint32_t call = 0; call < 5; call++) {
             uint32_t (*own)(TEXT, uint16_t machine, uint32_t flavor, ANSWER) =
-                call == 0 ? implib_library : call == 1 ? implib_members : call == 2 ? definition : exports;
+                call == 0 ? implib_library : call == 1 ? implib_members : call == 2 ? definition : call == 3 ? exports : imports;
             first = second = 0;
             hold(own(some_text, text_length, IMPLIB_MACHINE_ARM64, IMPLIB_FLAVOR_GNU, some_buffer, buffer_length,
                      some_first, some_second) == IMPLIB_BUFFER_TOO_SMALL + call,
