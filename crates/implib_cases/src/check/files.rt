@@ -33,7 +33,7 @@ pub struct Files {
 }
 
 impl Shelf for Files {
-    ghost use Rattle.std.specs.Prelude.{None};
+    ghost use Rattle.std.specs.Prelude.{None, true};
 
     ghost seen = { λ _ _. None };
 
