@@ -9,7 +9,7 @@ use Rattle.implib_dll_check.specs.Forwarding.{End, Holds, Known, ends, is_unknow
 use Rattle.implib_dll_check.specs.Laws.{KnownDllsDecide}
 use Rattle.implib_dll_check.specs.declared.folder.Loaded.{Loaded}
 use Rattle.implib_read.specs.Classes.{MemberRead}
-use Rattle.implib_check_driver.specs.Against.{IsAgainst, IsHeldAs, OrEndless, names_of}
+use Rattle.implib_check_driver.specs.Against.{IsAgainst, IsHeldAs, IsHeldThrough, LeadFurther, names_of}
 use Rattle.implib_check_driver.specs.Answer.{AnswerView}
 use Rattle.implib_check_driver.specs.Calls.{CheckView, is_searching}
 use Rattle.implib_check_driver.specs.Through.{ends_through, through}
@@ -18,7 +18,7 @@ use Rattle.implib_check_driver.specs.Through.{ends_through, through}
 pub through_right : (file : List ℕ → List ℕ) (folders : List Listing) (dlls : List Known) (e : Exports) (names : List (List ℕ))
     (members : List MemberRead) (found : List (Option End)) → KnownDllsDecide → RightDllsExtend → All (IsRight file folders) dlls
     → found ≡ ends (record { exports = e; names = names; others = known_in dlls }) members → list_any is_unknown found ≡ false
-    → found ≡ ends_through (Some (content_at file folders)) e names members
+    → found ≡ ends_through (content_at file folders) e names members
 through_right file folders dlls e names members found decide extend right is known =
     is ∙ sym (decide (record { exports = e; names = names; others = known_in dlls }) (λ name. Some (content_at file folders name)) members
     (extend file folders dlls right) (subst (λ (ends : List (Option End)). list_any is_unknown ends ≡ false) is known))
@@ -40,16 +40,28 @@ same_exports seen e read held is =
     let both : Holds seen ≡ Holds e = held ∙ ap content_of is in
     cc
 
+-- by what was loaded, a forwarder leads further
+pub leads_further : (file : List ℕ → List ℕ) (folders : List Listing) (loaded dlls : List Known) (seen e : Exports) (names : List (List ℕ))
+    (members : List MemberRead) (found : List (Option End)) → seen ≡ e → dlls ≡ loaded → All (IsRight file folders) loaded
+    → found ≡ ends (record { exports = seen; names = names; others = known_in dlls }) members → list_any is_unknown found ≡ true
+    → LeadFurther (content_at file folders) e names members
+leads_further file folders loaded dlls seen e names members found same read right is unknown = record {
+  known = dlls;
+  right = subst (λ (l : List Known). All (IsRight file folders) l) (sym read) right;
+  further = subst (λ (x : Exports). list_any is_unknown (ends (record { exports = x; names = names; others = known_in dlls }) members) ≡ true) same
+      (subst (λ (f : List (Option End)). list_any is_unknown f ≡ true) is unknown);
+}
+
 -- the answer, by where forwarders lead
 pub held_through : (file : List ℕ → List ℕ) (folders : List Listing) (loaded dlls : List Known) (seen e : Exports) (names : List (List ℕ))
     (members : List MemberRead) (found : List (Option End)) (a : AnswerView) → KnownDllsDecide → RightDllsExtend → seen ≡ e → dlls ≡ loaded
     → All (IsRight file folders) loaded → found ≡ ends (record { exports = seen; names = names; others = known_in dlls }) members
     → list_any is_unknown found ≡ false → IsHeldAs seen names members found a
-    → IsHeldAs e names members (ends_through (Some (content_at file folders)) e names members) a
+    → IsHeldAs e names members (ends_through (content_at file folders) e names members) a
 held_through file folders loaded dlls seen e names members found a decide extend same read right is known held =
-    let here : found ≡ ends_through (Some (content_at file folders)) seen names members =
+    let here : found ≡ ends_through (content_at file folders) seen names members =
     through_right file folders dlls seen names members found decide extend (subst (λ (l : List Known). All (IsRight file folders) l) (sym read) right) is known in
-    subst (λ (x : Exports). IsHeldAs x names members (ends_through (Some (content_at file folders)) x names members) a) same
+    subst (λ (x : Exports). IsHeldAs x names members (ends_through (content_at file folders) x names members) a) same
     (subst (λ (f : List (Option End)). IsHeldAs seen names members f a) here held)
 
 -- folders count only where forwarders are followed
@@ -64,10 +76,9 @@ through_same file here there check same = by (is_searching check) same
 -- the answer for members through folders is theirs where forwarders are followed
 pub against_through : (file : List ℕ → List ℕ) (folders : List Listing) (check : CheckView) (e : Exports) (names : List (List ℕ))
     (members : List MemberRead) (a : AnswerView) → is_searching check ≡ true → names ≡ names_of check.dll check.definition
-    → OrEndless check.definition a (IsHeldAs e names members (ends_through (Some (content_at file folders)) e names members) a)
-    → OrEndless check.definition a (IsAgainst (through file folders check) check e members a)
+    → IsHeldThrough (Some (content_at file folders)) check.definition e names members a
+    → IsAgainst (through file folders check) check e members a
 against_through file folders check e names members a searching named held =
-    subst (λ (s : Bool). OrEndless check.definition a (IsHeldAs e (names_of check.dll check.definition) members
-    (ends_through (cond s (Some (content_at file folders)) None) e (names_of check.dll check.definition) members) a)) (sym searching)
-    (subst (λ (n : List (List ℕ)). OrEndless check.definition a (IsHeldAs e n members
-    (ends_through (Some (content_at file folders)) e n members) a)) named held)
+    subst (λ (s : Bool). IsHeldThrough (cond s (Some (content_at file folders)) None) check.definition e (names_of check.dll check.definition) members a)
+    (sym searching)
+    (subst (λ (n : List (List ℕ)). IsHeldThrough (Some (content_at file folders)) check.definition e n members a) named held)

@@ -1,6 +1,6 @@
 -- What the imports of a library, or of a definition, come to in a DLL (this project's choice;
 -- docs/CHECK.md, "Beside a DLL").
-use Rattle.std.specs.Prelude.{◌≡◌, ◌⊎◌, ℕ, Bool, true, false, ◌||◌, List, [], ◌∷◌, Err, None, Ok}
+use Rattle.std.specs.Prelude.{◌≡◌, ◌⊎◌, ℕ, All, Bool, true, false, ◌||◌, List, [], ◌∷◌, Err, None, Ok}
 use Rattle.std.specs.Prelude.{Option, Some, codes, if◌then◌else◌, is_some, nat_eq, unwrap_or}
 use Rattle.std.specs.List.{list_any, starts_with}
 use Rattle.implib.specs.Conversions.{machine_numbered}
@@ -12,12 +12,14 @@ use Rattle.implib_dll.specs.Exports.{Exports, exports_in}
 use Rattle.implib_dll.specs.Outcome.{Read}
 use Rattle.implib_dll.specs.declared.section.Layout.TheVariants.{File}
 use Rattle.implib_dll_check.specs.DllName.{loader_name}
-use Rattle.implib_dll_check.specs.Forwarding.{End, is_stop}
+use Rattle.implib_dll_check.specs.Forwarding.{Content, End, Known, ends, is_stop, is_unknown}
+use Rattle.implib_dll_check.specs.Forwarding.{known_in}
 use Rattle.implib_dll_check.specs.Imports.{is_import, is_lost, judgements}
 use Rattle.implib_dll_check.specs.declared.import.Judgement.{Judgement}
 use Rattle.implib_read.specs.Archives.{Archive, archive_in}
 use Rattle.implib_read.specs.Classes.{MemberRead, library_in, members_read}
 use Rattle.implib_rules.specs.Additions.{no_additions}
+use Rattle.implib_rules.specs.Library.{is_out_of_memory}
 use Rattle.implib_rules.specs.Names.{last_part}
 use Rattle.implib_rules.specs.Options.{LibraryOptionsView}
 use Rattle.implib_rules.specs.declared.library.Refusal.{Refusal}
@@ -58,15 +60,28 @@ abbrev pub IsHeldAs : Exports → List (List ℕ) → List MemberRead → List (
 IsHeldAs e names members ends a =
     a.status ≡ held_status (judgements e names members) ends (has_unread members)
 
--- the answer for members in a DLL, and through it in others
+-- Some DLLs are known, as they are in the folders, and by them a forwarder leads to one more.
+pub record LeadFurther (content : List ℕ → Content) (e : Exports) (names : List (List ℕ))
+    (members : List MemberRead) : Type 0 where
+  pub known : List Known
+  pub right : All (λ (d : Known). d.content ≡ content d.name) known
+  pub further : list_any is_unknown
+      (ends (record { exports = e; names = names; others = known_in known }) members) ≡ true
+
+-- The answer for members in a DLL that loaders know by these names, and through it in others, if
+-- forwarders are followed: 4 where the DLLs that they lead through are too many to be read.
+abbrev pub IsHeldThrough : Through → List ℕ → Exports → List (List ℕ) → List MemberRead →
+    AnswerView → Type 0
+IsHeldThrough None path e names members a = IsHeldAs e names members [] a
+IsHeldThrough (Some content) path e names members a =
+    (LeadFurther content e names members
+    × (a ≡ saying 4 path (codes "forwarders lead through too many DLLs")))
+    ⊎ IsHeldAs e names members (ends_through content e names members) a
+
+-- the same of the names by which a call knows the DLL
 abbrev pub IsAgainst : Through → CheckView → Exports → List MemberRead → AnswerView → Type 0
 IsAgainst others check e members a =
-    IsHeldAs e (names_of check.dll check.definition) members
-    (ends_through others e (names_of check.dll check.definition) members) a
-
--- the answer where the DLLs that forwarders lead through are too many to be read; else this one
-abbrev pub OrEndless : List ℕ → AnswerView → Type 0 → Type 0
-OrEndless path a so = (a ≡ saying 4 path (codes "forwarders lead through too many DLLs")) ⊎ so
+    IsHeldThrough others check.definition e (names_of check.dll check.definition) members a
 
 -- whether a call has an option that a definition alone is read by
 abbrev pub has_options : CheckView → Bool
@@ -79,7 +94,7 @@ has_options c =
 abbrev pub IsMembersIn : Through → CheckView → List MemberRead → Read (Option Exports) →
     AnswerView → Type 0
 IsMembersIn others check members (Ok (Some e)) a =
-    OrEndless check.definition a (IsAgainst others check e members a)
+    IsAgainst others check e members a
 IsMembersIn others check members (Ok None) a = IsNoDll check.definition (Ok None) a
 IsMembersIn others check members (Err fault) a = IsNoDll check.definition (Err fault) a
 
@@ -103,13 +118,14 @@ pub record IsHeld (others : Through) (check : CheckView) (e : Exports) (definiti
   pub is_library : IsLibraryFor check.older_symbols definition (options_against check e) file
   pub meant : List MemberRead
   pub read : library_in file ≡ Some meant
-  pub is : OrEndless check.definition a (IsAgainst others check e meant a)
+  pub is : IsAgainst others check e meant a
 
 -- the answer for a definition that is refused
 pub record IsRefused (check : CheckView) (e : Exports) (definition : List ℕ)
     (a : AnswerView) : Type 0 where
   pub why : Refusal
   pub is_refusal : IsRefusalFor check.older_symbols definition (options_against check e) why
+  pub has_memory : is_out_of_memory why ≡ false
   pub is : IsRefusedAs 1 a
 
 -- The answer for a definition beside the DLL of a file's bytes.

@@ -115,7 +115,6 @@ abbrev pub undefined_status : Undefined → ℕ
 undefined_status undefined.Unread = 4
 undefined_status (undefined.Refused refusal) = 1
 undefined_status (undefined.Different told) = 1
-undefined_status undefined.OutOfMemory = 3
 
 -- an answer of a status, of lines of standard error alone behind some
 pub record IsBehind (status : ℕ) (err : List ℕ) (a : AnswerView) : Type 0 where

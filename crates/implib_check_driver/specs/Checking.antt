@@ -6,8 +6,12 @@ use Rattle.implib_compare.specs.Meant.{IsVerdictOn}
 use Rattle.implib_compare.specs.Working.{working_of}
 use Rattle.implib_compare.specs.declared.compare.Verdict.{Verdict}
 use Rattle.implib_compare.specs.declared.meant.Arm64ecFault.{Arm64ecFault}
+use Rattle.implib_compare.specs.declared.meant.Arm64ecFault.TheVariants.{OfArchive, OfTexts}
+use Rattle.implib_libraries.specs.declared.arm64ec.Arm64ecRefusal.TheVariants.{OfDefinition, OfImports}
+use Rattle.implib_libraries.specs.declared.arm64ec.Arm64ecRefusal.TheVariants.{OfNative, OutOfMemory}
 use Rattle.implib_read.specs.Archives.{Archive}
 use Rattle.implib_read.specs.Classes.{members_read}
+use Rattle.implib_rules.specs.Library.{is_out_of_memory}
 use Rattle.implib_rules.specs.declared.library.Refusal.{Refusal}
 use Rattle.implib_check_driver.specs.Against.{is_library}
 use Rattle.implib_check_driver.specs.Answer.{AnswerView, IsRefusedAs, no_library, saying}
@@ -37,6 +41,7 @@ pub record IsCheckRefused (check : CheckView) (a : Archive) (definition : List �
   pub why : Refusal
   pub is_refusal : IsRefusalFor check.older_symbols definition
       (options_for check (members_read a.members)) why
+  pub has_memory : is_out_of_memory why ≡ false
   pub is : IsRefusedAs 1 answer
 
 -- the answer for an archive beside a definition
@@ -59,11 +64,20 @@ pub record IsArm64ecChecked (json : Bool) (check : CheckView) (a : Archive) (def
     err = doubts true check.library (members_read a.members);
   }
 
+-- whether such definitions have no library for want of memory
+abbrev pub lacks_memory : Arm64ecFault → Bool
+lacks_memory (OfTexts (OfDefinition why)) = is_out_of_memory why
+lacks_memory (OfTexts (OfNative why)) = is_out_of_memory why
+lacks_memory (OfTexts (OfImports why)) = false
+lacks_memory (OfTexts OutOfMemory) = true
+lacks_memory (OfArchive why) = is_out_of_memory why
+
 -- the answer for such definitions, one of which is refused
 pub record IsArm64ecRefused (check : CheckView) (a : Archive) (definition : List ℕ)
     (native : Option (List ℕ)) (answer : AnswerView) : Type 0 where
   pub why : Arm64ecFault
   pub is_fault : IsArm64ecFault definition native (options_for check (members_read a.members)) why
+  pub has_memory : lacks_memory why ≡ false
   pub is : IsRefusedAs 1 answer
 
 abbrev pub IsCheckedForArm64ec : Bool → CheckView → Archive → List ℕ → Option (List ℕ) →

@@ -1,12 +1,13 @@
 -- Which text is a definition of a library, and why a library has none (this project's choice).
 use Rattle.std.specs.Prelude.{◌≡◌, ℕ, Bool, true, false, List}
 use Rattle.implib_read.specs.Classes.{MemberRead}
+use Rattle.implib_rules.specs.Library.{is_out_of_memory}
 use Rattle.implib_rules.specs.Options.{LibraryOptionsView}
 use Rattle.implib_compare.specs.declared.compare.Verdict.{Verdict}
 use Rattle.implib_compare.specs.declared.compare.Verdict.TheVariants.{Different as TheyDiffer}
 use Rattle.implib_check_driver.specs.declared.defining.Undefined.{Undefined}
-use Rattle.implib_check_driver.specs.declared.defining.Undefined.TheVariants.{Different, OutOfMemory}
-use Rattle.implib_check_driver.specs.declared.defining.Undefined.TheVariants.{Refused, Unread}
+use Rattle.implib_check_driver.specs.declared.defining.Undefined.TheVariants.{Different, Refused}
+use Rattle.implib_check_driver.specs.declared.defining.Undefined.TheVariants.{Unread}
 use Rattle.implib_compare.specs.Comparison.{SayTheSame, has_unread}
 use Rattle.implib_check_driver.specs.DefinitionText.{definition_text}
 use Rattle.implib_compare.specs.Meant.{IsRefusalFor, IsVerdictOn}
@@ -44,6 +45,6 @@ abbrev pub IsUndefined : Bool → Bool → LibraryOptionsView → List MemberRea
 IsUndefined hints older options members Unread = has_unread members ≡ true
 IsUndefined hints older options members (Refused refusal) =
     IsRefusalFor older (definition_text hints options members) options refusal
+    × (is_out_of_memory refusal ≡ false)
 IsUndefined hints older options members (Different told) =
     IsVerdictOn older (definition_text hints options members) options members TheyDiffer
-IsUndefined hints older options members OutOfMemory = Unit {0}

@@ -14,10 +14,10 @@ Through = Option (List ℕ → Content)
 abbrev pub through : (List ℕ → List ℕ) → List Listing → CheckView → Through
 through file folders check = if is_searching check then Some (content_at file folders) else None
 
--- Where the forwarders lead that members come to in a DLL; nowhere, where none is followed.
-abbrev pub ends_through : Through → Exports → List (List ℕ) → List MemberRead → List (Option End)
-ends_through None e names members = []
-ends_through (Some content) e names members =
+-- Where the forwarders lead that members come to in a DLL, through others.
+abbrev pub ends_through : (List ℕ → Content) → Exports → List (List ℕ) → List MemberRead →
+    List (Option End)
+ends_through content e names members =
     ends (record { exports = e; names = names; others = λ name. Some (content name) }) members
 
 -- the bytes of files, and the names in folders, are known where forwarders are followed

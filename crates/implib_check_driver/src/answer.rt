@@ -1,10 +1,11 @@
 //! What a call comes to: an exit status, and what is written on each stream.
 
-ghost use Rattle.std.specs.Prelude.{◌≡◌, ◌++◌, IfErr, IfOk, IfSome, None, OnOk, Some};
+ghost use Rattle.std.specs.Prelude.{◌≡◌, ◌++◌, false, IfErr, IfOk, IfSome, None, OnOk, Some};
 ghost use Rattle.implib_check_driver.specs.Answer.{IsHalt, IsRefusedAs, IsSaid, answer_view};
 ghost use Rattle.implib_check_driver.specs.Answer.{line_about, no_archive_text, no_library, saying};
 ghost use Rattle.implib_check_driver.specs.Answer.{IsReadAs};
 ghost use Rattle.implib_read.specs.Archives.{archive_in, cut_in};
+ghost use Rattle.implib_rules.specs.Library.{is_out_of_memory};
 
 use crate::shelf::Shelf;
 use implib_read::{Library, cut_at};
@@ -120,7 +121,8 @@ pub(crate) fn said_of<D: fmt::Display + Drop>(
 
 /// The answer where a definition is refused.
 pub(crate) fn refused(alloc: Global, path: &str, why: &Refusal) -> Result<Answer, AllocError>
-    ensures { IfOk result (λ a. IsRefusedAs 1 (answer_view a)) }
+    ensures refused { IfOk result (λ a. IsRefusedAs 1 (answer_view a)) }
+    ensures has_memory { IfOk result (λ _. is_out_of_memory why.now ≡ false) }
 {
     if let Refusal::OutOfMemory = why {
         return Err(AllocError);

@@ -1,10 +1,11 @@
 //! Whether a library means what the definitions of one for ARM64EC mean.
 
 ghost use Rattle.std.specs.Option.{option_map};
-ghost use Rattle.std.specs.Prelude.{◌≡◌, [], map, IfErr, IfOk, None, Some, unwrap_or};
+ghost use Rattle.std.specs.Prelude.{◌≡◌, [], false, map, IfErr, IfOk, None, Some, unwrap_or};
 ghost use Rattle.implib_check_driver.specs.Calls.{check_view};
 ghost use Rattle.implib_check_driver.specs.Refused.{IsRefusalOfArm64ec};
 ghost use Rattle.implib_check_driver.specs.Answer.{IsRefusedAs, answer_view};
+ghost use Rattle.implib_check_driver.specs.Checking.{lacks_memory};
 ghost use Rattle.implib_compare.specs.Meant.{IsArm64ecVerdictOn};
 ghost use Rattle.implib_read.specs.ClassViews.{member_read_view};
 ghost use Rattle.implib_rules.specs.Options.{library_options_view};
@@ -216,7 +217,8 @@ pub(crate) fn refused_arm64ec(
     check: &Check,
     fault: &Arm64ecFault,
 ) -> Result<Answer, AllocError>
-    ensures { IfOk result (λ a. IsRefusedAs 1 (answer_view a)) }
+    ensures refused { IfOk result (λ a. IsRefusedAs 1 (answer_view a)) }
+    ensures has_memory { IfOk result (λ _. lacks_memory fault.now ≡ false) }
 {
     match fault {
         Arm64ecFault::OfTexts(Arm64ecRefusal::OfDefinition(why)) => {

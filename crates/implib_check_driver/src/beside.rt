@@ -3,14 +3,13 @@
 ghost use Rattle.std.specs.Option.{option_map};
 ghost use Rattle.std.specs.Prelude.{◌≡◌, ℕ, All, IfErr, IfOk, List, Ok, Some, map, true};
 ghost use Rattle.implib_check_driver.specs.Against.{DefinitionAgainst, IsAgainst, IsHeld};
-ghost use Rattle.implib_check_driver.specs.Against.{IsHeldAs, LibraryAgainst, OrEndless};
-ghost use Rattle.implib_check_driver.specs.Against.{options_against};
+ghost use Rattle.implib_check_driver.specs.Against.{IsHeldThrough, LibraryAgainst, options_against};
 ghost use Rattle.implib_check_driver.specs.Answer.{IsHalt, answer_view};
 ghost use Rattle.implib_check_driver.specs.Answers.{DefinitionBeside, IsAnswerBeside};
 ghost use Rattle.implib_check_driver.specs.Answers.{asks_for_arm64ec};
 ghost use Rattle.implib_check_driver.specs.Calls.{check_view, is_searching as IsSearching};
 ghost use Rattle.implib_check_driver.specs.Refused.{IsHeldError};
-ghost use Rattle.implib_check_driver.specs.Through.{ends_through, through};
+ghost use Rattle.implib_check_driver.specs.Through.{through};
 ghost use Rattle.implib_dll.specs.Exports.{Exports as SeenExports, exports_in};
 ghost use Rattle.implib_dll.specs.Views.{exports_view};
 ghost use Rattle.implib_dll.specs.declared.section.Layout.TheVariants.{File};
@@ -51,10 +50,8 @@ fn through_loaded<'x>(
     ensures { IfOk result (λ a. (file : List ℕ → List ℕ) (folders : List Listing) (e : SeenExports)
         → exports_in File bytes.now ≡ Ok (Some e)
         → All (IsRight file folders) (map loaded_view loaded.now)
-        → OrEndless check.now.definition.now (answer_view a) (IsHeldAs e
-        (map (λ name. name.items) names.items) (map member_read_view members.now)
-        (ends_through (Some (content_at file folders)) e (map (λ name. name.items) names.items)
-        (map member_read_view members.now)) (answer_view a))) }
+        → IsHeldThrough (Some (content_at file folders)) check.now.definition.now e
+        (map (λ name. name.items) names.items) (map member_read_view members.now) (answer_view a)) }
 {
     known_dlls_decide();
     right_dlls_extend();
@@ -95,11 +92,9 @@ fn through_folders<S: Shelf>(
 ) -> Result<Answer, Halt>
     ensures held { IfOk result (λ a. (file : List ℕ → List ℕ) (e : SeenExports)
         → AreKnown (S.seen shelf.now) file → exports_in File bytes.now ≡ Ok (Some e)
-        → OrEndless check.now.definition.now (answer_view a) (IsHeldAs e
-        (map (λ name. name.items) names.items) (map member_read_view members.now)
-        (ends_through (Some (content_at file (map folder_view folders.now))) e
-        (map (λ name. name.items) names.items) (map member_read_view members.now))
-        (answer_view a))) }
+        → IsHeldThrough (Some (content_at file (map folder_view folders.now)))
+        check.now.definition.now e (map (λ name. name.items) names.items)
+        (map member_read_view members.now) (answer_view a)) }
     ensures halted { IfErr result (IsHalt (S.may_fail shelf.now)) }
 {
     let loaded = dlls_behind(form.alloc, shelf, folders, bytes, &names, members)?;
@@ -121,10 +116,9 @@ fn members_against<S: Shelf>(
     ensures held { IfOk result (λ a. (file : List ℕ → List ℕ)
         → (IsSearching (check_view check.now) ≡ true → AreKnown (S.seen shelf.now) file)
         → exports_in File bytes.now ≡ Ok (Some (exports_view exports.entry))
-        → OrEndless check.now.definition.now (answer_view a)
-        (IsAgainst (through file (map folder_view folders.now) (check_view check.now))
+        → IsAgainst (through file (map folder_view folders.now) (check_view check.now))
         (check_view check.now) (exports_view exports.entry) (map member_read_view members.now)
-        (answer_view a))) }
+        (answer_view a)) }
     ensures halted { IfErr result (IsHalt (S.may_fail shelf.now)) }
 {
     let names = names_of(form.alloc, check.dll, check.definition)?;

@@ -42,19 +42,13 @@ pub enum Undefined {
     Refused(Refusal),
     /// That text means others; the lines of the differences.
     Different(Vec<u8>),
-    /// An allocation failed.
-    OutOfMemory,
 }
 
 /// The definition of a library: a text that means its imports and aliases. The text is held against
 /// the library, as any other definition, with the older symbols of addresses or without; so what is
 /// not the library's meaning is never handed out. Hints are ordinals in
-/// the text, or comments.
-///
-/// # Errors
-///
-/// `Unread`, `Refused` or `Different`: no text says what the library means, or not one of this
-/// form. `OutOfMemory`: an allocation failed.
+/// the text, or comments. `Unread`, `Refused` or `Different`: no text says what the library means,
+/// or not one of this form.
 #[tactic(auto, using(crate::proofs::Definitions::defines_same, crate::proofs::Definitions::defines_open))]
 pub fn definition_of(
     form: Form,
@@ -63,32 +57,31 @@ pub fn definition_of(
     options: &LibraryOptions,
     hints: bool,
     older_symbols: bool,
-) -> Result<Vec<u8>, Undefined>
+) -> Result<Result<Vec<u8>, Undefined>, AllocError>
     requires { options.now.naming.exports_as ≡ false }
-    ensures text { IfOk result
+    ensures text { IfOk result (λ found. IfOk found
         (λ text. text.items
         ≡ definition_text hints (library_options_view options.now)
-        (map member_read_view members.now)) }
-    ensures defines { IfOk result
+        (map member_read_view members.now))) }
+    ensures defines { IfOk result (λ found. IfOk found
         (λ text. DefinesFor older_symbols text.items (library_options_view options.now)
-        (map member_read_view members.now)) }
-    ensures undefined { IfErr result
+        (map member_read_view members.now))) }
+    ensures undefined { IfOk result (λ found. IfErr found
         (IsUndefined hints older_symbols (library_options_view options.now)
-        (map member_read_view members.now)) }
+        (map member_read_view members.now))) }
 {
     meant_is_defined();
     if has_unread(members) {
-        return Err(Undefined::Unread);
+        return Ok(Err(Undefined::Unread));
     }
-    let Ok(text) = definition_text(form.alloc, hints, options, members) else {
-        return Err(Undefined::OutOfMemory);
-    };
+    let text = definition_text(form.alloc, hints, options, members)?;
     match check_definition(form, paths, members, &text, options, older_symbols) {
-        Ok((Verdict::Different, told)) => Err(Undefined::Different(told)),
-        Ok((Verdict::Same, _)) => Ok(text),
-        Ok((Verdict::NotDecided, _)) => Ok(text),
-        Err(CheckError::Refused(refusal)) => Err(Undefined::Refused(refusal)),
-        Err(CheckError::OutOfMemory) => Err(Undefined::OutOfMemory),
+        Ok((Verdict::Different, told)) => Ok(Err(Undefined::Different(told))),
+        Ok((Verdict::Same, _)) => Ok(Ok(text)),
+        Ok((Verdict::NotDecided, _)) => Ok(Ok(text)),
+        Err(CheckError::Refused(Refusal::OutOfMemory)) => Err(AllocError),
+        Err(CheckError::Refused(refusal)) => Ok(Err(Undefined::Refused(refusal))),
+        Err(CheckError::OutOfMemory) => Err(AllocError),
     }
 }
 
@@ -134,7 +127,6 @@ fn undefined_lines(
                 say(&mut lines, path, text.as_str())?;
             }
         }
-        Undefined::OutOfMemory => return Err(AllocError),
     }
     Ok(lines)
 }
@@ -146,7 +138,6 @@ fn undefined_status(why: &Undefined) -> u8
     match why {
         Undefined::Unread => 4,
         Undefined::Refused(_) | Undefined::Different(_) => 1,
-        Undefined::OutOfMemory => 3,
     }
 }
 
@@ -217,7 +208,7 @@ fn define_one(
     };
     let paths = (define.library, TRIED);
     let older = define.older_symbols;
-    match definition_of(form, paths, members, &options, hints, older) {
+    match definition_of(form, paths, members, &options, hints, older)? {
         Ok(out) => Ok(Answer {
             status: 0,
             out,
