@@ -10,7 +10,6 @@ mod files;
 use crate::lines::{Case, Line, push_alike, push_calls, push_lines, short_answer};
 use files::{Files, files_of};
 use implib_check_driver::program::{run, status_of};
-use implib_check_driver::task::CommandLine;
 use std::alloc::Global;
 use std::io;
 use std::io::{ErrorKind, Write};
@@ -48,18 +47,18 @@ pub fn answered(alloc: Global, case: &Case) -> Result<String, Fail> {
     Ok(text)
 }
 
-/// The words of a call, as the program reads them.
-fn command_line(alloc: Global, call: &str) -> Result<CommandLine, Fail> {
+/// The words of a call.
+fn words_of(alloc: Global, call: &str) -> Result<Vec<String>, Fail> {
     let mut words = Vec::new(alloc);
     for word in call.split_whitespace() {
         words.push(String::from_str(alloc, word)?)?;
     }
-    Ok(CommandLine::read(alloc, words.as_slice())?)
+    Ok(words)
 }
 
 /// A call, its status, and the lines of standard output and of standard error.
 fn answer_call(alloc: Global, text: &mut String, files: &Files, call: &str) -> Result<(), Fail> {
-    let words = command_line(alloc, call)?;
+    let words = words_of(alloc, call)?;
     let mut printed = Vec::new(alloc);
     let mut said = Vec::new(alloc);
     let done = run(alloc, files, &words, &mut printed, &mut said);
@@ -78,7 +77,7 @@ fn answer_failed(
     call: &str,
     why: ErrorKind,
 ) -> Result<(), Fail> {
-    let words = command_line(alloc, call)?;
+    let words = words_of(alloc, call)?;
     let mut said = Vec::new(alloc);
     let done = run(alloc, files, &words, &mut Failing(why), &mut said);
     let status = status_of(&mut said, done);
@@ -92,10 +91,10 @@ fn answer_each(alloc: Global, text: &mut String, files: &Files, line: &Line) -> 
     let (words, parts) = push_calls(text, line)?;
     for part in parts.split('|') {
         let call = format!(in alloc; "{words} {part}")?;
-        let line = command_line(alloc, call.as_str())?;
+        let all = words_of(alloc, call.as_str())?;
         let mut printed = Vec::new(alloc);
         let mut said = Vec::new(alloc);
-        let done = run(alloc, files, &line, &mut printed, &mut said);
+        let done = run(alloc, files, &all, &mut printed, &mut said);
         let status = status_of(&mut said, done);
         let answer = short_answer(alloc, status, printed.as_slice(), said.as_slice())?;
         push_alike(alloc, text, part.trim(), answer.as_str())?;
@@ -107,11 +106,11 @@ fn answer_each(alloc: Global, text: &mut String, files: &Files, line: &Line) -> 
 pub fn imports_in(alloc: Global, bytes: Vec<u8>) -> Result<String, Fail> {
     let mut all = Vec::new(alloc);
     all.push((String::from_str(alloc, "made")?, bytes))?;
-    let line = command_line(alloc, "--json --list made")?;
+    let words = words_of(alloc, "--json --list made")?;
     let mut printed = Vec::new(alloc);
     let mut said = Vec::new(alloc);
     let files = Files { all };
-    let done = run(alloc, &files, &line, &mut printed, &mut said);
+    let done = run(alloc, &files, &words, &mut printed, &mut said);
     status_of(&mut said, done);
     let mut text = String::new(alloc);
     for line in str::from_utf8(printed.as_slice()).unwrap_or("?").lines() {

@@ -7,10 +7,8 @@ use Rattle.implib_read.specs.Archives.{Archive, archive_in}
 use Rattle.implib_read.specs.Classes.{MemberRead, library_in, members_read}
 use Rattle.implib_check_driver.specs.Against.{is_library}
 use Rattle.implib_check_driver.specs.Answer.{AnswerView, by_library, no_library, saying}
-use Rattle.implib_check_driver.specs.Answers.{AnswersTask}
 use Rattle.implib_check_driver.specs.Calls.{CheckView}
 use Rattle.implib_check_driver.specs.Checking.{CheckedAs, IsCheckedBeside, library_text}
-use Rattle.implib_check_driver.specs.Tasks.{TaskView}
 
 -- what is so of bytes is so of the file that has them, if that is known
 pub of_file : (So : List ℕ → Type 0) (file : Option (List ℕ)) (bytes : List ℕ) → IfSome file (λ f. bytes ≡ f) → So bytes → IfSome file So
@@ -65,8 +63,3 @@ pub checked_beside : (json : Bool) (check : CheckView) (library definition : Lis
     → CheckedAs json check library definition native (archive_in library) x
 checked_beside json check library definition native a x read unlike is =
     subst (λ found. CheckedAs json check library definition native found x) (sym read) ((λ yes. absurd (true≢false (sym yes ∙ unlike))), (λ here. is))
-
--- the answer where nothing is asked for
-pub none_asked : (json : Bool) (seen : List ℕ → Option (List ℕ)) (names : List ℕ → Option (List (List ℕ))) (task : Option TaskView) (text : List ℕ)
-    (x : AnswerView) → task ≡ None → x ≡ saying 2 (codes "implib_check") text → AnswersTask json seen names task x
-none_asked json seen names task text x none is = subst (λ t. AnswersTask json seen names t x) (sym none) (record { text = text; is = is })

@@ -1,11 +1,16 @@
 -- What the program answers with, by what its files hold (docs/CHECK.md).
 use Rattle.std.specs.Prelude.{◌≡◌, ◌⊎◌, ℕ, ◌==◌, ◌&&◌, ◌||◌, not, Bool, true, false, List, [], ◌++◌, Option}
-use Rattle.std.specs.Prelude.{None, Some, IfSome, codes, length, map}
+use Rattle.std.specs.Prelude.{Err, None, Ok, Some, IfSome, codes, length, map}
 use Rattle.std.specs.Option.{is_some, option_map}
 use Rattle.implib_dll.specs.Exports.{exports_in}
 use Rattle.implib_dll.specs.Imports.{imports_in}
 use Rattle.implib_dll.specs.declared.section.Layout.TheVariants.{File}
 use Rattle.implib_dll_check.specs.Folders.{AreKnown, listings}
+use Rattle.implib_options.specs.Given.{all, has}
+use Rattle.implib_options.specs.Table.{help_lines}
+use Rattle.implib_options.specs.Words.{IsRead, Reading}
+use Rattle.implib_options.specs.declared.table.Meaning.TheVariants.{Input, Json, Search}
+use Rattle.implib_options.specs.declared.table.Words.TheVariants.{Check}
 use Rattle.implib_read.specs.Archives.{Archive, archive_in}
 use Rattle.implib_read.specs.Classes.{MemberRead, members_read}
 use Rattle.implib_read.specs.Identity.{dlls_of}
@@ -22,11 +27,12 @@ use Rattle.implib_check_driver.specs.Listing.{doubts, identify_answer, list_answ
 use Rattle.implib_check_driver.specs.OfDlls.{HasNoLibrary, IsLibraryOfDll}
 use Rattle.implib_check_driver.specs.Starting.{IsProgramAnswer}
 use Rattle.implib_check_driver.specs.Targets.{has_arm64ec, options_of}
-use Rattle.implib_check_driver.specs.Tasks.{Checks, Compares, Defines, Help, Identifies, Joins}
-use Rattle.implib_check_driver.specs.Tasks.{Lists, ListsExports, Searches, TaskView, Version}
-use Rattle.implib_check_driver.specs.Tasks.{WorksOf}
+use Rattle.implib_check_driver.specs.Tasks.{Asked, Checks, Compares, Defines, Help, Identifies}
+use Rattle.implib_check_driver.specs.Tasks.{Joins, Lists, ListsExports, Searches, TaskView, Version}
+use Rattle.implib_check_driver.specs.Tasks.{WorksOf, task_of}
 use Rattle.implib_check_driver.specs.Through.{AreKnownFor, Through, through}
 use Rattle.implib_check_driver.specs.Together.{IsJoinedAnswer, first_none}
+use Rattle.implib_check_driver.specs.declared.program.TheConstants.{END, FRONT, VERSION}
 use Rattle.implib_check_driver.specs.declared.defining.Undefined.{Undefined}
 use Rattle.implib_check_driver.specs.declared.defining.Undefined.TheVariants as undefined
 
@@ -176,30 +182,53 @@ AnswersProgram json seen listed program folders a =
     → IsProgramAnswer json program file (listings names folders) (imports_in File (file program)) a
 
 -- an answer of a text alone on standard output
-pub record IsText (a : AnswerView) : Type 0 where
-  pub text : List ℕ
-  pub is : a ≡ record { status = 0; out = text; err = [] }
+abbrev pub text_alone : List ℕ → AnswerView
+text_alone text = record { status = 0; out = text; err = [] }
 
--- The answer to what a command line asks for: 2 where it asks for nothing.
+-- what is printed for `--help`: the options, with a text in front and one behind
+abbrev pub help_text : List ℕ
+help_text = FRONT.now ++ help_lines Check ++ END.now
+
+-- the answer to what a command line asks for
 abbrev pub AnswersTask : Bool → (List ℕ → Option (List ℕ)) → (List ℕ → Option (List (List ℕ))) →
-    Option TaskView → AnswerView → Type 0
-AnswersTask json seen names None a = IsSaid 2 (codes "implib_check") a
-AnswersTask json seen names (Some (Lists path)) a =
+    TaskView → AnswerView → Type 0
+AnswersTask json seen names (Lists path) a =
     IfSome (seen path) (λ f. a ≡ list_answer json path f)
-AnswersTask json seen names (Some (ListsExports path)) a =
+AnswersTask json seen names (ListsExports path) a =
     IfSome (seen path) (λ f. IsExportsAnswer path (exports_in File f) a)
-AnswersTask json seen names (Some (Identifies path strict)) a =
+AnswersTask json seen names (Identifies path strict) a =
     IfSome (seen path) (λ f. a ≡ identify_answer strict path f)
-AnswersTask json seen names (Some (WorksOf path)) a =
+AnswersTask json seen names (WorksOf path) a =
     IfSome (seen path) (λ f. a ≡ works_answer json path f)
-AnswersTask json seen names (Some (Compares left right)) a = IfSome (seen left)
+AnswersTask json seen names (Compares left right) a = IfSome (seen left)
     (λ l. IfSome (seen right)
     (λ r. IsSameAnswer json left right l r (archive_in l) (archive_in r) a))
-AnswersTask json seen names (Some Help) a = IsText a
-AnswersTask json seen names (Some Version) a = IsText a
-AnswersTask json seen names (Some (Defines define)) a =
+AnswersTask json seen names Help a = a ≡ text_alone help_text
+AnswersTask json seen names Version a = a ≡ text_alone VERSION.now
+AnswersTask json seen names (Defines define) a =
     IfSome (seen define.library) (λ f. IsDefineAnswer define f a)
-AnswersTask json seen names (Some (Joins paths)) a = AnswersJoined seen paths a
-AnswersTask json seen names (Some (Checks check)) a = AnswersBeside json seen names check a
-AnswersTask json seen names (Some (Searches path folders)) a =
+AnswersTask json seen names (Joins paths) a = AnswersJoined seen paths a
+AnswersTask json seen names (Checks check) a = AnswersBeside json seen names check a
+AnswersTask json seen names (Searches path folders) a =
     AnswersProgram json seen names path folders a
+
+-- the answer to what options and files ask for: 2 where they are wrong
+abbrev pub AnswersAsked : Bool → (List ℕ → Option (List ℕ)) →
+    (List ℕ → Option (List (List ℕ))) → Asked TaskView → AnswerView → Type 0
+AnswersAsked json seen names (Ok task) a = AnswersTask json seen names task a
+AnswersAsked json seen names (Err wrong) a = IsSaid 2 (codes "implib_check") a
+
+-- the same of what words are read as, or what is wrong with them
+abbrev pub AnswersReading : (List ℕ → Option (List ℕ)) → (List ℕ → Option (List (List ℕ))) →
+    Reading → AnswerView → Type 0
+AnswersReading seen names (Ok given) a =
+    AnswersAsked (has Json given) seen names (task_of given (all Input given) (all Search given)) a
+AnswersReading seen names (Err fault) a = IsSaid 2 (codes "implib_check") a
+
+-- The answer to the words of a command line. They are read as one thing (`HaveOneReading` of
+-- `implib_options`).
+pub record Answers (seen : List ℕ → Option (List ℕ)) (names : List ℕ → Option (List (List ℕ)))
+    (words : List (List ℕ)) (a : AnswerView) : Type 0 where
+  pub reading : Reading
+  pub read : IsRead Check words reading
+  pub is : AnswersReading seen names reading a

@@ -2,8 +2,7 @@
 use Rattle.std.specs.Prelude.{◌≡◌, ◌⊎◌, ℕ, Bool, List, Option}
 use Rattle.std.specs.Io.KnownBytes.{Appends}
 use Rattle.implib_check_driver.specs.Answer.{AnswerView, Fails}
-use Rattle.implib_check_driver.specs.Answers.{AnswersTask}
-use Rattle.implib_check_driver.specs.Tasks.{TaskView}
+use Rattle.implib_check_driver.specs.Answers.{Answers}
 
 -- an answer is written, by what is on both streams before and after, and its status given
 pub record IsWritten (a : AnswerView)
@@ -12,11 +11,11 @@ pub record IsWritten (a : AnswerView)
   pub err : Appends err_before err_after a.err
   pub is : status ≡ a.status
 
--- A run writes one answer: that to what the command line asks for, by what the files hold; or one
--- of status 3, where a file or a folder cannot be read.
-pub record Runs (may_fail : List ℕ → Bool) (json : Bool) (seen : List ℕ → Option (List ℕ))
-    (listed : List ℕ → Option (List (List ℕ))) (task : Option TaskView)
+-- A run writes one answer: that to the words of the command line, by what the files hold; or one of
+-- status 3, where a file or a folder cannot be read.
+pub record Runs (may_fail : List ℕ → Bool) (seen : List ℕ → Option (List ℕ))
+    (listed : List ℕ → Option (List (List ℕ))) (words : List (List ℕ))
     (out_before out_after err_before err_after : Option (List ℕ)) (status : ℕ) : Type 0 where
   pub answer : AnswerView
-  pub answers : AnswersTask json seen listed task answer ⊎ Fails may_fail answer
+  pub answers : Answers seen listed words answer ⊎ Fails may_fail answer
   pub written : IsWritten answer out_before out_after err_before err_after status

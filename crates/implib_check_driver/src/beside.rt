@@ -73,7 +73,8 @@ fn through_loaded<'x>(
     };
     let found = ends(alloc, &beside, members)?;
     if is_any_unknown(&found) {
-        return saying(alloc, 4, path, "forwarders lead through too many DLLs");
+        let endless = saying(alloc, 4, path, "forwarders lead through too many DLLs")?;
+        return Ok(endless);
     }
     let answer = hold(form, source, members, &dll, &found, check.lists_unasked)?;
     Ok(answer)

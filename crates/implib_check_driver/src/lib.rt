@@ -35,3 +35,4 @@ mod text;
 mod through;
 pub mod together;
 pub mod works;
+mod wrong;

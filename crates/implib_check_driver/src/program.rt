@@ -1,23 +1,25 @@
 //! The program: its arguments, its files, what it writes, and its exit status.
 
-ghost use Rattle.std.specs.Option.{option_and_then};
 ghost use Rattle.std.specs.Prelude.{◌≡◌, ℕ, IfErr, IfOk, IfSome, List, map};
 ghost use Rattle.std.specs.String.{string_bytes};
 ghost use Rattle.implib_check_driver.specs.Answer.{IsHalt, answer_view};
-ghost use Rattle.implib_check_driver.specs.Answers.{AnswersTask, IsDefineAnswer, IsText};
+ghost use Rattle.implib_check_driver.specs.Answers.{Answers, AnswersAsked, AnswersTask, IsDefineAnswer};
+ghost use Rattle.implib_check_driver.specs.Answers.{help_text, text_alone};
 ghost use Rattle.implib_check_driver.specs.Calls.{define_view};
 ghost use Rattle.implib_check_driver.specs.Differences.{IsSameAnswer};
 ghost use Rattle.implib_check_driver.specs.Exported.{IsExportsAnswer};
 ghost use Rattle.implib_check_driver.specs.Listing.{identify_answer, list_answer, works_answer};
 ghost use Rattle.implib_check_driver.specs.Run.{IsWritten, Runs};
-ghost use Rattle.implib_check_driver.specs.Tasks.{in_form, task_named};
+ghost use Rattle.implib_check_driver.specs.Tasks.{task_of, task_view};
 ghost use Rattle.implib_check_driver.specs.Together.{IsJoinedAnswer, first_none};
 ghost use Rattle.implib_dll.specs.Exports.{exports_in};
 ghost use Rattle.implib_dll.specs.declared.section.Layout.TheVariants.{File};
 ghost use Rattle.implib_dll_check.specs.Folders.{AreKnown};
+ghost use Rattle.implib_options.specs.Given.{given_view, has};
+ghost use Rattle.implib_options.specs.declared.table.Meaning.TheVariants.{Json};
 ghost use Rattle.implib_read.specs.Archives.{archive_in};
 
-use crate::answer::{Answer, Halt, NAME, bytes_of, saying};
+use crate::answer::{Answer, Halt, NAME, bytes_of, said_of};
 use crate::call::Define;
 use crate::checking::check;
 use crate::defining::define;
@@ -28,24 +30,29 @@ use crate::list::{identify, list};
 use crate::report::Form;
 use crate::shelf::Shelf;
 use crate::starting::start;
-use crate::task::{CommandLine, Task, call_named};
+use crate::task::{CallError, CommandLine, Task, task_of};
 use crate::works::works;
+use crate::wrong::WordMessage;
+use implib_options::given::has;
+use implib_options::help::push_help;
+use implib_options::table::{Meaning, Words};
+use implib_options::words::ReadError;
 use std::alloc::{AllocError, Global};
 use std::env::Env;
 use std::io::{ErrorKind, Write};
 use std::{env, io};
 
-// What the program prints for `--help`.
-const HELP: &str = "\
-usage: implib_check LIB DLL [--all] [-D DLL] [--json] [--search DIR..]
+// What the program prints for `--help` before the options.
+const FRONT: &str = "\
+usage: implib_check LIB DLL [--all] [-D DLL] [--json] [--search DIR]..
        implib_check LIB DEF [-m MACHINE] [-k] [--no-leading-underscore]
                     [--export-as] [--lib] [-C] [-D DLL] [--flavor FLAVOR]
                     [-N NATIVE] [--json]
-       implib_check DEF DLL [--all] [and the options of LIB DEF] [--search DIR..]
+       implib_check DEF DLL [--all] [and the options of LIB DEF] [--search DIR]..
        implib_check --def LIB [-m MACHINE] [--no-leading-underscore] [-C]
                     [--flavor FLAVOR]
        implib_check --def DLL and these options but -C
-       implib_check PROGRAM --search DIR.. [--json]
+       implib_check PROGRAM --search DIR [--search DIR].. [--json]
        implib_check --exports DLL [--json]
        implib_check --list LIB [--json]
        implib_check --identify LIB
@@ -60,46 +67,10 @@ one of the definition; the differences. With a DLL: whether a program that is
 linked with the library, or with that of the definition, finds in the DLL what
 it imports; what it does not find.
 
-  -m, --machine      i386, i386:x86-64, arm, arm64 or arm64ec; without it the
-                     library's
-  -N, --input-native-def
-                     of arm64ec, the definition of what the DLL exports for arm64
-  -k, --kill-at      ask for names without @ and the number after it, on i386
-  --no-leading-underscore
-                     no underscore before symbols, on i386
-  --export-as        names that are not made of their symbols stand beside them
-  --lib              as implib_dlltool --lib: that, and on i386 words with an @
-                     are symbols as they are
-  -C, --compat-implib
-                     as implib_dlltool -C: each address has its symbol ___imp.. too
-  -D, --dllname      the DLL's name, before the definition's
-  --flavor           msvc or gnu; without it the library's
-  --def              a definition that means the library's imports and aliases,
-                     or which member no definition says; of a DLL, a definition
-                     of which implib_dlltool makes the library of the DLL
-  --search           whether a program, or a DLL, finds what it imports in the
-                     DLLs of these folders; what it does not find. With LIB or
-                     DEF and a DLL: where its forwarders lead in these folders;
-                     the last option
-  --all              the exports of the DLL, too, that no import asks for
-  --exports          a line for each export of a DLL: ordinal, code, data or
-                     forwarder, address or other DLL's export, hint, name
-  --list             a line for each import and alias: offset, DLL, symbol,
-                     type, what is asked by, name, ordinal or hint; arm64ec
-                     for that machine
-  --identify         the DLLs that the library imports from
-  --identify-strict  the DLL; an error where there are several
-  --same             whether two libraries have the same imports and aliases;
-                     the differences
-  --together         which symbols two of these libraries take from different
-                     DLLs, or by different names, in one link
-  --works            whether the indexes lead to what they name, each linker
-                     asks for the same by the short imports, and the parts of
-                     the import tables are there once each
-  --json             a JSON object in place of each line
-  -h, --help
-  -V, --version
+";
 
+// Behind them.
+const END: &str = "
 Status: 0 done, the same, found in the DLL; 1 different, not found, a refused
 definition, no DLL, no import, no export, no definition, broken, or a clash;
 2 wrong call; 3 a file or memory failed; 4 a member that may matter was not
@@ -109,9 +80,19 @@ understood.
 // What the program prints for `--version`.
 const VERSION: &str = "implib_check 0.1.0\n";
 
+// What the program prints for `--help`.
+fn help_text(alloc: Global) -> Result<String, AllocError>
+    ensures { IfOk result (λ text. string_bytes text ≡ help_text) }
+{
+    let mut text = String::from_str(alloc, FRONT)?;
+    push_help(&mut text, Words::Check)?;
+    text.push_str(END)?;
+    Ok(text)
+}
+
 // The answer of a text alone.
 fn text_alone(alloc: Global, text: &str) -> Result<Answer, AllocError>
-    ensures { IfOk result (λ a. IsText (answer_view a)) }
+    ensures { IfOk result (λ a. answer_view a ≡ text_alone text.now) }
 {
     let mut out = Vec::new(alloc);
     out.extend_from_slice(text.as_bytes())?;
@@ -120,6 +101,14 @@ fn text_alone(alloc: Global, text: &str) -> Result<Answer, AllocError>
         out,
         err: Vec::new(alloc),
     })
+}
+
+// The answer to `--help`.
+fn help_answer(alloc: Global) -> Result<Answer, AllocError>
+    ensures { IfOk result (λ a. answer_view a ≡ text_alone help_text) }
+{
+    let text = help_text(alloc)?;
+    text_alone(alloc, text.as_str())
 }
 
 // The list of the library of a file.
@@ -208,49 +197,57 @@ fn together_files<S: Shelf>(form: Form, shelf: &S, paths: &[String]) -> Result<A
     Ok(together(form, paths, &files)?)
 }
 
-// What is said of words that ask for nothing.
-fn wrong_call(words: &[String]) -> &'static str {
-    match words {
-        [word] if !word.as_str().starts_with('-') => {
-            "a definition or an option is missing, as in implib_check LIB DEF or \
-             implib_check --list LIB"
-        }
-        _ => "wrong call; --help says how to call it",
+// The answer to what a command line asks for.
+fn answer_task<S: Shelf>(form: Form, shelf: &S, task: Task) -> Result<Answer, Halt>
+    ensures answered { IfOk result (λ a. AnswersTask form.is_json (S.seen shelf.now)
+        (S.listed shelf.now) (task_view task.entry) (answer_view a)) }
+    ensures halted { IfErr result (IsHalt (S.may_fail shelf.now)) }
+{
+    match task {
+        Task::Help => Ok(help_answer(form.alloc)?),
+        Task::Version => Ok(text_alone(form.alloc, VERSION)?),
+        Task::List(path) => list_file(form, shelf, path),
+        Task::Exports(path) => exports_of_file(form, shelf, path),
+        Task::Identify(path, is_strict) => identify_file(form, shelf, path, is_strict),
+        Task::Works(path) => works_file(form, shelf, path),
+        Task::Same(left, right) => same_files(form, shelf, left, right),
+        Task::Together(paths) => together_files(form, shelf, paths),
+        Task::Check(asked) => check(form, shelf, &asked),
+        Task::Define(asked) => define_file(form, shelf, &asked),
+        Task::Program(path, folders) => start(form, shelf, path, folders),
     }
 }
 
-/// The answer to what a command line asks for.
+// The answer to options and files.
+fn answer_line<S: Shelf>(alloc: Global, shelf: &S, line: &CommandLine) -> Result<Answer, Halt>
+    ensures answered { IfOk result (λ a. AnswersAsked (has Json (map given_view line.now.given.items))
+        (S.seen shelf.now) (S.listed shelf.now) (task_of (map given_view line.now.given.items)
+        (map string_bytes line.now.files.items) (map string_bytes line.now.folders.items))
+        (answer_view a)) }
+    ensures halted { IfErr result (IsHalt (S.may_fail shelf.now)) }
+{
+    let is_json = has(&line.given, Meaning::Json);
+    match task_of(alloc, line) {
+        Ok(task) => answer_task(Form { alloc, is_json }, shelf, task),
+        Err(CallError::Wrong(wrong)) => Ok(said_of(alloc, 2, NAME, wrong)?),
+        Err(CallError::OutOfMemory) => Err(Halt::OutOfMemory),
+    }
+}
+
+/// The answer to what the words of a command line ask for.
 ///
 /// # Errors
 ///
 /// `Ends`: a file or a folder cannot be read, and the answer says so, with status 3.
-pub fn answer<S: Shelf>(
-    alloc: Global,
-    shelf: &S,
-    command_line: &CommandLine,
-) -> Result<Answer, Halt>
-    ensures answered { IfOk result (λ a. AnswersTask command_line.now.is_json (S.seen shelf.now)
-        (S.listed shelf.now) (option_and_then (in_form command_line.now.is_json)
-        (task_named (map string_bytes command_line.now.words.items))) (answer_view a)) }
+pub fn answer<S: Shelf>(alloc: Global, shelf: &S, words: &[String]) -> Result<Answer, Halt>
+    ensures answered { IfOk result (λ a. Answers (S.seen shelf.now) (S.listed shelf.now)
+        (map string_bytes words.now) (answer_view a)) }
     ensures halted { IfErr result (IsHalt (S.may_fail shelf.now)) }
 {
-    let form = Form {
-        alloc,
-        is_json: command_line.is_json,
-    };
-    match call_named(command_line) {
-        Some(Task::Help) => Ok(text_alone(alloc, HELP)?),
-        Some(Task::Version) => Ok(text_alone(alloc, VERSION)?),
-        Some(Task::List(path)) => list_file(form, shelf, path),
-        Some(Task::Exports(path)) => exports_of_file(form, shelf, path),
-        Some(Task::Identify(path, is_strict)) => identify_file(form, shelf, path, is_strict),
-        Some(Task::Works(path)) => works_file(form, shelf, path),
-        Some(Task::Same(left, right)) => same_files(form, shelf, left, right),
-        Some(Task::Together(paths)) => together_files(form, shelf, paths),
-        Some(Task::Check(asked)) => check(form, shelf, &asked),
-        Some(Task::Define(asked)) => define_file(form, shelf, &asked),
-        Some(Task::Program(path, folders)) => start(form, shelf, path, folders),
-        None => Ok(saying(alloc, 2, NAME, wrong_call(&command_line.words))?),
+    match CommandLine::read(alloc, words) {
+        Ok(line) => answer_line(alloc, shelf, &line),
+        Err(ReadError::Refused(fault)) => Ok(said_of(alloc, 2, NAME, WordMessage(fault))?),
+        Err(ReadError::OutOfMemory) => Err(Halt::OutOfMemory),
     }
 }
 
@@ -285,7 +282,7 @@ fn write_answer<O: Write, E: Write>(
     }
 }
 
-/// Does what a command line asks for: reads, finds the answer, and then writes it, first what goes
+/// Does what the words of a command line ask for: reads, finds the answer, and then writes it, first what goes
 /// to standard error; and gives the exit status: 0 where it is done or the libraries are the same, 1
 /// where they differ, or a content is refused, 2 where the call is wrong, 3 where a file or a folder
 /// cannot be read, and 4 where a member that may matter was not understood.
@@ -296,17 +293,16 @@ fn write_answer<O: Write, E: Write>(
 pub fn run<S: Shelf, O: Write, E: Write>(
     alloc: Global,
     shelf: &S,
-    command_line: &CommandLine,
+    words: &[String],
     printer: &mut O,
     faults: &mut E,
 ) -> Result<u8, Failure>
-    ensures { IfOk result (Runs (S.may_fail shelf.now) command_line.now.is_json (S.seen shelf.now)
-        (S.listed shelf.now) (option_and_then (in_form command_line.now.is_json)
-        (task_named (map string_bytes command_line.now.words.items)))
+    ensures { IfOk result (Runs (S.may_fail shelf.now) (S.seen shelf.now) (S.listed shelf.now)
+        (map string_bytes words.now)
         (O.contents printer.old) (O.contents printer.new)
         (E.contents faults.old) (E.contents faults.new)) }
 {
-    match answer(alloc, shelf, command_line) {
+    match answer(alloc, shelf, words) {
         Ok(found) => {
             let status = write_answer(printer, faults, &found)?;
             Ok(status)
@@ -343,10 +339,10 @@ pub fn status_of<E: Write>(faults: &mut E, done: Result<u8, Failure>) -> u8
     }
 }
 
-// The words of the process, as the program reads them.
-fn words_of<R: Env + AllocGlobal>(rt: &R) -> io::Result<CommandLine> {
-    let arguments: Result<Vec<String>, AllocError> = env::args(rt)?.skip(1).collect(rt.alloc());
-    Ok(CommandLine::read(rt.alloc(), &arguments?)?)
+// The words of the process behind the program's name.
+fn words_of<R: Env + AllocGlobal>(rt: &R) -> io::Result<Vec<String>> {
+    let words: Result<Vec<String>, AllocError> = env::args(rt)?.skip(1).collect(rt.alloc());
+    Ok(words?)
 }
 
 /// Runs the program with the command line of the process, and gives the exit status.
@@ -356,8 +352,8 @@ pub fn perform<R: Env + AllocGlobal, S: Shelf, O: Write, E: Write>(
     printer: &mut O,
     faults: &mut E,
 ) -> u8 {
-    let command_line = match words_of(rt) {
-        Ok(command_line) => command_line,
+    let words = match words_of(rt) {
+        Ok(words) => words,
         Err(error) => {
             let Ok(text) = error.to_string(rt.alloc()) else {
                 return fail(faults, "out of memory");
@@ -365,6 +361,6 @@ pub fn perform<R: Env + AllocGlobal, S: Shelf, O: Write, E: Write>(
             return fail(faults, text.as_str());
         }
     };
-    let done = run(rt.alloc(), shelf, &command_line, printer, faults);
+    let done = run(rt.alloc(), shelf, &words, printer, faults);
     status_of(faults, done)
 }

@@ -237,10 +237,9 @@ pub const OPTIONS: [Row; 91] = [
                      or which member no definition says; of a DLL, a definition
                      of which implib_dlltool makes the library of the DLL"),
     row!(Check "search" Value Search
-"  --search           whether a program, or a DLL, finds what it imports in the
-                     DLLs of these folders; what it does not find. With LIB or
-                     DEF and a DLL: where its forwarders lead in these folders;
-                     the last option"),
+"  --search           a folder, once for each: whether a program, or a DLL, finds
+                     what it imports in the DLLs there; what it does not find.
+                     With LIB or DEF and a DLL: where its forwarders lead there"),
     row!(Check "all" Nothing ListsUnasked
 "  --all              the exports of the DLL, too, that no import asks for"),
     row!(Check "exports" Nothing ListsExports

@@ -9,13 +9,15 @@ use Rattle.implib_check_driver.proofs.beside.through_loaded.Goals as goal
 
 pub returns-then-is_any_unknown : goal.returns-then-is_any_unknown
 returns-then-is_any_unknown c = λ file folders e is right.
-    inl (leads_further file folders (map loaded_view c.args.loaded.now) (map known_view c.in_ok-others.others.items) (exports_view c.in-Holds.exports) e
-    (map (λ name. name.items) c.args.names.items) (map member_read_view c.args.members.now) _
-    (same_exports _ e _ (rw c.in-Holds.is at c.in_ok-exports.ensures) is)
-    c.in_ok-others.ensures right
-    (rw (c.deref.ensures.value, c.deref-2.ensures.value) at c.in_ok-found.ensures)
-    (sym (rw c.deref-3.ensures.value at c.is_any_unknown.ensures) ∙ c.if-is_any_unknown.true),
-    c.in_ok-saying.ensures)
+    inl (
+      leads_further file folders (map loaded_view c.args.loaded.now) (map known_view c.in_ok-others.others.items) (exports_view c.in-Holds.exports) e
+          (map (λ name. name.items) c.args.names.items) (map member_read_view c.args.members.now) _
+          (same_exports _ e _ (rw c.in-Holds.is at c.in_ok-exports.ensures) is)
+          c.in_ok-others.ensures right
+          (rw (c.deref.ensures.value, c.deref-2.ensures.value) at c.in_ok-found.ensures)
+          (sym (rw c.deref-3.ensures.value at c.is_any_unknown.ensures) ∙ c.if-is_any_unknown.true),
+      c.in_ok-endless.ensures,
+    )
 
 pub returns : goal.returns
 returns c = λ file folders e is right.
