@@ -514,10 +514,6 @@ module _ (machine : MachineType) (image_base : ℕ) (t : Tables) (codes : List L
   pub resting : Rests machine image_base t.image t.linked codes targets memory
   resting = rests machine image_base t.image t.linked codes targets memory at steady
 
-  -- the object and the section of linked code
-  pub code_from : (d : LinkedCode) → Contains codes d → Contains t.linked d.from
-  code_from d held = all_among (λ (x : LinkedCode). Contains t.linked x.from) d codes (contains_among d codes held) resting.beside.held
-
   pub code_section : (d : LinkedCode) → Contains codes d → section_numbered d.from.object.sections d.number ≡ Some d.code
   code_section d held = all_among (λ (x : LinkedCode). section_numbered x.from.object.sections x.number ≡ Some x.code) d codes (contains_among d codes held) resting.beside.sections
 

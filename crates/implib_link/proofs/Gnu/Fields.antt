@@ -3,14 +3,14 @@ use Rattle.std.proofs.Common.{◌≡◌, ℕ, suc, ◌+◌, ◌-◌, ◌/◌, �
 use Rattle.implib.specs.declared.machine.MachineType.TheVariants.{I386, ARMNT, AMD64, ARM64}
 use Rattle.implib.specs.Link.Image.{Range, range_end, byte_at}
 use Rattle.implib.specs.Link.Load.{BytesAt, number_in}
-use Rattle.implib_link.specs.Stub.{jump_reads, page, adrp_immediate, ldr_immediate, plus_signed, bits_of, with_adrp, with_bits, word_at}
+use Rattle.implib_link.specs.Stub.{jump_reads, page, adrp_immediate, ldr_immediate, plus_signed, with_adrp, with_bits, word_at}
 use Rattle.std.specs.List.{AllByRecursion, Contains, flat_map, list_any, filter}
 use Rattle.implib.specs.declared.coff.object.Relocation.{Relocation}
 use Rattle.implib.specs.declared.machine.MachineType.{MachineType}
 use Rattle.implib.specs.Link.Placement.{Placed}
 use Rattle.implib.proofs.Link.LinkedMembers.{among_contains}
 use Rattle.implib.proofs.Link.Ranges.{among_flat, Among}
-use Rattle.implib_link.specs.Gnu.Fields.{AreLinkedBeside, IsRelocated, LinkedCode, range_of_code, ranges_of_codes, amd64_addr64, arm64_addr64, field_width, i386_rel32, FieldHolds, MeetsAlone, meets, HasInstructions, IsAside, moved_by, field_at, placed_code, HasOffsetField, HasPageField, Names, PairArrives, Place, absolute_width, covers, table_places, amd64_addr32, arm64_addr32, moved_number, places_at}
+use Rattle.implib_link.specs.Gnu.Fields.{AreLinkedBeside, IsRelocated, LinkedCode, range_of_code, ranges_of_codes, amd64_addr64, arm64_addr64, field_width, i386_rel32, FieldHolds, MeetsAlone, meets, HasInstructions, IsAside, moved_by, placed_code, Names, PairArrives, Place, absolute_width, covers, table_places, amd64_addr32, arm64_addr32, moved_number, places_at}
 use Rattle.implib_link.specs.Gnu.Moves.{AreMoved, AreInMemory, ArePaged, CanBeMoved, places_of_code}
 use Rattle.implib_link.proofs.Gnu.Choices.{PlaceIn, all_widths, can_rebase, places_apart, places_in, places_widths, among_place, apart_back, places_from, covered_bounds, narrow}
 use Rattle.implib_link.proofs.Search.Lists.{contains_among, passes as among_filter, among_filter as filter_among, any_of}
@@ -423,24 +423,6 @@ one_met machine inner size r low high = rw (meets_from machine inner size r low 
 
 -- ARM64's two fields, at the beginning of the instructions and 4 bytes on.
 
-pair_met : (offset index : ℕ) → filter (meets ARM64 offset 4) (map (moved_by offset) (record { offset = 0; symbol = index; kind = arm64_pagebase_rel21 } ∷ record { offset = 4; symbol = index; kind = arm64_pageoffset_12l } ∷ []))
-    ≡ record { offset = offset; symbol = index; kind = arm64_pagebase_rel21 } ∷ []
-pair_met offset index =
-    let first : Relocation = record { offset = offset + 0; symbol = index; kind = arm64_pagebase_rel21 } in
-    let second : Relocation = record { offset = offset + 4; symbol = index; kind = arm64_pageoffset_12l } in
-    let plain : offset + 0 ≡ offset = omega arith in
-    let misses : meets ARM64 offset 4 second ≡ false = false_from_ne_true (meets ARM64 offset 4 second) (λ met. let bounds = meets_bounds ARM64 offset 4 second met in let low : offset + 4 < offset + 4 = bounds.0 in omega arith) in
-    rw (meets_from ARM64 offset 4 first (omega arith) (omega arith), misses) (ap (λ (n : ℕ). record { offset = n; symbol = index; kind = arm64_pagebase_rel21 } ∷ []) plain)
-
-offset_met : (offset index : ℕ) → filter (meets ARM64 (offset + 4) 4) (map (moved_by offset) (record { offset = 0; symbol = index; kind = arm64_pagebase_rel21 } ∷ record { offset = 4; symbol = index; kind = arm64_pageoffset_12l } ∷ []))
-    ≡ record { offset = offset + 4; symbol = index; kind = arm64_pageoffset_12l } ∷ []
-offset_met offset index =
-    let first : Relocation = record { offset = offset + 0; symbol = index; kind = arm64_pagebase_rel21 } in
-    let second : Relocation = record { offset = offset + 4; symbol = index; kind = arm64_pageoffset_12l } in
-    let misses : meets ARM64 (offset + 4) 4 first ≡ false =
-    false_from_ne_true (meets ARM64 (offset + 4) 4 first) (λ met. let bounds = meets_bounds ARM64 (offset + 4) 4 first met in let high : offset + 4 < offset + 0 + 4 = bounds.1 in omega arith) in
-    rw (misses, meets_from ARM64 (offset + 4) 4 second (omega arith) (omega arith)) refl
-
 module _ (c : LinkedCode) (offset : ℕ) (name : List ℕ) (a b d e f g h i : ℕ) (rest : List ℕ)
     (has : HasInstructions ARM64 (placed_code c) offset name (a ∷ b ∷ d ∷ e ∷ f ∷ g ∷ h ∷ i ∷ rest)
     (λ index. record { offset = 0; symbol = index; kind = arm64_pagebase_rel21 } ∷ record { offset = 4; symbol = index; kind = arm64_pageoffset_12l } ∷ [])) where
@@ -450,41 +432,8 @@ module _ (c : LinkedCode) (offset : ℕ) (name : List ℕ) (a b d e f g h i : �
   abbrev code : List ℕ
   code = a ∷ b ∷ d ∷ e ∷ f ∷ g ∷ h ∷ i ∷ rest
 
-  first_is : field_at c.code.bytes offset 4 ≡ number_in (a ∷ b ∷ d ∷ e ∷ [])
-  first_is = ap (λ xs. number_in (take 4 xs)) (own_code ARM64 c offset name code rs has)
-
-  second_is : field_at c.code.bytes (offset + 4) 4 ≡ number_in (f ∷ g ∷ h ∷ i ∷ [])
-  second_is = ap (λ xs. number_in (take 4 xs)) (sym (drop-drop 4 offset c.code.bytes) ∙ ap (drop 4) (own_code ARM64 c offset name code rs has))
-
   long : offset + 8 ≤ length c.code.bytes
   long = let end : offset + length (a ∷ b ∷ d ∷ e ∷ f ∷ g ∷ h ∷ i ∷ rest) ≤ length c.code.bytes = own_inside ARM64 c offset name code rs has in omega arith
-
-  page_has : adrp_immediate (number_in (a ∷ b ∷ d ∷ e ∷ [])) ≡ 0 → HasPageField c offset name
-  page_has empty =
-      let end = long in
-      record {
-        field = record {
-          symbol = has.index;
-          alone = own_met ARM64 c offset name code rs has offset 4 (omega arith) (omega arith) ∙ pair_met offset has.index;
-          inside = omega arith;
-          names = own_names ARM64 c offset name code rs has;
-        };
-        empty = ap adrp_immediate first_is ∙ empty;
-      }
-
-  offset_has : bits_of 30 2 (number_in (f ∷ g ∷ h ∷ i ∷ [])) ≡ 3 → ldr_immediate (number_in (f ∷ g ∷ h ∷ i ∷ [])) ≡ 0 → HasOffsetField c (offset + 4) name
-  offset_has eight empty =
-      let end = long in
-      record {
-        field = record {
-          symbol = has.index;
-          alone = own_met ARM64 c offset name code rs has (offset + 4) 4 (omega arith) (omega arith) ∙ offset_met offset has.index;
-          inside = omega arith;
-          names = own_names ARM64 c offset name code rs has;
-        };
-        eight = ap (bits_of 30 2) second_is ∙ eight;
-        empty = ap ldr_immediate second_is ∙ empty;
-      }
 
 -- Calls and loads.
 

@@ -438,15 +438,6 @@ module _ (machine : MachineType) (linked : List Placed) (image : List Range) (b 
       let end : base + length (filled base (own group)) ≡ base_of group (ends_behind b front) = fills.ends ∙ sym (end_behind group b front) in
       (found.0, subst (λ n. BytesAt image n (filled (base_of group (ends_behind b front)) (later group))) end found.1)
 
-  pub located_front : LocatedFrom machine linked image b (front ++ rest) → LocatedFrom machine linked image b front
-  located_front located = record {
-    descriptors = (parts Descriptors located.descriptors).0;
-    lookups = (parts Lookups located.lookups).0;
-    addresses = (parts Addresses located.addresses).0;
-    hint_names = (parts HintNames located.hint_names).0;
-    dll_names = (parts DllNames located.dll_names).0;
-  }
-
   pub located_behind : LocatedFrom machine linked image b (front ++ rest) → LocatedFrom machine linked image (ends_behind b front) rest
   located_behind located = record {
     descriptors = (parts Descriptors located.descriptors).1;

@@ -16,19 +16,15 @@ use Rattle.implib.proofs.Link.Ranges.{Among}
 use Rattle.implib_link.specs.Flavors.Program.{HaveSame}
 use Rattle.implib_link.specs.Flavors.Expansion.{expanded_in}
 use Rattle.implib_link.specs.Search.Search.{archive_of, is_weak, symbols_of_library, PullsIntoAs, claims_of, listed_in, references_of, unresolved, claimed_as, first_listed, objects_as, undefined_in, members_at, sweeps, swept}
-use Rattle.implib_link.specs.Search.Libraries.{HasClosed, AreGiven, IsFlavorArchive, archive_of_both, symbols_kept}
-use Rattle.implib_link.specs.Search.CommandLines.{AreListedWhole, AreRounds, AreSwept, AreUnclaimedBehind, ImportsByName, IsOrdered, SearchesCommandLine, SearchesFrom, given_with, names_left}
+use Rattle.implib_link.specs.Search.CommandLines.{AreListedWhole, AreRounds, AreSwept, AreUnclaimedBehind, IsOrdered, SearchesCommandLine, SearchesFrom, names_left}
 use Rattle.implib_link.proofs.Search.CommandLines.{are_first_of_distinct, first_of_distinct, gnu_searches, taken_are, takes_alike}
 use Rattle.implib_link.proofs.Search.Lists.{among_any, any_among, contains_among}
-use Rattle.implib_link_instances.specs.Worked.CommandLines.{WorkedCommandLine, WorkedCommandLines, WorkedLibraries, all_taken, amd64_members, i386_members, i386_wants_bytes, in_group, gnu_kernel, is_quit, library_last, of_quit, read_or_none, wants_bytes}
+use Rattle.implib_link_instances.specs.Worked.CommandLines.{WorkedCommandLine, WorkedCommandLines, all_taken, amd64_members, i386_members, i386_wants_bytes, in_group, library_last, of_quit, read_or_none, wants_bytes}
 use Rattle.implib_link_instances.specs.Worked.Programs.{code_object}
-use Rattle.implib_link_instances.proofs.Worked.Programs.{claims_none_by, distinct_by, opened}
-use Rattle.implib_link.specs.Archives.InBytes.{HaveArchive, Second}
+use Rattle.implib_link_instances.proofs.Worked.Programs.{distinct_by, opened}
 use Rattle.implib_archive.specs.declared.kind.Kind.TheVariants.{Coff}
 use Rattle.implib_link_instances.proofs.Worked.Search.{archived, searched}
 use Rattle.implib_link_instances.proofs.Worked.Lemmas.{IsX86}
-use Rattle.implib_link.proofs.Search.Exists.{both_exists}
-use Rattle.implib_link_instances.proofs.Worked.BothFlavors.{archive_by}
 
 -- members that claim what they are listed for
 whole_at : (reads : List ℕ → Option Object) (m : MemberView) → claimed_as reads (m ∷ []) ≡ m.symbols → HaveSame (claimed_as reads (m ∷ [])) m.symbols
@@ -83,28 +79,19 @@ exit machine = if is_32bit machine then codes "_ExitProcess@4" else codes "ExitP
 abbrev members : MachineType → List MemberView
 members machine = if is_32bit machine then i386_members else amd64_members
 
-worked : (machine : MachineType) → IsX86 machine → WorkedCommandLine machine (members machine) (own machine) × WorkedLibraries machine (gnu_kernel machine (exit machine)) (members machine) (own machine)
+worked : (machine : MachineType) → IsX86 machine → WorkedCommandLine machine (members machine) (own machine)
 unfolding opened alias_specs encoded_size claimed_as swept sweeps references_of claims_of undefined_in AreSwept AreRounds SearchesFrom IsOrdered AreUnclaimedBehind searched archived refusal renamed_refusal is_weak symbols_of_library archive_of
 worked ARMNT none = absurd none
 worked ARM64 none = absurd none
-worked machine _ = (
-  record {
-    distinct = distinct;
-    whole = whole;
-    first = searched_last;
-    ordered = ordered;
-    takes = gnu_searches (expanded_in machine) (members machine) (library_last (own machine)) all_taken (first_of_distinct (members machine) (names_left (expanded_in machine) (own machine) (members_at (members machine) all_taken)) all_taken distinct) unclaimed ordered searched_last;
-    group = searched_group;
-    alike = λ other lld. takes_alike (expanded_in machine) (members machine) (in_group (own machine)) all_taken other (first_of_distinct (members machine) (names_left (expanded_in machine) (own machine) (members_at (members machine) all_taken)) all_taken distinct) (are_first_of_distinct (members machine) (names_left (expanded_in machine) (own machine) other) other distinct (taken_are (expanded_in machine) (members machine) (own machine) whole other lld.in_turn)) whole group_unclaimed group_ordered searched_group lld;
-  },
-  record {
-    archive = archive;
-    ready = ready;
-    searches = record { libraries_are = refl; first = first_of_distinct (members machine) (names_left (expanded_in machine) (own machine) (members_at (members machine) all_taken)) all_taken distinct; by_name = by_name; unclaimed = unclaimed; ordered = inl ordered; whole = whole; searches = searched_last };
-    given = given;
-    exists = exists;
-  },
-)
+worked machine _ = record {
+  distinct = distinct;
+  whole = whole;
+  first = searched_last;
+  ordered = ordered;
+  takes = gnu_searches (expanded_in machine) (members machine) (library_last (own machine)) all_taken (first_of_distinct (members machine) (names_left (expanded_in machine) (own machine) (members_at (members machine) all_taken)) all_taken distinct) unclaimed ordered searched_last;
+  group = searched_group;
+  alike = λ other lld. takes_alike (expanded_in machine) (members machine) (in_group (own machine)) all_taken other (first_of_distinct (members machine) (names_left (expanded_in machine) (own machine) (members_at (members machine) all_taken)) all_taken distinct) (are_first_of_distinct (members machine) (names_left (expanded_in machine) (own machine) other) other distinct (taken_are (expanded_in machine) (members machine) (own machine) whole other lld.in_turn)) whole group_unclaimed group_ordered searched_group lld;
+}
   where
     distinct : IsDistinct bytes_eq (listed_in (members machine))
     distinct = distinct_by (listed_in (members machine)) refl
@@ -130,26 +117,5 @@ worked machine _ = (
     group_unclaimed : AreUnclaimedBehind (members machine) [] (in_group (own machine))
     group_unclaimed = ((tt, tt), (tt, tt))
 
-    by_name : ImportsByName (expanded_in machine) (members machine) (own machine) (members_at (members machine) all_taken)
-    by_name = record { left = refl; claimed = refl }
-
-    given : AreGiven machine ((gnu_kernel machine (exit machine)) ∷ []) (given_with (expanded_in machine) is_quit (own machine) (members_at (members machine) all_taken))
-    given = record {
-      claims = (
-        claims_none_by (symbols_kept machine ((gnu_kernel machine (exit machine)) ∷ []) (given_with (expanded_in machine) is_quit (own machine) (members_at (members machine) all_taken))) (object_at (given_with (expanded_in machine) is_quit (own machine) (members_at (members machine) all_taken)) 0) refl,
-        (claims_none_by (symbols_kept machine ((gnu_kernel machine (exit machine)) ∷ []) (given_with (expanded_in machine) is_quit (own machine) (members_at (members machine) all_taken))) (object_at (given_with (expanded_in machine) is_quit (own machine) (members_at (members machine) all_taken)) 1) refl, tt),
-      );
-      names = record { gnu = (record { head = refl; name = refl }, tt); msvc = tt };
-    }
-
-    ready : HaveArchive Coff Second (archive_of_both (gnu_kernel machine (exit machine) ∷ []))
-    ready = record { accepted = refl; has = tt }
-
-    archive : IsFlavorArchive machine (gnu_kernel machine (exit machine) ∷ [])
-    archive = archive_by (record { accepted = refl; made = refl; ordinals = refl }, tt) tt tt refl refl refl
-
-    exists : HasClosed machine (gnu_kernel machine (exit machine) ∷ []) (given_with (expanded_in machine) is_quit (own machine) (members_at (members machine) all_taken)) 0x2000
-    exists = both_exists machine (gnu_kernel machine (exit machine) ∷ []) (given_with (expanded_in machine) is_quit (own machine) (members_at (members machine) all_taken)) 0x2000 archive given (refl, (refl, tt)) (omega arith) (omega arith)
-
 pub worked_command_lines : WorkedCommandLines
-worked_command_lines = record { amd64 = (worked AMD64 tt).0; i386 = (worked I386 tt).0; libraries = (worked AMD64 tt).1; i386_libraries = (worked I386 tt).1 }
+worked_command_lines = record { amd64 = worked AMD64 tt; i386 = worked I386 tt }

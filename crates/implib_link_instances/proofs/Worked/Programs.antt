@@ -18,10 +18,10 @@ use Rattle.implib.proofs.Link.Definitions.{same_text}
 use Rattle.implib.proofs.Link.LinkedMembers.{among_contains}
 use Rattle.implib.proofs.Link.Loading.{number_once}
 use Rattle.implib.proofs.Link.Ranges.{all_among, among_flat, range_located, apart_as_they_rise, ends_below, rise_below, Among}
-use Rattle.implib_link.specs.Gnu.Fields.{amd64_addr64, arm64_addr64, arm64_branch26, field_width, i386_rel32, Amd64Holds, Arm64Holds, FieldHolds, I386Holds, IsRelocated, LinkedCode, TakesSymbols, field_at, meets, PlacedCode, IsAside, HasInstructions, moved_by, HasInstruction, IsOperand, Names, MeetsAlone, AreLinkedBeside, IsRebased, Place, absolute_width, covers, moved_number, table_places}
+use Rattle.implib_link.specs.Gnu.Fields.{amd64_addr64, arm64_addr64, arm64_branch26, field_width, i386_rel32, Amd64Holds, Arm64Holds, FieldHolds, I386Holds, IsRelocated, LinkedCode, TakesSymbols, field_at, meets, HasInstruction, IsOperand, Names, MeetsAlone, AreLinkedBeside, IsRebased, Place, absolute_width, covers, moved_number, table_places}
 use Rattle.implib_link.specs.Gnu.Moves.{places_of_code, AreInMemory, AreMoved, CanBeMoved}
 use Rattle.implib_link.specs.Stub.{adrp_immediate, bits_of, ldr_immediate, page, with_adrp, with_bits}
-use Rattle.implib_link_instances.specs.Worked.Operands.{in_code, named_or, or_else, AdjacentCalls, MovableCode, PassingFields, WorkedFields, WorkedOperands, amd64_rel32_1, field, imp_open, arm64_pageoffset_12a, arm64_secrel, moved_memory, open_on, passing_at, passing_bytes, passing_codes, passing_image, passing_memory, passing_objects, passing_placed, passing_places, passing_targets, stub_of_open, x86_secrel}
+use Rattle.implib_link_instances.specs.Worked.Operands.{in_code, named_or, or_else, MovableCode, PassingFields, WorkedFields, WorkedOperands, amd64_rel32_1, field, imp_open, moved_memory, open_on, passing_at, passing_codes, passing_image, passing_memory, passing_objects, passing_placed, passing_places, passing_targets, stub_of_open}
 use Rattle.implib_link.proofs.Gnu.Fields.{alone_among, moved_memory_exists}
 use Rattle.implib_link.proofs.Gnu.Loaded.{kept_outside, byte_front, within_bounds}
 use Rattle.implib_link.proofs.Gnu.Choices.{among_place, covered_bounds}
@@ -373,28 +373,6 @@ program_by {machine} {bases} {objects} inputs differ tables none admissible = re
   follows = tt;
 }
 
--- Code has instructions at an offset whose name is an undefined symbol of its object, by computing.
-pub instructions_at : {machine : MachineType} {c : PlacedCode} {offset : ℕ} {name bytes : List ℕ} {relocations : ℕ → List Relocation} (front back : List ℕ) (index : ℕ) (before behind : List Relocation) →
-    AllByRecursion (IsAside machine offset (length bytes)) before → AllByRecursion (IsAside machine offset (length bytes)) behind → c.code.bytes ≡ front ++ (bytes ++ back) → length front ≡ offset →
-    c.code.relocations ≡ before ++ (map (moved_by offset) (relocations index) ++ behind) → slice_get c.from.object.entries index ≡ Some (ASymbol (symbol_of_class name 0 class_external)) →
-    HasInstructions machine c offset name bytes relocations
-instructions_at {machine} {c} {offset} {name} {bytes} {relocations} front back index before behind aside_before aside_behind instructions here relocated target = record {
-  front = front;
-  back = back;
-  instructions = instructions;
-  here = here;
-  index = index;
-  before = before;
-  behind = behind;
-  relocated = relocated;
-  aside_before = aside_before;
-  aside_behind = aside_behind;
-  symbol = symbol_of_class name 0 class_external;
-  target = target;
-  undefined = refl;
-  named = refl;
-}
-
 -- Linked code has an instruction at an offset, by computing: its one relocation is in a field of four bytes.
 pub instruction_by : {machine : MachineType} {c : LinkedCode} {offset : ℕ} {head tail name : List ℕ} (type symbol : ℕ) (field : List ℕ) → Names c.from symbol name → IsOperand machine type (length tail) (number_in field) →
     MeetsAlone machine c.code.relocations offset (length head + (4 + length tail)) (record { offset = offset + length head; symbol = symbol; kind = type }) → length field ≡ 4 →
@@ -421,7 +399,6 @@ pub worked_programs : WorkedPrograms
 worked_programs = record {
   amd64 = worked_program AMD64 (λ is. cc);
   i386 = worked_program I386 (λ is. cc);
-  armnt = worked_program ARMNT (λ is. cc);
 }
 
 relocations_within : (size : ℕ) (relocations : List Relocation) → list_all (λ r. nat_le (r.offset + 4) size) relocations ≡ true → AllByRecursion (λ r. r.offset + 4 ≤ size) relocations
@@ -631,13 +608,6 @@ passing_fields = record {
   arm64_offset = record { field = record { symbol = 1; alone = refl; inside = omega arith; names = imp_named ARM64 }; eight = refl; empty = refl };
   arm64_branch = record { type = arm64_branch26; field = record { symbol = 3; alone = refl; inside = omega arith; names = bare_named ARM64 }; counts = (refl, refl); within = omega arith };
   arm64_pointer = record { type = arm64_addr64; field = record { symbol = 1; alone = refl; inside = omega arith; names = imp_named ARM64 }; stores = refl; empty = refl };
-}
-
-pub adjacent_calls : AdjacentCalls
-unfolding u32_bytes
-adjacent_calls = record {
-  amd64_direct = instructions_at (take 38 (passing_bytes AMD64)) (drop 43 (passing_bytes AMD64)) 3 (field 7 2 amd64_rel32 ∷ field 13 1 amd64_rel32 ∷ field 19 1 amd64_rel32_1 ∷ field 26 1 amd64_rel32 ∷ field 34 1 amd64_rel32 ∷ []) (field 43 2 x86_secrel ∷ field 52 1 amd64_addr64 ∷ []) (inl (omega arith), (inl (omega arith), (inl (omega arith), (inl (omega arith), (inl (omega arith), tt))))) (inr (omega arith), (inr (omega arith), tt)) refl refl refl refl;
-  arm64_direct = instructions_at (take 28 (passing_bytes ARM64)) (drop 32 (passing_bytes ARM64)) 3 (field 4 2 arm64_pagebase_rel21 ∷ field 8 2 arm64_pageoffset_12a ∷ field 12 1 arm64_pagebase_rel21 ∷ field 16 1 arm64_pageoffset_12l ∷ field 24 2 arm64_pageoffset_12l ∷ []) (field 32 1 arm64_addr64 ∷ field 40 2 arm64_secrel ∷ []) (inl (omega arith), (inl (omega arith), (inl (omega arith), (inl (omega arith), (inl (omega arith), tt))))) (inr (omega arith), (inr (omega arith), tt)) refl refl refl refl;
 }
 
 -- The programs, by the laws: in memory at the base that they were linked for, or at another.
