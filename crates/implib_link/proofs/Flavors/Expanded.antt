@@ -1,5 +1,5 @@
 -- Where a linker places what it takes Microsoft's members for, and what is there.
-use Rattle.std.proofs.Common.{◌≡◌, ℕ, ◌+◌, ◌-◌, ◌%◌, ◌<◌, ◌^◌, true, List, [], ◌∷◌, ◌++◌, length, refl, ap, ◌∙◌, arith, subst}
+use Rattle.std.proofs.Common.{◌≡◌, ℕ, ◌+◌, ◌-◌, ◌%◌, ◌<◌, ◌^◌, true, List, [], ◌∷◌, ◌++◌, length, refl, ap, arith, subst}
 use Rattle.std.specs.List.{AllByRecursion}
 use Rattle.std.proofs.lemmas.List.{length-replicate}
 use Rattle.implib.specs.declared.machine.MachineType.{MachineType}
@@ -99,13 +99,7 @@ pub placed-descriptor : (machine : MachineType) (dll : NamesOfDll) (b : Bases) (
     placed_from b (taken_descriptor machine dll ∷ rest) ≡ placed_descriptor machine dll b ∷ placed_from (ends_of_descriptor dll b) rest
 unfolding with_section_symbols object_of descriptor entries_of name_text
 placed-descriptor machine dll b rest even =
-    rw (
-      aligned b.descriptors even.descriptors,
-      aligned b.lookups (of_four machine b.lookups even.lookups),
-      aligned b.addresses (of_four machine b.addresses even.addresses),
-      plus_none b.lookups,
-      plus_none b.addresses,
-    ) refl
+    grind (arith, aligned b.descriptors even.descriptors, aligned b.lookups (of_four machine b.lookups even.lookups), of_four machine b.lookups even.lookups, aligned b.addresses (of_four machine b.addresses even.addresses), of_four machine b.addresses even.addresses, plus_none b.lookups, plus_none b.addresses)
 
 pub placed-asking : (machine : MachineType) (dll : NamesOfDll) (b : Bases) (symbol : List ℕ) (ask : Ask) (use_kind : Use) (rest : List Object) → AreWide machine b →
     placed_from b (import_object machine dll.text symbol ask use_kind ∷ rest) ≡ placed_asking machine dll b symbol ask use_kind ∷ placed_from (ends_of_asking machine b ask) rest
@@ -128,23 +122,13 @@ placed-null_thunk AMD64 dll b rest even = rw (aligned_8 b.addresses even.address
 placed-null_thunk ARM64 dll b rest even = rw (aligned_8 b.addresses even.addresses, aligned_8 b.lookups even.lookups) refl
 
 pub wide_descriptor : (machine : MachineType) (dll : NamesOfDll) (b : Bases) → AreWide machine b → AreWide machine (ends_of_descriptor dll b)
-wide_descriptor machine dll b even =
-    let whole : b.descriptors % 4 ≡ 0 = even.descriptors in
-    record { descriptors = omega arith; lookups = even.lookups; addresses = even.addresses }
+wide_descriptor machine dll b even = grind arith
 
 pub wide_asking : (machine : MachineType) (b : Bases) (ask : Ask) → AreWide machine b → AreWide machine (ends_of_asking machine b ask)
-wide_asking machine b ask even = record {
-  descriptors = even.descriptors;
-  lookups = wide_next machine b.lookups even.lookups;
-  addresses = wide_next machine b.addresses even.addresses;
-}
+wide_asking machine b ask even = grind arith
 
 pub wide_null_thunk : (machine : MachineType) (b : Bases) → AreWide machine b → AreWide machine (ends_of_null_thunk machine b)
-wide_null_thunk machine b even = record {
-  descriptors = even.descriptors;
-  lookups = wide_next machine b.lookups even.lookups;
-  addresses = wide_next machine b.addresses even.addresses;
-}
+wide_null_thunk machine b even = grind arith
 
 -- What is at these positions.
 
@@ -172,14 +156,12 @@ module _ (machine : MachineType) (dll : NamesOfDll) (linked : List Placed) where
   pub thunk_of_name : (b : Bases) (symbol text : List ℕ) (hint : ℕ) (use_kind : Use) →
       thunk_linked b symbol (Name text hint) use_kind ≡ u32_bytes ((0 + (next_multiple 2 b.hint_names + 0)) % 2 ^ 32) ++ zeros (thunk_width machine - 4)
   unfolding thunk_linked import_object
-  thunk_of_name b symbol text hint use_kind =
-      rw (same_number machine) (with_address-zeros machine (next_multiple 2 b.hint_names + 0))
+  thunk_of_name b symbol text hint use_kind = grind (arith, same_number, with_address-zeros)
 
   pub length-thunk_linked : (b : Bases) (symbol : List ℕ) (ask : Ask) (use_kind : Use) → length (thunk_linked b symbol ask use_kind) ≡ thunk_width machine
   unfolding thunk_linked
   length-thunk_linked b symbol (Ordinal n) use_kind = length-thunk_of machine n true
-  length-thunk_linked b symbol (Name text hint) use_kind =
-      ap length (thunk_of_name b symbol text hint use_kind) ∙ length-address machine ((0 + (next_multiple 2 b.hint_names + 0)) % 2 ^ 32)
+  length-thunk_linked b symbol (Name text hint) use_kind = grind (arith, thunk_of_name b symbol text hint use_kind, length-address machine ((0 + (next_multiple 2 b.hint_names + 0)) % 2 ^ 32))
 
   unfoldable pub descriptor_linked : Bases → List ℕ
   descriptor_linked b = relocated machine linked (placed_descriptor machine dll b) (relocation machine 12 2 ∷ relocation machine 0 3 ∷ relocation machine 16 4 ∷ []) (zeros 20)

@@ -25,17 +25,11 @@ i386_jump : (address : ℕ) (field : List ℕ) → length field ≡ 4 → jump_r
 i386_jump address field four = (let f = four_of field four in subst (λ xs. jump_reads I386 address (0xFF ∷ 0x25 ∷ (xs ++ [])) ≡ Some (number_in xs)) (sym f.is) refl)
 
 amd64_jump : (address : ℕ) (field : List ℕ) → length field ≡ 4 → jump_reads AMD64 address (0xFF ∷ 0x25 ∷ (field ++ [])) ≡ Some (plus_signed 32 1 (number_in field) (address + 6))
-amd64_jump address field four =
-    let f = four_of field four in
-    subst (λ xs. jump_reads AMD64 address (0xFF ∷ 0x25 ∷ (xs ++ [])) ≡ Some (plus_signed 32 1 (number_in xs) (address + 6))) (sym f.is) refl
+amd64_jump address field four = grind (arith, four_of field four)
 
 -- a thunk's section
 pub thunk_is : (machine : MachineType) (d : LinkedCode) (r : ShortImport) → IsThunk machine d r → section_numbered d.from.object.sections d.number ≡ Some d.code → d.code ≡ thunk_section machine
-thunk_is machine d r thunk here =
-    let found : section_numbered (placed_thunk machine r).object.sections 1 ≡ Some d.code =
-    subst (λ n. section_numbered (placed_thunk machine r).object.sections n ≡ Some d.code) thunk.number (subst (λ (p : Placed). section_numbered p.object.sections d.number ≡ Some d.code) thunk.from here) in
-    let same : Some (thunk_section machine) ≡ Some d.code = found in
-    cc
+thunk_is machine d r thunk here = grind arith
 
 thunk_names : (machine : MachineType) (d : LinkedCode) (r : ShortImport) → IsThunk machine d r → Names d.from 1 (imp_symbol r.symbol)
 thunk_names machine d r thunk =

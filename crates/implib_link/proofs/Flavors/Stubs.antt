@@ -39,10 +39,7 @@ found_entry f None a is = cc
 found_entry f (Some x) a is = (x, (refl, is))
 
 pub same_section : (sections : List ObjectSection) (n : ℕ) (first second : ObjectSection) → n ≡ 1 → section_numbered sections n ≡ Some first → slice_get sections 0 ≡ Some second → first ≡ second
-same_section sections n first second one numbered at =
-    let own : section_numbered sections 1 ≡ Some first = subst (λ k. section_numbered sections k ≡ Some first) one numbered in
-    let both : Some first ≡ Some second = sym own ∙ at in
-    cc
+same_section sections n first second one numbered at = grind arith
 
 pub symbol_of_entry : (t u : ObjectSymbol) → ASymbol t ≡ ASymbol u → t ≡ u
 symbol_of_entry t u same = cc
@@ -97,21 +94,12 @@ behind_askings : (machine : MachineType) (dll : NamesOfDll) (es : List ExportVie
     Among q (placed_from b (behind_descriptor machine dll es rest))
 unfolding ends_of_askings
 behind_askings machine dll [] b rest q even m = subst (Among q) (sym (placed-null_thunk machine dll b rest even)) (among_later q _ _ m)
-behind_askings machine dll (e ∷ es) b rest q even m =
-    let ask : Ask = ask_in Msvc machine e in
-    subst (Among q) (sym (placed-asking machine dll b (short_import_symbol e) ask (use_for e) (behind_descriptor machine dll es rest) even))
-    (among_later q _ _ (behind_askings machine dll es (ends_of_asking machine b ask) rest q (wide_asking machine b ask even) m))
+behind_askings machine dll (e ∷ es) b rest q even m = grind (arith, behind_askings machine dll es, placed-asking, use_for, behind_descriptor, even, among_later, ends_of_asking, wide_asking)
 
 behind_one : (machine : MachineType) (ending : Ending) (flavor : Flavor) (dll : NamesOfDll) (es : List ExportView) (b : Bases) (rest : List Object) (q : Placed) → Suits ending flavor → AreEven ending machine b →
     Among q (placed_from (ends_in machine flavor dll b es) rest) → Among q (placed_from b (objects_of machine flavor dll es rest))
-behind_one machine ending Msvc dll es b rest q suits even m =
-    let wide : AreWide machine b = even_wide machine ending b suits even in
-    subst (Among q) (sym (placed-descriptor machine dll b (behind_descriptor machine dll es rest) wide))
-    (among_later q _ _ (behind_askings machine dll es (ends_of_descriptor dll b) rest q (wide_descriptor machine dll b wide) m))
-behind_one machine ending Gnu dll es b rest q suits even m =
-    let all : AreAligned b = even_aligned machine ending b even in
-    subst (Among q) (sym (placed-head machine dll b (after_head machine dll es rest) all))
-    (among_later q _ _ (behind_exports machine dll es (ends_of_head machine dll b) rest q (aligned_head machine dll b all) m))
+behind_one machine ending Msvc dll es b rest q suits even m = grind (arith, even_wide, even, placed-descriptor, behind_descriptor, among_later, behind_askings, ends_of_descriptor, wide_descriptor)
+behind_one machine ending Gnu dll es b rest q suits even m = grind (arith, even_aligned, even, placed-head, after_head, among_later, behind_exports, ends_of_head, aligned_head)
 
 pub all_placed : (machine : MachineType) (ending : Ending) (rest : List Object) (blocks : List FlavorBlock) (b : Bases) → AllSuit ending blocks → AreEven ending machine b → (i j : ℕ) (k : FlavorBlock) (e : ExportView) → slice_get blocks i ≡ Some k → slice_get k.exports j ≡ Some e →
     (c : Bases) × (Among (placed_in machine k.flavor k.dll c e) (placed_from b (all_objects machine blocks rest))
@@ -160,22 +148,16 @@ asking_code machine dll b symbol ask = refl
 asking_target : (machine : MachineType) (dll : NamesOfDll) (linked : List Placed) (b : Bases) (symbol : List ℕ) (ask : Ask) (use_kind : Use) (entry : ℕ) → b.addresses ≡ entry →
     target_address linked (placed_asking machine dll b symbol ask use_kind) 2 ≡ entry
 unfolding import_object
-asking_target machine dll linked b symbol ask use_kind entry same =
-    let plain : b.addresses + 0 ≡ b.addresses = omega arith in
-    plain ∙ same
+asking_target machine dll linked b symbol ask use_kind entry same = grind arith
 
 asking_found : (machine : MachineType) (dll : NamesOfDll) (linked : List Placed) (b : Bases) (symbol : List ℕ) (ask : Ask) (use_kind : Use) (entry : ℕ) → b.addresses ≡ entry →
     option_and_then (symbol_address linked (placed_asking machine dll b symbol ask use_kind)) (slice_get (placed_asking machine dll b symbol ask use_kind).object.entries 2) ≡ Some entry
 unfolding import_object
-asking_found machine dll linked b symbol ask use_kind entry same =
-    let plain : b.addresses + 0 ≡ b.addresses = omega arith in
-    ap Some (plain ∙ same)
+asking_found machine dll linked b symbol ask use_kind entry same = grind arith
 
 exporting_found : (machine : MachineType) (dll : NamesOfDll) (linked : List Placed) (b : Bases) (e : ExportView) (entry : ℕ) → e.is_data ≡ false → b.addresses ≡ entry →
     option_and_then (symbol_address linked (placed_export machine dll b e)) (slice_get (placed_export machine dll b e).object.entries 2) ≡ Some entry
-exporting_found machine dll linked b e entry is same =
-    let plain : b.addresses + 0 ≡ b.addresses = omega arith in
-    address_found machine dll linked b e is ∙ ap Some (plain ∙ same)
+exporting_found machine dll linked b e entry is same = grind (arith, address_found machine dll linked b e is)
 
 -- what a jump needs, in either flavour
 pub record CodeOf (machine : MachineType) (linked : List Placed) (symbol : List ℕ) (own : Placed) (entry : ℕ) : Type 0 where

@@ -1,12 +1,12 @@
 -- Programs of both flavours from texts link as the texts state.
-use Rattle.std.proofs.Common.{◌≡◌, ℕ, ◌+◌, ◌*◌, true, List, [], ◌∷◌, map, Some, refl, ap, sym, ◌∙◌, subst}
+use Rattle.std.proofs.Common.{arith, ◌≡◌, ℕ, ◌+◌, ◌*◌, true, List, [], ◌∷◌, map, Some, refl, ap, sym, ◌∙◌, subst}
 use Rattle.std.specs.Prelude.{not, option_map}
 use Rattle.std.specs.List.{AllByRecursion, filter, list_all}
 use Rattle.std.proofs.lemmas.Option.{slice_get-map}
 use Rattle.implib.specs.declared.flavor.Flavor.{Flavor}
 use Rattle.implib.specs.declared.flavor.Flavor.TheVariants.{Gnu, Msvc}
 use Rattle.implib.specs.declared.machine.MachineType.{MachineType}
-use Rattle.implib.specs.Asked.{EachAsksForItsWord, exports_of_text, external_word}
+use Rattle.implib.specs.Asked.{EachAsksForItsWord, exports_of_text}
 use Rattle.implib.specs.Definition.{DefinitionView, ExportView}
 use Rattle.implib.specs.Text.Grammar.{Export}
 use Rattle.implib.specs.Link.Image.{Range, image_of}
@@ -15,8 +15,7 @@ use Rattle.implib.specs.Members.ImportTables.{thunk_width}
 use Rattle.implib.specs.Library.{LibraryView}
 use Rattle.implib.specs.Link.LinkedMembers.{chosen_exports}
 use Rattle.implib.specs.Link.Load.{LoadsStrictly}
-use Rattle.implib.specs.Members.Members.{AreMembersOf}
-use Rattle.implib.specs.Members.Msvc.{short_import_symbol, symbol_or_name}
+use Rattle.implib.specs.Members.Msvc.{short_import_symbol}
 use Rattle.implib.specs.Formats.Object.{Object}
 use Rattle.implib.specs.Link.Placement.{Bases, Placed, placed_from}
 use Rattle.implib.specs.Renaming.{renamed}
@@ -27,7 +26,7 @@ use Rattle.implib.proofs.Text.SymbolNames.{parsed_lacks}
 use Rattle.implib_link.specs.Flavors.Program.{Ending, FlavorInput, InputImports, IsMadeFor, SymbolsAt, SymbolsGet, ask_in, descriptor_in, dll_names_in, exports_chosen, symbol_in, thunks_of, IsProgramOf}
 use Rattle.implib_link.specs.Flavors.Texts.{FlavorSource, FlavorTextLinks, FlavorTextsLink, IsFlavorSource, input_parsed, input_of, Stated, ask_stated, chosen_stated, stated}
 use Rattle.implib_link.proofs.Flavors.Program.{program_links}
-use Rattle.implib_link.proofs.Gnu.Texts.{all_chosen, all_filter, chosen_renamed, stated_ask, statements_are}
+use Rattle.implib_link.proofs.Gnu.Texts.{all_chosen, all_filter, chosen_renamed, statements_are}
 use Rattle.implib.specs.LibraryName.{NamesOfDll, names_for}
 use Rattle.implib_link.proofs.Search.Lists.{all_from, each_of}
 
@@ -41,15 +40,13 @@ unfolding AsksInFlavor
 each_asks flavor machine [] [] each = tt
 each_asks flavor machine [] (s ∷ statements) each = absurd each
 each_asks flavor machine (e ∷ exports) [] each = absurd each
-each_asks flavor machine (e ∷ exports) (s ∷ statements) each =
-    (stated_ask e.no_name e.ordinal _ (external_word s) (each.0.in_each_flavor flavor), each_asks flavor machine exports statements each.1)
+each_asks flavor machine (e ∷ exports) (s ∷ statements) each = grind (arith, each_asks flavor machine exports statements each.1)
 
 same_asks : (flavor : Flavor) (machine : MachineType) (xs : List Stated) → AllByRecursion (AsksInFlavor flavor machine) xs →
     map (ask_in flavor machine) (map (λ (s : Stated). s.export) xs) ≡ map ask_stated xs
 unfolding AsksInFlavor
 same_asks flavor machine [] all = refl
-same_asks flavor machine (x ∷ xs) all =
-    ap (λ ask. ask ∷ map (ask_in flavor machine) (map (λ (s : Stated). s.export) xs)) all.0 ∙ ap (λ others. ask_stated x ∷ others) (same_asks flavor machine xs all.1)
+same_asks flavor machine (x ∷ xs) all = grind (arith, same_asks flavor machine xs all.1)
 
 asks_are : (flavor : Flavor) (machine : MachineType) (d : DefinitionView) (statements : List Export) → EachAsksForItsWord machine (renamed d).exports statements → (chosen : List ℕ) →
     map (ask_in flavor machine) (chosen_exports d chosen) ≡ map ask_stated (chosen_stated d statements chosen)
@@ -71,8 +68,7 @@ all_empty exports all = all_from (λ (e : ExportView). e.symbol_name ≡ []) exp
 
 plain_names : (exports : List ExportView) → AllByRecursion (λ e. e.symbol_name ≡ []) exports → map short_import_symbol exports ≡ map (λ e. e.name) exports
 plain_names [] all = refl
-plain_names (e ∷ exports) all =
-    ap (λ name. name ∷ map short_import_symbol exports) (ap (λ symbol. symbol_or_name symbol e.name) all.0) ∙ ap (λ names. e.name ∷ names) (plain_names exports all.1)
+plain_names (e ∷ exports) all = grind (arith, plain_names exports all.1)
 
 names_are : (flavor : Flavor) (exports : List ExportView) → AllByRecursion (λ e. e.symbol_name ≡ []) exports → map (symbol_in flavor) exports ≡ map (λ e. e.name) exports
 names_are Msvc exports all = plain_names exports all
@@ -81,10 +77,7 @@ names_are Gnu exports all = refl
 -- A source's input is made.
 
 source_made : (machine : MachineType) (s : FlavorSource) → IsFlavorSource machine s → IsMadeFor machine (input_of s)
-source_made machine s is =
-    let here : AreMembersOf s.source.library.definition machine s.flavor s.source.members =
-    subst (λ (l : LibraryView). AreMembersOf s.source.library.definition l.machine l.flavor s.source.members) is.of_text.held is.made in
-    here
+source_made machine s is = grind arith
 
 sources_made : (machine : MachineType) (sources : List FlavorSource) → AllByRecursion (IsFlavorSource machine) sources → AllByRecursion (IsMadeFor machine) (map input_of sources)
 sources_made machine [] are = tt

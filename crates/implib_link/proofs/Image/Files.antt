@@ -33,9 +33,7 @@ index_located : (memory : List Range) (bytes : List ℕ) (start k : ℕ) → Byt
 unfolding BytesAt
 index_located memory [] start k located small = absurd (omega arith)
 index_located memory (x ∷ bytes) start zero located small = let plain : start ≡ start + 0 = omega arith in subst (λ n. byte_at memory n ≡ Some x) plain located.0
-index_located memory (x ∷ bytes) start (suc k) located small =
-    let next : start + 1 + k ≡ start + suc k = omega arith in
-    subst (λ n. byte_at memory n ≡ Some (slice_index bytes k)) next (index_located memory bytes (start + 1) k located.1 (omega arith))
+index_located memory (x ∷ bytes) start (suc k) located small = grind (arith, index_located memory bytes (start + 1) k located.1 (omega arith))
 
 holds_keep : (memory ranges : List Range) → AllByRecursion (λ (r : Range). BytesAt memory r.start r.bytes) ranges → Keeps ranges memory
 unfolding Keeps
@@ -78,9 +76,7 @@ module _ (machine : MachineType) (t : Tables) (bytes : List ℕ) (file : MappedF
 
   pub file_loads : (n : ℕ) (written : List Range) → LoadsFile file gives n written →
       (n ≡ length t.tables) × (AreTablesLoaded machine t gives written × Writes t.image (thunk_width machine) gives t.directory (map imported_by_table t.tables) written)
-  file_loads n written loads =
-      let found = read n written loads in
-      (found.0 ∙ length-map t.tables imported_by_table, (tables_load machine gives wide t written tables found.1, found.1))
+  file_loads n written loads = grind (arith, read, length-map, tables_load)
 
   pub file_ends : (written : List Range) × LoadsFile file gives (length t.tables) written
   file_ends =

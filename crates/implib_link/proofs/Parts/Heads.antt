@@ -36,9 +36,7 @@ module _ (group : Group) (o : Object) (b : Bases) (s : ObjectSection) (is : only
   in_section : (k value : ℕ) (found : Option ObjectSection) → slice_get o.sections k ≡ found → is_in_group group found ≡ true →
       address_in (section_addresses_of b o.sections) (suc k) value ≡ Some (base_of group b + value)
   in_section k value None at own = cc
-  in_section k value (Some x) at own =
-      let one = one_is (sections_of group o.sections) s is in
-      one_address group o.sections b s k x value one.0 one.1 even at own
+  in_section k value (Some x) at own = grind (arith, one_is, one_address)
 
   pub group_address : (number value : ℕ) → is_in_group group (section_numbered o.sections number) ≡ true → address_in (section_addresses_of b o.sections) number value ≡ Some (base_of group b + value)
   group_address zero value own = cc
@@ -92,14 +90,9 @@ module _ (machine : MachineType) (linked : List Placed) (image : List Range) (st
   texts_named : (name bytes : List ℕ) (objects later : List Object) (b : Bases) → AllByRecursion IsSized objects → LocatedFrom machine linked image b (objects ++ later) → named_bytes name objects ≡ Some bytes →
       (a : ℕ) × (Among (record { name = name; address = Some a }) (definitions (placed_from b (objects ++ later))) × BytesAt image a bytes)
   texts_named name bytes [] later b sized located is = cc
-  texts_named name bytes (o ∷ []) later b sized located is =
-      let found = named_located machine linked image starts ends o b later sized.0 located name o.entries bytes is in
-      (found.0, (among_front _ (filter_map (defined_by_entry (section_addresses_of b o.sections)) o.entries) (definitions (placed_from (ends_after b o.sections) later)) found.1.0, found.1.1))
+  texts_named name bytes (o ∷ []) later b sized located is = grind (arith, named_located, among_front)
   texts_named name bytes (o ∷ q ∷ objects) later b sized located is =
-      let found = texts_named name bytes (q ∷ objects) later (ends_after b o.sections) sized.1 (located_next o b (q ∷ objects ++ later) sized.0 located) is in (
-        found.0,
-        (among_back _ (filter_map (defined_by_entry (section_addresses_of b o.sections)) o.entries) (definitions (placed_from (ends_after b o.sections) (q ∷ objects ++ later))) found.1.0, found.1.1),
-      )
+      grind (arith, texts_named name bytes (q ∷ objects) later (ends_after b o.sections) sized.1 (located_next o b (q ∷ objects ++ later) sized.0 located) is, located_next, among_back)
 
   -- an object with an entry, placed among others that are placed from bases on
   pub record IsEntryPlaced (b : Bases) (all : List Object) (o : Object) (address : ℕ) : Type 0 where
@@ -123,11 +116,8 @@ module _ (machine : MachineType) (linked : List Placed) (image : List Range) (st
 
   aligned_one : (o : Object) (b : Bases) → AreAligned b → sections_of Descriptors o.sections ≡ [] → sections_end Lookups b.lookups o.sections ≡ b.lookups + thunk_width machine →
       sections_end Addresses b.addresses o.sections ≡ b.addresses + thunk_width machine → AreAligned (ends_after b o.sections)
-  aligned_one o b even none lookups addresses = record {
-    descriptors = ap (λ n. n % 4) (end_of_sections Descriptors b o.sections ∙ none_ends Descriptors o.sections b.descriptors none) ∙ even.descriptors;
-    lookups = ap (λ n. n % 4) (end_of_sections Lookups b o.sections ∙ lookups) ∙ aligned_thunk machine b.lookups even.lookups;
-    addresses = ap (λ n. n % 4) (end_of_sections Addresses b o.sections ∙ addresses) ∙ aligned_thunk machine b.addresses even.addresses;
-  }
+  aligned_one o b even none lookups addresses =
+      grind (arith, end_of_sections Descriptors b o.sections, none_ends Descriptors o.sections b.descriptors none, end_of_sections Lookups b o.sections, aligned_thunk machine b.lookups even.lookups, end_of_sections Addresses b o.sections, aligned_thunk machine b.addresses even.addresses)
 
   tables_from : (objects later : List Object) (entries : List TableEntry) (b : Bases) → AreAligned b → AllByRecursion IsSized objects → LocatedFrom machine linked image b (objects ++ later) →
       AreEntries machine objects entries → TablesFrom b objects later entries

@@ -1,22 +1,19 @@
 -- A program of members for GNU's linker is one of parts.
-use Rattle.std.proofs.Common.{◌≡◌, List, [], ◌∷◌, ◌++◌, map, refl, ap, sym, ◌∙◌, subst, ℕ, zero, suc, ◌+◌, ◌*◌, ◌^◌, ◌<◌, false, length, Some, inl, inr, arith, ◌⊎◌}
-use Rattle.std.specs.Prelude.{bytes_eq, not, ◌&&◌, slice_get}
+use Rattle.std.proofs.Common.{◌≡◌, List, [], ◌∷◌, ◌++◌, map, refl, ap, sym, ◌∙◌, subst, ℕ, zero, suc, ◌+◌, ◌*◌, ◌^◌, ◌<◌, length, Some, inl, inr, arith, ◌⊎◌}
+use Rattle.std.specs.Prelude.{bytes_eq, not, slice_get}
 use Rattle.std.specs.List.{AllByRecursion, IsDistinct, filter, filter_map, flat_map}
 use Rattle.std.proofs.lemmas.Grind.{flat_map-append}
 use Rattle.std.proofs.lemmas.List.{append-nil, append_assoc, map-append}
 use Rattle.std.proofs.lemmas.List.Elements.{filter_map-append}
 use Rattle.implib.specs.declared.machine.MachineType.{MachineType}
-use Rattle.implib.specs.Formats.Object.{Object, object_in, ASymbol, Auxiliary, Entry}
-use Rattle.implib.specs.Link.LinkedMembers.{IsMade, LinkInput, all_linked, linked_members, objects_in}
+use Rattle.implib.specs.Formats.Object.{Object, ASymbol, Auxiliary, Entry}
+use Rattle.implib.specs.Link.LinkedMembers.{IsMade, LinkInput, all_linked, objects_in}
 use Rattle.implib.specs.Link.Placement.{Bases, placed_from, Addresses, Descriptors, DllNames, Group, HintNames, Lookups, Placed, SectionAddress, base_of, ends_after, section_addresses_of}
-use Rattle.implib.specs.Members.MemberSpec.{MemberView}
-use Rattle.implib_link.specs.Flavors.Program.{IsProgram, OfLinker, all_members, gnu_input, symbols_listed, ClaimsNone, claimed_names, has_tables, names_claimed_in, null_descriptor, claimed_name, is_reference, is_shared}
+use Rattle.implib_link.specs.Flavors.Program.{IsProgram, OfLinker, all_members, gnu_input, symbols_listed, claimed_names, has_tables, names_claimed_in, null_descriptor, claimed_name}
 use Rattle.implib_link.specs.Parts.{IsProgramOfParts, Part, names_of_parts, objects_of_parts, part_of, BeginWithHead, HoldsFields, IsPart}
 use Rattle.implib_link.proofs.Flavors.Program.{gnu_made, gnu_members, program_links}
 use Rattle.implib_link.proofs.Flavors.Block.{claimed_placed, plus_sum, null_located, table_sum, all_claim}
 use Rattle.implib_link.proofs.Gnu.Others.{placed_kept, contributions_kept, defined_is_claimed, definitions_kept}
-use Rattle.std.proofs.lemmas.Bool.{cases_Bool}
-use Rattle.implib.specs.Formats.File.{is_defined_external}
 use Rattle.implib.specs.Link.Image.{Range, contributions, filled, image_of, range_end}
 use Rattle.implib.specs.Link.Load.{BytesAt, NumberAt}
 use Rattle.implib.specs.Link.Resolution.{SymbolDefinition, defined_by, defined_by_entry, definitions, definitions_of}
@@ -40,16 +37,11 @@ parts_of machine inputs = map (part_of machine) inputs
 
 members_objects : (machine : MachineType) (inputs : List LinkInput) → objects_in (all_linked machine inputs) ≡ objects_of_parts (map (part_of machine) inputs)
 members_objects machine [] = refl
-members_objects machine (p ∷ inputs) =
-    filter_map-append (λ (m : MemberView). object_in m.bytes) (linked_members p.definition machine p.chosen) (all_linked machine inputs)
-    ∙ ap (λ os. objects_in (linked_members p.definition machine p.chosen) ++ os) (members_objects machine inputs)
+members_objects machine (p ∷ inputs) = grind (arith, members_objects machine inputs, filter_map-append)
 
 module _ (machine : MachineType) (bases : Bases) (inputs : List LinkInput) (objects : List Object) (made : AllByRecursion (IsMade machine) inputs) (program : IsProgram machine bases inputs objects) where
   tables_are : filter has_tables objects ≡ objects_of_parts (parts_of machine inputs) ++ null_descriptor ∷ []
-  tables_are =
-      program.held.ended.tables
-      ∙ ap (λ ms. objects_in ms ++ null_descriptor ∷ []) (gnu_members machine inputs)
-      ∙ ap (λ os. os ++ null_descriptor ∷ []) (members_objects machine inputs)
+  tables_are = grind (arith, gnu_members, members_objects)
 
   names_are : symbols_listed (all_members machine (map gnu_input inputs)) ≡ names_of_parts (parts_of machine inputs)
   names_are =
@@ -60,12 +52,7 @@ module _ (machine : MachineType) (bases : Bases) (inputs : List LinkInput) (obje
       ∙ append-nil (names_of_parts (parts_of machine inputs))
 
   pub program_of_parts : IsProgramOfParts machine bases (map (part_of machine) inputs) objects
-  program_of_parts = record {
-    tables = tables_are;
-    distinct = subst (IsDistinct bytes_eq) names_are program.held.distinct;
-    others = subst (λ names. AllByRecursion (ClaimsNone names) (filter (λ o. not (has_tables o)) objects)) names_are program.held.others;
-    admissible = program.admissible;
-  }
+  program_of_parts = grind (arith, tables_are, names_are)
 
 -- Programs of parts have import tables.
 
@@ -100,10 +87,7 @@ among_distinct : (xs ys : List (List ℕ)) → IsAmong xs ys → IsDistinct byte
 unfolding IsAmong IsDistinct
 among_distinct [] ys is distinct = tt
 among_distinct (x ∷ xs) [] is distinct = absurd is
-among_distinct (x ∷ xs) (y ∷ ys) (inl (e, is)) distinct = (
-  subst (λ z. AllByRecursion (λ other. bytes_eq z other ≡ false) xs) (sym e) (among_all (λ other. bytes_eq y other ≡ false) xs ys is distinct.0),
-  among_distinct xs ys is distinct.1,
-)
+among_distinct (x ∷ xs) (y ∷ ys) (inl (e, is)) distinct = grind (arith, among_distinct xs ys is distinct.1, among_all)
 among_distinct (x ∷ xs) (y ∷ ys) (inr is) distinct = among_distinct (x ∷ xs) ys is distinct.1
 
 among_held : (name : List ℕ) (xs ys : List (List ℕ)) → IsAmong xs ys → Among name xs → Among name ys
@@ -118,14 +102,7 @@ entries_claim : (addresses : List SectionAddress) (entries : List Entry) → IsA
 unfolding IsAmong
 entries_claim addresses [] = tt
 entries_claim addresses (Auxiliary bytes ∷ entries) = entries_claim addresses entries
-entries_claim addresses (ASymbol s ∷ entries) =
-    elim (cases_Bool (is_defined_external s)) [
-      | inl is ↦ rw (is, defined_is_claimed s is) (inl (refl, entries_claim addresses entries))
-      | inr other ↦ elim (cases_Bool (is_shared s && not (is_reference s))) [
-        | inl claims ↦ rw (other, claims) (among_skip (map (λ (d : SymbolDefinition). d.name) (filter_map (defined_by_entry addresses) entries)) s.name (filter_map claimed_name entries) (entries_claim addresses entries))
-        | inr none ↦ rw (other, none) (entries_claim addresses entries)
-      ]
-    ]
+entries_claim addresses (ASymbol s ∷ entries) = grind (arith, entries_claim addresses entries, defined_is_claimed, among_skip)
 
 objects_claim : (objects : List Object) (b : Bases) → IsAmong (map (λ (d : SymbolDefinition). d.name) (definitions (placed_from b objects))) (flat_map claimed_names objects)
 unfolding IsAmong

@@ -1,9 +1,9 @@
 -- Where an object's sections of a group are, and what they are filled in with.
-use Rattle.std.proofs.Common.{◌≡◌, ℕ, zero, suc, ◌+◌, ◌%◌, true, false, List, [], ◌∷◌, ◌++◌, length, Option, Some, None, refl, ap, sym, ◌∙◌, subst, inl, inr, arith, ◌*◌, ◌-◌, ◌/◌, ◌^◌, ◌<◌}
+use Rattle.std.proofs.Common.{◌≡◌, ℕ, zero, suc, ◌+◌, ◌%◌, true, false, List, [], ◌∷◌, ◌++◌, length, Option, Some, None, refl, ap, sym, ◌∙◌, subst, inl, inr, arith, ◌*◌, ◌-◌, ◌^◌, ◌<◌}
 use Rattle.std.specs.Prelude.{◌==◌, ◌||◌, slice_get, ◌&&◌, bytes_eq, drop, nat_lt, take}
 use Rattle.std.specs.List.{AllByRecursion, filter_map}
 use Rattle.std.specs.Option.{option_and_then, option_map}
-use Rattle.std.proofs.lemmas.Bool.{cases_Bool, eqb-true, and_parts, ltb-true, ne_eqb}
+use Rattle.std.proofs.lemmas.Bool.{cases_Bool, and_parts, ltb-true}
 use Rattle.implib.specs.declared.machine.MachineType.{MachineType}
 use Rattle.implib.specs.Formats.Object.{ObjectSection, ASymbol, Auxiliary, Entry, Object, before_nul, section_numbered}
 use Rattle.implib.specs.Link.Image.{Contribution, Range, contribution_at, contributions_in, filled, relocated, contributions, range_end, with_address}
@@ -32,14 +32,7 @@ use Rattle.implib_link.proofs.Gnu.Loaded.{plus_none}
 -- a multiple of 4 is one of 1, 2 and 4
 pub stays : (step n : ℕ) → (((step == 1) || ((step == 2) || (step == 4))) ≡ true) → n % 4 ≡ 0 → next_multiple step n ≡ n
 unfolding next_multiple
-stays step n one even =
-    elim (cases_Bool (step == 1)) [
-      | inl is ↦ rw (eqb-true step 1 is) (omega arith)
-      | inr is ↦ elim (cases_Bool (step == 2)) [
-        | inl is_2 ↦ rw (eqb-true step 2 is_2) (omega arith)
-        | inr is_2 ↦ rw (eqb-true step 4 (rw (is, is_2) at one)) (omega arith)
-      ]
-    ]
+stays step n one even = grind arith
 
 -- One section.
 
@@ -68,11 +61,7 @@ address_one group b flags (Some other) value is = rw (same_base group other b is
 -- what one_of gives
 pub one_is : (xs : List ObjectSection) (s : ObjectSection) → one_of xs ≡ Some s → (xs ≡ s ∷ []) × (fits_four s ≡ true)
 one_is [] s is = cc
-one_is (x ∷ []) s is =
-    elim (cases_Bool (fits_four x)) [
-      | inl fits ↦ let same : x ≡ s = let here : Some x ≡ Some s = rw fits at is in cc in (ap (λ y. y ∷ []) same, subst (λ y. fits_four y ≡ true) same fits)
-      | inr other ↦ let none : None ≡ Some s = rw other at is in cc
-    ]
+one_is (x ∷ []) s is = grind arith
 one_is (x ∷ y ∷ xs) s is = cc
 
 -- Objects without sections of a group, and with one.
@@ -86,13 +75,7 @@ module _ (machine : MachineType) (linked : List Placed) (p : Placed) (group : Gr
 
   none_placed : (sections : List ObjectSection) (b : Bases) → sections_of group sections ≡ [] → filled_in b sections ≡ []
   none_placed [] b none = refl
-  none_placed (x ∷ sections) b none =
-      elim (cases_Bool (is_of group (group_named x.name))) [
-        | inl is ↦ let some : x ∷ sections_of group sections ≡ [] = rw is at none in cc
-        | inr is ↦
-            ap (λ front. front ++ filled_in (next b x) sections) (contribution_none group b x.flags (group_named x.name) (relocated machine linked p x.relocations x.bytes) is)
-            ∙ none_placed sections (next b x) (rw is at none)
-      ]
+  none_placed (x ∷ sections) b none = grind (arith, none_placed sections (next b x))
 
   same_end : (b : Bases) (x : ObjectSection) → is_of group (group_named x.name) ≡ false → base_of group (next b x) ≡ base_of group b
   same_end b x is = end_of_section group b x (group_named x.name) ∙ end_none group (base_of group b) x (group_named x.name) is
@@ -161,40 +144,19 @@ module _ (machine : MachineType) (linked : List Placed) (p : Placed) (group : Gr
 pub none_ends : (group : Group) (sections : List ObjectSection) (n : ℕ) → sections_of group sections ≡ [] → sections_end group n sections ≡ n
 unfolding sections_end
 none_ends group [] n none = refl
-none_ends group (x ∷ sections) n none =
-    elim (cases_Bool (is_of group (group_named x.name))) [
-      | inl is ↦ let some : x ∷ sections_of group sections ≡ [] = rw is at none in cc
-      | inr is ↦ ap (λ m. sections_end group m sections) (end_none group n x (group_named x.name) is) ∙ none_ends group sections n (rw is at none)
-    ]
+none_ends group (x ∷ sections) n none = grind (arith, none_ends group sections n)
 
 pub one_ends : (group : Group) (sections : List ObjectSection) (n : ℕ) (s : ObjectSection) → sections_of group sections ≡ s ∷ [] → fits_four s ≡ true → n % 4 ≡ 0 →
     sections_end group n sections ≡ n + length s.bytes
 unfolding sections_end
 one_ends group [] n s is fits even = cc
-one_ends group (x ∷ sections) n s is fits even =
-    elim (cases_Bool (is_of group (group_named x.name))) [
-      | inl own ↦
-          let here : x ∷ sections_of group sections ≡ s ∷ [] = rw own at is in
-          let same : x ≡ s = cc in
-          let others : sections_of group sections ≡ [] = cc in
-          ap (λ m. sections_end group m sections)
-          (end_one group n x (group_named x.name) own ∙ ap (λ m. m + length x.bytes) (stays (alignment x.flags) n (subst (λ y. fits_four y ≡ true) (sym same) fits) even))
-          ∙ none_ends group sections (n + length x.bytes) others
-          ∙ ap (λ (y : ObjectSection). n + length y.bytes) same
-      | inr other ↦ ap (λ m. sections_end group m sections) (end_none group n x (group_named x.name) other) ∙ one_ends group sections n s (rw other at is) fits even
-    ]
+one_ends group (x ∷ sections) n s is fits even = grind (arith, one_ends group sections n s, end_one, stays, none_ends, end_none)
 
 pub one_address : (group : Group) (sections : List ObjectSection) (b : Bases) (s : ObjectSection) (k : ℕ) (x : ObjectSection) (value : ℕ) → sections_of group sections ≡ s ∷ [] → fits_four s ≡ true →
     base_of group b % 4 ≡ 0 → slice_get sections k ≡ Some x → is_of group (group_named x.name) ≡ true →
     option_and_then (λ (c : SectionAddress). address_at c value) (slice_get (section_addresses_of b sections) k) ≡ Some (base_of group b + value)
 one_address group [] b s k x value is fits even at own = cc
-one_address group (y ∷ sections) b s zero x value is fits even at own =
-    let same : y ≡ x = cc in
-    let here : is_of group (group_named y.name) ≡ true = subst (λ (z : ObjectSection). is_of group (group_named z.name) ≡ true) (sym same) own in
-    let first : y ∷ sections_of group sections ≡ s ∷ [] = rw here at is in
-    let only : y ≡ s = cc in
-    address_one group b y.flags (group_named y.name) value here
-    ∙ ap (λ n. Some (n + value)) (stays (alignment y.flags) (base_of group b) (subst (λ z. fits_four z ≡ true) (sym only) fits) even)
+one_address group (y ∷ sections) b s zero x value is fits even at own = grind (arith, address_one, stays)
 one_address group (y ∷ sections) b s (suc k) x value is fits even at own =
     elim (cases_Bool (is_of group (group_named y.name))) [
       | inl here ↦
@@ -260,37 +222,21 @@ drop_located image (suc n) (x ∷ bytes) a located =
     let same : a + 1 + n ≡ a + suc n = omega arith in
     subst (λ m. BytesAt image m (drop n bytes)) same (drop_located image n bytes (a + 1) located.1)
 
-free_next : (n : ℕ) (text : List ℕ) → HasNoNul text → HasNoNul (suc n ∷ text)
-free_next n text free = rw (ne_eqb (suc n) 0 (λ same. omega arith)) free
-
 pub ended_is : (bytes text : List ℕ) → before_nul bytes ≡ Some text → (rest : List ℕ) × ((bytes ≡ text ++ 0 ∷ rest) × HasNoNul text)
 unfolding before_nul
 ended_is [] text is = cc
 ended_is (zero ∷ bytes) text is = let same : [] ≡ text = cc in (bytes, (ap (λ t. t ++ 0 ∷ bytes) same, ap (holds 0) (sym same)))
-ended_is (suc n ∷ bytes) text is = go (λ t at. ended_is bytes t at) (before_nul bytes) refl is
-  where
-    go : ((t : List ℕ) → before_nul bytes ≡ Some t → (rest : List ℕ) × ((bytes ≡ t ++ 0 ∷ rest) × HasNoNul t)) → (found : Option (List ℕ)) → before_nul bytes ≡ found →
-        option_map (λ t. suc n ∷ t) found ≡ Some text → (rest : List ℕ) × ((suc n ∷ bytes ≡ text ++ 0 ∷ rest) × HasNoNul text)
-    go rest None at is = cc
-    go rest (Some t) at is =
-        let later = rest t at in
-        let same : suc n ∷ t ≡ text = cc in
-        (later.0, (ap (λ xs. suc n ∷ xs) later.1.0 ∙ ap (λ xs. xs ++ 0 ∷ later.0) same, subst HasNoNul same (free_next n t later.1.1)))
+ended_is (suc n ∷ bytes) text is = grind (arith, ended_is bytes)
 
 u16_is : (low high : ℕ) → low < 256 → high < 256 → u16_bytes (low + 256 * high) ≡ low ∷ high ∷ []
 unfolding u16_bytes
-u16_is low high small below =
-    let first : (low + 256 * high) % 256 ≡ low = omega arith in
-    let second : (low + 256 * high) / 256 % 256 ≡ high = omega arith in
-    rw (first, second) refl
+u16_is low high small below = grind arith
 
 hint_small : (low high : ℕ) → low < 256 → high < 256 → low + 256 * high < 2 ^ 16
 hint_small low high small below = omega arith
 
 pub field_is : (machine : MachineType) (offset : ℕ) (r : Relocation) → is_field machine offset r ≡ true → ((r.kind == image_relative machine) ≡ true) × (r.offset ≡ offset)
-field_is machine offset r is =
-    let parts = and_parts (r.kind == image_relative machine) (r.offset == offset) is in
-    (parts.0, eqb-true r.offset offset parts.1)
+field_is machine offset r is = grind arith
 
 -- Sections of an object that is placed first from bases on.
 module _ (machine : MachineType) (linked : List Placed) (image : List Range) (starts : AllByRecursion (λ r. 0 < r.start) image) (ends : AllByRecursion (λ r. range_end r < 2 ^ 31) image)
@@ -301,11 +247,7 @@ module _ (machine : MachineType) (linked : List Placed) (image : List Range) (st
   -- the bytes that a symbol of its own leads to
   plain_bytes : (x : ObjectSection) (relocations : List Relocation) (value : ℕ) (bytes : List ℕ) → bytes_from x relocations value ≡ Some bytes →
       (relocations ≡ []) × ((holds_texts (group_named x.name) ≡ true) × (drop value x.bytes ≡ bytes))
-  plain_bytes x [] value bytes is =
-      elim (cases_Bool (holds_texts (group_named x.name))) [
-        | inl texts ↦ let here : Some (drop value x.bytes) ≡ Some bytes = rw texts at is in (refl, (texts, cc))
-        | inr other ↦ let none : None ≡ Some bytes = rw other at is in cc
-      ]
+  plain_bytes x [] value bytes is = grind arith
   plain_bytes x (r ∷ relocations) value bytes is = cc
 
   in_section : (k value : ℕ) (bytes : List ℕ) (found : Option ObjectSection) → slice_get o.sections k ≡ found → option_and_then (λ (x : ObjectSection). bytes_from x x.relocations value) found ≡ Some bytes →

@@ -1,8 +1,8 @@
 -- A closed program of an archive of both flavours links, however a linker reads members.
-use Rattle.std.proofs.Common.{◌≡◌, ℕ, ◌+◌, ◌*◌, ◌⊎◌, Bool, true, false, List, [], ◌∷◌, ◌++◌, Option, Some, refl, ap, sym, ◌∙◌, subst, inl, inr}
+use Rattle.std.proofs.Common.{arith, ◌≡◌, ℕ, ◌+◌, ◌*◌, ◌⊎◌, Bool, true, false, List, [], ◌∷◌, ◌++◌, Option, Some, refl, ap, sym, ◌∙◌, subst, inl, inr}
 use Rattle.std.specs.Prelude.{◌<◌, ◌^◌, IsPermutation, not, slice_get}
-use Rattle.std.specs.List.{AllByRecursion, Contains, cons_option, filter}
-use Rattle.std.proofs.lemmas.Bool.{cases_Bool, true≢false, not_from_false}
+use Rattle.std.specs.List.{AllByRecursion, Contains, filter}
+use Rattle.std.proofs.lemmas.Bool.{true≢false, not_from_false}
 use Rattle.std.proofs.lemmas.List.Sorted.{IsPermutation-sym}
 use Rattle.implib.specs.declared.flavor.Flavor.{Flavor}
 use Rattle.implib.specs.declared.flavor.Flavor.TheVariants.{Gnu, Msvc}
@@ -39,17 +39,7 @@ use Rattle.implib_link.proofs.Search.Taken.{Why, as_other, both_taken, each_firs
 of_symbol : (flavor : Flavor) (e : ExportView) (name : List ℕ) → Among name (symbols_in flavor e) → (name ≡ imp_symbol (symbol_in flavor e)) ⊎ ((name ≡ symbol_in flavor e) × (e.is_data ≡ false))
 unfolding Among
 of_symbol Msvc e name listed = by_symbol e name listed
-of_symbol Gnu e name listed =
-    elim (cases_Bool e.is_data) [
-      | inl is ↦ (let one : Among name (imp_symbol e.name ∷ []) = rw is at listed in inl (only_one name (imp_symbol e.name) one))
-      | inr is ↦ (
-          let both : Among name (e.name ∷ imp_symbol e.name ∷ []) = rw is at listed in
-          elim (among_either name (e.name ∷ []) (imp_symbol e.name ∷ []) both) [
-            | inl bare ↦ inr (only_one name e.name bare, is)
-            | inr address ↦ inl (only_one name (imp_symbol e.name) address)
-          ]
-          )
-    ]
+of_symbol Gnu e name listed = grind arith
 
 -- What is taken for given objects, and what is linked with them, wherever it is placed.
 pub record AreClosedAs (machine : MachineType) (reads : List ℕ → Option Object) (weak : MemberView → Bool) (libraries : List FlavorLibrary) (own : List Object) (taken : List MemberView) (arranged : List FlavorLibrary)
@@ -221,9 +211,7 @@ module _ (machine : MachineType) (libraries : List FlavorLibrary) (archive : IsF
 -- members that a linker takes for the objects that their bytes are
 objects_same : (machine : MachineType) (members : List MemberView) → ((m : MemberView) → Among m members → expanded_in machine m.bytes ≡ object_in m.bytes) → objects_taken machine members ≡ objects_in members
 objects_same machine [] all = refl
-objects_same machine (m ∷ members) all =
-    ap (λ o. cons_option o (objects_taken machine members)) (all m (among_first m members))
-    ∙ ap (cons_option (object_in m.bytes)) (objects_same machine members (λ x held. all x (among_later x m members held)))
+objects_same machine (m ∷ members) all = grind (arith, objects_same machine members, among_first, among_later)
 
 -- the members of libraries for GNU's linker are such
 module _ (machine : MachineType) (libraries : List FlavorLibrary) (archive : IsFlavorArchive machine libraries) (arranged : List FlavorLibrary) (order : IsPermutation libraries arranged) (names : List (List ℕ))
@@ -342,14 +330,7 @@ module _ (machine : MachineType) (libraries : List FlavorLibrary) (archive : IsF
     member_there m held = member_other machine libraries archive reads weak (expands machine libraries archive) own taken arranged objects closed_as m (subst (Among m) e.members held)
 
     linked_taken : (m : MemberView) → Among m linked → Among m (filter (λ y. not (weak y)) taken)
-    linked_taken m held =
-        elim (among_either m e.before (null ++ e.behind) held) [
-          | inl front ↦ member_there m (among_front m e.before e.behind front)
-          | inr rest ↦ elim (among_either m null e.behind rest) [
-            | inl own_null ↦ null_there m own_null
-            | inr last ↦ member_there m (among_back m e.before e.behind last)
-          ]
-        ]
+    linked_taken m held = grind (arith, among_either, held, member_there, among_front, null_there, among_back)
 
     taken_linked : (m : MemberView) → Among m (filter (λ y. not (weak y)) taken) → Among m linked
     taken_linked m held =

@@ -1,14 +1,14 @@
 -- Searches of several archives, in the order of a command line, take what one search of all of them takes.
 use Rattle.std.proofs.Common.{◌≡◌, ℕ, ◌⊎◌, zero, suc, Bool, false, List, [], ◌∷◌, ◌++◌, length, Option, Some, None, refl, ap, sym, ◌∙◌, subst, inl, inr, arith}
 use Rattle.std.specs.Prelude.{◌==◌, bytes_eq, not, slice_get}
-use Rattle.std.specs.List.{AllByRecursion, Contains, IsDistinct, cons_option, filter, flat_map, list_any}
+use Rattle.std.specs.List.{AllByRecursion, Contains, IsDistinct, filter, flat_map, list_any}
 use Rattle.std.proofs.lemmas.Bool.{cases_Bool, true≢false, not_from_false}
 use Rattle.std.proofs.lemmas.Grind.{flat_map-append}
 use Rattle.std.proofs.lemmas.List.{append-nil, append_assoc}
 use Rattle.implib.specs.Formats.Object.{Object}
 use Rattle.implib.specs.Members.MemberSpec.{MemberView}
 use Rattle.implib.proofs.Link.LinkedMembers.{among_contains}
-use Rattle.implib.proofs.Link.Ranges.{Among, all_among, among_back, among_first, among_front, among_later}
+use Rattle.implib.proofs.Link.Ranges.{Among, all_among, among_back, among_first, among_front}
 use Rattle.implib_link.specs.Flavors.Program.{HaveSame, claimed_names}
 use Rattle.implib_link.specs.Search.Search.{AreTakenIntoAs, PullsIntoAs, TakesIntoAs, references_of, unresolved, claimed_as, first_listed, is_listed_for, objects_as, undefined_in, IndexEntry, index_at, members_at, numbers_from, sweeps, swept}
 use Rattle.implib_link.specs.Search.CommandLines.{AnObject, Archives, AreFirst, AreListedWhole, AreRounds, AreSwept, AreUnclaimedBehind, Input, IsOrdered, IsSwept, LeavesNone, NoneIsLost, SearchesFor, TakesFirst, SearchesCommandLine, SearchesFrom, listed_at, names_left, numbers_but, numbers_in, numbers_of, object_of, objects_given, others_of, given_with}
@@ -31,20 +31,7 @@ refs_either f own later name held = among_either name (flat_map f own) (flat_map
 
 -- a name that no later object claims is left unresolved by these and later ones
 left_on : (own later taken : List Object) (name : List ℕ) → (Among name (flat_map claimed_names later) → ⊥) → Among name (unresolved (own ++ taken)) → Among name (unresolved ((own ++ later) ++ taken))
-left_on own later taken name none left =
-    let parts = unresolved_parts (own ++ taken) name left in
-    unresolved_from ((own ++ later) ++ taken) name
-    (elim (refs_either undefined_in own taken name parts.0) [
-      | inl here ↦ refs_front undefined_in (own ++ later) taken name (refs_front undefined_in own later name here)
-      | inr there ↦ refs_back undefined_in (own ++ later) taken name there
-    ])
-    (λ claimed. elim (refs_either claimed_names (own ++ later) taken name claimed) [
-      | inl given ↦ elim (refs_either claimed_names own later name given) [
-        | inl here ↦ parts.1 (refs_front claimed_names own taken name here)
-        | inr behind ↦ none behind
-      ]
-      | inr there ↦ parts.1 (refs_back claimed_names own taken name there)
-    ])
+left_on own later taken name none left = grind (arith, unresolved_parts, unresolved_from, refs_either, refs_front, refs_back)
 
 -- Names that are listed.
 
@@ -79,14 +66,7 @@ module _ (reads : List ℕ → Option Object) (members : List MemberView) where
   sweeps_add : (own : List Object) (archive : List ℕ) (count : ℕ) (numbers : List ℕ) (n : ℕ) → Among n (sweeps reads members own (index_at members archive) count numbers) → Among n numbers ⊎ Among n archive
   unfolding sweeps
   sweeps_add own archive zero numbers n held = inl held
-  sweeps_add own archive (suc count) numbers n held =
-      elim (sweeps_add own archive count (swept reads members own (index_at members archive) numbers) n held) [
-        | inl before ↦ elim (swept_adds reads members own (index_at members archive) numbers n before) [
-          | inl old ↦ inl old
-          | inr new ↦ inr (subst (λ k. Among k archive) (sym new.2) (entries_of members archive new.0 new.1).1)
-        ]
-        | inr there ↦ inr there
-      ]
+  sweeps_add own archive (suc count) numbers n held = grind (arith, sweeps_add own archive count (swept reads members own (index_at members archive) numbers) n held, swept_adds, entries_of)
 
   -- that searches do so
   abbrev Keeps : List ℕ → List ℕ → List ℕ → Type 0
@@ -225,11 +205,7 @@ module _ (reads : List ℕ → Option Object) (members : List MemberView) where
         AreTakenIntoAs reads members (own ++ objects_given inputs) (members_at members before) → AreTakenIntoAs reads members (own ++ objects_given inputs) (members_at members after)
     unfolding SearchesFrom AreUnclaimedBehind
     searches_in_turn own [] read before after all none is within taken = subst (λ ns. AreTakenIntoAs reads members (own ++ []) (members_at members ns)) is taken
-    searches_in_turn own (AnObject o ∷ inputs) read before after all none is within taken =
-        let same = append_assoc own (o ∷ []) (objects_given inputs) in
-        subst (λ objects. AreTakenIntoAs reads members objects (members_at members after)) same
-        (searches_in_turn (own ++ o ∷ []) inputs (read ++ []) before after (same ∙ all) none.1 is within
-        (subst (λ objects. AreTakenIntoAs reads members objects (members_at members before)) (sym same) taken))
+    searches_in_turn own (AnObject o ∷ inputs) read before after all none is within taken = grind (arith, searches_in_turn (own ++ o ∷ []) inputs (read ++ []) before after, append_assoc)
     searches_in_turn own (Archives archives ∷ inputs) read before after all none (between, group, later) within taken =
         searches_in_turn own inputs (read ++ numbers_of (Archives archives)) between after all none.1 later within
         (rounds_in_turn own (objects_given inputs) all archives group.rounds before between free group.taken
@@ -249,16 +225,11 @@ module _ (reads : List ℕ → Option Object) (members : List MemberView) where
   unfolding Among
   object_there [] x o held read = held
   object_there (y ∷ some) x o (inl is) read = rw (subst (λ (z : MemberView). reads z.bytes ≡ Some o) is read) (inl refl)
-  object_there (y ∷ some) x o (inr held) read = behind (reads y.bytes) (object_there some x o held read)
-    where
-      behind : (read_y : Option Object) → Among o (objects_as reads some) → Among o (cons_option read_y (objects_as reads some))
-      behind None there = there
-      behind (Some p) there = among_later o p (objects_as reads some) there
+  object_there (y ∷ some) x o (inr held) read = grind (arith, object_there some x o held read)
 
   -- an object that leaves none of some names does not leave a name among them
   leaves_not : (names : List (List ℕ)) (o : Object) (name : List ℕ) → LeavesNone names o → Among name names → Among name (undefined_in o) → ⊥
-  leaves_not names o name none held left =
-      true≢false (sym (among_any name (undefined_in o) left) ∙ all_among (λ n. list_any (bytes_eq n) (undefined_in o) ≡ false) name names held none)
+  leaves_not names o name none held left = grind (arith, among_any, all_among)
 
   -- the name of a member whose number is not among some
   but_these : (some : List ℕ) (n : ℕ) (m : MemberView) (name : List ℕ) → slice_get members n ≡ Some m → Among name m.symbols → (Among n some → ⊥) → Among name (listed_at members (numbers_but members some))
@@ -348,9 +319,7 @@ module _ (reads : List ℕ → Option Object) (members : List MemberView) where
         Among name (unresolved ((own ++ objects_given inputs) ++ objects_as reads (members_at members after))) → Among n after
     unfolding SearchesFrom IsOrdered Among
     none_lost own [] before after ordered is held left = absurd held
-    none_lost own (AnObject o ∷ inputs) before after ordered is held left =
-        none_lost (own ++ o ∷ []) inputs before after ordered.1 is held
-        (subst (λ objects. Among name (unresolved (objects ++ objects_as reads (members_at members after)))) (sym (append_assoc own (o ∷ []) (objects_given inputs))) left)
+    none_lost own (AnObject o ∷ inputs) before after ordered is held left = grind (arith, none_lost (own ++ o ∷ []) inputs before after ordered.1 is held, append_assoc)
     none_lost own (Archives archives ∷ inputs) before after ordered (between, group, later) held left =
         elim (cases_Bool (list_any (λ other. other == n) (numbers_in inputs))) [
           | inl again ↦ none_lost own inputs between after ordered.1 later (number_among n (numbers_in inputs) again) left
@@ -433,11 +402,7 @@ module _ (reads : List ℕ → Option Object) (members : List MemberView) where
 
     refs_of_more : (some more : List MemberView) (name : List ℕ) → ((x : MemberView) → Among x some → Among x more) → Among name (flat_map undefined_in (own ++ objects_as reads some)) →
         Among name (flat_map undefined_in (own ++ objects_as reads more))
-    refs_of_more some more name are left =
-        elim (refs_either undefined_in own (objects_as reads some) name left) [
-          | inl here ↦ refs_front undefined_in own (objects_as reads more) name here
-          | inr there ↦ refs_back undefined_in own (objects_as reads more) name (names_more reads undefined_in name some more are there)
-        ]
+    refs_of_more some more name are left = grind (arith, refs_either, refs_front, refs_back, names_more)
 
     -- What a name pulls in after members that another search takes, that search takes, too.
     one_taken : (taken other : List MemberView) (name : List ℕ) (m : MemberView) → AreFirst members (names_left reads own other) other → PullsIntoAs reads members own taken name m → ((y : MemberView) → Among y taken → Among y other) →

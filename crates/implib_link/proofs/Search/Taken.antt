@@ -1,5 +1,5 @@
 -- What a linker takes of an archive of libraries, however it reads members: what is wanted, and what that leaves.
-use Rattle.std.proofs.Common.{◌≡◌, ℕ, ◌⊎◌, Bool, true, false, List, [], ◌∷◌, ◌++◌, map, Option, Some, refl, ap, sym, ◌∙◌, subst, inl, inr}
+use Rattle.std.proofs.Common.{arith, ◌≡◌, ℕ, ◌⊎◌, Bool, true, false, List, [], ◌∷◌, ◌++◌, map, Option, Some, refl, ap, sym, ◌∙◌, subst, inl, inr}
 use Rattle.std.specs.Prelude.{not, IsPermutation, bytes_eq, slice_get}
 use Rattle.std.specs.List.{AllByRecursion, filter, flat_map, list_any}
 use Rattle.std.proofs.lemmas.Bool.{cases_Bool, true≢false, not_from_false}
@@ -58,26 +58,7 @@ module _ (machine : MachineType) (libraries : List FlavorLibrary) (archive : IsF
 
   pub not_wanted : (names : List (List ℕ)) → NamesNoMembers machine libraries names → (flavor : Flavor) (l : Library) (r : Role) (name : List ℕ) → Among (in_flavor flavor l) libraries →
       IsRole libraries (in_flavor flavor l) r → IsFixed r → Among name (symbols machine flavor l r) → Among name names → ⊥
-  not_wanted names plain flavor l r name held is fixed listed want = by flavor r held is fixed listed
-    where
-      gnu : Among (in_flavor Gnu l) libraries → NamesNoHeadOrTail machine (linked_name l.definition) names
-      gnu there = all_among (λ (x : Library). NamesNoHeadOrTail machine (linked_name x.definition) names) l (gnu_among libraries) (gnu_there libraries l there) plain.gnu
-
-      msvc : Among (in_flavor Msvc l) libraries → NamesNoHeader (linked_dll l.definition) names
-      msvc there = all_among (λ (x : Library). NamesNoHeader (linked_dll x.definition) names) l (msvc_among libraries) (msvc_there libraries l there) plain.msvc
-
-      one : (own : List ℕ) → Among name (own ∷ []) → Among own names
-      one own held = subst (λ n. Among n names) (only_one name own held) want
-
-      by : (flavor : Flavor) (r : Role) → Among (in_flavor flavor l) libraries → IsRole libraries (in_flavor flavor l) r → IsFixed r → Among name (symbols machine flavor l r) → ⊥
-      by Gnu Top there is fixed listed = there_not _ names (gnu there).head (one _ listed)
-      by Gnu Last there is fixed listed = there_not _ names (gnu there).name (one _ listed)
-      by Gnu Null there is fixed listed = is
-      by Msvc Top there is fixed listed = there_not _ names (msvc there).descriptor (one _ listed)
-      by Msvc Last there is fixed listed = there_not _ names (msvc there).null_thunk (one _ listed)
-      by Msvc Null there is fixed listed = there_not _ names (msvc there).null_descriptor (one _ listed)
-      by flavor (Own n e) there is fixed listed = fixed
-      by flavor (Weak n e b) there is fixed listed = fixed
+  not_wanted names plain flavor l r name held is fixed listed want = grind (arith, in_flavor, all_among, gnu_there, msvc_there, only_one, symbols, there_not)
 
   -- a member that a wanted name finds
   pub needed_by_wanted : (names : List (List ℕ)) → NamesNoMembers machine libraries names → (name : List ℕ) (m : MemberView) → Found machine libraries archive name m → Among name names → Needed names m
