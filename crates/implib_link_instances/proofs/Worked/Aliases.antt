@@ -14,7 +14,7 @@ use Rattle.implib.specs.Members.WeakExternal.{weak_object}
 use Rattle.implib.specs.Text.Parses.{Parses}
 use Rattle.implib.proofs.Worked.Statements.{opened as text_opened, parses}
 use Rattle.implib_link.specs.Flavors.Expansion.{import_object, descriptor_symbol_by_name, expanded_in, with_section_symbols}
-use Rattle.implib_link.specs.Flavors.Program.{OfMember, all_members, IsProgramOf, AreProgramObjects, IsProgram, has_tables, linked_symbols, group_end, packed, packed_end, sections_end}
+use Rattle.implib_link.specs.Flavors.Program.{OfMember, all_members, IsProgramOf, AreProgramObjects, IsProgram, has_tables, group_end, packed, packed_end, sections_end}
 use Rattle.implib_link.specs.Flavors.Texts.{IsFlavorSource, input_of}
 use Rattle.implib_link_instances.specs.Worked.Flavors.{WorkedSource, WorkedSources, both_sources, both_text_objects, foo_meant, foo_text, source_in, zed_meant, zed_text}
 use Rattle.implib_link.proofs.Flavors.Program.{packed_objects, gnu_objects}
@@ -24,7 +24,7 @@ use Rattle.implib_link_instances.proofs.Worked.Programs.{distinct_by, claims_non
 use Rattle.implib_link_instances.proofs.Worked.Search.{below_limit}
 use Rattle.implib_link_instances.proofs.Worked.Lemmas.{IsX86}
 use Rattle.implib_link.specs.Gnu.Fields.{LinkedCode, PlacedCode, Resolves}
-use Rattle.std.specs.Prelude.{drop, take, ◌==◌, if◌then◌else◌}
+use Rattle.std.specs.Prelude.{◌==◌, if◌then◌else◌}
 use Rattle.std.specs.Option.{option_and_then}
 use Rattle.std.proofs.lemmas.Bool.{eqb-true}
 use Rattle.implib.specs.Formats.Bytes.{u32_bytes}
@@ -35,7 +35,7 @@ use Rattle.implib.specs.Link.Placement.{Placed}
 use Rattle.implib.specs.Link.Resolution.{definitions_of, first_address, is_undefined_external, symbol_address}
 use Rattle.implib.proofs.Link.Ranges.{apart_as_they_rise}
 use Rattle.implib_link.specs.Gnu.Aliases.{ResolvesAliases, weak_target}
-use Rattle.implib_link_instances.specs.Worked.OtherNames.{WorkedAlias, alias_calling, alias_codes, alias_loading, alias_objects, alias_placed, all_at, opened_name}
+use Rattle.implib_link_instances.specs.Worked.OtherNames.{WorkedAlias, alias_codes, alias_objects, alias_placed, all_at, opened_name}
 use Rattle.implib_link_instances.specs.Worked.Operands.{CodesBeside, code_ranges, linked_codes, as_placed}
 use Rattle.implib_link_instances.specs.Worked.Programs.{both_inputs, touching_8}
 use Rattle.implib_link.proofs.Tables.{weak_is_weak}
@@ -84,19 +84,7 @@ worked_sources = record { amd64 = worked AMD64 tt; i386 = worked I386 tt }
 
 program : IsProgram AMD64 touching_8 (both_inputs AMD64) alias_objects
 unfolding opened alias_specs encoded_size weak_object has_tables object_of entries_of name_text u32_bytes
-program = record {
-  held = gnu_objects AMD64 (both_inputs AMD64) alias_objects (distinct_by (linked_symbols AMD64 (both_inputs AMD64)) refl) refl (
-    claims_none_by (linked_symbols AMD64 (both_inputs AMD64)) alias_calling refl,
-    (
-      claims_none_by (linked_symbols AMD64 (both_inputs AMD64)) alias_loading refl,
-      (claims_none_by (linked_symbols AMD64 (both_inputs AMD64)) (object_of (weak_object AMD64 opened_name (imp_symbol (codes "open")))) refl, tt),
-    ),
-  );
-  admissible = admissible_by refl refl;
-  lookups = tt;
-  addresses = tt;
-  follows = tt;
-}
+program = grind (arith, gnu_objects, distinct_by, claims_none_by, admissible_by)
 
 -- Code of which no entry is in the tables, and whose symbols no placed code defines: its symbols may be taken to be anywhere.
 

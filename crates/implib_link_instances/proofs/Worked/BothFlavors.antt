@@ -1,19 +1,17 @@
 -- The closed program of both flavours that was linked by hand, by computing and by the laws.
-use Rattle.std.proofs.Common.{List, [], arith, codes, false, map, refl, subst, sym, true, ℕ, ◌++◌, ◌<◌, ◌^◌, ◌∙◌, ◌∷◌, ◌≡◌}
+use Rattle.std.proofs.Common.{List, [], arith, codes, false, map, refl, sym, true, ℕ, ◌++◌, ◌<◌, ◌^◌, ◌∙◌, ◌∷◌, ◌≡◌}
 use Rattle.std.specs.Prelude.{IsPermutation, bytes_eq, not}
 use Rattle.std.specs.List.{AllByRecursion, Contains, filter, flat_map, list_all, list_any}
-use Rattle.std.proofs.lemmas.Bool.{and_parts, not-true, true≢false}
-use Rattle.std.proofs.lemmas.Grind.{flat_map-append}
+use Rattle.std.proofs.lemmas.Bool.{true≢false}
 use Rattle.implib.specs.declared.flavor.Flavor.TheVariants.{Msvc}
 use Rattle.implib.specs.declared.machine.MachineType.TheVariants.{AMD64}
 use Rattle.implib.specs.Formats.Object.{Object}
 use Rattle.implib.specs.Members.MemberSpec.{MemberView}
 use Rattle.implib.specs.Members.MsvcObjects.{descriptor_symbol, null_descriptor_symbol}
-use Rattle.implib.proofs.Link.LinkedMembers.{among_contains, among_map}
-use Rattle.implib.proofs.Link.Ranges.{Among, all_among, among_front}
-use Rattle.implib_link.specs.Flavors.Program.{AreEnded, Ending, FlavorInput, OfMember, objects_taken, ClaimsNone, HaveSame, has_tables, group_end, packed_end, sections_end, packed}
+use Rattle.implib.proofs.Link.LinkedMembers.{among_map}
+use Rattle.implib_link.specs.Flavors.Program.{AreEnded, Ending, FlavorInput, OfMember, objects_taken, ClaimsNone, has_tables, group_end, packed_end, sections_end, packed}
 use Rattle.implib_link.specs.Search.Search.{IsArchive, IsLibrary, symbols_of_library, listed_in}
-use Rattle.implib_link.specs.Search.Libraries.{AreClosed, AreGiven, FlavorLibrary, IsClosed, IsFlavorArchive, NamesNoMembers, archive_of_both, gnu_among, inputs_in, symbols_kept, msvc_among, LinksClosed, left_in, IsMsvcArchive, IsMsvcLibrary, TakesIntoFor, symbols_of_all_shorts, symbols_of_shorts, wanted_for, weak_in, tables_end_by, objects_closed, HasClosed}
+use Rattle.implib_link.specs.Search.Libraries.{AreClosed, AreGiven, FlavorLibrary, IsClosed, IsFlavorArchive, NamesNoMembers, archive_of_both, gnu_among, inputs_in, msvc_among, LinksClosed, left_in, IsMsvcArchive, IsMsvcLibrary, TakesIntoFor, symbols_of_all_shorts, symbols_of_shorts, wanted_for, weak_in, tables_end_by, objects_closed, HasClosed}
 use Rattle.implib_link_instances.specs.Worked.BothFlavors.{WorkedBoth, WorkedBothExists, WorkedGiven, foo_and_zed, mixed_bases, mixed_objects, mixed_taken, zed_and_foo, choosing, foo_linked}
 use Rattle.implib_link_instances.specs.Worked.Search.{msvc_zed, zed_members}
 use Rattle.implib_link.proofs.Search.BothClosed.{closed_links_of_both, packed_both}
@@ -33,9 +31,7 @@ own = choosing ∷ []
 -- no name of the ones is one of the others
 pub apart_by : (others texts : List (List ℕ)) → list_all (λ name. not (list_any (bytes_eq name) others)) texts ≡ true → AllByRecursion (λ name. list_any (bytes_eq name) others ≡ false) texts
 apart_by others [] all = tt
-apart_by others (name ∷ texts) all =
-    let parts = and_parts (not (list_any (bytes_eq name) others)) (list_all (λ n. not (list_any (bytes_eq n) others)) texts) all in
-    (not-true (list_any (bytes_eq name) others) parts.0, apart_by others texts parts.1)
+apart_by others (name ∷ texts) all = grind (arith, apart_by others texts)
 
 -- Libraries are an archive of both flavours, by computing.
 pub archive_by : {machine : MachineType} {libraries : List FlavorLibrary} → AllByRecursion (IsLibrary machine) (gnu_among libraries) → AllByRecursion (IsMsvcLibrary machine) (msvc_among libraries) →
@@ -43,51 +39,26 @@ pub archive_by : {machine : MachineType} {libraries : List FlavorLibrary} → Al
     all_differ (flat_map (symbols_of_library machine) (gnu_among libraries)) ≡ true → all_differ (null_descriptor_symbol ∷ flat_map symbols_of_shorts (msvc_among libraries)) ≡ true →
     list_all (λ name. not (list_any (bytes_eq name) (symbols_of_all_shorts (msvc_among libraries)))) (flat_map (symbols_of_library machine) (gnu_among libraries)) ≡ true →
     IsFlavorArchive machine libraries
-archive_by {machine} {libraries} gnu_made msvc_made found gnu_differ msvc_differ apart = record {
-  gnu = record { made = gnu_made; distinct = distinct_by (flat_map (symbols_of_library machine) (gnu_among libraries)) gnu_differ };
-  msvc = record { made = msvc_made; distinct = distinct_by (null_descriptor_symbol ∷ flat_map symbols_of_shorts (msvc_among libraries)) msvc_differ; found = found };
-  apart = apart_by (symbols_of_all_shorts (msvc_among libraries)) (flat_map (symbols_of_library machine) (gnu_among libraries)) apart;
-}
-
-same_elements : {X : Type 0} (first second : List X) → first ≡ second → HaveSame first second
-same_elements first second is = subst (λ xs. HaveSame first xs) is (λ o. (λ held. held, λ held. held))
+archive_by {machine} {libraries} gnu_made msvc_made found gnu_differ msvc_differ apart = grind (arith, distinct_by, apart_by)
 
 -- Objects that close a program, which are linked in the order of what is given and taken, by computing.
 pub closed_by : {machine : MachineType} {ending : Ending} {libraries : List FlavorLibrary} {own : List Object} {taken : List MemberView} {arranged : List FlavorLibrary} {objects : List Object} →
     TakesIntoFor machine (archive_of_both libraries) own taken → IsPermutation libraries arranged → filter (λ o. not (has_tables o)) objects ≡ own ++ objects_taken machine (weak_in machine taken) →
     AreEnded ending machine (inputs_in machine arranged own taken) objects → AllByRecursion (ClaimsNone (listed_in taken ++ left_in machine taken)) own → NamesNoMembers machine libraries (wanted_for machine own taken) →
     AreClosed machine ending libraries own taken arranged objects
-closed_by {machine} {ending} {libraries} {own} {taken} {arranged} {objects} takes order others ended claims names = record {
-  takes = takes;
-  order = order;
-  others = same_elements (filter (λ o. not (has_tables o)) objects) (own ++ objects_taken machine (weak_in machine taken)) others;
-  ended = ended;
-  claims = claims;
-  names = names;
-}
+closed_by {machine} {ending} {libraries} {own} {taken} {arranged} {objects} takes order others ended claims names = grind arith
 
 pub gnu_archive : IsArchive AMD64 (gnu_among foo_and_zed)
 unfolding searched
-gnu_archive = record {
-  made = (record { accepted = refl; made = refl; ordinals = refl }, tt);
-  distinct = distinct_by (flat_map (symbols_of_library AMD64) (gnu_among foo_and_zed)) refl;
-}
+gnu_archive = grind (arith, distinct_by)
 
 pub msvc_archive : IsMsvcArchive AMD64 (msvc_among foo_and_zed)
 unfolding searched
-msvc_archive = record {
-  made = (record { accepted = refl; made = refl; ordinals = refl }, tt);
-  distinct = distinct_by (null_descriptor_symbol ∷ flat_map symbols_of_shorts (msvc_among foo_and_zed)) refl;
-  found = (refl, tt);
-}
+msvc_archive = grind (arith, distinct_by)
 
 archive : IsFlavorArchive AMD64 foo_and_zed
 unfolding searched
-archive = record {
-  gnu = gnu_archive;
-  msvc = msvc_archive;
-  apart = apart_by (null_descriptor_symbol ∷ flat_map symbols_of_shorts (msvc_among foo_and_zed)) (flat_map (symbols_of_library AMD64) (gnu_among foo_and_zed)) refl;
-}
+archive = grind (arith, gnu_archive, msvc_archive, apart_by)
 
 pub claims : AllByRecursion (ClaimsNone (listed_in mixed_taken ++ left_in AMD64 mixed_taken)) (choosing ∷ [])
 unfolding searched
@@ -147,10 +118,7 @@ worked_both = record {
 
 given : AreGiven AMD64 foo_and_zed (choosing ∷ [])
 unfolding searched
-given = record {
-  claims = (claims_none_by (symbols_kept AMD64 foo_and_zed own) choosing refl, tt);
-  names = record { gnu = (record { head = refl; name = refl }, tt); msvc = (record { descriptor = refl; null_descriptor = refl; null_thunk = refl }, tt) };
-}
+given = grind arith
 
 pub worked_given : WorkedGiven
 unfolding searched

@@ -61,10 +61,7 @@ module _ (machine : MachineType) (image_base : ℕ) (targets : PlacedCode → �
       AllByRecursion (λ (x : LinkedCode). IsRelocated machine image_base (as_placed targets x) x.position x.code x.bytes) (linked_codes machine image_base targets codes)
   unfolding codes_tested
   all_relocated [] test = tt
-  all_relocated (c ∷ codes) test =
-      let bytes : List ℕ = code_relocated_by machine image_base (targets c) c.position c.code.relocations c.code.bytes in
-      let parts = and_parts (relocated_test machine image_base (targets c) c.position c.code (code_relocated_by machine image_base (targets c) c.position c.code.relocations c.code.bytes)) (codes_tested machine image_base targets codes) test in
-      (relocated_by machine image_base (targets c) c.position c.code bytes parts.0, all_relocated codes parts.1)
+  all_relocated (c ∷ codes) test = grind (arith, all_relocated codes, image_base, and_parts, relocated_test, relocated_by)
 
   all_linked : (P : LinkedCode → Type 0) (codes : List PlacedCode) → AllByRecursion (λ (c : PlacedCode). P (linked_by machine image_base targets c)) codes → AllByRecursion P (linked_codes machine image_base targets codes)
   all_linked P [] all = tt

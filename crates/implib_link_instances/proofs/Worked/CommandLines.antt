@@ -2,7 +2,7 @@
 use Rattle.std.proofs.Common.{arith, ◌≡◌, ℕ, zero, suc, true, false, List, [], ◌∷◌, ◌++◌, map, Option, None, Some, refl, sym, ◌∙◌, subst, inl, inr, codes}
 use Rattle.std.specs.Prelude.{bytes_eq, if◌then◌else◌, is_none}
 use Rattle.std.specs.List.{AllByRecursion, Contains, IsDistinct, list_all, list_any}
-use Rattle.std.proofs.lemmas.Bool.{and_parts, true≢false}
+use Rattle.std.proofs.lemmas.Bool.{true≢false}
 use Rattle.implib.specs.declared.machine.MachineType.{MachineType}
 use Rattle.implib.specs.Machine.{is_32bit}
 use Rattle.implib.specs.declared.machine.MachineType.TheVariants.{AMD64, ARM64, ARMNT, I386}
@@ -22,7 +22,6 @@ use Rattle.implib_link.proofs.Search.Lists.{among_any, any_among, contains_among
 use Rattle.implib_link_instances.specs.Worked.CommandLines.{WorkedCommandLine, WorkedCommandLines, all_taken, amd64_members, i386_members, i386_wants_bytes, in_group, library_last, of_quit, read_or_none, wants_bytes}
 use Rattle.implib_link_instances.specs.Worked.Programs.{code_object}
 use Rattle.implib_link_instances.proofs.Worked.Programs.{distinct_by, opened}
-use Rattle.implib_archive.specs.declared.kind.Kind.TheVariants.{Coff}
 use Rattle.implib_link_instances.proofs.Worked.Search.{archived, searched}
 use Rattle.implib_link_instances.proofs.Worked.Lemmas.{IsX86}
 
@@ -48,17 +47,12 @@ object_at (o ∷ objects) (suc n) = object_at objects n
 ended_here : (archive : List MemberView) (names : List (List ℕ)) (name : List ℕ) (m : MemberView) → list_all (λ n. is_none (first_listed archive n)) names ≡ true → Among name names → first_listed archive name ≡ Some m → ⊥
 unfolding Among
 ended_here archive [] name m all held listed = held
-ended_here archive (n ∷ names) name m all (inl is) listed =
-    let none = (and_parts (is_none (first_listed archive n)) (list_all (λ k. is_none (first_listed archive k)) names) all).0 in
-    let some : is_none (first_listed archive n) ≡ false = rw (subst (λ k. first_listed archive k ≡ Some m) is listed) refl in
-    true≢false (sym none ∙ some)
-ended_here archive (n ∷ names) name m all (inr held) listed =
-    ended_here archive names name m (and_parts (is_none (first_listed archive n)) (list_all (λ k. is_none (first_listed archive k)) names) all).1 held listed
+ended_here archive (n ∷ names) name m all (inl is) listed = grind arith
+ended_here archive (n ∷ names) name m all (inr held) listed = grind (arith, ended_here archive names name m)
 
 pub ended_by : (reads : List ℕ → Option Object) (archive : List MemberView) (own : List Object) (taken : List MemberView) → list_all (λ n. is_none (first_listed archive n)) (unresolved (own ++ objects_as reads taken)) ≡ true →
     (name : List ℕ) (m : MemberView) → PullsIntoAs reads archive own taken name m → ⊥
-ended_by reads archive own taken all name m pulls =
-    ended_here archive (unresolved (own ++ objects_as reads taken)) name m all (contains_among name (unresolved (own ++ objects_as reads taken)) pulls.named) pulls.listed
+ended_by reads archive own taken all name m pulls = grind (arith, ended_here, contains_among)
 
 pub pulls_by : (reads : List ℕ → Option Object) (archive : List MemberView) (own : List Object) (taken : List MemberView) (name : List ℕ) (m : MemberView) → list_any (bytes_eq name) (unresolved (own ++ objects_as reads taken)) ≡ true →
     first_listed archive name ≡ Some m → list_any (bytes_eq m.name) (map (λ (x : MemberView). x.name) taken) ≡ false → PullsIntoAs reads archive own taken name m

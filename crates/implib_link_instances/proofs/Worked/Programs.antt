@@ -2,7 +2,7 @@
 use Rattle.std.proofs.Common.{◌≡◌, ℕ, zero, suc, ◌+◌, ◌-◌, ◌/◌, ◌%◌, ◌^◌, Bool, true, false, List, [], ◌∷◌, ◌++◌, length, map, Option, Some, None, refl, ap, sym, ◌∙◌, subst, inl, inr, arith, ◌≤◌, nat_lt, codes, ◌<◌, ◌⊎◌}
 use Rattle.std.specs.Prelude.{bytes_eq, nat_le, slice_get, ◌&&◌, ◌||◌, ◌==◌, if◌then◌else◌, not, take, drop}
 use Rattle.std.specs.List.{AllByRecursion, Contains, flat_map, list_all, list_any, IsDistinct, filter}
-use Rattle.std.proofs.lemmas.Bool.{and_from, and_parts, cases_Bool, eq-eqb, eqb-true, le-leb, ne_eqb, or_parts, leb-true, not-true, ltb-true}
+use Rattle.std.proofs.lemmas.Bool.{and_from, and_parts, eq-eqb, eqb-true, le-leb, ne_eqb, leb-true, not-true, ltb-true}
 use Rattle.std.proofs.lemmas.List.Folds.{list_any-append}
 use Rattle.implib.specs.declared.coff.object.Relocation.{Relocation}
 use Rattle.implib.specs.declared.machine.MachineType.{MachineType}
@@ -23,7 +23,7 @@ use Rattle.implib_link.specs.Gnu.Moves.{places_of_code, AreInMemory, AreMoved, C
 use Rattle.implib_link.specs.Stub.{adrp_immediate, bits_of, ldr_immediate, page, with_adrp, with_bits}
 use Rattle.implib_link_instances.specs.Worked.Operands.{in_code, named_or, or_else, MovableCode, PassingFields, WorkedFields, WorkedOperands, amd64_rel32_1, field, imp_open, moved_memory, open_on, passing_at, passing_codes, passing_image, passing_memory, passing_objects, passing_placed, passing_places, passing_targets, stub_of_open}
 use Rattle.implib_link.proofs.Gnu.Fields.{alone_among, moved_memory_exists}
-use Rattle.implib_link.proofs.Gnu.Loaded.{kept_outside, byte_front, within_bounds}
+use Rattle.implib_link.proofs.Gnu.Loaded.{kept_outside, byte_front}
 use Rattle.implib_link.proofs.Gnu.Choices.{among_place, covered_bounds}
 use Rattle.implib_link.proofs.Search.Lists.{among_at, among_mapped, contains_among, each_of}
 use Rattle.implib.specs.Link.LinkedMembers.{LinkInput, objects_in, all_linked}
@@ -148,15 +148,8 @@ unfolding agree
 agree_at machine rs k [] [] test i none = refl
 agree_at machine rs k [] (y ∷ ys) test i none = cc
 agree_at machine rs k (x ∷ xs) [] test i none = cc
-agree_at machine rs k (x ∷ xs) (y ∷ ys) test zero none =
-    let parts = and_parts (list_any (meets machine k 1) rs || (x == y)) (agree machine rs (k + 1) xs ys) test in
-    let plain : k + 0 ≡ k = omega arith in
-    let clear : list_any (meets machine k 1) rs ≡ false = subst (λ n. list_any (meets machine n 1) rs ≡ false) plain none in
-    ap Some (eqb-true x y (rw clear at parts.0))
-agree_at machine rs k (x ∷ xs) (y ∷ ys) test (suc i) none =
-    let parts = and_parts (list_any (meets machine k 1) rs || (x == y)) (agree machine rs (k + 1) xs ys) test in
-    let next : k + suc i ≡ k + 1 + i = omega arith in
-    agree_at machine rs (k + 1) xs ys parts.1 i (subst (λ n. list_any (meets machine n 1) rs ≡ false) next none)
+agree_at machine rs k (x ∷ xs) (y ∷ ys) test zero none = grind arith
+agree_at machine rs k (x ∷ xs) (y ∷ ys) test (suc i) none = grind (arith, agree_at machine rs (k + 1) xs ys)
 
 unfoldable pub relocated_test : MachineType → ℕ → (ℕ → ℕ) → ℕ → ObjectSection → List ℕ → Bool
 unfolding agree field_test i386_test amd64_test arm64_test
@@ -246,10 +239,7 @@ place_of_range r = record { address = r.start; width = length r.bytes }
 
 none_in : (a : ℕ) (fronts : List Range) → list_any (covers a) (map place_of_range fronts) ≡ false → list_any (is_in a) fronts ≡ false
 none_in a [] none = refl
-none_in a (r ∷ fronts) none =
-    let parts = or_parts (covers a (place_of_range r)) (list_any (covers a) (map place_of_range fronts)) none in
-    let first : is_in a r ≡ false = parts.0 in
-    rw (first, none_in a fronts parts.1) refl
+none_in a (r ∷ fronts) none = grind (arith, none_in a fronts)
 
 located_front : (xs ys : List Range) (bytes : List ℕ) (a : ℕ) → BytesAt xs a bytes → BytesAt (xs ++ ys) a bytes
 unfolding BytesAt
@@ -280,15 +270,10 @@ rebased_by from to fronts linked apart each = record {
 pub all_needed : (machine : MachineType) (codes : List LinkedCode) (c : LinkedCode) (r : Relocation) (width : ℕ) → Contains codes c → Contains c.code.relocations r → absolute_width machine r.kind ≡ Some width →
     Contains (flat_map (places_of_code machine) codes) (record { address = c.position + r.offset; width = width })
 all_needed machine codes c r width held m is =
-    among_contains _ _ (among_flat (places_of_code machine) c codes (record { address = c.position + r.offset; width = width }) (contains_among c codes held)
-    (among_place machine c.position r width c.code.relocations is (contains_among r c.code.relocations m)))
+    grind (arith, contains_among c codes held, among_place machine c.position r width c.code.relocations is (contains_among r c.code.relocations m), contains_among r c.code.relocations m, among_contains, among_flat)
 
 pub only_absolute : (a : ℕ) (tables places : List Place) → list_any (covers a) places ≡ true → list_any (covers a) (tables ++ places) ≡ true
-only_absolute a tables places covered =
-    list_any-append (covers a) tables places ∙ elim (cases_Bool (list_any (covers a) tables)) as (λ d. (list_any (covers a) tables || list_any (covers a) places) ≡ true) [
-      | inl is ↦ rw is refl
-      | inr is ↦ rw (is, covered) refl
-    ]
+only_absolute a tables places covered = grind (arith, list_any-append)
 
 -- The programs that were linked by hand, by computing.
 
@@ -304,16 +289,12 @@ all_differ (name ∷ names) = list_all (λ other. not (bytes_eq name other)) nam
 
 differ_from : (name : List ℕ) (names : List (List ℕ)) → list_all (λ other. not (bytes_eq name other)) names ≡ true → AllByRecursion (λ other. bytes_eq name other ≡ false) names
 differ_from name [] all = tt
-differ_from name (other ∷ names) all =
-    let parts = and_parts (not (bytes_eq name other)) (list_all (λ other. not (bytes_eq name other)) names) all in
-    (not-true (bytes_eq name other) parts.0, differ_from name names parts.1)
+differ_from name (other ∷ names) all = grind (arith, differ_from name names)
 
 pub distinct_by : (names : List (List ℕ)) → all_differ names ≡ true → IsDistinct bytes_eq names
 unfolding IsDistinct
 distinct_by [] all = tt
-distinct_by (name ∷ names) all =
-    let parts = and_parts (list_all (λ other. not (bytes_eq name other)) names) (all_differ names) all in
-    (differ_from name names parts.0, distinct_by names parts.1)
+distinct_by (name ∷ names) all = grind (arith, distinct_by names, and_parts, differ_from)
 
 pub claims_none_by : (names : List (List ℕ)) (o : Object) → list_all (λ name. not (list_any (bytes_eq name) (claimed_names o))) names ≡ true → ClaimsNone names o
 claims_none_by [] o all = tt
@@ -357,9 +338,7 @@ claim_none names objects = list_all (λ o. list_all (λ name. not (list_any (byt
 
 pub all_claim_none : (names : List (List ℕ)) (objects : List Object) → claim_none names objects ≡ true → AllByRecursion (ClaimsNone names) objects
 all_claim_none names [] all = tt
-all_claim_none names (o ∷ objects) all =
-    let parts = and_parts (list_all (λ name. not (list_any (bytes_eq name) (claimed_names o))) names) (claim_none names objects) all in
-    (claims_none_by names o parts.0, all_claim_none names objects parts.1)
+all_claim_none names (o ∷ objects) all = grind (arith, all_claim_none names objects, and_parts, claims_none_by)
 
 -- Objects are a program, by computing.
 pub program_by : {machine : MachineType} {bases : Bases} {objects : List Object} (inputs : List LinkInput) → all_differ (linked_symbols machine inputs) ≡ true →
@@ -403,23 +382,17 @@ worked_programs = record {
 
 relocations_within : (size : ℕ) (relocations : List Relocation) → list_all (λ r. nat_le (r.offset + 4) size) relocations ≡ true → AllByRecursion (λ r. r.offset + 4 ≤ size) relocations
 relocations_within size [] all = tt
-relocations_within size (r ∷ relocations) all =
-    let parts = and_parts (nat_le (r.offset + 4) size) (list_all (λ r. nat_le (r.offset + 4) size) relocations) all in
-    (leb-true (r.offset + 4) size parts.0, relocations_within size relocations parts.1)
+relocations_within size (r ∷ relocations) all = grind (arith, relocations_within size relocations)
 
 sections_within : (sections : List ObjectSection) → list_all (λ s. list_all (λ r. nat_le (r.offset + 4) (length s.bytes)) s.relocations) sections ≡ true →
     AllByRecursion (λ s. AllByRecursion (λ r. r.offset + 4 ≤ length s.bytes) s.relocations) sections
 sections_within [] all = tt
-sections_within (s ∷ sections) all =
-    let parts = and_parts (list_all (λ r. nat_le (r.offset + 4) (length s.bytes)) s.relocations) (list_all (λ s. list_all (λ r. nat_le (r.offset + 4) (length s.bytes)) s.relocations) sections) all in
-    (relocations_within (length s.bytes) s.relocations parts.0, sections_within sections parts.1)
+sections_within (s ∷ sections) all = grind (arith, sections_within sections, and_parts, relocations_within)
 
 pub all_hold_fields : (objects : List Object) → list_all (λ o. list_all (λ s. list_all (λ r. nat_le (r.offset + 4) (length s.bytes)) s.relocations) o.sections) objects ≡ true →
     AllByRecursion HoldsFields objects
 all_hold_fields [] all = tt
-all_hold_fields (o ∷ objects) all =
-    let parts = and_parts (list_all (λ s. list_all (λ r. nat_le (r.offset + 4) (length s.bytes)) s.relocations) o.sections) (list_all (λ o. list_all (λ s. list_all (λ r. nat_le (r.offset + 4) (length s.bytes)) s.relocations) o.sections) objects) all in
-    (sections_within o.sections parts.0, all_hold_fields objects parts.1)
+all_hold_fields (o ∷ objects) all = grind (arith, all_hold_fields objects, and_parts, sections_within)
 
 -- The tables that lld wrote, by computing.
 
@@ -438,18 +411,8 @@ alike ks all r s first second same =
 -- Ranges of which none meets another, in any order.
 
 pub disjoint : (r s : Range) → (range_end r ≤ s.start) ⊎ (range_end s ≤ r.start) → AreApart r s
-disjoint r s (inl before) a first second =
-    let one = within_bounds a r first in
-    let two = within_bounds a s second in
-    let under : a < range_end r = one.1 in
-    let above : s.start ≤ a = two.0 in
-    omega arith
-disjoint r s (inr behind) a first second =
-    let one = within_bounds a r first in
-    let two = within_bounds a s second in
-    let under : a < range_end s = two.1 in
-    let above : r.start ≤ a = one.0 in
-    omega arith
+disjoint r s (inl before) a first second = grind arith
+disjoint r s (inr behind) a first second = grind arith
 
 -- Symbols: those that the tables define are there, others are outside of them.
 
@@ -663,9 +626,7 @@ later_apart p low (q ∷ places) before test =
 rising_apart : (low : ℕ) (places : List Place) → rising low places ≡ true → ArePlacesApart places
 unfolding rising
 rising_apart low [] test = tt
-rising_apart low (p ∷ places) test =
-    let parts = and_parts (nat_le low p.address) (rising (p.address + p.width) places) test in
-    (later_apart p (p.address + p.width) places (omega arith) parts.1, rising_apart (p.address + p.width) places parts.1)
+rising_apart low (p ∷ places) test = grind (arith, rising_apart (p.address + p.width) places, and_parts, rising, later_apart)
 
 amd64_movable : CanBeMoved AMD64 (passing_codes AMD64 touching_8)
 unfolding rising

@@ -7,7 +7,7 @@ use Rattle.std.specs.Prelude.{Some, drop, ◌*◌}
 use Rattle.implib.specs.declared.machine.MachineType.{MachineType}
 use Rattle.implib.specs.declared.machine.MachineType.TheVariants.{AMD64, I386, ARM64, ARMNT}
 use Rattle.implib.specs.Import.{Ask, Name, Ordinal}
-use Rattle.implib.specs.Link.Image.{IsAdmissible, Range}
+use Rattle.implib.specs.Link.Image.{Range}
 use Rattle.implib.specs.Link.Placement.{Bases}
 use Rattle.implib.specs.Members.ImportTables.{thunk_width, zeros}
 use Rattle.implib_link.specs.Directory.{WalkFinds, imported, Imported}
@@ -17,7 +17,6 @@ use Rattle.implib_link_instances.specs.Worked.Programs.{both_inputs, program_ima
 use Rattle.implib_link_instances.specs.Worked.Programs.{touching_4, touching_8, addresses_on}
 use Rattle.implib_link_instances.specs.Worked.Programs.{linked_thunk, lld_image_on, shorts_on}
 use Rattle.implib_link_instances.specs.Worked.Programs.{tables_on}
-use Rattle.implib.specs.Formats.Object.{Object}
 use Rattle.implib.specs.Link.Linked.{AllLink}
 use Rattle.implib.specs.Link.LinkedMembers.{all_linked, objects_in}
 use Rattle.implib_link_instances.specs.Worked.Operands.{moved_memory, given_on}

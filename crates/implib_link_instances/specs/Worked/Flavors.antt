@@ -9,7 +9,6 @@ use Rattle.implib.specs.declared.machine.MachineType.{MachineType}
 use Rattle.implib.specs.declared.machine.MachineType.TheVariants.{I386, AMD64}
 use Rattle.implib.specs.Definition.{DefinitionView, empty_export, ExportView}
 use Rattle.implib.specs.Formats.Object.{Object, ASymbol}
-use Rattle.implib.specs.Link.LinkedMembers.{all_linked, objects_in}
 use Rattle.implib.specs.Members.MemberSpec.{member_of, MemberView}
 use Rattle.implib.specs.Members.Members.{member_specs}
 use Rattle.implib.specs.Renaming.{renamed}
