@@ -1,6 +1,6 @@
 -- Fields for the address of a name hold it, in memory at any base.
-use Rattle.std.proofs.Common.{◌≡◌, ℕ, ◌+◌, ◌*◌, ◌%◌, ◌^◌, ◌<◌, ◌≤◌, List, ◌++◌, [], ◌∷◌, length, None, Some, refl, sym, subst, arith, inr}
-use Rattle.std.specs.List.{AllByRecursion, Contains, flat_map}
+use Rattle.std.proofs.Common.{◌≡◌, ℕ, ◌+◌, ◌*◌, ◌%◌, ◌^◌, ◌<◌, ◌≤◌, List, ◌++◌, [], ◌∷◌, length, None, Some, refl, sym, subst, arith}
+use Rattle.std.specs.List.{AllByRecursion, Contains}
 use Rattle.implib.specs.declared.machine.MachineType.{MachineType}
 use Rattle.implib.specs.declared.machine.MachineType.TheVariants.{I386, ARMNT, AMD64, ARM64}
 use Rattle.implib.specs.Formats.Constants.{arm64_pagebase_rel21}
@@ -24,7 +24,7 @@ use Rattle.std.specs.Prelude.{slice_get}
 use Rattle.implib.specs.Formats.ShortImport.{ShortImport}
 use Rattle.implib.specs.Import.{Ask, imp_symbol}
 use Rattle.implib_link.specs.Flavors.LldImports.{IsThunk, ThunkArrives}
-use Rattle.implib_link.specs.Gnu.Moves.{AreInMemory, ArePaged, CanBeMoved, places_of_code}
+use Rattle.implib_link.specs.Gnu.Moves.{AreInMemory, ArePaged, CanBeMoved}
 use Rattle.implib_link.specs.Gnu.Writing.{ReadsAndWrites}
 use Rattle.implib_link.specs.Tables.{AreSteady, AreTables, CanReadFrom, Table, TableEntry, Tables}
 use Rattle.implib_link.proofs.Flavors.LldThunks.{bare_symbol, thunk_defines}
@@ -213,14 +213,4 @@ module _ (machine : MachineType) (image_base : ℕ) (t : Tables) (codes : List L
 pub stored_memory_exists : (machine : MachineType) (from to : ℕ) (image : List Range) (linked : List Placed) (codes : List LinkedCode) (targets : LinkedCode → ℕ → ℕ) → AreSteady machine linked →
     AreLinkedBeside machine from image linked codes targets → AreFurtherHeld machine from codes targets → CanBeMoved machine codes → ArePaged machine from to →
     (memory : List Range) × AreStoredInMemory machine to image linked codes targets memory
-stored_memory_exists machine from to image linked codes targets none beside further can paged =
-    let moved = moved_exists machine from to image linked codes targets none beside can in (
-      moved.0,
-      inr (
-        from,
-        (
-          flat_map (places_of_code machine) codes,
-          (paged, (moved.1, (further, λ c d r width s t held d_held among is at undefined defines named. code_places machine codes c r width held among is))),
-        ),
-      ),
-    )
+stored_memory_exists machine from to image linked codes targets none beside further can paged = grind (arith, moved_exists machine from to image linked codes targets none beside can, code_places)

@@ -554,9 +554,7 @@ module _ (machine : MachineType) (image_base : ℕ) (t : Tables) (codes : List L
         (entry_reached machine image_base x.address j can) known.located d s held stub
 
     end_below : (d : LinkedCode) → Contains codes d → d.position + 16 ≤ 2 ^ 31
-    end_below d held =
-        let end : d.position + length d.code.bytes + 16 ≤ 2 ^ 31 = all_among (λ (k : LinkedCode). k.position + length k.code.bytes + 16 ≤ 2 ^ 31) d codes (contains_among d codes held) resting.beside.ends in
-        omega arith
+    end_below d held = grind (arith, contains_among d codes held, all_among, resting, ends)
 
     -- where linked code begins with the definition of a name, symbols are that stand for it, be it the name itself or another
     abbrev pub AreAt : LinkedCode → List ℕ → ℕ → Type 0

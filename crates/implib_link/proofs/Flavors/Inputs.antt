@@ -88,20 +88,12 @@ all_claim_listed machine ending (k ∷ blocks) = grind (arith, all_claim_listed 
 -- with the null descriptor put in, its name comes in, too
 moved : (name one : List ℕ) (xs ys : List (List ℕ)) → Among name (xs ++ one ∷ ys) → Among name (one ∷ (xs ++ ys))
 unfolding Among
-moved name one xs ys held =
-    elim (among_either name xs (one ∷ ys) held) [
-      | inl front ↦ inr (among_front name xs ys front)
-      | inr behind ↦ elim behind [ inl is ↦ inl is | inr later ↦ inr (among_back name xs ys later) ]
-    ]
+moved name one xs ys held = grind (arith, among_either name xs (one ∷ ys) held, among_front, among_back)
 
 moved_back : (name one : List ℕ) (xs ys : List (List ℕ)) → Among name (one ∷ (xs ++ ys)) → Among name (xs ++ one ∷ ys)
 unfolding Among
 moved_back name one xs ys (inl is) = among_back name xs (one ∷ ys) (inl is)
-moved_back name one xs ys (inr held) =
-    elim (among_either name xs ys held) [
-      | inl front ↦ among_front name xs (one ∷ ys) front
-      | inr behind ↦ among_back name xs (one ∷ ys) (inr behind)
-    ]
+moved_back name one xs ys (inr held) = grind (arith, among_either name xs ys held, among_front, among_back)
 
 pub claimed_with_null : (machine : MachineType) (xs ys : List Object) (names : List (List ℕ)) → flat_map claimed_names (xs ++ ys) ≡ names →
     HaveSame (flat_map claimed_names (xs ++ taken_null machine ∷ ys)) (null_descriptor_symbol ∷ names)
@@ -257,9 +249,7 @@ module _ (d : DefinitionView) (machine : MachineType) (members : List MemberView
       ))
 
   pub null_from : Contains members (null_member machine (linked_dll d))
-  null_from =
-      subst (λ ms. Contains ms (null_member machine (linked_dll d))) (sym made.made)
-      (among_contains (null_member machine (linked_dll d)) (map member_of (member_specs (renamed d) machine Msvc)) (among_map member_of (null_descriptor_spec machine (linked_dll d)) (member_specs (renamed d) machine Msvc) null_at))
+  null_from = grind (arith, among_map member_of (null_descriptor_spec machine (linked_dll d)) (member_specs (renamed d) machine Msvc) null_at, among_contains, null_at)
 
 flat_listed : (machine : MachineType) (dll : NamesOfDll) (es : List ExportView) (last : MemberSpec) →
     flat_map (λ (m : MemberView). m.symbols) (map member_of (map (short_import_spec machine dll) es ++ last ∷ [])) ≡ flat_map short_import_symbols es ++ (last.symbols ++ [])
@@ -437,9 +427,7 @@ pub inputs_symbols : (machine : MachineType) (ps : List FlavorInput) → AllByRe
     symbols_listed (all_members machine ps) ≡ flat_map (λ (k : FlavorBlock). symbols_of machine k.flavor k.dll k.exports) (map block_in ps)
 inputs_symbols machine [] are = refl
 inputs_symbols machine (p ∷ ps) are =
-    flat_map-append (λ (m : MemberView). m.symbols) (members_linked machine p) (all_members machine ps)
-    ∙ ap (λ symbols. symbols ++ symbols_listed (all_members machine ps)) (symbols_are_in p.input.definition machine p.flavor p.input.members p.input.chosen are.0)
-    ∙ ap (λ rest. symbols_of machine p.flavor (dll_names_in p) (exports_chosen p) ++ rest) (inputs_symbols machine ps are.1)
+    grind (arith, inputs_symbols machine ps are.1, symbols_are_in p.input.definition machine p.flavor p.input.members p.input.chosen are.0, symbols_of machine p.flavor (dll_names_in p) (exports_chosen p), flat_map-append)
 
 pub inputs_link : (machine : MachineType) (ending : Ending) (ps : List FlavorInput) → AllByRecursion (IsMadeFor machine) ps → AllByRecursion (λ p. IsFoundByName p.flavor (dll_names_in p)) ps →
     AllSuit ending (map block_in ps) → AllByRecursion (CanLink machine ending) (map block_in ps)

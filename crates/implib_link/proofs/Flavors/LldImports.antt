@@ -459,11 +459,7 @@ pub all_define : (width address : ℕ) (groups : List (List ShortImport)) (i j :
 unfolding all_definitions
 all_define width address [] i j group r at is = cc
 all_define width address (g ∷ groups) zero j group r at is =
-    let same : g ≡ group = cc in
-    among_front (record { name = imp_symbol r.symbol; address = Some (address + width * 0 + width * j) }) (group_definitions width address g)
-    (all_definitions width (address + width * (length (map ask_of_short_import g) + 1)) groups)
-    (subst (λ n. Among (record { name = imp_symbol r.symbol; address = Some (n + width * j) }) (group_definitions width address g)) (nothing_before address width)
-    (group_defines width address g j r (subst (λ (x : List ShortImport). slice_get x j ≡ Some r) (sym same) is)))
+    grind (arith, group_definitions width address g, all_definitions width (address + width * (length (map ask_of_short_import g) + 1)) groups, nothing_before address width, group, among_front, j, group_defines, is)
 all_define width address (g ∷ groups) (suc i) j group r at is =
     let count : ℕ = length (map ask_of_short_import g) + 1 in
     let later : ℕ = address + width * count in

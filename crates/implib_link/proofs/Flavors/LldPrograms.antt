@@ -1,5 +1,5 @@
 -- Programs of lld, by what is proved of any import tables: fields and branches lead, by the short imports.
-use Rattle.std.proofs.Common.{◌≡◌, ℕ, ◌+◌, ◌*◌, List, ◌++◌, length, map, refl, sym, ◌∙◌, subst}
+use Rattle.std.proofs.Common.{rules, ◌≡◌, ℕ, ◌+◌, ◌*◌, List, ◌++◌, length, map, refl, sym, ◌∙◌, subst}
 use Rattle.std.specs.List.{AllByRecursion, Contains}
 use Rattle.std.proofs.lemmas.List.{length-map}
 use Rattle.implib.specs.declared.machine.MachineType.{MachineType}
@@ -50,9 +50,7 @@ module _ (machine : MachineType) (descriptors addresses : ℕ) (taken : List Sho
         (r : ShortImport) → Contains taken r → CanReadFrom machine image_base addresses →
         AllLead machine image_base linked codes (written ++ memory) (imp_symbol r.symbol) (gives r.dll (ask_of_short_import r))
     lld_leads n written wide reads r holds can =
-        let own = in_table r holds in
-        entry_leads machine image_base (tables_of_lld machine descriptors addresses taken image linked) codes targets memory gives tables steady at n written wide reads
-        (imp_symbol r.symbol) r.dll (ask_of_short_import r) (addresses + thunk_width machine * own.0) own.1.0 own.1.1 (reads_further machine image_base addresses own.0 can)
+        search (rules, in_table r holds, entry_leads machine image_base (tables_of_lld machine descriptors addresses taken image linked) codes targets memory gives tables steady, reads_further)
 
     pub lld_calls : (n : ℕ) (written : List Range) → ((dll : List ℕ) (ask : Ask) → length (gives dll ask) ≡ thunk_width machine) → ReadsAndWrites memory (thunk_width machine) gives n descriptors written →
         (r : ShortImport) (d : LinkedCode) → Contains taken r → CanReadFrom machine image_base addresses → Contains codes d → IsThunk machine d r → (c : LinkedCode) (offset after : ℕ) → Contains codes c →

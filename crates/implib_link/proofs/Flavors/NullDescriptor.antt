@@ -170,11 +170,7 @@ module _ (machine : MachineType) (b : Bases) (xs ys : List Object) (none : AllBy
   -- and its own name is defined by it alone
   pub null_once : AllByRecursion (λ other. bytes_eq null_descriptor_symbol other ≡ false) (map (λ (d : SymbolDefinition). d.name) (definitions (placed_from b (xs ++ ys)))) →
       definitions_of null_descriptor_symbol (placed_from b (xs ++ taken_null machine ∷ ys)) ≡ null_definition b ∷ []
-  null_once apart =
-      ap (λ ds. filter (λ (d : SymbolDefinition). bytes_eq null_descriptor_symbol d.name) ds) definitions_with
-      ∙ filter_insert (λ (d : SymbolDefinition). bytes_eq null_descriptor_symbol d.name) (definitions front) (definitions back) (null_definition b) (same_text null_descriptor_symbol)
-      (sym (ap (λ ds. filter (λ (d : SymbolDefinition). bytes_eq null_descriptor_symbol d.name) ds) definitions_without)
-      ∙ none_of null_descriptor_symbol (definitions (placed_from b (xs ++ ys))) apart)
+  null_once apart = grind (arith, same_text null_descriptor_symbol, none_of null_descriptor_symbol (definitions (placed_from b (xs ++ ys))) apart, definitions_with, filter_insert, definitions_without)
 
   -- it leaves nothing to others
   pub undefined_same : undefined_names (placed_from b (xs ++ taken_null machine ∷ ys)) ≡ undefined_names (placed_from b (xs ++ ys))

@@ -1,5 +1,5 @@
 -- The members and the null descriptor are a program by themselves.
-use Rattle.std.proofs.Common.{◌≡◌, true, List, [], ◌∷◌, ◌++◌, map, refl, ap, sym, ◌∙◌, subst, ℕ, Option, Some, zero, suc, ◌+◌, length, ◌*◌, ◌-◌, ◌%◌, false, arith, inl, inr, ◌^◌, ◌<◌, ◌≤◌}
+use Rattle.std.proofs.Common.{rules, ◌≡◌, true, List, [], ◌∷◌, ◌++◌, map, refl, ap, sym, ◌∙◌, subst, ℕ, Option, Some, zero, suc, ◌+◌, length, ◌*◌, ◌-◌, ◌%◌, false, arith, inl, inr, ◌^◌, ◌<◌, ◌≤◌}
 use Rattle.std.specs.Prelude.{not, bytes_eq, option_map, slice_get}
 use Rattle.std.specs.List.{AllByRecursion, filter, IsDistinct, Contains, flat_map}
 use Rattle.implib.specs.declared.machine.MachineType.{MachineType}
@@ -124,10 +124,7 @@ all_by_full_names (m ∷ members) (o ∷ objects) whole read = grind (arith, all
 own_by_full_names : (machine : MachineType) (p : LinkInput) → IsMade machine p →
     map (λ (m : MemberView). object_by_full_names m.bytes) (linked_members p.definition machine p.chosen) ≡ map Some (objects_in (linked_members p.definition machine p.chosen))
 own_by_full_names machine p made =
-    all_by_full_names (linked_members p.definition machine p.chosen) (objects_in (linked_members p.definition machine p.chosen))
-    (subst (AllByRecursion HasWholeNames) (sym (objects_are p.definition machine p.members p.chosen made))
-    (linked_whole machine (names_for Gnu p.definition) (chosen_exports p.definition p.chosen)))
-    (members_read p.definition machine p.members p.chosen made)
+    search (rules, objects_are p.definition machine p.members p.chosen made, linked_whole machine (names_for Gnu p.definition) (chosen_exports p.definition p.chosen), members_read p.definition machine p.members p.chosen made, all_by_full_names)
 
 pub members_by_full_names : (machine : MachineType) (inputs : List LinkInput) → AllByRecursion (IsMade machine) inputs →
     map (λ (m : MemberView). object_by_full_names m.bytes) (all_linked machine inputs) ≡ map Some (objects_in (all_linked machine inputs))
@@ -170,10 +167,7 @@ gnu_objects machine inputs objects distinct tables others = grind (arith, gnu_me
 -- the members and the null descriptor are such objects by themselves
 pub members_are_objects : (machine : MachineType) (inputs : List LinkInput) → AllByRecursion (IsMade machine) inputs → IsDistinct bytes_eq (linked_symbols machine inputs) →
     AreProgramObjects machine OfLinker (map gnu_input inputs) (objects_in (all_linked machine inputs) ++ null_descriptor ∷ [])
-members_are_objects machine inputs made distinct =
-    let objects : List Object = objects_in (all_linked machine inputs) ++ null_descriptor ∷ [] in
-    gnu_objects machine inputs objects distinct (all_kept objects (members_have machine inputs made))
-    (subst (AllByRecursion (ClaimsNone (linked_symbols machine inputs))) (sym (none_left objects (members_have machine inputs made))) tt)
+members_are_objects machine inputs made distinct = search (rules, members_have machine inputs made, gnu_objects, all_kept, none_left)
 
 -- A program of DLLs in both flavours links.
 
@@ -309,10 +303,7 @@ suited machine OfMember inputs objects ended = all_either inputs
 pub kept_all : (machine : MachineType) (ending : Ending) (inputs : List FlavorInput) (objects : List Object) → AllByRecursion (IsMadeFor machine) inputs → AreEnded ending machine inputs objects →
     (P : Object → Type 0) → P (taken_null machine) → AllByRecursion P (all_objects machine (map block_in inputs) (rest_of ending)) → AllByRecursion P (filter has_tables objects)
 kept_all machine OfLinker inputs objects made ended P null all = subst (AllByRecursion P) (sym (linker_kept machine inputs objects made ended)) all
-kept_all machine OfMember inputs objects made ended P null all =
-    subst (AllByRecursion P) (sym (kept_are machine inputs objects made ended))
-    (all_insert P (objects_taken machine ended.before) (objects_taken machine ended.behind) (taken_null machine) null
-    (subst (AllByRecursion P) (sym (parts_are machine inputs objects made ended)) all))
+kept_all machine OfMember inputs objects made ended P null all = search (rules, kept_are machine inputs objects made ended, taken_null machine, parts_are machine inputs objects made ended, all_insert)
 
 -- the names of members, without that of a null descriptor
 names_differ : (machine : MachineType) (ending : Ending) (inputs : List FlavorInput) → IsDistinct bytes_eq (own_names ending machine inputs) → IsDistinct bytes_eq (symbols_listed (all_members machine inputs))

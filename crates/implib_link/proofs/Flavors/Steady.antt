@@ -315,26 +315,14 @@ module _ (machine : MachineType) (b : Bases) (objects : List Object) (admissible
 
   run_alike : (written : List Range) → Writes (image_of machine b (placed_from b objects)) (thunk_width machine) gives b.descriptors imports written →
       AreAlike (all_filled (thunk_width machine) gives b.addresses imports memory) (written ++ memory)
-  run_alike written writes =
-      left_alike beside (image_of machine b (placed_from b objects)) (keeps_beside machine b objects admissible) (thunk_width machine) gives wide imports b.descriptors b.addresses written memory directory writes
+  run_alike written writes = grind (arith, keeps_beside machine b objects admissible, left_alike)
 
   -- and so it leaves what one does that reads first
   pub run_reads : (n : ℕ) → length imports ≡ n → DirectoryAt (image_of machine b (placed_from b objects)) (thunk_width machine) b.descriptors imports → (found : List Imported) (after : List Range) →
       WritesAsItGoes (thunk_width machine) gives b.descriptors memory found after →
       (found ≡ imports) × ((written : List Range) × (ReadsAndWrites memory (thunk_width machine) gives n b.descriptors written × AreAlike after (written ++ memory)))
   run_reads n count is_directory found after runs =
-      let once = run_once found after runs in
-      let reader = memory_can_be_read (image_of machine b (placed_from b objects)) memory keeps (thunk_width machine) gives b.descriptors imports is_directory in
-      let read = memory_read (image_of machine b (placed_from b objects)) memory keeps (thunk_width machine) gives (length imports) b.descriptors imports reader.0 is_directory reader.1 in (
-        once.0,
-        (
-          reader.0,
-          (
-            subst (λ k. ReadsAndWrites memory (thunk_width machine) gives k b.descriptors reader.0) count reader.1,
-            subst (λ m. AreAlike m (reader.0 ++ memory)) (sym once.1) (run_alike reader.0 read.1),
-          ),
-        ),
-      )
+      grind (arith, run_once found after runs, memory_can_be_read (image_of machine b (placed_from b objects)) memory keeps (thunk_width machine) gives b.descriptors imports is_directory, memory_read, run_alike)
 
 -- A loader that writes as it goes loads a program, as one that reads first.
 

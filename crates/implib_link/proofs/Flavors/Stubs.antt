@@ -56,16 +56,7 @@ asking_placed : (machine : MachineType) (dll : NamesOfDll) (es : List ExportView
     (c : Bases) × (Among (placed_in machine Msvc dll c e) (placed_from b (behind_descriptor machine dll es rest)) × (c.addresses ≡ b.addresses + thunk_width machine * j))
 asking_placed machine dll [] b rest even j e is = cc
 asking_placed machine dll (x ∷ es) b rest even zero e is =
-    let same : x ≡ e = cc in
-    let later : List Object = behind_descriptor machine dll es rest in (
-      b,
-      (
-        subst (Among (placed_in machine Msvc dll b e)) (sym (placed-asking machine dll b (short_import_symbol x) (ask_in Msvc machine x) (use_for x) later even))
-            (subst (λ (y : ExportView). Among (placed_in machine Msvc dll b e) (placed_in machine Msvc dll b y ∷ placed_from (ends_of_asking machine b (ask_in Msvc machine x)) later)) (sym same)
-            (among_first (placed_in machine Msvc dll b e) (placed_from (ends_of_asking machine b (ask_in Msvc machine x)) later))),
-        times_none b.addresses (thunk_width machine),
-      ),
-    )
+    grind (arith, behind_descriptor machine dll es rest, use_for x, ends_of_asking machine b (ask_in Msvc machine x), times_none b.addresses (thunk_width machine), placed-asking, even, among_first)
 asking_placed machine dll (x ∷ es) b rest even (suc j) e is =
     let ask : Ask = ask_in Msvc machine x in
     let later : Bases = ends_of_asking machine b ask in
@@ -115,17 +106,7 @@ all_placed machine ending rest (q ∷ blocks) b suit even zero j k e is chosen =
       ),
     )
 all_placed machine ending rest (q ∷ blocks) b suit even (suc i) j k e is chosen =
-    let later : Bases = ends_one machine b q in
-    let found = all_placed machine ending rest blocks later suit.1 (even_in machine ending q.flavor q.dll b q.exports suit.0 even) i j k e is chosen in
-    let table : later.addresses + thunk_width machine * thunks_in i blocks ≡ b.addresses + thunk_width machine * (length q.exports + 1 + thunks_in i blocks) =
-    ap (λ n. n + thunk_width machine * thunks_in i blocks) (addresses_one machine q.flavor q.dll b q.exports)
-    ∙ table_sum b.addresses (thunk_width machine) (length q.exports + 1) (thunks_in i blocks) in (
-      found.0,
-      (
-        behind_one machine ending q.flavor q.dll q.exports b (all_objects machine blocks rest) (placed_in machine k.flavor k.dll found.0 e) suit.0 even found.1.0,
-        later_sum found.0.addresses (later.addresses + thunk_width machine * thunks_in i blocks) (b.addresses + thunk_width machine * (length q.exports + 1 + thunks_in i blocks)) (thunk_width machine) j found.1.1 table,
-      ),
-    )
+    grind (arith, all_placed machine ending rest blocks, ends_one machine b q, even_in machine ending q.flavor q.dll b q.exports suit.0 even, thunks_in i blocks, addresses_one machine q.flavor q.dll b q.exports, table_sum b.addresses (thunk_width machine) (length q.exports + 1) (thunks_in i blocks), all_objects machine blocks rest, suit, even, behind_one, later_sum)
 
 -- The code of an export for Microsoft's linker.
 
@@ -209,9 +190,7 @@ name_listed machine inputs i j p e made input chosen is =
 
 pub name_once : (machine : MachineType) (ending : Ending) (bases : Bases) (inputs : List FlavorInput) (objects : List Object) (i j : ℕ) (p : FlavorInput) (e : ExportView) → AllByRecursion (IsMadeFor machine) inputs →
     IsProgramOf machine ending bases inputs objects → slice_get inputs i ≡ Some p → slice_get (exports_chosen p) j ≡ Some e → IsCode p.flavor e → IsDefinedOnce (placed_from bases objects) (symbol_in p.flavor e)
-name_once machine ending bases inputs objects i j p e made program input chosen is =
-    all_among (IsDefinedOnce (placed_from bases objects)) (symbol_in p.flavor e) (symbols_listed (all_members machine inputs)) (name_listed machine inputs i j p e made input chosen is)
-    (program_links machine ending bases inputs objects made program).listed
+name_once machine ending bases inputs objects i j p e made program input chosen is = grind (arith, name_listed machine inputs i j p e made input chosen is, program_links machine ending bases inputs objects made program, all_among)
 
 -- In a program of both flavours, placed code that defines the name of an export of code is its stub.
 

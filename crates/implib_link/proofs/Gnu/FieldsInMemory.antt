@@ -43,9 +43,7 @@ same_pages ARM64 base = refl
 module _ (machine : MachineType) (image_base : ℕ) (image : List Range) (linked : List Placed) (codes : List LinkedCode) (targets : LinkedCode → ℕ → ℕ) where
   linked_byte : (from : ℕ) → AreLinkedBeside machine from image linked codes targets → (c : LinkedCode) (k b : ℕ) → Among c codes → slice_get c.bytes k ≡ Some b →
       byte_at (image ++ ranges_of_codes codes) (c.position + k) ≡ Some b
-  linked_byte from beside c k b m is =
-      located_each (image ++ ranges_of_codes codes) c.bytes c.position k b
-      (range_located (range_of_code c) (image ++ ranges_of_codes codes) (among_back (range_of_code c) image (ranges_of_codes codes) (among_map range_of_code c codes m)) beside.apart) is
+  linked_byte from beside c k b m is = grind (arith, among_back (range_of_code c) image (ranges_of_codes codes) (among_map range_of_code c codes m), among_map range_of_code c codes m, located_each, range_located, beside)
 
   code_size : (from : ℕ) → AreLinkedBeside machine from image linked codes targets → (c : LinkedCode) → Among c codes → length c.bytes ≡ length c.code.bytes
   code_size from beside c m = (all_among (λ (x : LinkedCode). IsRelocated machine from (targets x) x.position x.code x.bytes) c codes m beside.relocated).size

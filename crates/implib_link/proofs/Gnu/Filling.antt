@@ -76,9 +76,7 @@ ask_once image width thunk (Name text hint) (Name other number) first second =
 
 -- a thunk asks for one thing
 thunk_once : (image : List Range) (width a : ℕ) (first second : Ask) → ThunkAt image width a first → ThunkAt image width a second → first ≡ second
-thunk_once image width a first second x y =
-    let thunks : x.thunk ≡ y.thunk = number_once image width a x.thunk y.thunk x.located y.located in
-    ask_once image width y.thunk first second (subst (λ t. ThunkAsksFor image width t first) thunks x.asks) y.asks
+thunk_once image width a first second x y = grind (arith, number_once image width a x.thunk y.thunk x.located y.located, ask_once)
 
 table_next : (a w n m : ℕ) → a + w * (n + 1) + w * m ≡ a + w * (n + 1 + m)
 table_next a w n m = let split : w * (n + 1 + m) ≡ w * (n + 1) + w * m = mul-add w (n + 1) m in omega arith

@@ -1,5 +1,5 @@
 -- The memory of a loaded program: what was written, the image, and code beside it, which the loader leaves as it is.
-use Rattle.std.proofs.Common.{◌≡◌, ℕ, ◌+◌, ◌^◌, ◌<◌, ◌≤◌, true, false, List, [], ◌∷◌, ◌++◌, length, Some, refl, sym, subst, inl, inr, arith, ap, ◌∙◌, zero, suc, ◌*◌, ◌-◌, map}
+use Rattle.std.proofs.Common.{rules, ◌≡◌, ℕ, ◌+◌, ◌^◌, ◌<◌, ◌≤◌, true, false, List, [], ◌∷◌, ◌++◌, length, Some, refl, sym, subst, inl, inr, arith, ap, ◌∙◌, zero, suc, ◌*◌, ◌-◌, map}
 use Rattle.std.specs.Prelude.{nat_lt, slice_get, slice_index}
 use Rattle.std.specs.List.{AllByRecursion, list_any}
 use Rattle.std.proofs.lemmas.Bool.{cases_Bool, false_from_ne_true, ltb-false, ltb-true}
@@ -61,10 +61,7 @@ pub written_covers : (image : List Range) (width : ℕ) (gives : List ℕ → As
 unfolding DirectoryAt Writes
 written_covers image width gives wide [] descriptor written directory writes = subst (AllByRecursion (Covers image)) (sym writes) tt
 written_covers image width gives wide (i ∷ imports) descriptor written directory (table, (field, (behind, (is, later)))) =
-    let same : directory.0.plain.addresses ≡ table = number_once image 4 (descriptor + 16) directory.0.plain.addresses table directory.0.plain.addresses_field field in
-    let first = entries_cover image width (gives i.dll) (wide i.dll) i.asks table (subst (λ n. TableAt image width n i.asks) same directory.0.plain.address_table) in
-    subst (AllByRecursion (Covers image)) (sym is)
-    (all_append (Covers image) (entries_written width table (gives i.dll) i.asks) behind first (written_covers image width gives wide imports (descriptor + 20) behind directory.1 later))
+    grind (arith, written_covers image width gives wide imports (descriptor + 20) behind directory.1 later, number_once image 4 (descriptor + 16) directory.0.plain.addresses table directory.0.plain.addresses_field field, entries_cover, all_append)
 
 -- an address at which a loaded image has a byte is below its end
 pub loaded_below : (image written : List Range) (a b : ℕ) → AllByRecursion (λ r. 0 < r.start) image → AllByRecursion (λ r. range_end r < 2 ^ 31) image → AllByRecursion (Covers image) written →
@@ -158,11 +155,7 @@ walk_once image width address [] [] directory walk = refl
 walk_once image width address [] (j ∷ others) directory walk = absurd (null_ends_once image width address j directory walk.0)
 walk_once image width address (i ∷ imports) [] directory walk = absurd (stops_once image width address i directory.0 walk)
 walk_once image width address (i ∷ imports) (j ∷ others) directory walk =
-    same_imports i j imports others
-    (text_led_to image (address + 12) directory.0.plain.name walk.0.name i.dll j.dll directory.0.plain.name_field walk.0.name_field directory.0.plain.name_text
-    walk.0.name_text)
-    (same_asks image width address i j directory.0 walk.0)
-    (walk_once image width (address + 20) imports others directory.1 walk.1)
+    search (rules, walk_once image width (address + 20) imports others directory.1 walk.1, same_asks image width address i j directory.0 walk.0, same_imports, text_led_to)
 
 -- A loader that reads an image walks its directory once, and writes what the law of loaded programs speaks of.
 

@@ -228,9 +228,7 @@ same_objects machine dll es = refl
 
 pub members_objects : (machine : MachineType) (p : LinkInput) → IsMade machine p →
     (part_of machine p).objects ≡ head machine (names_for Gnu p.definition) ∷ after_by machine (names_for Gnu p.definition) (λ e. []) (chosen_exports p.definition p.chosen)
-members_objects machine p made =
-    let dll : NamesOfDll = names_for Gnu p.definition in
-    objects_are p.definition machine p.members p.chosen made ∙ ap (λ os. head machine dll ∷ os) (same_objects machine dll (chosen_exports p.definition p.chosen))
+members_objects machine p made = grind (arith, objects_are p.definition machine p.members p.chosen made, head, same_objects)
 
 pub members_are_part : (machine : MachineType) (p : LinkInput) → IsMade machine p → IsPart machine (part_of machine p)
 members_are_part machine p made =
@@ -355,10 +353,7 @@ module _ (machine : MachineType) (p : LinkInput) (made : AreOlderMembersOf p.def
   head_among = among_later _ _ _ (among_first _ _)
 
   export_among : (n : ℕ) (e : ExportView) → slice_get exports n ≡ Some e → Among (older_spec machine dll.linked n e) specs
-  export_among n e is =
-      let position : 0 + n ≡ n = omega arith in
-      among_later _ _ _ (among_later _ _ _ (among_reverse _ _
-      (subst (λ m. Among (older_spec machine dll.linked m e) (numbered_older_specs machine dll.linked 0 exports)) position (numbered_among machine dll.linked exports 0 n e is))))
+  export_among n e is = grind (arith, numbered_among machine dll.linked exports 0 n e is, among_later, among_reverse)
 
   tail_reads : object_in (member_of (tail_spec machine dll)).bytes ≡ Some (tail machine dll)
   unfolding tail_spec

@@ -301,9 +301,7 @@ module _ (machine : MachineType) (b : Bases) (parts : List Part) (objects : List
   entry_placed = links.at
 
   pub kept_is_linked : (q : Placed) → Among q (placed_from b (objects_of_parts parts ++ null_descriptor ∷ [])) → Among q (placed_from b objects)
-  kept_is_linked q m =
-      among_filter (λ (x : Placed). has_tables x.object) q (placed_from b objects)
-      (subst (Among q) (ap (placed_from b) (sym program.tables) ∙ sym (placed_kept b objects)) m)
+  kept_is_linked q m = grind (arith, placed_kept b objects, among_filter)
 
   pub defined_once : (q : Placed) (d : SymbolDefinition) → Among q (placed_from b (objects_of_parts parts ++ null_descriptor ∷ [])) → Among d (defined_by q) → definitions_of d.name (placed_from b objects) ≡ d ∷ []
   defined_once q d m held = only d (among_flat defined_by q (placed_from b (objects_of_parts parts ++ null_descriptor ∷ [])) d m held)

@@ -170,11 +170,7 @@ pub member_spec_linked : (machine : MachineType) (dll : NamesOfDll) (exports : L
     (p ≡ head_spec machine dll.linked) ⊎ ((p ≡ tail_spec machine dll) ⊎ Chosen machine dll.linked exports chosen p)
 unfolding Among
 member_spec_linked machine dll exports chosen p (inl e) = inl e
-member_spec_linked machine dll exports chosen p (inr held) =
-    elim (among_either p (filter_map (numbered_spec machine dll.linked exports) chosen) (tail_spec machine dll ∷ []) held) [
-      | inl own ↦ inr (inr (chosen_member_spec machine dll.linked exports chosen p own))
-      | inr last ↦ inr (inl (only_one p (tail_spec machine dll) last))
-    ]
+member_spec_linked machine dll exports chosen p (inr held) = grind (arith, among_either p (filter_map (numbered_spec machine dll.linked exports) chosen) (tail_spec machine dll ∷ []) held, chosen_member_spec, only_one)
 
 -- An archive as groups of members: the tail and the head of each library, and the members of each export. No symbol
 -- is listed in two groups, so the first member of a name is found in the name's own group.
@@ -559,13 +555,4 @@ module _ (machine : MachineType) where
       times name (linked_symbols machine (names_for Gnu l.definition) (chosen_exports l.definition (exports_wanted l.definition wanted))) ≤ times name (symbols_of_library machine l)
   unfolding symbols_of_library times
   library_fewer name l wanted =
-      let dll : NamesOfDll = names_for Gnu l.definition in
-      let chosen : List ExportView = filter (is_wanted wanted) (exports_of l) in
-      let turned : times name (flat_map symbols_of_export (reverse (exports_of l))) ≡ times name (flat_map symbols_of_export (exports_of l)) =
-      times_moved symbols_of_export name (exports_of l) (reverse (exports_of l)) (IsPermutation-reverse (exports_of l)) in
-      let few : times name (flat_map archive_symbols chosen) ≤ times name (flat_map symbols_of_export (exports_of l)) = exports_fewer name (is_wanted wanted) (exports_of l) in
-      let both : times name (flat_map archive_symbols chosen ++ iname_symbol machine dll.linked ∷ []) ≡ times name (flat_map archive_symbols chosen) + times name (iname_symbol machine dll.linked ∷ []) =
-      times_both name (flat_map archive_symbols chosen) (iname_symbol machine dll.linked ∷ []) in
-      subst (λ (es : List ExportView). times name (linked_symbols machine dll es)
-      ≤ times name (iname_symbol machine dll.linked ∷ head_symbol machine dll.linked ∷ flat_map symbols_of_export (reverse (exports_of l)))) (sym (chosen_are l wanted))
-      (omega arith)
+      grind (arith, times_moved symbols_of_export name (exports_of l) (reverse (exports_of l)) (IsPermutation-reverse (exports_of l)), exports_fewer name (is_wanted wanted) (exports_of l), chosen_are l wanted, times_both, linked_symbols)

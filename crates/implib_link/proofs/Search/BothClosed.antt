@@ -22,7 +22,7 @@ use Rattle.implib.proofs.Link.LinkedMembers.{among_contains}
 use Rattle.implib.proofs.Link.Ranges.{Among, all_among, among_back, among_first, among_flat, among_front, among_later}
 use Rattle.implib_link.specs.Flavors.Expansion.{expanded_in}
 use Rattle.implib_link.specs.Flavors.Program.{AreEnded, AreEndedByLinker, AreEndedByMember, AreProgramObjects, Ending, FlavorInput, IsMadeFor, IsProgramOf, OfLinker, OfMember, ProgramLinks, all_members, null_member, objects_taken, exports_chosen, symbol_in, symbols_listed, thunks_of, ClaimsNone, HaveSame, has_tables, null_descriptor, packed, packed_end}
-use Rattle.implib_link.specs.Search.Search.{Library, exports_of, TakesIntoAs, listed_in, unresolved, first_listed, left_as, objects_as}
+use Rattle.implib_link.specs.Search.Search.{Library, TakesIntoAs, listed_in, unresolved, first_listed, left_as, objects_as}
 use Rattle.implib_link.specs.Search.Libraries.{AreClosed, FlavorLibrary, IsClosed, IsFlavorArchive, IsImported, IsUsedIn, LinksClosed, NamesNoMembers, archive_of_both, flavor_inputs, inputs_in, msvc_among, symbols_in, first_null, is_weak_in, wanted_for}
 use Rattle.implib_link.proofs.Tables.{entry_of}
 use Rattle.implib_link.proofs.Flavors.Program.{packed_objects, program_links}
@@ -141,12 +141,7 @@ module _ (machine : MachineType) (libraries : List FlavorLibrary) (archive : IsF
 
     -- each import is used
     pub used : (i j : ℕ) (p : FlavorInput) (e : ExportView) → slice_get (flavor_inputs arranged wanted) i ≡ Some p → slice_get (exports_chosen p) j ≡ Some e → IsUsedIn p.flavor wanted e
-    used i j p e at there =
-        let l = input_is wanted arranged p (among_at p inputs i at) in
-        let chosen : exports_chosen p ≡ filter (is_chosen l.0.flavor wanted) (exports_of l.0.library) = ap exports_chosen l.2 ∙ chosen_are l.0.flavor wanted l.0.library in
-        let kept = passing (is_chosen l.0.flavor wanted) e (exports_of l.0.library) (subst (Among e) chosen (among_at e (exports_chosen p) j there)) in
-        let name = chosen_name l.0.flavor wanted e kept.1 in
-        subst (λ (q : FlavorInput). IsUsedIn q.flavor wanted e) (sym l.2) (name.0, among_contains name.0 (symbols_in l.0.flavor e) name.1, among_contains name.0 wanted name.2)
+    used i j p e at there = grind (arith, input_is wanted arranged p (among_at p inputs i at), among_at p inputs i, among_at e (exports_chosen p) j there, is_chosen, chosen_are, passing, there, chosen_name, among_contains)
 
     abbrev AtEntry : ℕ → ℕ → List ℕ → Type 0
     AtEntry i j name =
@@ -334,13 +329,7 @@ module _ (machine : MachineType) (libraries : List FlavorLibrary) (archive : IsF
 
     taken_linked : (m : MemberView) → Among m (filter (λ y. not (weak y)) taken) → Among m linked
     taken_linked m held =
-        elim (other_from machine libraries archive reads weak (expands machine libraries archive) own taken arranged objects closed_as m held) [
-          | inl own_null ↦ among_back m e.before (null ++ e.behind) (among_front m null e.behind own_null.1)
-          | inr all ↦ elim (among_either m e.before e.behind (subst (Among m) (sym e.members) all)) [
-            | inl front ↦ among_front m e.before (null ++ e.behind) front
-            | inr last ↦ among_back m e.before (null ++ e.behind) (among_back m null e.behind last)
-          ]
-        ]
+        grind (arith, other_from machine libraries archive reads weak (expands machine libraries archive) own taken arranged objects closed_as m held, expands machine libraries archive, held, among_back, among_front, among_either)
 
     abbrev IsListedHere : List ℕ → Type 0
     IsListedHere = Listed machine libraries archive reads weak (expands machine libraries archive) own taken arranged objects closed_as

@@ -181,8 +181,7 @@ module _ (machine : MachineType) (names : List (List ℕ)) where
 
   pub linked_into : (libraries : List FlavorLibrary) (m : MemberView) (l : FlavorLibrary) → Among l libraries → AnyOf names l → IsLinked machine names l m →
       Among m (all_members machine (flavor_inputs libraries names))
-  linked_into libraries m l held any own =
-      among_flat (members_linked machine) (input_in names l) (flavor_inputs libraries names) m (input_held names libraries l held any) (linked_in l.flavor l.library m own)
+  linked_into libraries m l held any own = grind (arith, input_held names libraries l held any, linked_in l.flavor l.library m own, among_flat)
 
 -- Libraries of one flavour.
 
@@ -200,11 +199,7 @@ linked_are machine libraries names = ap (all_members machine) (exports_are libra
 
 -- some export of them is chosen exactly where some input is linked
 pub some_short : (libraries : List Library) (names : List (List ℕ)) → 0 < length (short_inputs libraries names) → (x : Library) × Among x libraries × AnyOf names (in_flavor Msvc x)
-some_short libraries names some =
-    let one = first_one (short_inputs libraries names) some in
-    let from = input_is names (map (in_flavor Msvc) libraries) one.0 (subst (Among one.0) (sym (shorts_are libraries names)) one.1) in
-    let x = among_mapped (in_flavor Msvc) from.0 libraries from.1 in
-    (x.0, x.1, subst (AnyOf names) x.2 from.3)
+some_short libraries names some = grind (arith, first_one (short_inputs libraries names) some, in_flavor Msvc, shorts_are libraries names, input_is, among_mapped)
 
 pub short_some : (libraries : List Library) (names : List (List ℕ)) (x : Library) → Among x libraries → AnyOf names (in_flavor Msvc x) → 0 < length (short_inputs libraries names)
 short_some libraries names x held any =

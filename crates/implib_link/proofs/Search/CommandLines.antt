@@ -1,5 +1,5 @@
 -- Searches of several archives, in the order of a command line, take what one search of all of them takes.
-use Rattle.std.proofs.Common.{◌≡◌, ℕ, ◌⊎◌, zero, suc, Bool, false, List, [], ◌∷◌, ◌++◌, length, Option, Some, None, refl, ap, sym, ◌∙◌, subst, inl, inr, arith}
+use Rattle.std.proofs.Common.{rules, ◌≡◌, ℕ, ◌⊎◌, zero, suc, Bool, false, List, [], ◌∷◌, ◌++◌, length, Option, Some, None, refl, ap, sym, ◌∙◌, subst, inl, inr, arith}
 use Rattle.std.specs.Prelude.{◌==◌, bytes_eq, not, slice_get}
 use Rattle.std.specs.List.{AllByRecursion, Contains, IsDistinct, filter, flat_map, list_any}
 use Rattle.std.proofs.lemmas.Bool.{cases_Bool, true≢false, not_from_false}
@@ -39,8 +39,7 @@ listed_name : (members : List MemberView) (numbers : List ℕ) (n : ℕ) (m : Me
 listed_name members numbers n m name at held listed = among_listed name m (members_at members numbers) (number_taken members numbers n m held at) listed
 
 members_more : (members : List MemberView) (first later : List ℕ) (m : MemberView) → Among m (members_at members first) → Among m (members_at members (first ++ later))
-members_more members first later m held =
-    let from = taken_number members first m held in number_taken members (first ++ later) from.0 m (among_front from.0 first later from.1) from.2
+members_more members first later m held = search (rules, taken_number members first m held, number_taken, among_front)
 
 listed_more : (members : List MemberView) (first later : List ℕ) (name : List ℕ) → Among name (listed_at members first) → Among name (listed_at members (first ++ later))
 listed_more members first later name held =
@@ -53,10 +52,7 @@ pub unclaimed_later : (members : List MemberView) (read : List ℕ) (inputs : Li
 unfolding AreUnclaimedBehind Among
 unclaimed_later members read [] none name listed claimed = claimed
 unclaimed_later members read (input ∷ inputs) none name listed claimed =
-    elim (refs_either claimed_names (object_of input) (objects_given inputs) name claimed) [
-      | inl here ↦ claims_apart (listed_at members read) (object_of input) none.0 name listed here
-      | inr behind ↦ unclaimed_later members (read ++ numbers_of input) inputs none.1 name (listed_more members read (numbers_of input) name listed) behind
-    ]
+    grind (arith, unclaimed_later members (read ++ numbers_of input) inputs none.1 name (listed_more members read (numbers_of input) name listed), refs_either claimed_names (object_of input) (objects_given inputs) name claimed, listed_more members read (numbers_of input) name listed, claims_apart)
 
 -- GNU `ld`'s searches.
 
@@ -246,29 +242,14 @@ module _ (reads : List ℕ → Option Object) (members : List MemberView) where
     unfolding IsOrdered Among
     objects_leave_not [] ordered none left = left
     objects_leave_not (input ∷ inputs) ordered none left =
-        elim (refs_either undefined_in (object_of input) (objects_given inputs) name left) [
-          | inl here ↦
-              let from = among_flat_map undefined_in name (object_of input) here in
-              leaves_not (listed_at members (numbers_but members (numbers_in (input ∷ inputs)))) from.0 name
-              (all_among (LeavesNone (listed_at members (numbers_but members (numbers_in (input ∷ inputs))))) from.0 (object_of input ++ objects_as reads (members_at members (numbers_of input)))
-              (among_front from.0 (object_of input) (objects_as reads (members_at members (numbers_of input))) from.1) ordered.0)
-              (but_these (numbers_in (input ∷ inputs)) n m name at listed none) from.2
-          | inr behind ↦ objects_leave_not inputs ordered.1 (λ held. none (among_back n (numbers_of input) (numbers_in inputs) held)) behind
-        ]
+        search (rules, objects_leave_not inputs ordered.1, refs_either undefined_in (object_of input) (objects_given inputs) name left, but_these (numbers_in (input ∷ inputs)) n m name, among_flat_map, leaves_not, all_among, among_front, among_back)
 
     pub members_leave_not : (inputs : List Input) → IsOrdered reads members inputs → (Among n (numbers_in inputs) → ⊥) → (k : ℕ) (x : MemberView) (o : Object) → slice_get members k ≡ Some x →
         Among k (numbers_in inputs) → reads x.bytes ≡ Some o → Among name (undefined_in o) → ⊥
     unfolding IsOrdered Among
     members_leave_not [] ordered none k x o there held read left = held
     members_leave_not (input ∷ inputs) ordered none k x o there held read left =
-        elim (among_either k (numbers_of input) (numbers_in inputs) held) [
-          | inl here ↦
-              leaves_not (listed_at members (numbers_but members (numbers_in (input ∷ inputs)))) o name
-              (all_among (LeavesNone (listed_at members (numbers_but members (numbers_in (input ∷ inputs))))) o (object_of input ++ objects_as reads (members_at members (numbers_of input)))
-              (among_back o (object_of input) (objects_as reads (members_at members (numbers_of input))) (object_there (members_at members (numbers_of input)) x o (number_taken members (numbers_of input) k x here there) read)) ordered.0)
-              (but_these (numbers_in (input ∷ inputs)) n m name at listed none) left
-          | inr behind ↦ members_leave_not inputs ordered.1 (λ number. none (among_back n (numbers_of input) (numbers_in inputs) number)) k x o there behind read left
-        ]
+        grind (arith, members_leave_not inputs ordered.1, among_either k (numbers_of input) (numbers_in inputs) held, but_these (numbers_in (input ∷ inputs)) n m name, leaves_not, all_among, among_back, object_there, number_taken)
 
     -- A name that is left in the end, by what was there before inputs that do not search its member, was left then.
     left_before : (own : List Object) (inputs : List Input) (before after : List ℕ) → IsOrdered reads members inputs → SearchesFrom reads members own inputs before after → (Among n (numbers_in inputs) → ⊥) →
@@ -380,13 +361,7 @@ module _ (reads : List ℕ → Option Object) (members : List MemberView) where
     claimer : (some : List MemberView) (name : List ℕ) → ((x : MemberView) → Among x some → Among x members) → Among name (flat_map claimed_names (objects_as reads some)) →
         (x : MemberView) × Among x some × Among name x.symbols
     unfolding claimed_as
-    claimer some name are claimed =
-        let from = name_as reads claimed_names name some claimed in (
-          from.member,
-          from.held,
-          listed_claims from.member name (are from.member from.held)
-              (as_name reads claimed_names name (from.member ∷ []) from.member from.object (among_first from.member []) from.taken from.among),
-        )
+    claimer some name are claimed = search (rules, name_as reads claimed_names name some claimed, listed_claims, as_name, among_first)
 
     claims_there : (some : List MemberView) (m : MemberView) (name : List ℕ) → Among m some → Among m members → Among name m.symbols → Among name (flat_map claimed_names (objects_as reads some))
     unfolding claimed_as Among
@@ -587,10 +562,7 @@ module _ (reads : List ℕ → Option Object) (members : List MemberView) where
 -- what is first by numbers is the first that is listed
 pub first_by_numbers : (members : List MemberView) (names : List (List ℕ)) (taken : List ℕ) → TakesFirst members names taken → AreFirst members names (members_at members taken)
 first_by_numbers members names taken first name m left held listed =
-    let at = taken_number members taken m (contains_among m (members_at members taken) held) in
-    first_at members name at.0 m
-    (λ k a b here mine other again. first name at.0 k a b left (among_contains at.0 taken at.1) here (among_contains name a.symbols mine) other (among_contains name b.symbols again))
-    at.2 (contains_among name m.symbols listed)
+    search (rules, taken_number members taken m (contains_among m (members_at members taken) held), contains_among m (members_at members taken) held, contains_among name m.symbols listed, first_at, among_contains)
 
 -- GNU `ld`'s command lines of libraries and of anything else.
 

@@ -259,10 +259,7 @@ one_near machine names Gnu l others rest n behind = by (exports_wanted l.definit
 
 libraries_near : (machine : MachineType) (libraries : List FlavorLibrary) (names : List (List ℕ)) (rest : List Object) → linked_rooms machine (flavor_inputs libraries names) rest ≤ sum_by room_of libraries + all_rooms rest
 libraries_near machine [] names rest = omega arith
-libraries_near machine (l ∷ libraries) names rest =
-    let all = sum_by-cons room_of l libraries in
-    let near = one_near machine names l.flavor l.library (flavor_inputs libraries names) rest (sum_by room_of libraries + all_rooms rest) (libraries_near machine libraries names rest) in
-    omega arith
+libraries_near machine (l ∷ libraries) names rest = grind (arith, libraries_near machine libraries names rest, sum_by-cons room_of l libraries, one_near)
 
 -- an object put in among others
 rooms_put : (front back : List Object) (o : Object) → all_rooms (front ++ o ∷ back) ≡ own_rooms o + all_rooms (front ++ back)

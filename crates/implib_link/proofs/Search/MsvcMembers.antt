@@ -1,5 +1,5 @@
 -- The members of a library for Microsoft's linker: which of an export's a name finds, and what they are taken for.
-use Rattle.std.proofs.Common.{◌≡◌, ℕ, true, false, List, [], ◌∷◌, ◌++◌, map, Some, refl, ap, sym, ◌∙◌, subst, inl, inr, ◌⊎◌, ◌<◌, length, arith, ◌≤◌}
+use Rattle.std.proofs.Common.{rules, ◌≡◌, ℕ, true, false, List, [], ◌∷◌, ◌++◌, map, Some, refl, ap, sym, ◌∙◌, subst, inl, inr, ◌⊎◌, ◌<◌, length, arith, ◌≤◌}
 use Rattle.std.specs.List.{flat_map, filter}
 use Rattle.std.proofs.lemmas.Bool.{cases_Bool, false_from_ne_true}
 use Rattle.std.proofs.lemmas.List.{map-append}
@@ -8,7 +8,7 @@ use Rattle.implib.specs.Definition.{ExportView}
 use Rattle.implib.specs.Formats.Layout.{entries_of, name_text, object_of}
 use Rattle.implib.specs.Formats.Object.{Object}
 use Rattle.implib.specs.Import.{imp_symbol, Ask, Name, Ordinal}
-use Rattle.implib.specs.Members.MemberSpec.{MemberSpec, MemberView, member_of}
+use Rattle.implib.specs.Members.MemberSpec.{MemberView, member_of}
 use Rattle.implib.specs.Members.Msvc.{short_import_symbol, short_import_symbols}
 use Rattle.implib.specs.Members.MsvcMembers.{descriptor_spec, export_specs, header_specs, null_descriptor_spec, null_thunk_spec, short_import_spec, weak_specs}
 use Rattle.implib.specs.Members.WeakExternal.{weak_object, weak_spec}
@@ -208,12 +208,7 @@ module _ (machine : MachineType) where
 
     pub weak_is : (e : ExportView) (weak target : List ℕ) → Among e (exports_of l) → is_short_alias e ≡ true → IsPair e weak target →
         expanded_in machine (weak_of machine l weak target).bytes ≡ Some (taken_weak machine weak target)
-    weak_is e weak target there alias pair =
-        let dll : NamesOfDll = names_for Msvc l.definition in
-        let p : MemberSpec = weak_spec machine dll.linked weak target in
-        taken_of l.definition machine l.members [] made p
-        (among_back p (header_specs machine dll) (flat_map (export_specs machine dll) (exports_of l))
-        (among_flat (export_specs machine dll) e (exports_of l) p there (among_front p (weak_specs machine dll.linked e) (short_import_spec machine dll e ∷ []) (pair_there e weak target alias pair))))
+    weak_is e weak target there alias pair = search (rules, pair_there e weak target alias pair, taken_of, among_back, among_flat, among_front)
 
 -- What the members for Microsoft's linker leave to others, and which are weak externals and hold import tables.
 

@@ -1,5 +1,5 @@
 -- GNU `ld`'s search, which resolves nothing by weak externals, and one that does.
-use Rattle.std.proofs.Common.{◌≡◌, ℕ, ◌⊎◌, false, List, [], ◌∷◌, ◌++◌, Option, Some, None, map, refl, ap, sym, ◌∙◌, subst, inl, inr, arith}
+use Rattle.std.proofs.Common.{rules, ◌≡◌, ℕ, ◌⊎◌, false, List, [], ◌∷◌, ◌++◌, Option, Some, None, map, refl, ap, sym, ◌∙◌, subst, inl, inr, arith}
 use Rattle.std.specs.Prelude.{bytes_eq, not}
 use Rattle.std.specs.List.{Contains, cons_option, filter, flat_map, list_any}
 use Rattle.std.specs.Option.{option_map}
@@ -28,10 +28,7 @@ not_weak (ASymbol s) name is = grind arith
 
 pub left_plain : (o : Object) (name : List ℕ) → Among name (undefined_in o) → Among name (undefined_in (without_weak o))
 unfolding undefined_in without_weak
-left_plain o name held =
-    let from = kept_from undefined_name o.entries name held in
-    kept_into undefined_name (filter (λ e. not (is_weak_entry e)) o.entries) name from.0
-    (passes (λ e. not (is_weak_entry e)) from.0 o.entries from.1 (not_from_false (is_weak_entry from.0) (not_weak from.0 name from.2))) from.2
+left_plain o name held = search (rules, kept_from undefined_name o.entries name held, kept_into, passes, not_from_false, not_weak)
 
 pub left_weak : (o : Object) (name : List ℕ) → Among name (undefined_in (without_weak o)) → Among name (undefined_in o)
 unfolding undefined_in without_weak

@@ -1,7 +1,7 @@
 -- GNU `ld`'s sweeps of an archive take what a search takes that goes by the first member, where no two members list one
 -- name.
-use Rattle.std.proofs.Common.{◌≡◌, ℕ, ◌⊎◌, zero, suc, ◌+◌, ◌<◌, ◌≤◌, Bool, true, false, List, [], ◌∷◌, ◌++◌, length, Option, Some, None, refl, ap, sym, ◌∙◌, subst, inl, inr, arith}
-use Rattle.std.specs.Prelude.{◌&&◌, ◌==◌, bytes_eq, not, slice_get}
+use Rattle.std.proofs.Common.{◌≡◌, ℕ, ◌⊎◌, zero, suc, ◌+◌, ◌<◌, ◌≤◌, true, false, List, [], ◌∷◌, ◌++◌, length, Option, Some, None, refl, ap, sym, ◌∙◌, subst, inl, inr, arith}
+use Rattle.std.specs.Prelude.{◌==◌, bytes_eq, not, slice_get}
 use Rattle.std.specs.List.{IsDistinct, cons_option, list_any}
 use Rattle.std.proofs.lemmas.Bool.{and_parts, cases_Bool, eq-eqb, eqb-true, true≢false}
 use Rattle.implib.specs.Formats.Object.{Object}
@@ -19,12 +19,8 @@ pub one_number : (archive : List MemberView) (name : List ℕ) (n k : ℕ) (m x 
     Among name m.symbols → Among name x.symbols → n ≡ k
 one_number [] name n k m x distinct at other listed again = cc
 one_number (y ∷ archive) name zero zero m x distinct at other listed again = refl
-one_number (y ∷ archive) name zero (suc k) m x distinct at other listed again =
-    let same : y ≡ m = cc in
-    absurd (distinct_apart y.symbols (all_listed archive) name distinct (subst (λ (z : MemberView). Among name z.symbols) (sym same) listed) (among_listed name x archive (among_at x archive k other) again))
-one_number (y ∷ archive) name (suc n) zero m x distinct at other listed again =
-    let same : y ≡ x = cc in
-    absurd (distinct_apart y.symbols (all_listed archive) name distinct (subst (λ (z : MemberView). Among name z.symbols) (sym same) again) (among_listed name m archive (among_at m archive n at) listed))
+one_number (y ∷ archive) name zero (suc k) m x distinct at other listed again = grind (arith, all_listed archive, among_listed name x archive (among_at x archive k other) again, among_at x archive k other, distinct_apart)
+one_number (y ∷ archive) name (suc n) zero m x distinct at other listed again = grind (arith, all_listed archive, among_listed name m archive (among_at m archive n at) listed, among_at m archive n, distinct_apart)
 one_number (y ∷ archive) name (suc n) (suc k) m x distinct at other listed again = grind (arith, one_number archive name n k m x (distinct_later y.symbols (all_listed archive) distinct))
 
 pub none_first : (name : List ℕ) (some : List MemberView) (m : MemberView) → first_listed some name ≡ None → Among m some → Among name m.symbols → ⊥
@@ -164,15 +160,7 @@ module _ (reads : List ℕ → Option Object) (archive : List MemberView) (own :
   -- so a name that is left unresolved, and that an entry has, is that of a member that is taken
   pub none_left : (index : List IndexEntry) (numbers : List ℕ) → swept reads archive own index numbers ≡ numbers → (e : IndexEntry) → Among e index →
       Among e.name (unresolved (own ++ objects_as reads (members_at archive numbers))) → Among e.number numbers
-  none_left index numbers ended e held left =
-      let named : is_left reads archive own numbers e.name ≡ true = among_any e.name (unresolved (own ++ objects_as reads (members_at archive numbers))) left in
-      elim (cases_Bool (list_any (λ number. number == e.number) numbers)) [
-        | inl there ↦ number_among e.number numbers there
-        | inr free ↦ absurd (true≢false (sym (both named free) ∙ none_due index numbers ended e held))
-      ]
-    where
-      both : {left there : Bool} → left ≡ true → there ≡ false → (left && not there) ≡ true
-      both one other = rw (one, other) refl
+  none_left index numbers ended e held left = grind (arith, among_any e.name (unresolved (own ++ objects_as reads (members_at archive numbers))) left, none_due index numbers ended e held, number_among)
 
   -- an entry whose member is to be taken pulls it in, where it and those that are taken are the first that are listed for its name
   due_pulls : (numbers : List ℕ) (e : IndexEntry) → (from : IsEntry archive e) → ((n : ℕ) → Among n (e.number ∷ numbers) → IsFirstAt archive e.name n) → is_due reads archive own numbers e ≡ true →
