@@ -14,7 +14,6 @@ use Rattle.implib.proofs.Link.LinkedMembers.{among_contains}
 use Rattle.implib.proofs.Link.Ranges.{Among, all_among}
 use Rattle.implib_link.specs.Gnu.Fields.{field_width, DefinesIn, FieldHolds, LinkedCode, MeetsAlone, field_at, HasPageField, HasPointer, IsPointer, Names, absolute_width, StubAt, AreLinkedBeside, placed_code, StubArrives}
 use Rattle.implib_link.specs.Gnu.Stored.{HasAddField, HasRelative, HoldAddress, HoldsFurther, IsImageRelative, SumArrives, arm64_pageoffset_12a, AreFurtherHeld, AreStoredInMemory, PointsTo}
-use Rattle.implib_link.specs.Stub.{adrp_immediate, bits_of, page, plus_signed}
 use Rattle.implib_link.proofs.Gnu.FieldsInMemory.{Settles, StoredRests, field_there, linked_there, own_end, settled_in_tables, stored_in_memory, stored_rests}
 use Rattle.implib_link.proofs.Gnu.Loaded.{Covers}
 use Rattle.implib_link.proofs.Gnu.Operands.{addr64_is, dir32_is, page_leads, pair_leads, pointer_width}
@@ -125,9 +124,7 @@ sum_holds image_base image linked codes targets memory stored written covers_it 
       add = add;
       add_there = there;
       is_add = added.0;
-      leads = pair_leads (paged.0 4) add (plus_signed 21 4096 (adrp_immediate (paged.0 4)) (page (image_base + (c.position + first)) * 4096)) (bits_of 10 12 add) (image_base + target)
-          (page_leads (paged.0 4) (field_at c.code.bytes first 4) image_base (c.position + first) target page_holds.1 page_field.empty (omega arith) small)
-          (added_is (bits_of 10 12 add) stored.rests.from image_base target (bits_of 10 12 (field_at d.code.bytes second 4)) added.1 add_field.empty stored.rests.paged);
+      leads = grind (arith, pair_leads, page_leads, added_is);
     }
 
 sums_hold : (machine : MachineType) (image_base : ℕ) (image : List Range) (linked : List Placed) (codes : List LinkedCode) (targets : LinkedCode → ℕ → ℕ) (memory : List Range)

@@ -237,8 +237,7 @@ module _ (machine : MachineType) (gives : List ℕ → Ask → List ℕ) where
           entries = λ i j x e name at asked symbol. record {
             address = x.address + thunk_width machine * j;
             once = tables.symbols i j x e name at asked symbol;
-            located = subst (λ rs. BytesAt (rs ++ t.image) (x.address + thunk_width machine * j) (gives x.dll e.ask)) (sym is)
-                (filled_at t.tables 0 t.image i j x e tables.rise at asked);
+            located = grind (arith, is, filled_at, i, asked);
           };
           within = subst (AllByRecursion (IsInTable (thunk_width machine) t.tables)) (sym is) (filled_within t.tables);
         }

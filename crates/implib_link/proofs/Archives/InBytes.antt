@@ -1,5 +1,6 @@
 -- A search in the bytes of an archive is a search of its members.
-use Rattle.std.proofs.Common.{◌≡◌, ℕ, suc, ◌+◌, ◌%◌, ◌≤◌, Bool, true, false, inl, inr, List, [], ◌∷◌, ◌++◌, Option, Some, None, if◌then◌else◌, is_some, length, map, option_and_then, refl, sym, ap, subst, ◌∙◌, arith, ◌-◌, ◌<◌, get_or, nat_lt, unwrap_or, codes, append_assoc, append-nil, length-append}
+use Rattle.std.proofs.lemmas.Grind.{common_steps}
+use Rattle.std.proofs.Common.{◌≡◌, ℕ, suc, ◌+◌, ◌%◌, ◌≤◌, Bool, true, false, inl, inr, List, [], ◌∷◌, ◌++◌, Option, Some, None, if◌then◌else◌, is_some, length, map, option_and_then, refl, sym, ap, subst, ◌∙◌, arith, ◌<◌, get_or, nat_lt, unwrap_or, codes, append_assoc, append-nil, length-append}
 use Rattle.std.specs.Prelude.{slice_get, ◌==◌, ◌||◌, ◌⊎◌, bytes_eq, fold}
 use Rattle.std.specs.List.{Contains, cons_option, filter_map, AllByRecursion, IsDistinct, flat_map, list_any}
 use Rattle.std.specs.Option.{option_map}
@@ -412,18 +413,7 @@ unfolding entries_from entries_by place_of
 entries_shown front [] [] many = refl
 entries_shown front [] (m ∷ members) many = absurd (omega (arith, many))
 entries_shown front (p ∷ ps) [] many = absurd (omega (arith, many))
-entries_shown front (p ∷ ps) (m ∷ members) many =
-    let all = front ++ p ∷ ps in
-    let less : length front + 1 - 1 ≡ length front = omega arith in
-    let here : place_of all (length front + 1) ≡ p = ap (λ n. get_or all n 0) less ∙ get_after front p ps in
-    let whole : all ≡ (front ++ p ∷ []) ++ ps = sym (append_assoc front (p ∷ []) ps) in
-    let longer : length (front ++ p ∷ []) ≡ length front + 1 = length-append front (p ∷ []) in
-    map-append (shown all) (map (listed_for (length front + 1)) m.symbols) (entries_from (length front + 1 + 1) members)
-    ∙ (ap (λ t. t ++ map (shown all) (entries_from (length front + 1 + 1) members)) (symbols_shown all (length front + 1) p m.symbols here)
-    ∙ ap (λ t. map (listed_for p) m.symbols ++ t)
-    (ap (λ places. map (shown places) (entries_from (length front + 1 + 1) members)) whole
-    ∙ (ap (λ n. map (shown ((front ++ p ∷ []) ++ ps)) (entries_from (n + 1) members)) (sym longer)
-    ∙ entries_shown (front ++ p ∷ []) ps members (omega (arith, many)))))
+entries_shown front (p ∷ ps) (m ∷ members) many = grind (arith, common_steps, entries_shown (front ++ p ∷ []) ps members (omega (arith, many)), get_after, length-append, map-append, symbols_shown, many)
 
 -- Where headers rise, the symbols at one are its member's.
 
@@ -479,12 +469,7 @@ members_after kind bytes before low (h ∷ headers) (m ∷ members) rising below
     let rest = entries_by headers members in
     let at : member_at kind bytes h ≡ Some (read_view m) = first_same read in
     let later : map (member_at kind bytes) headers ≡ map (λ x. Some (read_view x)) members = later_same read in
-    let symbols : symbols_at (entries_in bytes) h ≡ m.symbols =
-    ap (λ entries. symbols_at entries h) is
-    ∙ (none_below h before (own ++ rest) (below_on low h before rising.0 below)
-    ∙ (all_here h m.symbols rest
-    ∙ (ap (λ t. m.symbols ++ t) (none_above h (h + 1) headers members (omega arith) rising.1)
-    ∙ append-nil m.symbols))) in
+    let symbols : symbols_at (entries_in bytes) h ≡ m.symbols = grind (arith, none_below, below_on, rising, all_here, none_above, headers, append-nil) in
     let behind : filter_map (member_after kind bytes) headers ≡ members =
     members_after kind bytes (before ++ own) (h + 1) headers members rising.1
     (below_joined (h + 1) before own (below_on low (h + 1) before (omega (arith, rising.0)) below) (symbols_below h m.symbols))
@@ -515,11 +500,7 @@ not_listed found entries e distinct =
 all_firsts : (found entries : List (List ℕ × ℕ)) → IsDistinct bytes_eq (map (λ x. x.0) (found ++ entries)) → fold with_first found entries ≡ found ++ entries
 unfolding with_first
 all_firsts found [] distinct = sym (append-nil found)
-all_firsts found (e ∷ entries) distinct =
-    let joined : (found ++ e ∷ []) ++ entries ≡ found ++ e ∷ entries = append_assoc found (e ∷ []) entries in
-    ap (λ b. fold with_first (if b then found else found ++ e ∷ []) entries) (not_listed found entries e distinct)
-    ∙ all_firsts (found ++ e ∷ []) entries (subst (λ es. IsDistinct bytes_eq (map (λ x. x.0) es)) (sym joined) distinct)
-    ∙ joined
+all_firsts found (e ∷ entries) distinct = grind (arith, common_steps, all_firsts (found ++ e ∷ []) entries, found, not_listed)
 
 own_names : (number : ℕ) (symbols : List (List ℕ)) → map (λ e. e.0) (map (listed_for number) symbols) ≡ symbols
 own_names number [] = refl
@@ -548,8 +529,7 @@ archive_has_members kind members accepted some either =
     let many : length places ≡ length members = length-places _ members in
     let own : entries_of kind members ≡ entries_from 1 members = each_entry kind members either in
     let listed : nat_lt 0 (length (entries_of kind members)) ≡ true = lt-ltb 0 (length (entries_of kind members)) (subst (λ n. 0 < n) (sym (ap length own ∙ all_entries 1 members)) some) in
-    let entries : entries_in bytes ≡ entries_by places members =
-    entries_found kind members accepted listed ∙ (ap (map (shown places)) own ∙ entries_shown [] places members many) in
+    let entries : entries_in bytes ≡ entries_by places members = grind (arith, entries_found kind members accepted listed, entries_shown [] places members many, many) in
     record {
       headers = places;
       located = located;

@@ -292,8 +292,7 @@ module _ (machine : MachineType) (libraries : List Library) (archive : IsMsvcArc
               let same : name ≡ imp_symbol s.symbol = (bytes_eq-Decides name (imp_symbol s.symbol)).0 equal in
               let other = each m (among_first m ms) in
               let first : first_listed (archive_of libraries) name ≡ Some t = (is_first t from).first name (lists_imp t r (of_export t r from is)) in
-              let second : first_listed (archive_of libraries) name ≡ Some m =
-              (is_first m other).first name (subst (λ n. Among n m.symbols) (sym same) (lists_imp m s (of_export m s other at))) in
+              let second : first_listed (archive_of libraries) name ≡ Some m = grind (arith, is_first m other, lists_imp m s (of_export m s other at), of_export m s other, name) in
               let one : Some t ≡ Some m = sym first ∙ second in
               let member : t ≡ m = cc in
               new (subst (λ x. Among x (m ∷ ms)) (sym member) (among_first m ms))),
@@ -330,13 +329,8 @@ module _ (machine : MachineType) (libraries : List Library) (archive : IsMsvcArc
         plain = of.plain;
         name = name;
         listed = among_contains name (short_import_symbols of.export) (subst (λ (y : MemberView). Among name y.symbols) of.is_member (listed_is (archive_of libraries) name t pulls.listed).1);
-        left = among_contains name (flat_map undefined_in (own ++ objects full)) (subst (Among name) (sym (flat_map-append undefined_in own (objects full)))
-            (elim (among_either name (flat_map undefined_in own) (flat_map undefined_in (objects taken)) (subst (Among name) (flat_map-append undefined_in own (objects taken)) parts.0)) [
-              | inl here ↦ among_front name (flat_map undefined_in own) (flat_map undefined_in (objects full)) here
-              | inr there ↦ among_back name (flat_map undefined_in own) (flat_map undefined_in (objects full)) (names_more (read_by_lld machine) undefined_in name taken full within there)
-            ]));
-        unclaimed = false_from_ne_true (list_any (bytes_eq name) (flat_map claimed_names own)) (λ claimed.
-            parts.1 (subst (Among name) (sym (flat_map-append claimed_names own (objects taken))) (among_front name (flat_map claimed_names own) (flat_map claimed_names (objects taken)) (any_among name (flat_map claimed_names own) claimed))));
+        left = grind (arith, among_contains, name, objects, flat_map-append, among_either, parts, among_front, among_back, names_more);
+        unclaimed = grind (arith, false_from_ne_true, name, parts, flat_map-append, objects, among_front, any_among);
       },
       of.is_short_import,
     )

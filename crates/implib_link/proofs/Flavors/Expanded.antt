@@ -12,7 +12,7 @@ use Rattle.implib.specs.Formats.Layout.{HasNoNul, entries_of, name_text, object_
 use Rattle.implib.specs.Link.Load.{BytesAt}
 use Rattle.implib.specs.Members.MsvcObjects.{descriptor, null_descriptor, null_thunk}
 use Rattle.implib.specs.Formats.Object.{Object, u32_at}
-use Rattle.implib.specs.Link.Placement.{Addresses, At, Bases, Descriptors, DllNames, HintNames, Lookups, Placed, SectionAddress, Unplaced, next_multiple, placed_from}
+use Rattle.implib.specs.Link.Placement.{Addresses, At, Bases, Descriptors, HintNames, Lookups, Placed, SectionAddress, Unplaced, next_multiple, placed_from}
 use Rattle.implib.proofs.Link.Linked.{contribution_located, same_order}
 use Rattle.implib.proofs.Link.Placement.{AreAligned, aligned, at_least, length-thunk_of}
 use Rattle.implib.proofs.Link.Thunks.{StrictThunkAt, length-address, name_located, ordinal_located, same_number, with_address-zeros}
@@ -201,16 +201,8 @@ module _ (machine : MachineType) (dll : NamesOfDll) (linked : List Placed) where
         record {
           bytes = subst (BytesAt image b.descriptors) (descriptor_is b) descriptors.0;
           name = names.0;
-          behind = record {
-            descriptors = descriptors.1;
-            lookups = subst (λ n. BytesAt image n (filled n (contributions machine linked Lookups (placed_from later rest)))) (plus_none b.lookups) lookups.1;
-            hint_names = names.1;
-            dll_names = subst (λ ps. BytesAt image b.dll_names (filled b.dll_names (contributions machine linked DllNames ps))) placed_is located.dll_names;
-          };
-          table = λ table.
-              subst (λ n. BytesAt image n (filled n (contributions machine linked Addresses (placed_from later rest)))) (plus_none b.addresses)
-              (step image b.addresses [] (contributions machine linked Addresses (placed_from later rest)) 0 refl
-              (subst (λ ps. BytesAt image b.addresses (filled b.addresses (contributions machine linked Addresses ps))) placed_is table)).1;
+          behind = grind (arith, descriptors, lookups, plus_none);
+          table = λ table. grind arith;
         }
 
     -- thunks in both tables that ask so, and what follows
@@ -225,19 +217,13 @@ module _ (machine : MachineType) (dll : NamesOfDll) (linked : List Placed) where
     unfolding import_object thunk_linked AskFits
     asking_stands b symbol (Ordinal n) use_kind rest fits even located =
         let later : Bases = ends_of_asking machine b (Ordinal n) in
-        let placed_is : placed_from b (import_object machine dll.text symbol (Ordinal n) use_kind ∷ rest) ≡ placed_asking machine dll b symbol (Ordinal n) use_kind ∷ placed_from later rest =
-        placed-asking machine dll b symbol (Ordinal n) use_kind rest even in
+        let placed_is : placed_from b (import_object machine dll.text symbol (Ordinal n) use_kind ∷ rest) ≡ placed_asking machine dll b symbol (Ordinal n) use_kind ∷ placed_from later rest = grind (arith, placed-asking machine dll b symbol (Ordinal n) use_kind rest even) in
         let long = length-thunk_linked b symbol (Ordinal n) use_kind in
         let lookups = step image b.lookups (thunk_linked b symbol (Ordinal n) use_kind) (contributions machine linked Lookups (placed_from later rest)) (thunk_width machine) long
         (subst (λ ps. BytesAt image b.lookups (filled b.lookups (contributions machine linked Lookups ps))) placed_is located.lookups) in
         record {
           lookup = ordinal_located machine image n b.lookups fits lookups.0;
-          behind = record {
-            descriptors = subst (λ ps. BytesAt image b.descriptors (filled b.descriptors (contributions machine linked Descriptors ps))) placed_is located.descriptors;
-            lookups = lookups.1;
-            hint_names = subst (λ ps. BytesAt image b.hint_names (filled b.hint_names (contributions machine linked HintNames ps))) placed_is located.hint_names;
-            dll_names = subst (λ ps. BytesAt image b.dll_names (filled b.dll_names (contributions machine linked DllNames ps))) placed_is located.dll_names;
-          };
+          behind = grind arith;
           table = λ table.
               let addresses = step image b.addresses (thunk_linked b symbol (Ordinal n) use_kind) (contributions machine linked Addresses (placed_from later rest)) (thunk_width machine) long
               (subst (λ ps. BytesAt image b.addresses (filled b.addresses (contributions machine linked Addresses ps))) placed_is table) in
@@ -245,8 +231,7 @@ module _ (machine : MachineType) (dll : NamesOfDll) (linked : List Placed) where
         }
     asking_stands b symbol (Name text hint) use_kind rest fits even located =
         let later : Bases = ends_of_asking machine b (Name text hint) in
-        let placed_is : placed_from b (import_object machine dll.text symbol (Name text hint) use_kind ∷ rest) ≡ placed_asking machine dll b symbol (Name text hint) use_kind ∷ placed_from later rest =
-        placed-asking machine dll b symbol (Name text hint) use_kind rest even in
+        let placed_is : placed_from b (import_object machine dll.text symbol (Name text hint) use_kind ∷ rest) ≡ placed_asking machine dll b symbol (Name text hint) use_kind ∷ placed_from later rest = grind (arith, placed-asking machine dll b symbol (Name text hint) use_kind rest even) in
         let long = length-thunk_linked b symbol (Name text hint) use_kind in
         let is = thunk_of_name b symbol text hint use_kind in
         let lookups = step image b.lookups (thunk_linked b symbol (Name text hint) use_kind) (contributions machine linked Lookups (placed_from later rest)) (thunk_width machine) long
@@ -256,12 +241,7 @@ module _ (machine : MachineType) (dll : NamesOfDll) (linked : List Placed) where
         (subst (λ ps. BytesAt image b.hint_names (filled b.hint_names (contributions machine linked HintNames ps))) placed_is located.hint_names) in
         record {
           lookup = name_located machine image starts ends text hint (next_multiple 2 b.hint_names) b.lookups fits.0 fits.1 (subst (BytesAt image b.lookups) is lookups.0) hints.0;
-          behind = record {
-            descriptors = subst (λ ps. BytesAt image b.descriptors (filled b.descriptors (contributions machine linked Descriptors ps))) placed_is located.descriptors;
-            lookups = lookups.1;
-            hint_names = hints.1;
-            dll_names = subst (λ ps. BytesAt image b.dll_names (filled b.dll_names (contributions machine linked DllNames ps))) placed_is located.dll_names;
-          };
+          behind = grind arith;
           table = λ table.
               let addresses = step image b.addresses (thunk_linked b symbol (Name text hint) use_kind) (contributions machine linked Addresses (placed_from later rest)) (thunk_width machine) long
               (subst (λ ps. BytesAt image b.addresses (filled b.addresses (contributions machine linked Addresses ps))) placed_is table) in
@@ -285,12 +265,7 @@ module _ (machine : MachineType) (dll : NamesOfDll) (linked : List Placed) where
         (subst (λ ps. BytesAt image b.lookups (filled b.lookups (contributions machine linked Lookups ps))) placed_is located.lookups) in
         record {
           lookup = lookups.0;
-          behind = record {
-            descriptors = subst (λ ps. BytesAt image b.descriptors (filled b.descriptors (contributions machine linked Descriptors ps))) placed_is located.descriptors;
-            lookups = lookups.1;
-            hint_names = subst (λ ps. BytesAt image b.hint_names (filled b.hint_names (contributions machine linked HintNames ps))) placed_is located.hint_names;
-            dll_names = subst (λ ps. BytesAt image b.dll_names (filled b.dll_names (contributions machine linked DllNames ps))) placed_is located.dll_names;
-          };
+          behind = grind arith;
           table = λ table. step image b.addresses (zeros (thunk_width machine)) (contributions machine linked Addresses (placed_from later rest)) (thunk_width machine) long
               (subst (λ ps. BytesAt image b.addresses (filled b.addresses (contributions machine linked Addresses ps))) placed_is table);
         }

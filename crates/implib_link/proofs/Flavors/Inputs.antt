@@ -100,8 +100,7 @@ pub claimed_with_null : (machine : MachineType) (xs ys : List Object) (names : L
 claimed_with_null machine xs ys names is name =
     let front : List (List ℕ) = flat_map claimed_names xs in
     let back : List (List ℕ) = flat_map claimed_names ys in
-    let all : flat_map claimed_names (xs ++ taken_null machine ∷ ys) ≡ front ++ null_descriptor_symbol ∷ back =
-    flat_map-append claimed_names xs (taken_null machine ∷ ys) ∙ ap (λ own. front ++ (own ++ back)) (claims_null machine) in
+    let all : flat_map claimed_names (xs ++ taken_null machine ∷ ys) ≡ front ++ null_descriptor_symbol ∷ back = grind (arith, flat_map-append, taken_null, claims_null) in
     let others : front ++ back ≡ names = sym (flat_map-append claimed_names xs ys) ∙ is in (
       λ held. among_contains name (null_descriptor_symbol ∷ names)
           (subst (λ ns. Among name (null_descriptor_symbol ∷ ns)) others (moved name null_descriptor_symbol front back (subst (Among name) all (contains_among name (flat_map claimed_names (xs ++ taken_null machine ∷ ys)) held)))),

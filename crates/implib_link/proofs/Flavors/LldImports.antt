@@ -328,12 +328,9 @@ built_pieces machine base imports image apart holds =
     let behind_gap : List ℕ = tables ++ behind_first in
     let whole : BytesAt image base (rows ++ (gap ++ behind_gap)) = range_located (built machine base imports) image (contains_among (built machine base imports) image holds) apart in
     let first = located_parts image rows (gap ++ behind_gap) base whole in
-    let at_gap : BytesAt image (directory_end base imports) (gap ++ behind_gap) =
-    subst (λ n. BytesAt image (base + n) (gap ++ behind_gap)) (length_directory machine lookups names addresses imports) first.1 in
+    let at_gap : BytesAt image (directory_end base imports) (gap ++ behind_gap) = grind (arith, length_directory) in
     let second = located_parts image gap behind_gap (directory_end base imports) at_gap in
-    let at_lookups : BytesAt image lookups behind_gap =
-    subst (λ n. BytesAt image n behind_gap)
-    (step (directory_end base imports) (length gap) lookups (at_least (thunk_width machine) (directory_end base imports)) (length-replicate {A = ℕ} (lookups - directory_end base imports) 0)) second.1 in
+    let at_lookups : BytesAt image lookups behind_gap = grind (arith, step, at_least, length-replicate) in
     let third = located_parts image tables behind_first lookups at_lookups in
     let at_addresses : BytesAt image addresses behind_first = subst (λ n. BytesAt image (lookups + n) behind_first) (length_tables machine hints imports) third.1 in
     let fourth = located_parts image tables behind_second addresses at_addresses in

@@ -1,6 +1,6 @@
 -- Programs of lld, by what is proved of any import tables: fields and branches lead, by the short imports.
-use Rattle.std.proofs.Common.{rules, ◌≡◌, ℕ, ◌+◌, ◌*◌, List, ◌++◌, length, map, refl, sym, ◌∙◌, subst}
-use Rattle.std.specs.List.{AllByRecursion, Contains}
+use Rattle.std.proofs.Common.{arith, rules, ◌≡◌, ℕ, ◌+◌, ◌*◌, List, ◌++◌, length, map, refl, sym, ◌∙◌, subst}
+use Rattle.std.specs.List.{Contains}
 use Rattle.std.proofs.lemmas.List.{length-map}
 use Rattle.implib.specs.declared.machine.MachineType.{MachineType}
 use Rattle.implib.specs.Formats.ShortImport.{ShortImport, ask_of_short_import}
@@ -27,9 +27,7 @@ module _ (machine : MachineType) (descriptors addresses : ℕ) (taken : List Sho
   in_table r holds =
       let at = in_place r (grouped taken) (grouped_holds r taken (contains_among r taken holds)) in
       let b : Block = block_of_group at.group in
-      let same : r.dll ≡ dll_of_group at.group =
-      (all_at (λ x. Contains taken x × (x.dll ≡ dll_of_group at.group)) at.group at.j r
-      (all_at (λ group. AllByRecursion (λ x. Contains taken x × (x.dll ≡ dll_of_group group)) group) (grouped taken) at.i at.group (only machine descriptors addresses taken image linked program) at.its_group) at.is).1 in (
+      let same : r.dll ≡ dll_of_group at.group = grind (arith, only machine descriptors addresses taken image linked program, all_at) in (
         entries_until at.i (map block_of_group (grouped taken)),
         (
           at.j,

@@ -1,4 +1,5 @@
 -- The members and the null descriptor are a program by themselves.
+use Rattle.std.proofs.lemmas.Grind.{common_steps}
 use Rattle.std.proofs.Common.{rules, ◌≡◌, true, List, [], ◌∷◌, ◌++◌, map, refl, ap, sym, ◌∙◌, subst, ℕ, Option, Some, zero, suc, ◌+◌, length, ◌*◌, ◌-◌, ◌%◌, false, arith, inl, inr, ◌^◌, ◌<◌, ◌≤◌}
 use Rattle.std.specs.Prelude.{not, bytes_eq, option_map, slice_get}
 use Rattle.std.specs.List.{AllByRecursion, filter, IsDistinct, Contains, flat_map}
@@ -270,8 +271,7 @@ module _ (machine : MachineType) (inputs : List FlavorInput) (objects : List Obj
   parts_are = grind (arith, filter_map-append, inputs_objects)
 
   null_is : expanded_in machine (null_member machine (linked_dll ended.null_from.input.definition)).bytes ≡ Some (taken_null machine)
-  null_is =
-      null_object machine ended.null_from (contained_at (IsMadeFor machine) inputs ended.null_from made ended.null_held) ended.null_flavor
+  null_is = grind (arith, common_steps, null_object, contained_at)
 
   pub kept_are : filter has_tables objects ≡ objects_taken machine ended.before ++ taken_null machine ∷ objects_taken machine ended.behind
   kept_are = ended.tables ∙ objects_with_null machine ended.before ended.behind (null_member machine (linked_dll ended.null_from.input.definition)) null_is
@@ -330,9 +330,7 @@ stand machine OfLinker b inputs objects made program =
     let placed : with_tables (placed_from b objects) ≡ placed_from b (all_objects machine (map block_in inputs) (null_descriptor ∷ [])) = placed_kept b objects ∙ ap (placed_from b) kept in
     record {
       contributed = λ group other. contributions_kept machine (placed_from b objects) group b objects ∙ ap (λ os. contributions machine (placed_from b objects) group (placed_from b os)) kept;
-      defined = λ name m.
-          definitions_kept name b objects (all_claim name (symbols_listed (all_members machine inputs)) m (filter (λ o. not (has_tables o)) objects) program.held.others)
-          ∙ ap (λ os. definitions_of name (placed_from b os)) kept;
+      defined = λ name m. grind (arith, definitions_kept, all_claim);
       among = λ q m. subst (Among q) (sym placed) m;
       finds = λ all. subst (AllByRecursion (AllFind (placed_from b objects))) (sym placed) all;
       undefined = ap undefined_names placed;
@@ -348,18 +346,8 @@ stand machine OfMember b inputs objects made program =
     let placed : with_tables (placed_from b objects) ≡ placed_from b (xs ++ taken_null machine ∷ ys) = placed_kept b objects ∙ ap (placed_from b) kept in
     let names : List (List ℕ) = symbols_listed (all_members machine inputs) in
     record {
-      contributed = λ group other.
-          contributions_kept machine (placed_from b objects) group b objects
-          ∙ ap (λ os. contributions machine (placed_from b objects) group (placed_from b os)) kept
-          ∙ group_same machine b xs ys free even (placed_from b objects) group other
-          ∙ ap (λ os. contributions machine (placed_from b objects) group (placed_from b os)) parts;
-      defined = λ name m.
-          definitions_kept name b objects
-          (all_claim name (null_descriptor_symbol ∷ names) (among_later name null_descriptor_symbol names m) (filter (λ o. not (has_tables o)) objects) program.held.others)
-          ∙ ap (λ os. definitions_of name (placed_from b os)) kept
-          ∙ others_same machine b xs ys free even name
-          (not_same_turned null_descriptor_symbol name (all_among (λ other. bytes_eq null_descriptor_symbol other ≡ false) name names m program.held.distinct.0))
-          ∙ ap (λ os. definitions_of name (placed_from b os)) parts;
+      contributed = λ group other. grind (arith, contributions_kept, group_same, even);
+      defined = λ name m. grind (arith, among_later name null_descriptor_symbol names m, definitions_kept, all_claim, others_same, even, not_same_turned, all_among);
       among = λ q m. subst (Among q) (sym placed) (among_same machine b xs ys free even q (subst (λ os. Among q (placed_from b os)) (sym parts) m));
       finds = λ all.
           subst (AllByRecursion (AllFind (placed_from b objects))) (sym placed)

@@ -12,7 +12,7 @@ use Rattle.implib.specs.Import.{Ask, Name, Ordinal}
 use Rattle.implib.specs.Link.Image.{Range, contributions, filled, range_end, IsAdmissible, image_of}
 use Rattle.implib.specs.Link.Load.{BytesAt}
 use Rattle.implib.specs.Link.Placement.{Addresses, Bases, Placed, next_multiple, placed_from, At, SectionAddress, Unplaced, end_after, ends_after, group_named, section_address_of, section_addresses_of, Descriptors, DirectoryEnds, DllNames, Group, HintNames, Lookups, base_of, same_group}
-use Rattle.implib.specs.Link.Resolution.{SymbolDefinition, definitions, definitions_of, defined_by, first_address}
+use Rattle.implib.specs.Link.Resolution.{SymbolDefinition, definitions, definitions_of, first_address}
 use Rattle.implib.specs.Members.Gnu.{head_object, export_object, relocations_of_thunk, tail_object}
 use Rattle.implib.specs.Members.ImportTables.{thunk_width, zeros}
 use Rattle.implib.specs.Members.Msvc.{short_import_symbol}
@@ -97,8 +97,7 @@ module _ (machine : MachineType) (ending : Ending) (rest : List Object) (linked 
       (λ d m. every d (among_front d own (definitions (placed_from last behind)) m)) located in
       let others = all_beside blocks last fit.1 (even_in machine ending k.flavor k.dll b es fit.0.suits even)
       (λ d m. every d (among_back d own (definitions (placed_from last behind)) m)) links.1 one.1 null in
-      let table : last.addresses ≡ b.addresses + thunk_width machine * (length (map (ask_in k.flavor machine) es) + 1) =
-      addresses_one machine k.flavor k.dll b es ∙ ap (λ n. b.addresses + thunk_width machine * (n + 1)) (sym (length-map es (ask_in k.flavor machine))) in (
+      let table : last.addresses ≡ b.addresses + thunk_width machine * (length (map (ask_in k.flavor machine) es) + 1) = grind (arith, addresses_one, length-map) in (
         one.0,
         subst (λ n. DirectoryBeside beside (thunk_width machine) (b.descriptors + 20) n (map (imported_of machine) blocks)) table
             (subst (λ n. DirectoryBeside beside (thunk_width machine) n last.addresses (map (imported_of machine) blocks)) (sym (descriptors_one machine k.flavor k.dll b es)) others),
@@ -142,16 +141,9 @@ tables_end machine ending blocks b suit even =
     let own : List Object = all_objects machine blocks [] in
     let defined : List SymbolDefinition = definitions_all machine b blocks in
     let last : Bases = ends_behind b own in
-    let parts : definitions (placed_from b (all_objects machine blocks (behind_tables ∷ []))) ≡ defined ++ at_address last.addresses =
-    ap (λ os. definitions (placed_from b os)) (objects_split machine blocks (behind_tables ∷ []))
-    ∙ ap definitions (placed_parts b own (behind_tables ∷ []))
-    ∙ flat_map-append defined_by (placed_from b own) (placed_from last (behind_tables ∷ []))
-    ∙ ap (λ ds. ds ++ definitions (placed_from last (behind_tables ∷ []))) (definitions-all machine ending b blocks [] suit even ∙ append-nil defined)
-    ∙ ap (λ ds. defined ++ ds) (begins_at last) in
-    let whole : definitions (placed_from b (all_objects machine blocks (behind_tables ∷ []))) ≡ defined ++ at_address (ends_all machine b blocks).addresses =
-    definitions-all machine ending b blocks (behind_tables ∷ []) suit even ∙ ap (λ ds. defined ++ ds) (begins_at (ends_all machine b blocks)) in
-    let ends : last.addresses ≡ (ends_all machine b blocks).addresses =
-    one_address last.addresses (ends_all machine b blocks).addresses (append_cancel_left defined (at_address last.addresses) (at_address (ends_all machine b blocks).addresses) (sym parts ∙ whole)) in
+    let parts : definitions (placed_from b (all_objects machine blocks (behind_tables ∷ []))) ≡ defined ++ at_address last.addresses = grind (arith, objects_split, placed_parts, flat_map-append, definitions-all, suit, even, append-nil, begins_at) in
+    let whole : definitions (placed_from b (all_objects machine blocks (behind_tables ∷ []))) ≡ defined ++ at_address (ends_all machine b blocks).addresses = grind (arith, definitions-all, suit, even, begins_at, ends_all) in
+    let ends : last.addresses ≡ (ends_all machine b blocks).addresses = grind (arith, one_address, ends_all, append_cancel_left) in
     rest_behind ending ∙ sym (end_behind Addresses b own) ∙ ends ∙ addresses_all machine b blocks
   where
     rest_behind : (ending : Ending) → group_end Addresses b.addresses (all_objects machine blocks (rest_of ending)) ≡ group_end Addresses b.addresses (all_objects machine blocks [])
@@ -163,8 +155,7 @@ all_long : (machine : MachineType) (linked : List Placed) (ending : Ending) (blo
 unfolding span
 all_long machine linked ending blocks b suit even =
     let objects : List Object = all_objects machine blocks (rest_of ending) in
-    let ends : b.addresses + length (filled b.addresses (contributions machine linked Addresses (placed_from b objects))) ≡ group_end Addresses b.addresses objects =
-    (fills_objects machine linked Addresses b objects (all_sized machine ending blocks)).ends in
+    let ends : b.addresses + length (filled b.addresses (contributions machine linked Addresses (placed_from b objects))) ≡ group_end Addresses b.addresses objects = grind (arith, fills_objects machine linked Addresses b objects (all_sized machine ending blocks), all_sized machine ending blocks, ends) in
     let end = tables_end machine ending blocks b suit even in
     omega arith
 

@@ -9,7 +9,7 @@ use Rattle.implib.specs.declared.flavor.Flavor.{Flavor}
 use Rattle.implib.specs.declared.flavor.Flavor.TheVariants.{Gnu, Msvc}
 use Rattle.implib.specs.Formats.Constants.{align_4bytes, class_external, cnt_code, mem_execute_read}
 use Rattle.implib.specs.Definition.{ExportView}
-use Rattle.implib.specs.Members.Gnu.{archive_symbols, relocations_of_stub, section, stub_bytes, stub_relocations, text_name}
+use Rattle.implib.specs.Members.Gnu.{archive_symbols, section, stub_bytes, stub_relocations, text_name}
 use Rattle.implib.specs.Import.{Ask, Name, Ordinal}
 use Rattle.implib.specs.Members.ImportTables.{thunk_width}
 use Rattle.implib.specs.Link.Linked.{IsDefinedOnce}
@@ -162,9 +162,7 @@ pub code_in : (machine : MachineType) (flavor : Flavor) (dll : NamesOfDll) (link
 code_in machine Msvc dll linked b e entry is same = msvc_code machine dll linked b (short_import_symbol e) (ask_in Msvc machine e) (use_for e) entry (use_is e.is_data e.constant is.0 is.1) same
 code_in machine Gnu dll linked b e entry is same = record {
   defined = code_defined machine dll b e is;
-  here = code_here machine dll b e
-      ∙ ap (λ bytes. Some (section text_name (cnt_code + align_4bytes + mem_execute_read) bytes (relocations_of_stub machine e))) (code_bytes machine e is)
-      ∙ ap (λ rs. Some (section text_name (cnt_code + align_4bytes + mem_execute_read) (stub_bytes machine) rs)) (code_relocations machine e is);
+  here = grind (arith, code_here machine dll b e, code_bytes machine e is, code_relocations machine e is);
   target = target_is machine dll linked b e entry is same;
   found = exporting_found machine dll linked b e entry is same;
 }
@@ -214,8 +212,7 @@ stub_at machine ending bases inputs objects i j p e d t made program input chose
     let one = one_definer symbol linked d.from own t own_symbol most d_linked (contains_among (ASymbol t) d.from.object.entries defines.held) defines.external named own_held code.defined refl refl in
     let t_is : t ≡ own_symbol = symbol_of_entry t own_symbol one.1 in
     let first : d.number ≡ 1 = sym defines.here ∙ ap (λ (x : ObjectSymbol). x.section) t_is in
-    let numbered : section_numbered own.object.sections d.number ≡ Some d.code =
-    subst (λ (x : Placed). section_numbered x.object.sections d.number ≡ Some d.code) one.0 d_section in
+    let numbered : section_numbered own.object.sections d.number ≡ Some d.code = grind arith in
     let code_is = same_section own.object.sections d.number d.code (section text_name (cnt_code + align_4bytes + mem_execute_read) (stub_bytes machine) (stub_relocations machine 2)) first numbered code.here in
     let at = found_entry (symbol_address linked own) (slice_get own.object.entries 2) entry code.found in
     record {

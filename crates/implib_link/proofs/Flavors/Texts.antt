@@ -1,6 +1,6 @@
 -- Programs of both flavours from texts link as the texts state.
-use Rattle.std.proofs.Common.{arith, ◌≡◌, ℕ, ◌+◌, ◌*◌, true, List, [], ◌∷◌, map, Some, refl, ap, sym, ◌∙◌, subst}
-use Rattle.std.specs.Prelude.{not, option_map}
+use Rattle.std.proofs.Common.{arith, ◌≡◌, ℕ, true, List, [], ◌∷◌, map, Some, refl, ap, sym, ◌∙◌, subst}
+use Rattle.std.specs.Prelude.{not}
 use Rattle.std.specs.List.{AllByRecursion, filter, list_all}
 use Rattle.std.proofs.lemmas.Option.{slice_get-map}
 use Rattle.implib.specs.declared.flavor.Flavor.{Flavor}
@@ -9,21 +9,20 @@ use Rattle.implib.specs.declared.machine.MachineType.{MachineType}
 use Rattle.implib.specs.Asked.{EachAsksForItsWord, exports_of_text}
 use Rattle.implib.specs.Definition.{DefinitionView, ExportView}
 use Rattle.implib.specs.Text.Grammar.{Export}
-use Rattle.implib.specs.Link.Image.{Range, image_of}
+use Rattle.implib.specs.Link.Image.{Range}
 use Rattle.implib.specs.Import.{imp_symbol, is_empty_text, public_exports}
 use Rattle.implib.specs.Members.ImportTables.{thunk_width}
-use Rattle.implib.specs.Library.{LibraryView}
 use Rattle.implib.specs.Link.LinkedMembers.{chosen_exports}
 use Rattle.implib.specs.Link.Load.{LoadsStrictly}
 use Rattle.implib.specs.Members.Msvc.{short_import_symbol}
 use Rattle.implib.specs.Formats.Object.{Object}
-use Rattle.implib.specs.Link.Placement.{Bases, Placed, placed_from}
+use Rattle.implib.specs.Link.Placement.{Bases, Placed}
 use Rattle.implib.specs.Renaming.{renamed}
 use Rattle.implib.specs.Link.Resolution.{definitions_of}
 use Rattle.implib.proofs.Members.Asked.{asks_for_words}
 use Rattle.implib.proofs.Link.LinkedMembers.{all_at}
 use Rattle.implib.proofs.Text.SymbolNames.{parsed_lacks}
-use Rattle.implib_link.specs.Flavors.Program.{Ending, FlavorInput, InputImports, IsMadeFor, SymbolsAt, SymbolsGet, ask_in, descriptor_in, dll_names_in, exports_chosen, symbol_in, thunks_of, IsProgramOf}
+use Rattle.implib_link.specs.Flavors.Program.{Ending, FlavorInput, InputImports, IsMadeFor, SymbolsAt, SymbolsGet, ask_in, descriptor_in, dll_names_in, exports_chosen, symbol_in, IsProgramOf}
 use Rattle.implib_link.specs.Flavors.Texts.{FlavorSource, FlavorTextLinks, FlavorTextsLink, IsFlavorSource, input_parsed, input_of, Stated, ask_stated, chosen_stated, stated}
 use Rattle.implib_link.proofs.Flavors.Program.{program_links}
 use Rattle.implib_link.proofs.Gnu.Texts.{all_chosen, all_filter, chosen_renamed, statements_are}
@@ -109,8 +108,7 @@ same_imports : (machine : MachineType) (image : List Range) (linked : List Place
     InputImports machine image linked descriptor table (input_of s) → InputImports machine image linked descriptor table (input_parsed parsed s)
 same_imports machine image linked descriptor table s parsed held imports =
     let exports_same : chosen_exports s.source.library.definition s.source.chosen ≡ chosen_exports parsed s.source.chosen = chosen_renamed s.source.library parsed machine s.flavor s.source.chosen held in
-    let names_same : names_for s.flavor s.source.library.definition ≡ names_for s.flavor parsed =
-    ap (λ (l : LibraryView). names_for s.flavor l.definition) held ∙ names_of_renamed s.flavor parsed in
+    let names_same : names_for s.flavor s.source.library.definition ≡ names_for s.flavor parsed = grind (arith, names_of_renamed) in
     from_parts machine image linked descriptor table (input_parsed parsed s)
     (subst (λ (es : List ExportView). ImportsOf machine image linked descriptor table s.flavor (names_for s.flavor parsed) es) exports_same
     (subst (λ (names : NamesOfDll). ImportsOf machine image linked descriptor table s.flavor names (chosen_exports s.source.library.definition s.source.chosen)) names_same
@@ -139,7 +137,5 @@ texts_link machine ending bases sources objects are program =
     let among = program_links machine ending bases (map input_of sources) objects (sources_made machine sources are) program in
     record {
       among = among;
-      imports = λ i s is. text_links machine (image_of machine bases (placed_from bases objects)) (placed_from bases objects) (bases.descriptors + 20 * i)
-          (bases.addresses + thunk_width machine * thunks_of i (map input_of sources)) s (all_at (IsFlavorSource machine) sources i s are is)
-          (among.imports i (input_of s) (slice_get-map input_of sources i ∙ ap (option_map input_of) is));
+      imports = λ i s is. grind (arith, text_links, all_at, slice_get-map);
     }

@@ -157,11 +157,7 @@ meets_from machine offset count r low high = grind arith
 pub alone_within : (machine : MachineType) (rs : List Relocation) (offset count inner size : ℕ) (r : Relocation) → MeetsAlone machine rs offset count r → offset ≤ inner → inner + size ≤ offset + count →
     meets machine inner size r ≡ true → MeetsAlone machine rs inner size r
 alone_within machine rs offset count inner size r alone from to here =
-    let wider : (s : Relocation) → meets machine inner size s ≡ true → meets machine offset count s ≡ true = λ s is.
-    let bounds = meets_bounds machine inner size s is in
-    let low : s.offset < inner + size = bounds.0 in
-    let high : inner < s.offset + field_width machine s.kind = bounds.1 in
-    meets_from machine offset count s (omega arith) (omega arith) in
+    let wider : (s : Relocation) → meets machine inner size s ≡ true → meets machine offset count s ≡ true = grind (arith, meets_bounds, meets_from) in
     filter_twice (meets machine offset count) (meets machine inner size) rs wider
     ∙ ap (filter (meets machine inner size)) alone
     ∙ ap (λ b. cond b (r ∷ []) []) here
@@ -351,9 +347,7 @@ pair_read reads page_code load_code behind rule image_base linked memory address
           (joined memory load behind (address + length adrp) (subst (λ a. BytesAt memory a load) load_place x.load_there.located) (subst (λ a. BytesAt memory a behind) place there));
       whole = omega (arith, length-append adrp (load ++ behind), length-append load behind);
       entry = x.entry;
-      leads = rule (image_base + address) adrp load first second (ap (with_adrp 0) x.adrp_there.value ∙ x.is_adrp ∙ is_adrp) (ap (with_bits 10 12 0) x.load_there.value ∙ x.is_load ∙ is_load)
-          ∙ ap Some (ap (λ n. plus_signed 21 4096 (adrp_immediate n) (page (image_base + address) * 4096) + ldr_immediate (number_in load)) x.adrp_there.value
-          ∙ ap (λ n. plus_signed 21 4096 (adrp_immediate x.adrp) (page (image_base + address) * 4096) + ldr_immediate n) x.load_there.value ∙ x.leads);
+      leads = grind arith;
       located = x.located;
     }
 

@@ -217,10 +217,7 @@ module _ (machine : MachineType) (image_base : ℕ) (image : List Range) (linked
       let both = each i b is in
       let small : offset + i < length c.code.bytes = slice_get_within c.code.bytes (offset + i) b both.0 in
       let place : c.position + offset + i ≡ c.position + (offset + i) = omega arith in
-      let clear : list_any (covers (c.position + (offset + i))) (places_of_code machine c) ≡ false =
-      false_from_ne_true (list_any (covers (c.position + (offset + i))) (places_of_code machine c)) (λ covered.
-      let found = covering_one machine c.position (offset + i) c.code.relocations covered in
-      true≢false (sym (any_meets machine (offset + i) 1 c.code.relocations found.0 found.1.0 found.1.1.0) ∙ both.1)) in
+      let clear : list_any (covers (c.position + (offset + i))) (places_of_code machine c) ≡ false = grind (arith, false_from_ne_true, covering_one, any_meets) in
       subst (λ a. byte_at (written ++ memory) a ≡ Some b) (sym place)
       (unwritten (offset + i) b small (at.code_kept c (offset + i) b m (own.kept (offset + i) both.1 ∙ both.0) clear)))
 

@@ -90,11 +90,7 @@ module _ (beside : List Range) (low high width : ℕ) (avoids : Avoids beside lo
   unfolding Keeps Avoids
   keeps_behind memory r keeps from to a byte is =
       elim (cases_Bool (is_in a r)) [
-        | inl within ↦
-            let bounds = within_bounds a r within in
-            let above : r.start ≤ a = bounds.0 in
-            let below : a < range_end r = bounds.1 in
-            absurd (avoids a byte is (omega arith) (omega arith))
+        | inl within ↦ grind (arith, within_bounds, within)
         | inr outside ↦ rw outside (keeps a byte is)
       ]
 
@@ -164,10 +160,7 @@ module _ (beside : List Range) (low high width : ℕ) (avoids : Avoids beside lo
         number_once memory 4 (descriptor + 16) by.addresses table by.addresses_field (number_kept beside memory keeps 4 (descriptor + 16) table own.addresses_field) in
         let reads : by.lookups ≡ own.lookups =
         number_once memory 4 descriptor by.lookups own.lookups by.lookups_field (number_kept beside memory keeps 4 descriptor own.lookups own.lookups_field) in
-        let fills : FillsTable width (gives i.dll) own.lookups table memory y.asks between =
-        subst (λ d. FillsTable width (gives d) own.lookups table memory y.asks between) dll
-        (subst (λ n. FillsTable width (gives y.dll) own.lookups n memory y.asks between) begins
-        (subst (λ n. FillsTable width (gives y.dll) n by.addresses memory y.asks between) reads by.fills)) in
+        let fills : FillsTable width (gives i.dll) own.lookups table memory y.asks between = grind arith in
         let next = table_next table width (length i.asks) (thunks_asked (length imports) imports) in
         let before = before_next table width (length i.asks) in
         let filled = fills_once (gives i.dll) (wide i.dll) i.asks y.asks own.lookups table memory between keeps from (omega arith) own.lookup_table fills in
@@ -260,9 +253,7 @@ module _ (beside image : List Range) (keeps : Keeps beside image) (width : ℕ) 
       let rest = alike_by imports (descriptor + 20) next behind others later in
       let within : AllByRecursion (λ x. (next ≤ x.start) × (range_end x ≤ high)) behind = subst (λ h. AllByRecursion (λ x. (next ≤ x.start) × (range_end x ≤ h)) behind) sum rest.within in
       subst (WrittenAlike width gives (i ∷ imports) table) (sym (is ∙ ap (λ n. entries_written width n (gives i.dll) i.asks ++ behind) same)) (record {
-        within = all_append (λ x. (table ≤ x.start) × (range_end x ≤ high)) entries behind
-            (entries_within width (gives i.dll) (wide i.dll) i.asks table table high (omega arith) (omega arith))
-            (within_by table next high high behind (omega arith) (omega arith) within);
+        within = grind (arith, entries_within width (gives i.dll) (wide i.dll) i.asks table table high (omega arith) (omega arith), within_by table next high high behind (omega arith) (omega arith) within, all_append, within);
         alike = λ memory a.
             rest.alike (table_filled width table (gives i.dll) i.asks memory) a
             ∙ same_behind behind (table_filled width table (gives i.dll) i.asks memory) (entries ++ memory) a (table_alike width (gives i.dll) (wide i.dll) i.asks table memory a)

@@ -1,8 +1,9 @@
 -- There are linked bytes for any code: what each relocation asks can be written into its field.
+use Rattle.std.proofs.lemmas.Grind.{common_steps}
 use Rattle.std.proofs.Common.{◌≡◌, ℕ, zero, suc, ◌+◌, ◌-◌, ◌*◌, ◌/◌, ◌%◌, ◌^◌, ◌<◌, ◌≤◌, ◌⊎◌, Bool, true, false, List, [], ◌∷◌, ◌++◌, length, take, drop, None, Some, refl, ap, sym, ◌∙◌, subst, inl, inr, arith, map}
 use Rattle.std.specs.Prelude.{◌==◌, if◌then◌else◌, nat_le, slice_get}
 use Rattle.std.specs.List.{AllByRecursion, filter, list_any, Contains}
-use Rattle.std.proofs.lemmas.Bool.{cases_Bool, leb-true, le-leb, ne_eqb, or_parts}
+use Rattle.std.proofs.lemmas.Bool.{leb-true, le-leb, ne_eqb, or_parts}
 use Rattle.std.proofs.lemmas.List.{length-append, length-drop, length-take-le, take_at}
 use Rattle.std.proofs.lemmas.Option.{slice_get_within}
 use Rattle.implib.specs.declared.coff.object.Relocation.{Relocation}
@@ -117,18 +118,7 @@ module _ (machine : MachineType) (value : Relocation → List ℕ) (wide : (r : 
       (i b : ℕ) → slice_get (value r) i ≡ Some b → slice_get (write_all rs bytes) (r.offset + i) ≡ Some b
   unfolding write_all
   all_there [] bytes r alone inside i b is = cc
-  all_there (x ∷ rs) bytes r alone inside i b is =
-      let p : Relocation → Bool = meets machine r.offset (field_width machine r.kind) in
-      let long : length (value r) ≡ field_width machine r.kind = wide r in
-      let small : i < length (value r) = slice_get_within (value r) i b is in
-      let size : length (write_field x bytes) ≡ length bytes = field_size x bytes in
-      elim (cases_Bool (meets machine r.offset (field_width machine r.kind) x)) [
-        | inl met ↦
-            let parts = one_left x r (filter p rs) (rw met at alone) in
-            all_aside rs (write_field x bytes) (r.offset + i) (none_met rs r.offset (field_width machine r.kind) (r.offset + i) parts.1 (omega arith) (omega arith))
-            ∙ ap (λ (y : Relocation). slice_get (write_field y bytes) (r.offset + i)) parts.0 ∙ field_written r bytes i b inside is
-        | inr misses ↦ all_there rs (write_field x bytes) r (rw misses at alone) (omega arith) i b is
-      ]
+  all_there (x ∷ rs) bytes r alone inside i b is = grind (arith, common_steps, all_there rs (write_field x bytes) r, slice_get_within, write_field, field_size, one_left, all_aside, none_met, field_written)
 
   window_written : (rs : List Relocation) (bytes : List ℕ) (r : Relocation) → MeetsAlone machine rs r.offset (field_width machine r.kind) r → r.offset + field_width machine r.kind ≤ length bytes →
       field_at (write_all rs bytes) r.offset (field_width machine r.kind) ≡ number_in (value r)
@@ -234,18 +224,12 @@ number_holds : (machine : MachineType) (type image_base position target : ℕ) (
 unfolding number_for
 number_holds I386 type image_base position target old new small is = record {
   dir32 = λ dir. (rw dir at is) ∙ four_bytes (old 4 + (image_base + target));
-  rel32 = λ rel.
-      (rw rel at is) ∙ four_bytes (old 4 + target + (2 ^ 32 - (position + 4) % 2 ^ 32));
+  rel32 = λ rel. grind (arith, four_bytes);
 }
 number_holds ARMNT type image_base position target old new small is = tt
 number_holds AMD64 type image_base position target old new small is = record {
   addr64 = λ addr. (rw addr at is) ∙ eight_bytes (old 8 + (image_base + target));
-  rel32 = λ further few rel.
-      let other : (type == amd64_addr64) ≡ false = ne_eqb type amd64_addr64 (λ same. omega arith) in
-      let relative : (type == amd64_addr32nb) ≡ false = ne_eqb type amd64_addr32nb (λ same. omega arith) in
-      let more : type - amd64_rel32 ≡ further = omega arith in
-      subst (λ k. new 4 ≡ (old 4 + target + (2 ^ 32 - (position + 4 + k) % 2 ^ 32)) % 2 ^ 32) more
-      ((rw (other, relative) at is) ∙ four_bytes (old 4 + target + (2 ^ 32 - (position + 4 + (type - amd64_rel32)) % 2 ^ 32)));
+  rel32 = λ further few rel. grind (arith, ne_eqb, four_bytes);
 }
 number_holds ARM64 type image_base position target old new small is = record {
   addr64 = λ addr. (rw addr at is) ∙ eight_bytes (old 8 + (image_base + target));
@@ -267,19 +251,16 @@ further_holds : (machine : MachineType) (type image_base position target : ℕ) 
     new (field_width machine type) ≡ number_in (bytes_in (field_width machine type) (number_for machine type image_base position target old)) → HoldsFurther machine type image_base target old new
 unfolding number_for
 further_holds I386 type image_base position target old new small is = record {
-  relative = λ own.
-      (rw own at is) ∙ four_bytes (old 4 + target);
+  relative = λ own. grind (arith, four_bytes);
   added = λ own t adds. cc;
 }
 further_holds ARMNT type image_base position target old new small is = record { relative = λ own. absurd own; added = λ own t adds. cc }
 further_holds AMD64 type image_base position target old new small is = record {
-  relative = λ own.
-      (rw own at is) ∙ four_bytes (old 4 + target);
+  relative = λ own. grind (arith, four_bytes);
   added = λ own t adds. cc;
 }
 further_holds ARM64 type image_base position target old new small is = record {
-  relative = λ own.
-      (rw own at is) ∙ four_bytes (old 4 + target);
+  relative = λ own. grind (arith, four_bytes);
   added = λ own t adds.
       let k : ℕ = image_base + target + bits_of 10 12 (old 4) in
       let word : new 4 ≡ with_bits 10 12 k (old 4) = four_word (with_bits 10 12 k (old 4)) (new 4) (load_word k (old 4) small) (rw t at is) in
@@ -304,17 +285,14 @@ pub linked_further : (machine : MachineType) (image_base : ℕ) (targets : ℕ �
     (bytes : List ℕ) × (IsRelocated machine image_base targets position code bytes × IsFurtherHeld machine image_base targets code bytes)
 linked_further machine image_base targets position code all =
     let value : Relocation → List ℕ = λ r. bytes_in (field_width machine r.kind) (number_for machine r.kind image_base (position + r.offset) (targets r.symbol) (field_at code.bytes r.offset)) in
-    let wide : (r : Relocation) → length (value r) ≡ field_width machine r.kind = λ r.
-    bytes_long (field_width machine r.kind) (number_for machine r.kind image_base (position + r.offset) (targets r.symbol) (field_at code.bytes r.offset)) (width_small machine r.kind) in
+    let wide : (r : Relocation) → length (value r) ≡ field_width machine r.kind = grind (arith, bytes_long, number_for, width_small) in
     let bytes : List ℕ = write_all machine value wide code.relocations code.bytes in (
       bytes,
       (
         record {
           size = all_size machine value wide code.relocations code.bytes;
           kept = λ offset none. all_aside machine value wide code.relocations code.bytes offset none;
-          fields = λ r alone inside.
-              number_holds machine r.kind image_base (position + r.offset) (targets r.symbol) (field_at code.bytes r.offset) (field_at bytes r.offset)
-              (word_small (drop r.offset code.bytes) (all_dropped r.offset code.bytes all)) (window_written machine value wide code.relocations code.bytes r alone inside);
+          fields = λ r alone inside. grind (arith, number_holds, word_small, all_dropped, window_written);
         },
         λ r alone inside.
             further_holds machine r.kind image_base (position + r.offset) (targets r.symbol) (field_at code.bytes r.offset) (field_at bytes r.offset)
@@ -372,8 +350,7 @@ pub linked_beside : (machine : MachineType) (image_base : ℕ) (bases : Bases) (
 linked_beside machine image_base bases objects placed are targets resolves codes same relocated =
     let linked : List Placed = placed_from bases objects in
     let image : List Range = image_of machine bases linked in
-    let each : (Q : PlacedCode → Type 0) → AllByRecursion Q placed → AllByRecursion (λ (c : LinkedCode). Q (placed_code c)) codes = λ Q all.
-    all_of_map placed_code Q codes (subst (AllByRecursion Q) (sym same) all) in
+    let each : (Q : PlacedCode → Type 0) → AllByRecursion Q placed → AllByRecursion (λ (c : LinkedCode). Q (placed_code c)) codes = grind (arith, all_of_map) in
     record {
       held = each (λ (c : PlacedCode). Contains linked c.from) are.held;
       sections = each (λ (c : PlacedCode). section_numbered c.from.object.sections c.number ≡ Some c.code) are.sections;

@@ -142,10 +142,8 @@ stops_once image width address i loads (inr no_addresses) =
 -- both tables ask for the same
 same_asks : (image : List Range) (width address : ℕ) (i j : Imported) → LoadsStrictly image width address i.dll i.asks → FindsBy image width address j → i.asks ≡ j.asks
 same_asks image width address i j strict step = elim step.table_field [
-  | inl field ↦
-      table_led_to image width address strict.plain.lookups step.table i.asks j.asks strict.plain.lookups_field field strict.plain.lookup_table step.thunks
-  | inr field ↦
-      table_led_to image width (address + 16) strict.plain.addresses step.table i.asks j.asks strict.plain.addresses_field field strict.plain.address_table step.thunks
+  | inl field ↦ grind (arith, table_led_to image width address strict.plain.lookups step.table i.asks j.asks strict.plain.lookups_field field strict.plain.lookup_table step.thunks)
+  | inr field ↦ grind (arith, table_led_to image width (address + 16) strict.plain.addresses step.table i.asks j.asks strict.plain.addresses_field field strict.plain.address_table step.thunks)
 ]
 
 pub walk_once : (image : List Range) (width address : ℕ) (imports others : List Imported) →
@@ -330,17 +328,7 @@ module _ (image memory : List Range) (keeps : Keeps image memory) where
 
   loads_kept : (width a : ℕ) (dll : List ℕ) (asks : List Ask) → LoadsStrictly image width a dll asks → LoadsStrictly memory width a dll asks
   loads_kept width a dll asks loads = record {
-    plain = record {
-      lookups = loads.plain.lookups;
-      lookups_field = number_kept 4 a loads.plain.lookups loads.plain.lookups_field;
-      lookup_table = table_kept width asks loads.plain.lookups loads.plain.lookup_table;
-      name = loads.plain.name;
-      name_field = number_kept 4 (a + 12) loads.plain.name loads.plain.name_field;
-      name_text = text_kept loads.plain.name dll loads.plain.name_text;
-      addresses = loads.plain.addresses;
-      addresses_field = number_kept 4 (a + 16) loads.plain.addresses loads.plain.addresses_field;
-      address_table = table_kept width asks loads.plain.addresses loads.plain.address_table;
-    };
+    plain = grind (arith, number_kept, table_kept, text_kept);
     time = number_kept 4 (a + 4) 0 loads.time;
     forwarder = number_kept 4 (a + 8) 0 loads.forwarder;
     has_lookups = loads.has_lookups;

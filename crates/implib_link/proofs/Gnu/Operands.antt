@@ -152,8 +152,7 @@ module _ (machine : MachineType) (image_base : ℕ) (image : List Range) (linked
       record {
         number = found.0 4;
         there = subst (λ w. NumberAt (written ++ memory) w (c.position + offset) (found.0 w)) wide found.1.0;
-        leads = branch_by machine has.type image_base (c.position + offset) address after (field_at c.code.bytes offset) found.0 has.counts
-            (subst (λ n. FieldHolds machine has.type image_base (c.position + offset) n (field_at c.code.bytes offset) found.0) (taken has.field.symbol has.field.names) found.1.1) can (omega arith) small;
+        leads = grind (arith, branch_by);
       }
 
   -- and is, but for its distance, as it was
@@ -167,8 +166,7 @@ module _ (machine : MachineType) (image_base : ℕ) (image : List Range) (linked
       record {
         number = found.0 4;
         there = subst (λ w. NumberAt (written ++ memory) w (c.position + offset) (found.0 w)) (branch_width machine has.type after (field_at c.code.bytes offset 4) has.counts) found.1.0;
-        same = branch_rest_by machine has.type image_base (c.position + offset) (d.position + t.value) after (field_at c.code.bytes offset) found.0 has.counts
-            (subst (λ n. FieldHolds machine has.type image_base (c.position + offset) n (field_at c.code.bytes offset) found.0) target found.1.1) can;
+        same = grind (arith, branch_rest_by);
       }
 
   -- what leads to the only definition of a name, where these bytes are
@@ -395,12 +393,10 @@ x86_jumps memory position name bytes machine image_base linked size x tail reads
     let place : position + 6 ≡ position + length (0xFF ∷ 0x25 ∷ (x.field ++ [])) = omega arith in
     let whole : length (0xFF ∷ 0x25 ∷ (x.field ++ 0x90 ∷ 0x90 ∷ [])) ≡ 8 = omega (arith, length-append x.field (0x90 ∷ 0x90 ∷ [])) in
     let f = four_of x.field x.four in
-    let same : (0xFF ∷ 0x25 ∷ (x.field ++ [])) ++ 0x90 ∷ 0x90 ∷ [] ≡ 0xFF ∷ 0x25 ∷ (x.field ++ 0x90 ∷ 0x90 ∷ []) =
-    subst (λ xs. (0xFF ∷ 0x25 ∷ (xs ++ [])) ++ 0x90 ∷ 0x90 ∷ [] ≡ 0xFF ∷ 0x25 ∷ (xs ++ 0x90 ∷ 0x90 ∷ [])) (sym f.is) refl in
+    let same : (0xFF ∷ 0x25 ∷ (x.field ++ [])) ++ 0x90 ∷ 0x90 ∷ [] ≡ 0xFF ∷ 0x25 ∷ (x.field ++ 0x90 ∷ 0x90 ∷ []) = grind arith in
     record {
       code = 0xFF ∷ 0x25 ∷ (x.field ++ 0x90 ∷ 0x90 ∷ []);
-      there = subst (BytesAt memory position) same
-          (joined memory (0xFF ∷ 0x25 ∷ (x.field ++ [])) (0x90 ∷ 0x90 ∷ []) position (subst (λ a. BytesAt memory a (0xFF ∷ 0x25 ∷ (x.field ++ []))) plain x.there) (subst (λ a. BytesAt memory a (0x90 ∷ 0x90 ∷ [])) place tail));
+      there = grind (arith, joined);
       whole = whole ∙ sym size;
       entry = x.entry;
       reads = reads;
@@ -495,8 +491,7 @@ module _ (machine : MachineType) (c : LinkedCode) (offset type : ℕ) (name : Li
   call_clear : list_any (meets machine offset 1) c.code.relocations ≡ false
   call_clear =
       let r : Relocation = record { offset = offset + 1; symbol = has.index; kind = type } in
-      let misses : meets machine offset 1 r ≡ false =
-      false_from_ne_true (meets machine offset 1 r) (λ met. let bounds = meets_bounds machine offset 1 r met in let low : offset + 1 < offset + 1 = bounds.0 in omega arith) in
+      let misses : meets machine offset 1 r ≡ false = grind (arith, false_from_ne_true, meets_bounds) in
       own_any machine c offset name code rs has offset 1 (omega arith) (omega arith) (rw misses refl)
 
 rel32_call : (address : ℕ) (field : List ℕ) → length field ≡ 4 → direct_leads AMD64 address (0xE8 ∷ field) ≡ Some (plus_signed 32 1 (number_in field) (address + 5))
@@ -547,14 +542,12 @@ direct_arrives ARM64 image_base image linked codes targets memory at written cov
     let code : List ℕ = direct_bytes ARM64 in
     let r : Relocation = record { offset = offset + 0; symbol = has.index; kind = arm64_branch26 } in
     let here : offset + 0 ≡ offset = omega arith in
-    let alone : MeetsAlone ARM64 c.code.relocations offset 4 (record { offset = offset; symbol = has.index; kind = arm64_branch26 }) =
-    own_met ARM64 c offset name code own has offset 4 (omega arith) (omega arith) ∙ one_met ARM64 offset 4 r (omega arith) (omega arith) ∙ ap (λ (k : ℕ). record { offset = k; symbol = has.index; kind = arm64_branch26 } ∷ []) here in
+    let alone : MeetsAlone ARM64 c.code.relocations offset 4 (record { offset = offset; symbol = has.index; kind = arm64_branch26 }) = grind (arith, own_met ARM64 c offset name code own has offset 4 (omega arith) (omega arith), one_met ARM64 offset 4 r (omega arith) (omega arith)) in
     let end : offset + 4 ≤ length c.code.bytes = own_inside ARM64 c offset name code own has in
     let old : field_at c.code.bytes offset 4 ≡ 0x9400_0000 = ap (λ xs. number_in (take 4 xs)) (own_code ARM64 c offset name code own has) in
     let found = steady_there ARM64 image_base image linked codes targets memory at written covers_it c (contains_among c codes held) offset arm64_branch26 has.index alone (omega arith) refl in
     let target : targets c has.index ≡ stub = taken has.index (own_names ARM64 c offset name code own has) in
-    let holds : FieldHolds ARM64 arm64_branch26 image_base (c.position + offset) stub (field_at c.code.bytes offset) found.0 =
-    subst (λ n. FieldHolds ARM64 arm64_branch26 image_base (c.position + offset) n (field_at c.code.bytes offset) found.0) target found.1.1 in
+    let holds : FieldHolds ARM64 arm64_branch26 image_base (c.position + offset) stub (field_at c.code.bytes offset) found.0 = grind arith in
     let both = holds.branch refl (ap (bits_of 0 26) old) can.2 can.3 in
     let word : word_at found.1.0.bytes 0 ≡ found.0 4 = read_word found.1.0.bytes found.1.0.count ∙ found.1.0.value in
     by_stub ARM64 image_base (written ++ memory) (c.position + offset) stub found.1.0.bytes bytes found.1.0.located found.1.0.count

@@ -125,9 +125,7 @@ fills_one base end c low is =
     let own : length (c.bytes ++ []) ≡ length c.bytes + 0 = length-append c.bytes [] in
     record {
       ends = omega arith;
-      behind = λ rest. ap (λ n. padding ++ (c.bytes ++ filled n rest)) is
-          ∙ ap (λ bytes. padding ++ bytes) (sym (append_assoc c.bytes [] (filled end rest)))
-          ∙ sym (append_assoc padding (c.bytes ++ []) (filled end rest));
+      behind = λ rest. grind (arith, append_assoc);
     }
 
 fills_both : (base middle end : ℕ) (front back : List Contribution) → Fills base front middle → Fills middle back end → Fills base (front ++ back) end

@@ -65,9 +65,7 @@ entry_defined o b s is even name (ASymbol x ∷ entries) held =
                 subst (λ (d : SymbolDefinition). Among d (filter_map (defined_by_entry addresses) (ASymbol x ∷ entries))) definition here
             | inr other ↦ rw parts.0 (among_later _ _ _ (entry_defined o b s is even name entries (rw other at found)))
           ]
-      | inr other ↦
-          let later = entry_defined o b s is even name entries (rw other at held) in
-          elim (cases_Bool (is_defined_external x)) [ inl is_defined ↦ rw is_defined (among_later _ _ _ later) | inr none ↦ rw none later ]
+      | inr other ↦ grind (arith, entry_defined o b s is even name entries (rw other at held), held, among_later)
     ]
 
 pub has_section : (machine : MachineType) (o : Object) (ask : Ask) (found : Option ObjectSection) → option_and_then (λ (s : ObjectSection). ask_of machine o s.bytes s.relocations) found ≡ Some ask →
@@ -264,12 +262,7 @@ module _ (machine : MachineType) (linked : List Placed) (image : List Range) (st
         go (Some s) at is =
             let only = only_located machine linked image starts ends o b rest sized located Descriptors s tt at even.descriptors in
             elim (cases_Bool (bytes_eq s.bytes (zeros 20))) [
-              | inl blank ↦
-                  let same : s.bytes ≡ zeros 20 = (bytes_eq-Decides s.bytes (zeros 20)).0 blank in
-                  let fields : row_of machine s.relocations ≡ Some row = rw blank at is in (
-                    subst (BytesAt image b.descriptors) (ap (relocated machine linked p s.relocations) same ∙ row_filled s.relocations row fields) only.0,
-                    only.1 ∙ ap (λ n. b.descriptors + n) (ap length same),
-                  )
+              | inl blank ↦ grind (arith, bytes_eq-Decides, row_filled, only)
               | inr other ↦ let none : None ≡ Some row = rw other at is in cc
             ]
 
@@ -349,11 +342,7 @@ module _ (machine : MachineType) (linked : List Placed) (image : List Range) (st
       let descriptors_are : next.descriptors ≡ b.descriptors + 20 = end_of_sections Descriptors b head.sections ∙ row.1 in
       let lookups_are : next.lookups ≡ b.lookups = end_of_sections Lookups b head.sections ∙ lookups.1 in
       let addresses_are : next.addresses ≡ b.addresses = end_of_sections Addresses b head.sections ∙ addresses.1 in
-      let later_even : AreAligned next = record {
-        descriptors = ap (λ n. n % 4) descriptors_are ∙ later_even b.descriptors even.descriptors;
-        lookups = ap (λ n. n % 4) lookups_are ∙ even.lookups;
-        addresses = ap (λ n. n % 4) addresses_are ∙ even.addresses;
-      } in
+      let later_even : AreAligned next = grind (arith, later_even, lookups, addresses) in
       let next_located : LocatedFrom machine linked image next rest = located_next head b rest sized.0 located in
       let name = name_found head b rest sized.0 even located dll others later (slice_get head.entries begin.row.name) sized.1 next_located (λ d m. only d (among_back d own behind m)) begin.name in
       let tables = tables_from others later entries next later_even sized.1 next_located are in

@@ -442,8 +442,7 @@ entry_found linked o b place (Some (Auxiliary bytes)) led = cc
 entry_found linked o b place (Some (ASymbol x)) led =
     let first = and_parts (not (is_undefined_external x)) ((x.value == 0) && is_in_group Addresses (section_numbered o.sections x.section)) led in
     let second = and_parts (x.value == 0) (is_in_group Addresses (section_numbered o.sections x.section)) first.1 in
-    let here : address_in (section_addresses_of b o.sections) x.section x.value ≡ Some b.addresses =
-    place x.section x.value second.1 ∙ ap (λ n. Some (b.addresses + n)) (eqb-true x.value 0 second.0) ∙ ap Some (plus_none b.addresses) in
+    let here : address_in (section_addresses_of b o.sections) x.section x.value ≡ Some b.addresses = grind (arith, eqb-true, plus_none) in
     elim (cases_Bool (is_undefined_external x)) [
       | inl left ↦ let none : false ≡ true = rw left at first.0 in cc
       | inr own ↦ (ASymbol x, (refl, rw own here))

@@ -161,8 +161,7 @@ module _ (machine : MachineType) (linked : List Placed) (image : List Range) (lo
       let one = one_part p.objects p.table b rest is.objects is.sized level all_located all_only in
       let front : List SymbolDefinition = definitions (placed_from b p.objects) in
       let behind : List SymbolDefinition = definitions (placed_from next rest) in
-      let split : definitions (placed_from b (p.objects ++ rest)) ≡ front ++ behind =
-      ap definitions (placed_parts b p.objects rest) ∙ flat_map-append defined_by (placed_from b p.objects) (placed_from next rest) in
+      let split : definitions (placed_from b (p.objects ++ rest)) ≡ front ++ behind = grind (arith, placed_parts, flat_map-append) in
       let others = parts_link parts next later are one.aligned (located_behind machine linked image b p.objects rest is.sized all_located)
       (λ d m. all_only d (subst (Among d) (sym split) (among_back d front behind m))) in
       record {
@@ -196,14 +195,9 @@ module _ (machine : MachineType) (linked : List Placed) (image : List Range) (lo
           let own : Placed = record { object = o; section_addresses = section_addresses_of found.bases o.sections } in
           record {
             bases = found.bases;
-            held = subst (λ os. Among own (placed_from b os)) (sym (append_assoc p.objects (objects_of_parts parts) later))
-                (subst (Among own) (sym (placed_parts b p.objects (objects_of_parts parts ++ later)))
-                (among_back own (placed_from b p.objects) (placed_from (ends_behind b p.objects) (objects_of_parts parts ++ later)) found.held));
+            held = grind (arith, append_assoc, placed_parts, among_back, ends_behind);
             aligned = found.aligned;
-            addresses = found.addresses
-                ∙ ap (λ n. n + thunk_width machine * j)
-                (ap (λ n. n + thunk_width machine * entries_until i (blocks_of parts)) one.addresses_end
-                ∙ table_sum b.addresses (thunk_width machine) (length p.table.entries + 1) (entries_until i (blocks_of parts)));
+            addresses = grind (arith, entries_until, table_sum);
             section = found.section;
             only = found.only;
           }
@@ -217,11 +211,8 @@ module _ (machine : MachineType) (linked : List Placed) (image : List Range) (lo
           subst (λ n. NumberAt image 4 n (b.addresses + thunk_width machine * 0)) first
           (subst (NumberAt image 4 (b.descriptors + 16)) (one.loads.table_located ∙ plus_zero b.addresses (thunk_width machine)) one.loads.loads.plain.addresses_field)
       fields one rest (suc i) x is =
-          let row : (ends_behind b p.objects).descriptors + 20 * i + 16 ≡ b.descriptors + 20 * suc i + 16 =
-          ap (λ n. n + 20 * i + 16) one.descriptors_end ∙ ap (λ n. n + 16) (plus_sum b.descriptors i) in
-          let table : (ends_behind b p.objects).addresses + thunk_width machine * entries_until i (blocks_of parts) ≡ b.addresses + thunk_width machine * (length p.table.entries + 1 + entries_until i (blocks_of parts)) =
-          ap (λ n. n + thunk_width machine * entries_until i (blocks_of parts)) one.addresses_end
-          ∙ table_sum b.addresses (thunk_width machine) (length p.table.entries + 1) (entries_until i (blocks_of parts)) in
+          let row : (ends_behind b p.objects).descriptors + 20 * i + 16 ≡ b.descriptors + 20 * suc i + 16 = grind (arith, plus_sum) in
+          let table : (ends_behind b p.objects).addresses + thunk_width machine * entries_until i (blocks_of parts) ≡ b.addresses + thunk_width machine * (length p.table.entries + 1 + entries_until i (blocks_of parts)) = grind (arith, entries_until, table_sum) in
           subst (λ n. NumberAt image 4 n (b.addresses + thunk_width machine * (length p.table.entries + 1 + entries_until i (blocks_of parts)))) row
           (subst (NumberAt image 4 ((ends_behind b p.objects).descriptors + 20 * i + 16)) table (rest i x is))
 

@@ -86,16 +86,7 @@ module _ (machine : MachineType) (linked : List Placed) (p : Placed) (group : Gr
   one_placed [] b s is fits even = cc
   one_placed (x ∷ sections) b s is fits even =
       elim (cases_Bool (is_of group (group_named x.name))) [
-        | inl own ↦
-            let here : x ∷ sections_of group sections ≡ s ∷ [] = rw own at is in
-            let same : x ≡ s = cc in
-            let others : sections_of group sections ≡ [] = cc in
-            let first : contribution_at group (section_address_of b x) (relocated machine linked p x.relocations x.bytes) ≡ record { address = base_of group b; bytes = relocated machine linked p x.relocations x.bytes } ∷ [] =
-            contribution_one group b x.flags (group_named x.name) (relocated machine linked p x.relocations x.bytes) own
-            ∙ ap (λ n. record { address = n; bytes = relocated machine linked p x.relocations x.bytes } ∷ []) (stays (alignment x.flags) (base_of group b) (subst (λ y. fits_four y ≡ true) (sym same) fits) even) in
-            ap (λ front. front ++ filled_in (next b x) sections) first
-            ∙ ap (λ rest. record { address = base_of group b; bytes = relocated machine linked p x.relocations x.bytes } ∷ rest) (none_placed sections (next b x) others)
-            ∙ ap (λ (y : ObjectSection). record { address = base_of group b; bytes = relocated machine linked p y.relocations y.bytes } ∷ []) same
+        | inl own ↦ grind (arith, contribution_one, stays, none_placed)
         | inr other ↦
             ap (λ front. front ++ filled_in (next b x) sections) (contribution_none group b x.flags (group_named x.name) (relocated machine linked p x.relocations x.bytes) other)
             ∙ one_placed sections (next b x) s (rw other at is) fits (ap (λ n. n % 4) (same_end b x other) ∙ even)
@@ -128,15 +119,9 @@ module _ (machine : MachineType) (linked : List Placed) (p : Placed) (group : Gr
             let parts = contribution_located image (base_of group b) (record { address = a; bytes = bytes }) others (at_least (alignment s.flags) (base_of group b))
             (subst (λ front. BytesAt image (base_of group b) (filled (base_of group b) ((front ++ filled_in (next b s) sections) ++ behind)))
             (contribution_one group b s.flags (group_named s.name) bytes here) located) in
-            let end : a + length bytes ≡ base_of group (next b s) =
-            ap (λ n. a + n) (length-relocated machine linked p s.relocations s.bytes (length s.bytes) sized.0 refl)
-            ∙ sym (end_of_section group b s (group_named s.name) ∙ end_one group (base_of group b) s (group_named s.name) here) in
+            let end : a + length bytes ≡ base_of group (next b s) = grind (arith, length-relocated, end_of_section, end_one) in
             subst (λ n. BytesAt image n (filled n others)) end parts.1
-        | inr other ↦
-            let front : BytesAt image (base_of group b) (filled (base_of group b) others) =
-            subst (λ front. BytesAt image (base_of group b) (filled (base_of group b) ((front ++ filled_in (next b s) sections) ++ behind)))
-            (contribution_none group b s.flags (group_named s.name) bytes other) located in
-            subst (λ n. BytesAt image n (filled n others)) (sym (same_end b s other)) front
+        | inr other ↦ grind (arith, contribution_none, same_end)
       ])
 
 -- Ends, and addresses of symbols.
@@ -159,13 +144,9 @@ one_address group [] b s k x value is fits even at own = cc
 one_address group (y ∷ sections) b s zero x value is fits even at own = grind (arith, address_one, stays)
 one_address group (y ∷ sections) b s (suc k) x value is fits even at own =
     elim (cases_Bool (is_of group (group_named y.name))) [
-      | inl here ↦
-          let first : y ∷ sections_of group sections ≡ s ∷ [] = rw here at is in
-          let others : sections_of group sections ≡ [] = cc in
-          absurd (nowhere sections k others at)
+      | inl here ↦ grind (arith, nowhere)
       | inr other ↦
-          let same : base_of group (end_after b (section_address_of b y) (length y.bytes)) ≡ base_of group b =
-          end_of_section group b y (group_named y.name) ∙ end_none group (base_of group b) y (group_named y.name) other in
+          let same : base_of group (end_after b (section_address_of b y) (length y.bytes)) ≡ base_of group b = grind (arith, end_of_section, end_none) in
           one_address group sections (end_after b (section_address_of b y) (length y.bytes)) s k x value (rw other at is) fits (ap (λ n. n % 4) same ∙ even) at own
           ∙ ap (λ n. Some (n + value)) same
     ]
@@ -291,13 +272,10 @@ module _ (machine : MachineType) (linked : List Placed) (image : List Range) (st
             let here : bytes_at_symbol o s ≡ Some bytes = rw both at is in
             let found = in_numbered s.section s.value bytes here in
             let same : name ≡ s.name = (bytes_eq-Decides name s.name).0 parts.1 in
-            let definition : record { name = s.name; address = address_in addresses s.section s.value } ≡ record { name = name; address = Some found.0 } =
-            ap (λ n. record { name = n; address = address_in addresses s.section s.value }) (sym same) ∙ ap (λ (a : Option ℕ). record { name = name; address = a }) found.1.0 in
+            let definition : record { name = s.name; address = address_in addresses s.section s.value } ≡ record { name = name; address = Some found.0 } = grind arith in
             let first : Among (record { name = s.name; address = address_in addresses s.section s.value }) (filter_map (defined_by_entry addresses) (ASymbol s ∷ entries)) = rw parts.0 (among_first _ _) in
             (found.0, (subst (λ (d : SymbolDefinition). Among d (filter_map (defined_by_entry addresses) (ASymbol s ∷ entries))) definition first, found.1.1))
-        | inr other ↦
-            let later = named_located name entries bytes (rw other at is) in
-            (later.0, (elim (cases_Bool (is_defined_external s)) [ inl is_defined ↦ rw is_defined (among_later _ _ _ later.1.0) | inr none ↦ rw none later.1.0 ], later.1.1))
+        | inr other ↦ grind (arith, named_located name entries bytes (rw other at is), among_later)
       ]
 
   -- its only section of a group
@@ -307,9 +285,7 @@ module _ (machine : MachineType) (linked : List Placed) (image : List Range) (st
       let one = one_is (sections_of group o.sections) s is in
       let bytes : List ℕ = relocated machine linked p s.relocations s.bytes in
       let later : List Contribution = contributions machine linked group (placed_from (ends_after b o.sections) rest) in
-      let here : BytesAt image (base_of group b) (filled (base_of group b) (record { address = base_of group b; bytes = bytes } ∷ later)) =
-      subst (λ front. BytesAt image (base_of group b) (filled (base_of group b) (front ++ later))) (one_placed machine linked p group o.sections b s one.0 one.1 even)
-      (carried machine linked image b (o ∷ rest) group is_carried located) in
+      let here : BytesAt image (base_of group b) (filled (base_of group b) (record { address = base_of group b; bytes = bytes } ∷ later)) = grind (arith, one_placed machine linked p group o.sections b s one.0 one.1 even, carried machine linked image b (o ∷ rest) group is_carried located) in
       ((contribution_located image (base_of group b) (record { address = base_of group b; bytes = bytes }) later (same_order (base_of group b)) here).0, one_ends group o.sections (base_of group b) s one.0 one.1 even)
 
   -- Thunks.
@@ -320,9 +296,7 @@ module _ (machine : MachineType) (linked : List Placed) (image : List Range) (st
   hint_located (low ∷ []) ask place a is held here = cc
   hint_located (low ∷ high ∷ bytes) ask place a is held here =
       elim (cases_Bool (nat_lt low 256 && nat_lt high 256)) [
-        | inl both ↦
-            let parts = and_parts (nat_lt low 256) (nat_lt high 256) both in
-            named (ltb-true low 256 parts.0) (ltb-true high 256 parts.1) (before_nul bytes) refl (rw both at is)
+        | inl both ↦ grind (arith, and_parts, named, ltb-true)
         | inr other ↦ let none : None ≡ Some ask = rw other at is in cc
       ]
     where
@@ -331,10 +305,7 @@ module _ (machine : MachineType) (linked : List Placed) (image : List Range) (st
       named small below (Some text) at is =
           let ended = ended_is bytes text at in
           let hint : List ℕ = u16_bytes (low + 256 * high) in
-          let whole : low ∷ high ∷ bytes ≡ (hint ++ (text ++ 0 ∷ [])) ++ ended.0 =
-          ap (λ xs. low ∷ high ∷ xs) (ended.1.0 ∙ sym (append_assoc text (0 ∷ []) ended.0))
-          ∙ ap (λ xs. xs ++ ((text ++ 0 ∷ []) ++ ended.0)) (sym (u16_is low high small below))
-          ∙ sym (append_assoc hint (text ++ 0 ∷ []) ended.0) in
+          let whole : low ∷ high ∷ bytes ≡ (hint ++ (text ++ 0 ∷ [])) ++ ended.0 = grind (arith, append_assoc, u16_is) in
           let front = located_parts image (hint ++ (text ++ 0 ∷ [])) ended.0 place (subst (BytesAt image place) whole held) in
           let same : Name text (low + 256 * high) ≡ ask = cc in
           subst (StrictThunkAt image (thunk_width machine) a) same
@@ -360,13 +331,7 @@ module _ (machine : MachineType) (linked : List Placed) (image : List Range) (st
           ]
   asked a bytes (r ∷ []) ask is held =
       elim (cases_Bool (is_field machine 0 r && bytes_eq bytes (zeros (thunk_width machine)))) [
-        | inl both ↦
-            let parts = and_parts (is_field machine 0 r) (bytes_eq bytes (zeros (thunk_width machine))) both in
-            let field = field_is machine 0 r parts.0 in
-            let same : bytes ≡ zeros (thunk_width machine) = (bytes_eq-Decides bytes (zeros (thunk_width machine))).0 parts.1 in
-            let plain : relocated machine linked p (r ∷ []) bytes ≡ with_address (zeros (thunk_width machine)) 0 (target_address linked p r.symbol) =
-            ap (relocated machine linked p (r ∷ [])) same ∙ rw (field.0, field.1) refl in
-            (led (own_bytes o (slice_get o.entries r.symbol)) refl (rw both at is) (subst (BytesAt image a) plain held), ap length same ∙ length-replicate {A = ℕ} (thunk_width machine) 0)
+        | inl both ↦ grind (arith, and_parts, field_is, bytes_eq-Decides, led, length-replicate)
         | inr other ↦ let none : None ≡ Some ask = rw other at is in cc
       ]
     where

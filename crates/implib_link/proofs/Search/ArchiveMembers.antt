@@ -18,7 +18,7 @@ use Rattle.implib_link.specs.Search.Search.{is_wanted, undefined_in, numbers_pas
 use Rattle.implib_link.proofs.Search.Lists.{among_any, among_either, any_among, any_from, any_of, kept_into, kept_from, distinct_apart, distinct_later, listed_is, none_among, contains_among}
 use Rattle.implib.specs.LibraryName.{NamesOfDll, linked_name, names_for}
 use Rattle.std.proofs.lemmas.Option.{same_Some}
-use Rattle.std.proofs.lemmas.Grind.{flat_map-append}
+use Rattle.std.proofs.lemmas.Grind.{common_steps, flat_map-append}
 use Rattle.implib.specs.Members.WeakExternal.{weak_spec, weak_object}
 use Rattle.implib.specs.declared.flavor.Flavor.TheVariants.{Gnu}
 use Rattle.implib.specs.Formats.Layout.{encoded_size, object_of}
@@ -154,13 +154,8 @@ pub record AreWanted (exports : List ExportView) (wanted : List (List ℕ)) (cho
 
 pub numbers_are_wanted : (exports : List ExportView) (wanted : List (List ℕ)) → AreWanted exports wanted (numbers_passing (is_wanted wanted) 0 exports)
 numbers_are_wanted exports wanted = record {
-  only = λ k held.
-      let found = wanted_number wanted exports 0 k held in
-      let same : 0 + found.0 ≡ found.0 = omega arith in
-      (found.1, subst (λ n. slice_get exports n ≡ Some found.1) (sym (found.2 ∙ same)) found.3, found.4);
-  all = λ k e is want.
-      let same : 0 + k ≡ k = omega arith in
-      subst (λ n. Among n (numbers_passing (is_wanted wanted) 0 exports)) same (number_wanted wanted exports 0 k e is want);
+  only = λ k held. grind (arith, wanted_number);
+  all = λ k e is want. grind (arith, number_wanted wanted exports 0 k e is want);
 }
 
 abbrev member_specs_linked : MachineType → NamesOfDll → List ExportView → List ℕ → List MemberSpec
@@ -464,9 +459,7 @@ module _ (machine : MachineType) where
         let p : MemberSpec = weak_spec machine (weak_name dll.linked n) e.name e.alias_target in
         let good : Sound e = all_at Sound (exports_of l) n e (sound l.definition machine l.members [] made) is in
         let position : 0 + n ≡ n = omega arith in
-        let there : Among p (gnu_specs machine dll (exports_of l)) =
-        among_later _ _ _ (among_later _ _ _ (among_reverse p (numbered_specs machine dll.linked 0 (exports_of l))
-        (numbered_in machine dll.linked (exports_of l) 0 n e p is (subst (λ k. Among p (numbered_specs_of machine dll.linked k e)) (sym position) (weak_there n e alias))))) in
+        let there : Among p (gnu_specs machine dll (exports_of l)) = grind (arith, weak_there n e alias, among_later, among_reverse, numbered_in) in
         let short : encoded_size (weak_object machine e.name e.alias_target) ≤ 0xFFFF_FFFF =
         short_enough p (none_among is_too_long p (gnu_specs machine dll (exports_of l)) there (not_long l.definition machine l.members [] made)) in
         object_in-encoded (weak_object machine e.name e.alias_target) (Fits-weak_object machine e.name e.alias_target good.name good.alias_target) (omega arith)
@@ -520,11 +513,7 @@ distinct_from (x ∷ xs) few = grind (arith, distinct_from xs, bytes_eq-Decides,
 pub times_flat : {X : Type 0} (f : X → List (List ℕ)) (name : List ℕ) (xs : List X) → times name (flat_map f xs) ≡ sum_by (λ x. times name (f x)) xs
 unfolding times
 times_flat f name [] = refl
-times_flat f name (x ∷ xs) =
-    let both : times name (f x ++ flat_map f xs) ≡ times name (f x) + times name (flat_map f xs) = times_both name (f x) (flat_map f xs) in
-    let behind : times name (flat_map f xs) ≡ sum_by (λ y. times name (f y)) xs = times_flat f name xs in
-    let sums : sum_by (λ y. times name (f y)) (x ∷ xs) ≡ 0 + times name (f x) + sum_by (λ y. times name (f y)) xs = sum_by-append (λ y. times name (f y)) (x ∷ []) xs in
-    omega arith
+times_flat f name (x ∷ xs) = grind (arith, common_steps, times_flat f name xs, times_both, sum_by-append)
 
 pub times_moved : {X : Type 0} (f : X → List (List ℕ)) (name : List ℕ) (xs ys : List X) → IsPermutation xs ys → times name (flat_map f ys) ≡ times name (flat_map f xs)
 times_moved f name xs ys moved = grind (arith, times_flat, sum_by-IsPermutation)

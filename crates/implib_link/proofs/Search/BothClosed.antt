@@ -275,10 +275,7 @@ module _ (machine : MachineType) (libraries : List FlavorLibrary) (archive : IsF
       ];
       into = λ o held. subst (Among o) (sym e.tables) (among_front o (objects_in all_here) (null_descriptor ∷ []) (subst (Among o) same held));
       are_taken = member_other machine libraries archive reads weak (expands machine libraries archive) own taken arranged objects closed_as;
-      are_linked = λ m held. elim (other_from machine libraries archive reads weak (expands machine libraries archive) own taken arranged objects closed_as m held) [
-        | inl null ↦ absurd (no_null null.0.0 null.0.1 null.0.2)
-        | inr all ↦ all
-      ];
+      are_linked = λ m held. grind (arith, other_from machine libraries archive reads weak (expands machine libraries archive) own taken arranged objects closed_as m held, expands machine libraries archive, held, no_null);
       held = record {
         distinct = members_distinct machine libraries archive arranged closed_as.order wanted_here;
         ended = e;

@@ -67,15 +67,9 @@ module _ (reads : List ℕ → Option Object) (archive : List MemberView) (own :
   unfolding left_as claimed_as
   pulls_for taken name m pulls =
       let parts = unresolved_parts (own ++ objects_as reads taken) name (contains_among name (unresolved (own ++ objects_as reads taken)) pulls.named) in
-      let none : Among name (flat_map claimed_names own ++ flat_map claimed_names (objects_as reads taken)) → ⊥ =
-      λ claimed. parts.1 (subst (Among name) (sym (flat_map-append claimed_names own (objects_as reads taken))) claimed) in
+      let none : Among name (flat_map claimed_names own ++ flat_map claimed_names (objects_as reads taken)) → ⊥ = grind (arith, flat_map-append) in
       record {
-        named = among_contains name (unresolved own ++ flat_map undefined_in (objects_as reads taken))
-            (elim (among_either name (flat_map undefined_in own) (flat_map undefined_in (objects_as reads taken)) (subst (Among name) (flat_map-append undefined_in own (objects_as reads taken)) parts.0)) [
-              | inl left ↦ among_front name (unresolved own) (flat_map undefined_in (objects_as reads taken))
-                  (unresolved_from own name left (λ claimed. none (among_front name (flat_map claimed_names own) (flat_map claimed_names (objects_as reads taken)) claimed)))
-              | inr left ↦ among_back name (unresolved own) (flat_map undefined_in (objects_as reads taken)) left
-            ]);
+        named = grind (arith, among_contains, among_either, flat_map-append, among_front, unresolved_from, among_back);
         undefined = not_there name (flat_map claimed_names (objects_as reads taken)) (λ claimed. none (among_back name (flat_map claimed_names own) (flat_map claimed_names (objects_as reads taken)) claimed));
         listed = pulls.listed;
         new = pulls.new;

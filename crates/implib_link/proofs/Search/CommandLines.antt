@@ -1,5 +1,5 @@
 -- Searches of several archives, in the order of a command line, take what one search of all of them takes.
-use Rattle.std.proofs.Common.{rules, ◌≡◌, ℕ, ◌⊎◌, zero, suc, Bool, false, List, [], ◌∷◌, ◌++◌, length, Option, Some, None, refl, ap, sym, ◌∙◌, subst, inl, inr, arith}
+use Rattle.std.proofs.Common.{rules, ◌≡◌, ℕ, ◌⊎◌, zero, suc, Bool, false, List, [], ◌∷◌, ◌++◌, length, Option, Some, refl, ap, sym, ◌∙◌, subst, inl, inr, arith}
 use Rattle.std.specs.Prelude.{◌==◌, bytes_eq, not, slice_get}
 use Rattle.std.specs.List.{AllByRecursion, Contains, IsDistinct, filter, flat_map, list_any}
 use Rattle.std.proofs.lemmas.Bool.{cases_Bool, true≢false, not_from_false}
@@ -72,10 +72,7 @@ module _ (reads : List ℕ → Option Object) (members : List MemberView) where
   keeps_on first second before between after one two n = (
     λ held. (two n).0 ((one n).0 held),
     λ held. elim ((two n).1 held) [
-      | inl held ↦ elim ((one n).1 held) [
-        | inl old ↦ inl old
-        | inr new ↦ inr (among_front n first second new)
-      ]
+      | inl held ↦ grind (arith, among_front)
       | inr new ↦ inr (among_back n first second new)
     ],
   )
@@ -256,10 +253,7 @@ module _ (reads : List ℕ → Option Object) (members : List MemberView) where
         Among name (flat_map undefined_in ((own ++ objects_given inputs) ++ objects_as reads (members_at members after))) → Among name (flat_map undefined_in (own ++ objects_as reads (members_at members before)))
     left_before own inputs before after ordered is none left =
         elim (refs_either undefined_in (own ++ objects_given inputs) (objects_as reads (members_at members after)) name left) [
-          | inl given ↦ elim (refs_either undefined_in own (objects_given inputs) name given) [
-            | inl here ↦ refs_front undefined_in own (objects_as reads (members_at members before)) name here
-            | inr behind ↦ absurd (objects_leave_not inputs ordered none behind)
-          ]
+          | inl given ↦ grind (arith, refs_either, refs_front, objects_leave_not)
           | inr taken ↦
               let from = name_as reads undefined_in name (members_at members after) taken in
               let where_from = taken_number members after from.member from.held in
@@ -340,9 +334,7 @@ module _ (reads : List ℕ → Option Object) (members : List MemberView) where
   unfolding AreTakenIntoAs
   gnu_completes inputs taken once none complete is = record {
     in_turn = searches_in_turn (objects_given inputs) taken once [] inputs [] [] taken refl none is (λ n held. held) tt;
-    ended = λ name m pulls.
-        none-some m (sym (all_among (λ n. first_listed members n ≡ None) name (unresolved (objects_given inputs ++ objects_as reads (members_at members taken)))
-        (contains_among name (unresolved (objects_given inputs ++ objects_as reads (members_at members taken))) pulls.named) complete) ∙ pulls.listed);
+    ended = λ name m pulls. grind (arith, contains_among name (unresolved (objects_given inputs ++ objects_as reads (members_at members taken))) pulls.named, none-some, all_among);
   }
 
   -- Two searches of one list take the same.
@@ -392,12 +384,7 @@ module _ (reads : List ℕ → Option Object) (members : List MemberView) where
           | inr free ↦
               let none : Among name (flat_map claimed_names (objects_as reads other)) → ⊥ = λ claimed. true≢false (sym (among_any name (flat_map claimed_names (objects_as reads other)) claimed) ∙ free) in
               absurd (takes.ended name m (record {
-                named = among_contains name (unresolved (own ++ objects_as reads other)) (unresolved_from (own ++ objects_as reads other) name
-                    (refs_of_more taken other name are parts.0)
-                    (λ claimed. elim (refs_either claimed_names own (objects_as reads other) name claimed) [
-                      | inl own_claims ↦ parts.1 (refs_front claimed_names own (objects_as reads taken) name own_claims)
-                      | inr claims ↦ none claims
-                    ]));
+                named = grind (arith, among_contains, unresolved_from, refs_of_more, parts, refs_either, refs_front);
                 listed = pulls.listed;
                 new = λ held. none (claims_there other m name (contains_among m other held) from.0 from.1);
               }))

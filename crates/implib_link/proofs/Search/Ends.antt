@@ -92,9 +92,7 @@ first_new archive taken name =
     elim (found_or_not name archive) [
       | inl none ↦ inr (λ m listed new. (let found : None ≡ Some m = sym none ∙ listed in cc))
       | inr found ↦ elim (cases_Bool (is_taken taken found.0)) [
-        | inl is ↦ inr (λ m listed new.
-            let same : m ≡ found.0 = same_Some m found.0 (sym listed ∙ found.1) in
-            new (among_contains m taken (subst (λ x. Among x taken) (sym same) (taken_among taken found.0 is))))
+        | inl is ↦ grind (arith, taken_among taken found.0 is, same_Some, among_contains)
         | inr none ↦ inl (found.0, found.1, λ has. true≢false (sym (among_taken taken found.0 (contains_among found.0 taken has)) ∙ none))
       ]
     ]

@@ -1,4 +1,5 @@
 -- How far packed import tables of libraries reach, by the definitions alone.
+use Rattle.std.proofs.lemmas.Grind.{common_steps}
 use Rattle.std.proofs.Common.{◌≡◌, ℕ, ◌+◌, ◌-◌, ◌%◌, ◌<◌, ◌≤◌, List, [], ◌∷◌, ◌++◌, length, map, Option, Some, None, refl, ap, sym, ◌∙◌, subst, inl, inr, arith, if◌then◌else◌, Bool, true, false, ◌^◌}
 use Rattle.std.specs.Prelude.{not, unwrap_or, IsPermutation}
 use Rattle.std.specs.List.{filter, sum_by, before_first, position_or_len, AllByRecursion, cons_option, Contains}
@@ -221,8 +222,7 @@ null_near machine = omega arith
 askings_near : (machine : MachineType) (dll : NamesOfDll) (es : List ExportView) (rest : List Object) → all_rooms (behind_descriptor machine dll es rest) ≤ 32 + sum_by short_room es + all_rooms rest
 unfolding all_rooms
 askings_near machine dll [] rest = (let thunk = thunk_near machine dll in omega arith)
-askings_near machine dll (e ∷ es) rest =
-    grind (arith, askings_near machine dll es rest, asking_near machine dll (short_import_symbol e) (ask_in Msvc machine e) (use_for e), use_for e, ask_near machine e, sum_by-cons short_room e es)
+askings_near machine dll (e ∷ es) rest = grind (arith, common_steps, askings_near machine dll es rest, asking_near, use_for, ask_near, sum_by-cons)
 
 -- the imports of a library that are wanted
 pub imports_near : (l : Library) (names : List (List ℕ)) → 67 + length l.definition.import_name + sum_by short_room (chosen_exports l.definition (imports_wanted l names)) ≤ msvc_library_room l
@@ -314,12 +314,7 @@ tables_last own weak tables plain none all = grind (arith, append_assoc, filter-
 pub others_first : (own weak tables : List Object) → NoneHave own → NoneHave weak → AllByRecursion (λ o. has_tables o ≡ true) tables →
     HaveSame (filter (λ o. not (has_tables o)) (own ++ (weak ++ tables))) (own ++ weak)
 others_first own weak tables plain none all =
-    let are : filter (λ o. not (has_tables o)) (own ++ (weak ++ tables)) ≡ own ++ weak =
-    ap (filter (λ o. not (has_tables o))) (sym (append_assoc own weak tables))
-    ∙ filter-append (λ o. not (has_tables o)) (own ++ weak) tables
-    ∙ ap (λ behind. filter (λ o. not (has_tables o)) (own ++ weak) ++ behind) (none_left tables all)
-    ∙ append-nil (filter (λ o. not (has_tables o)) (own ++ weak))
-    ∙ plain_left (own ++ weak) (all_append (λ o. has_tables o ≡ false) own weak plain none) in
+    let are : filter (λ o. not (has_tables o)) (own ++ (weak ++ tables)) ≡ own ++ weak = grind (arith, append_assoc, filter-append, none_left, append-nil, plain_left, all_append) in
     λ o. (λ held. subst (λ zs. Contains zs o) are held, λ held. subst (λ zs. Contains zs o) (sym are) held)
 
 -- The objects of a program, packed where there is room for the libraries' tables.

@@ -154,9 +154,7 @@ module _ (machine : MachineType) where
       let there = listed_is (short_group l e).members name m found in
       elim (cases_Bool (is_short_alias e)) [
         | inl alias ↦ finds_pair l e name m alias found (of_alias (subst (Among m) (alias_members l e alias) there.0) there.1)
-        | inr none ↦
-            let same : m ≡ short_of machine l e = only_one m (short_of machine l e) (subst (Among m) (plain_members l e none) there.0) in
-            FindsShort none same (subst (λ (y : MemberView). Among name y.symbols) same there.1)
+        | inr none ↦ grind (arith, only_one, plain_members)
       ]
     where
       of_alias : Among m (weak_of machine l (short_import_symbol e) e.alias_target ∷ weak_of machine l (imp_symbol (short_import_symbol e)) (imp_symbol e.alias_target) ∷ short_of machine l e ∷ []) →
@@ -172,8 +170,7 @@ module _ (machine : MachineType) where
   within_export l e m name held listed =
       elim (cases_Bool (is_short_alias e)) [
         | inl alias ↦ of_alias alias (subst (Among m) (alias_members l e alias) held)
-        | inr none ↦
-            short_symbol e name none (subst (λ (y : MemberView). Among name y.symbols) (only_one m (short_of machine l e) (subst (Among m) (plain_members l e none) held)) listed)
+        | inr none ↦ grind (arith, short_symbol, only_one, plain_members)
       ]
     where
       either : is_short_alias e ≡ true → (name ≡ short_import_symbol e) ⊎ (name ≡ imp_symbol (short_import_symbol e)) → Among name (symbols_of_short e)

@@ -169,8 +169,7 @@ module _ (reads : List ℕ → Option Object) (archive : List MemberView) (own :
       let parts = and_parts (is_left reads archive own numbers e.name) (not (list_any (λ number. number == e.number) numbers)) due in
       let own_first = first e.number (among_first e.number numbers) in
       record {
-        named = among_contains e.name (unresolved (own ++ objects_as reads (members_at archive numbers)))
-            (any_among e.name (unresolved (own ++ objects_as reads (members_at archive numbers))) parts.0);
+        named = grind (arith, among_contains, any_among);
         listed = first_at archive e.name e.number from.0 own_first from.1 from.2;
         new = λ held.
             let other = taken_number archive numbers from.0 (contains_among from.0 (members_at archive numbers) held) in

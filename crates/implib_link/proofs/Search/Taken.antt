@@ -16,8 +16,8 @@ use Rattle.implib.specs.Members.Msvc.{short_import_symbol, short_import_symbols}
 use Rattle.implib.proofs.Link.LinkedMembers.{among_contains, among_map}
 use Rattle.implib.proofs.Link.Ranges.{Among, all_among, among_back, among_first, among_front, among_later, among_flat}
 use Rattle.implib_link.specs.Flavors.Program.{all_members, HaveSame, AreEnded, Ending, objects_taken, ClaimsNone, has_tables}
-use Rattle.implib_link.specs.Search.Search.{Library, exports_of, inputs_wanted, NamesNoHeadOrTail, first_listed, left_as, objects_as, undefined_in, listed_in, unresolved, is_wanted}
-use Rattle.implib_link.specs.Search.Libraries.{FlavorLibrary, IsFlavorArchive, IsWeakOfLibraries, NamesNoMembers, TakesOfLibraries, archive_of_both, gnu_among, msvc_among, first_null, is_weak_in, short_inputs, shorts_linked, wanted_with_weak, AreClosed, AreGiven, headers_of_both, inputs_in, symbols_kept, symbols_in, targets_of_both, wanted_at_most, alias_targets, heads_of, is_data_alias, symbols_wanted, tails_of, is_import_wanted, is_short_alias, weak_in, TakesIntoFor, headers_of, import_symbols_wanted, NamesNoHeader}
+use Rattle.implib_link.specs.Search.Search.{Library, exports_of, inputs_wanted, first_listed, left_as, objects_as, undefined_in, listed_in, unresolved, is_wanted}
+use Rattle.implib_link.specs.Search.Libraries.{FlavorLibrary, IsFlavorArchive, IsWeakOfLibraries, NamesNoMembers, TakesOfLibraries, archive_of_both, gnu_among, msvc_among, first_null, is_weak_in, short_inputs, shorts_linked, wanted_with_weak, AreClosed, AreGiven, headers_of_both, inputs_in, symbols_kept, symbols_in, targets_of_both, wanted_at_most, alias_targets, heads_of, is_data_alias, symbols_wanted, tails_of, is_import_wanted, is_short_alias, weak_in, TakesIntoFor, headers_of, import_symbols_wanted}
 use Rattle.implib_link.specs.Flavors.Expansion.{expanded_in}
 use Rattle.implib_link.proofs.Search.Chosen.{AnOwn, AnyOf, IsLinked, TheLast, TheTop, chosen_by, chosen_name, is_chosen, linked_are, linked_from, linked_into, own_chosen, shorts_are, chosen_too}
 use Rattle.implib_link.proofs.Search.Closing.{AreTakenInTurnAs, IsFirstAs, TakesAs, left_by as left_as_by, pulled, reached as reached_as, still_named as still_as, there_not, in_turn_for, none_claimed, not_there}
@@ -433,18 +433,8 @@ module _ (machine : MachineType) (libraries : List FlavorLibrary) (archive : IsF
 
     pub names_none : NamesNoMembers machine libraries (unresolved own ++ left_as reads (filter weak taken))
     names_none = record {
-      gnu = all_each (λ (l : Library). NamesNoHeadOrTail machine (linked_name l.definition) wanted) (gnu_among libraries) (λ l held.
-          let none : NamesNoHeadOrTail machine (linked_name l.definition) most =
-          all_among (λ (x : Library). NamesNoHeadOrTail machine (linked_name x.definition) (wanted_at_most libraries own)) l (gnu_among libraries) held given.names.gnu in
-          record { head = fewer (head_symbol machine (linked_name l.definition)) none.head; name = fewer (iname_symbol machine (linked_name l.definition)) none.name });
-      msvc = all_each (λ (l : Library). NamesNoHeader (linked_dll l.definition) wanted) (msvc_among libraries) (λ l held.
-          let none : NamesNoHeader (linked_dll l.definition) most =
-          all_among (λ (x : Library). NamesNoHeader (linked_dll x.definition) (wanted_at_most libraries own)) l (msvc_among libraries) held given.names.msvc in
-          record {
-            descriptor = fewer (descriptor_symbol (linked_dll l.definition)) none.descriptor;
-            null_descriptor = fewer null_descriptor_symbol none.null_descriptor;
-            null_thunk = fewer (null_thunk_symbol (linked_dll l.definition)) none.null_thunk;
-          });
+      gnu = grind (arith, all_each, all_among, fewer);
+      msvc = grind (arith, all_each, all_among, fewer);
     }
 
     needed_here : (m : MemberView) → Among m taken → Needed machine libraries archive wanted m
