@@ -286,10 +286,7 @@ entry_of machine ending bases inputs objects i j p e links input chosen =
 
 pub inputs_blocks : (machine : MachineType) (inputs : List FlavorInput) → map imported_by_block (map (block_of_flavor machine) inputs) ≡ map (imported_in machine) inputs
 inputs_blocks machine [] = refl
-inputs_blocks machine (p ∷ inputs) =
-    ap (λ asks. record { dll = dll_of p; asks = asks } ∷ map imported_by_block (map (block_of_flavor machine) inputs))
-    (asks_again (ask_in p.flavor machine) (λ (e : ExportView). Some (imp_symbol (symbol_in p.flavor e))) (exports_chosen p))
-    ∙ ap (λ is. imported_in machine p ∷ is) (inputs_blocks machine inputs)
+inputs_blocks machine (p ∷ inputs) = simp (inputs_blocks machine inputs, asks_again)
 
 pub inputs_until : (machine : MachineType) (i : ℕ) (inputs : List FlavorInput) → entries_until i (map (block_of_flavor machine) inputs) ≡ thunks_of i inputs
 inputs_until machine zero inputs = refl

@@ -37,7 +37,7 @@ use Rattle.implib.specs.Members.Members.{AreMembersOf, member_specs}
 use Rattle.implib.specs.Members.MsvcMembers.{descriptor_spec, export_specs, header_specs, null_descriptor_spec, null_thunk_spec, short_import_spec}
 use Rattle.implib.specs.Members.ReadBack.{file_of}
 use Rattle.implib.specs.Renaming.{renamed}
-use Rattle.implib.specs.Formats.ShortImport.{ShortImport, ask_of_short_import, asked_by_name_type, import_code, import_const, import_data, import_name_undecorate, without_prefix}
+use Rattle.implib.specs.Formats.ShortImport.{ShortImport, ask_of_short_import, asked_by_name_type, import_code, import_const, import_data, without_prefix}
 use Rattle.implib.proofs.Members.GnuReadings.{member_specs_read}
 use Rattle.implib.proofs.Members.Import.{name_type_is_ordinal, name_type_of_fits, symbol_without_nul}
 use Rattle.implib.proofs.Members.MemberReadings.{ReadsBack, map_after, member_specs_read_back}
@@ -129,8 +129,7 @@ ask_is machine dll e = rw (name_type_is_ordinal machine e) refl
 
 -- the short import of an export is taken for the object that asks so
 pub short_import_taken : (machine : MachineType) (dll : NamesOfDll) (e : ExportView) → expansion machine (short_import_of machine dll.text e) ≡ Some (asking machine dll e)
-short_import_taken machine dll e =
-    grind (arith, le-leb (name_type_of machine e) import_name_undecorate (name_type_of_fits machine e), name_type_of_fits machine e, same_machine machine, ask_is machine dll e, use_is e.is_data e.constant)
+short_import_taken machine dll e = simp (le-leb, name_type_of_fits, same_machine, ask_is, use_is)
 
 -- What a short import asks for has no NUL.
 

@@ -489,8 +489,7 @@ module _ (machine : MachineType) (descriptors addresses : ℕ) (taken : List Sho
   own_distinct = grind (arith, all_names_of, distinct_from, grouped_times, few_from)
 
   own_definitions : (name : List ℕ) → definitions_of name (placed_by_lld machine addresses taken ∷ []) ≡ filter (λ (d : SymbolDefinition). bytes_eq name d.name) own
-  own_definitions name =
-      grind (arith, append-nil (filter_map (defined_by_entry (At Addresses addresses ∷ [])) (entries_of_groups (thunk_width machine) 0 (grouped taken))), groups_define (thunk_width machine) addresses 0 (grouped taken), plus_none addresses)
+  own_definitions name = simp (append-nil, groups_define, plus_none)
 
   pub defined_once : (r : ShortImport) → Among r taken → (d : SymbolDefinition) → d.name ≡ imp_symbol r.symbol → Among d own → definitions_of (imp_symbol r.symbol) linked ≡ d ∷ []
   defined_once r m d named among =

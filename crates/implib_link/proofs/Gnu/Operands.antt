@@ -81,8 +81,7 @@ operand_by : (machine : MachineType) (type base position target after : ℕ) (ol
     CanReach machine base target → position + (4 + after) ≤ 2 ^ 31 → target < 2 ^ 31 → operand_leads machine (base + position) after (new 4) ≡ Some (base + target)
 operand_by I386 type base position target after old new counts holds can near small = ap Some (dir32_is (new 4) (old 4) base target (holds.dir32 counts.0) counts.1 can small)
 operand_by ARMNT type base position target after old new counts holds can near small = absurd counts
-operand_by AMD64 type base position target after old new (further, (few, (is, ends))) holds can near small =
-    ap Some (rel32_leads (new 4) (old 4) base position target after further (holds.rel32 further few is) ends near small)
+operand_by AMD64 type base position target after old new (further, (few, (is, ends))) holds can near small = cc (rel32_leads (new 4) (old 4) base position target after further (holds.rel32 further few is) ends near small)
 operand_by ARM64 type base position target after old new counts holds can near small = absurd counts
 
 branch_by : (machine : MachineType) (type base position target after : ℕ) (old new : ℕ → ℕ) → IsBranch machine type after (old 4) → FieldHolds machine type base position target old new →

@@ -96,8 +96,7 @@ resolves_anywhere : (linked : List Placed) (codes : List PlacedCode) (targets : 
 resolves_anywhere linked codes targets outside unwanted = record {
   tables = λ c index address entry held at is.
       let all : in_no_table linked c ≡ true = each_of (in_no_table linked) c codes outside (contains_among c codes held) in
-      let none : is_none (symbol_address linked c.from entry) ≡ true =
-      each_of (λ x. is_none (symbol_address linked c.from x)) entry c.from.object.entries all (among_at entry c.from.object.entries index at) in
+      let none : is_none (symbol_address linked c.from entry) ≡ true = grind (arith, among_at entry c.from.object.entries index, each_of, is_none) in
       absurd (true≢false (sym none ∙ ap is_none is));
   code = λ c d index s t c_held d_held at undefined defines named. absurd (none_wanted codes unwanted c d index s t c_held d_held at undefined defines named);
 }
@@ -119,8 +118,7 @@ leads_to address linked (ASymbol s) =
 aliases_at : (linked : List Placed) (codes : List LinkedCode) (n : ℕ) → list_all (λ (c : LinkedCode). list_all (leads_to n linked) c.from.object.entries) codes ≡ true →
     ResolvesAliases linked codes (λ c index. n)
 aliases_at linked codes n all c index address s target held at undefined none weak there =
-    let own : list_all (leads_to n linked) c.from.object.entries ≡ true =
-    each_of (λ (x : LinkedCode). list_all (leads_to n linked) x.from.object.entries) c codes all (contains_among c codes held) in
+    let own : list_all (leads_to n linked) c.from.object.entries ≡ true = grind (arith, contains_among c codes held, each_of) in
     let one : leads_to n linked (ASymbol s) ≡ true = each_of (leads_to n linked) (ASymbol s) c.from.object.entries own (among_at (ASymbol s) c.from.object.entries index at) in
     let two : is_at n (option_and_then (address_of linked) (weak_target s.name linked)) ≡ true = rw undefined at one in
     let three : is_at n (address_of linked target) ≡ true = subst (λ o. is_at n (option_and_then (address_of linked) o) ≡ true) weak two in

@@ -176,8 +176,7 @@ pub none_wanted : (codes : List PlacedCode) → list_all (λ (c : PlacedCode). a
 none_wanted codes all c d index s t c_held d_held at undefined defines named =
     let wanted : List Entry = c.from.object.entries in
     let one : all_unwanted codes wanted ≡ true = each_of (λ (x : PlacedCode). all_unwanted codes x.from.object.entries) c codes all (contains_among c codes c_held) in
-    let two : list_all (unwanted wanted d) d.from.object.entries ≡ true =
-    each_of (λ (x : PlacedCode). list_all (unwanted wanted x) x.from.object.entries) d codes one (contains_among d codes d_held) in
+    let two : list_all (unwanted wanted d) d.from.object.entries ≡ true = grind (arith, contains_among d codes d_held, each_of) in
     let three : unwanted wanted d (ASymbol t) ≡ true = each_of (unwanted wanted d) (ASymbol t) d.from.object.entries two (contains_among (ASymbol t) d.from.object.entries defines.held) in
     let external : is_defined_external t ≡ true = defines.external in
     let here : (t.section == d.number) ≡ true = eq-eqb t.section d.number defines.here in
@@ -211,16 +210,14 @@ pub once_by : (linked : List Placed) (codes : List PlacedCode) → list_all (λ 
     list_all (λ (c : PlacedCode). list_all (in_no_table linked codes c) c.from.object.entries) codes ≡ true → DefineOnce linked codes
 once_by linked codes one two = record {
   once = λ c d s t c_held d_held c_defines d_defines named.
-      let all : list_all (own_once codes c) c.from.object.entries ≡ true =
-      each_of (λ (x : PlacedCode). list_all (own_once codes x) x.from.object.entries) c codes one (contains_among c codes c_held) in
+      let all : list_all (own_once codes c) c.from.object.entries ≡ true = grind (arith, contains_among c codes c_held, each_of) in
       let own : own_once codes c (ASymbol s) ≡ true = each_of (own_once codes c) (ASymbol s) c.from.object.entries all (contains_among (ASymbol s) c.from.object.entries c_defines.held) in
       let here : is_here s.name c s ≡ true = here_from s.name c s c_defines refl in
       let only : list_all (nat_eq (c.position + s.value)) (found s.name codes) ≡ true = rw here at own in
       eqb-true (c.position + s.value) (d.position + t.value)
       (each_of (nat_eq (c.position + s.value)) (d.position + t.value) (found s.name codes) only (defined_found s.name codes d t (contains_among d codes d_held) d_defines (sym named)));
   tables = λ c d s t address c_held d_held held undefined is defines named.
-      let all : list_all (in_no_table linked codes c) c.from.object.entries ≡ true =
-      each_of (λ (x : PlacedCode). list_all (in_no_table linked codes x) x.from.object.entries) c codes two (contains_among c codes c_held) in
+      let all : list_all (in_no_table linked codes c) c.from.object.entries ≡ true = grind (arith, contains_among c codes c_held, each_of) in
       let own : in_no_table linked codes c (ASymbol s) ≡ true = each_of (in_no_table linked codes c) (ASymbol s) c.from.object.entries all (contains_among (ASymbol s) c.from.object.entries held) in
       not_none address (d.position + t.value) (found s.name codes) (defined_found s.name codes d t (contains_among d codes d_held) defines named)
       (subst (λ o. none_where o (found s.name codes) ≡ true) is own);

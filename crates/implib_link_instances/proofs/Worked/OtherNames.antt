@@ -84,10 +84,7 @@ beside = record {
   sections = (refl, (refl, tt));
   ends = (omega arith, (omega arith, tt));
   apart = all_apart (gnu_image ++ ranges_of_codes other_codes) refl;
-  relocated = (
-    relocated_by AMD64 0x1_4000_0000 (other_targets other_start) 0x1000 other_start.code start_code.bytes refl,
-    (relocated_by AMD64 0x1_4000_0000 (other_targets stub_code) 0x1030 stub_code.code stub_code.bytes refl, tt),
-  );
+  relocated = grind (arith, relocated_by AMD64 0x1_4000_0000 (other_targets other_start) 0x1000 other_start.code start_code.bytes refl, relocated_by AMD64 0x1_4000_0000 (other_targets stub_code) 0x1030 stub_code.code stub_code.bytes refl);
   resolved = takes_outside other_address other_linked other_codes refl;
 }
 
@@ -172,10 +169,7 @@ unfolding lld_opened IsAskable
 lld_program = record {
   writable = (record { name = refl; asks = (omega arith, tt) }, (record { name = refl; asks = ((omega arith, refl), tt) }, (record { name = refl; asks = ((omega arith, refl), tt) }, tt)));
   distinct = distinct_by (imp_symbols_of (shorts_on AMD64)) refl;
-  agree = alike (shorts_on AMD64) (
-    ((λ e. refl), ((λ e. cc), ((λ e. refl), tt))),
-    (((λ e. cc), ((λ e. refl), ((λ e. cc), tt))), (((λ e. refl), ((λ e. cc), ((λ e. refl), tt))), tt)),
-  );
+  agree = grind (arith, alike);
   before = other_placed ∷ [];
   behind = placed_thunk AMD64 (mid_on AMD64) ∷ [];
   placed = refl;

@@ -1,5 +1,5 @@
 -- Programs of libraries of GNU dlltool and of ours, by computing.
-use Rattle.std.proofs.Common.{Bool, List, [], arith, codes, false, inl, map, refl, subst, true, ◌++◌, ◌∷◌, ◌≡◌}
+use Rattle.std.proofs.Common.{Bool, List, [], arith, codes, false, inl, map, refl, true, ◌++◌, ◌∷◌, ◌≡◌}
 use Rattle.std.specs.Prelude.{bytes_eq, if◌then◌else◌, nat_le, ◌&&◌, ◌||◌}
 use Rattle.std.specs.List.{AllByRecursion, list_all}
 use Rattle.std.proofs.lemmas.Bool.{and_parts}
@@ -19,7 +19,7 @@ use Rattle.implib_link.specs.Gnu.Fields.{AreLinkedBeside, ranges_of_codes, HasIn
 use Rattle.implib_link.specs.Gnu.Moves.{AreInMemory}
 use Rattle.implib_link.specs.Flavors.Program.{has_tables}
 use Rattle.implib_link.specs.Parts.{AreEntries, BeginWithHead, IsPart, IsProgramOfParts, Part, stores_none}
-use Rattle.implib_link.specs.Tables.{AreTables, Table, Tables, packed_tables}
+use Rattle.implib_link.specs.Tables.{Table, Tables, packed_tables}
 use Rattle.implib_link.proofs.Parts.Members.{members_are_part, members_store_none, parts_steady, older_part, older_stores_none}
 use Rattle.implib_link.proofs.Parts.Programs.{parts_tables}
 use Rattle.implib_link_instances.specs.Worked.Parts.{IsWritten, WorkedOlder, WorkedParts, WorkedReach, asking, gnu_bases, gnu_image, i386_gnu_bases, i386_gnu_image, i386_kernel, i386_older_objects, i386_older_parts, i386_older_zoo, i386_zoo, i386_zoo_objects, i386_zoo_parts, kernel, older_objects, older_parts, older_zoo, start_code, stub_code, table_at, zoo, zoo_codes, zoo_linked, zoo_memory, zoo_objects, zoo_parts, zoo_tables, zoo_targets}
@@ -36,13 +36,7 @@ written_by machine bases parts objects written tables are program stores image s
   parts_are = are;
   program = program;
   image = image;
-  tables_are = subst (λ ts. AreTables machine (record { image = written; linked = placed_from bases objects; directory = bases.descriptors; tables = ts })) same
-      (subst (λ rs. AreTables machine (record {
-        image = rs;
-        linked = placed_from bases objects;
-        directory = bases.descriptors;
-        tables = packed_tables (thunk_width machine) bases.addresses (map (λ (p : Part). p.table) parts);
-      })) image (parts_tables machine bases parts objects are program));
+  tables_are = grind (arith, parts_tables machine bases parts objects are program, program);
   steady = parts_steady machine bases parts objects program stores;
 }
 
@@ -149,10 +143,7 @@ code_beside = record {
   sections = (refl, (refl, tt));
   ends = (omega arith, (omega arith, tt));
   apart = all_apart (gnu_image ++ ranges_of_codes zoo_codes) refl;
-  relocated = (
-    relocated_by AMD64 0x1_4000_0000 (zoo_targets start_code) 0x1000 start_code.code start_code.bytes refl,
-    (relocated_by AMD64 0x1_4000_0000 (zoo_targets stub_code) 0x1030 stub_code.code stub_code.bytes refl, tt),
-  );
+  relocated = grind (arith, relocated_by AMD64 0x1_4000_0000 (zoo_targets start_code) 0x1000 start_code.code start_code.bytes refl, relocated_by AMD64 0x1_4000_0000 (zoo_targets stub_code) 0x1030 stub_code.code stub_code.bytes refl);
   resolved = takes_outside (λ name. if bytes_eq name (codes ".data") then 0x2000 else 0x1030) zoo_linked zoo_codes refl;
 }
 

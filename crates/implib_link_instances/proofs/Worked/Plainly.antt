@@ -79,12 +79,7 @@ only_quit = only_by (own ++ objects_as (expanded_in AMD64) kernel_taken) (codes 
 pub worked_plainly : WorkedPlainly
 unfolding searched without_weak
 worked_plainly = record {
-  amd64 = record {
-    none = (refl, tt);
-    takes = libraries_plain AMD64 foo_and_zed worked_both.archive (choosing ∷ []) mixed_taken (refl, tt) worked_both.takes;
-    weak = refl;
-    plain = refl;
-  };
+  amd64 = grind (arith, libraries_plain AMD64 foo_and_zed worked_both.archive (choosing ∷ []) mixed_taken (refl, tt) worked_both.takes, worked_both);
   by_gcc = record {
     none = (refl, tt);
     takes = libraries_plain AMD64 library kernel_archive own kernel_taken (refl, tt) kernel_takes;

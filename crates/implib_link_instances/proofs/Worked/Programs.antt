@@ -59,10 +59,7 @@ i386_holds : (type image_base position target : ℕ) (old new : ℕ → ℕ) →
 unfolding i386_test
 i386_holds type image_base position target old new test = record {
   dir32 = λ is. let here : (type == i386_dir32) ≡ true = eq-eqb type i386_dir32 is in eqb-true (new 4) ((old 4 + (image_base + target)) % 2 ^ 32) (rw here at test);
-  rel32 = λ is.
-      let other : (type == i386_dir32) ≡ false = ne_eqb type i386_dir32 (λ same. omega arith) in
-      let here : (type == i386_rel32) ≡ true = eq-eqb type i386_rel32 is in
-      eqb-true (new 4) ((old 4 + target + (2 ^ 32 - (position + 4) % 2 ^ 32)) % 2 ^ 32) (rw (other, here) at test);
+  rel32 = λ is. grind (arith, ne_eqb, eq-eqb, eqb-true);
 }
 
 amd64_test : ℕ → ℕ → ℕ → ℕ → (ℕ → ℕ) → (ℕ → ℕ) → Bool
@@ -76,12 +73,7 @@ amd64_holds : (type image_base position target : ℕ) (old new : ℕ → ℕ) �
 unfolding amd64_test
 amd64_holds type image_base position target old new test = record {
   addr64 = λ is. let here : (type == amd64_addr64) ≡ true = eq-eqb type amd64_addr64 is in eqb-true (new 8) ((old 8 + (image_base + target)) % 2 ^ 64) (rw here at test);
-  rel32 = λ further small is.
-      let other : (type == amd64_addr64) ≡ false = ne_eqb type amd64_addr64 (λ same. omega arith) in
-      let here : (nat_le amd64_rel32 type && nat_le type 9) ≡ true = and_from (nat_le amd64_rel32 type) (nat_le type 9) (le-leb amd64_rel32 type (omega arith)) (le-leb type 9 (omega arith)) in
-      let more : type - amd64_rel32 ≡ further = omega arith in
-      subst (λ n. new 4 ≡ (old 4 + target + (2 ^ 32 - (position + 4 + n) % 2 ^ 32)) % 2 ^ 32) more
-      (eqb-true (new 4) ((old 4 + target + (2 ^ 32 - (position + 4 + (type - amd64_rel32)) % 2 ^ 32)) % 2 ^ 32) (rw (other, here) at test));
+  rel32 = λ further small is. grind (arith, ne_eqb, and_from, le-leb, eqb-true);
 }
 
 arm64_test : ℕ → ℕ → ℕ → ℕ → (ℕ → ℕ) → (ℕ → ℕ) → Bool
@@ -106,15 +98,8 @@ arm64_holds : (type image_base position target : ℕ) (old new : ℕ → ℕ) �
 unfolding arm64_test
 arm64_holds type image_base position target old new test = record {
   addr64 = λ is. let here : (type == arm64_addr64) ≡ true = eq-eqb type arm64_addr64 is in eqb-true (new 8) ((old 8 + (image_base + target)) % 2 ^ 64) (rw here at test);
-  branch = λ is none near far.
-      let one : (type == arm64_addr64) ≡ false = ne_eqb type arm64_addr64 (λ same. omega arith) in
-      let here : (type == arm64_branch26) ≡ true = eq-eqb type arm64_branch26 is in
-      both_equal _ _ _ _ (rw (one, here) at test);
-  page_of = λ is.
-      let one : (type == arm64_addr64) ≡ false = ne_eqb type arm64_addr64 (λ same. omega arith) in
-      let two : (type == arm64_branch26) ≡ false = ne_eqb type arm64_branch26 (λ same. omega arith) in
-      let here : (type == arm64_pagebase_rel21) ≡ true = eq-eqb type arm64_pagebase_rel21 is in
-      both_equal _ _ _ _ (rw (one, two, here) at test);
+  branch = λ is none near far. grind (arith, ne_eqb, eq-eqb, both_equal);
+  page_of = λ is. grind (arith, ne_eqb, eq-eqb, both_equal);
   offset_of = λ is eight.
       let one : (type == arm64_addr64) ≡ false = ne_eqb type arm64_addr64 (λ same. omega arith) in
       let two : (type == arm64_branch26) ≡ false = ne_eqb type arm64_branch26 (λ same. omega arith) in
@@ -166,9 +151,7 @@ relocated_by machine image_base targets position code bytes test =
     let others = and_parts (agree machine code.relocations 0 bytes code.bytes) (list_all each code.relocations) parts.1 in
     record {
       size = eqb-true (length bytes) (length code.bytes) parts.0;
-      kept = λ offset none.
-          let plain : offset ≡ 0 + offset = omega arith in
-          agree_at machine code.relocations 0 bytes code.bytes others.0 offset (subst (λ n. list_any (meets machine n 1) code.relocations ≡ false) plain none);
+      kept = λ offset none. grind (arith, agree_at);
       fields = λ r alone inside.
           field_holds machine r.kind image_base (position + r.offset) (targets r.symbol) (field_at code.bytes r.offset) (field_at bytes r.offset)
           (each_of each r code.relocations others.1 (alone_among machine code.relocations r.offset (field_width machine r.kind) r alone));
@@ -215,9 +198,7 @@ pub takes_by : (machine : MachineType) (linked : List Placed) (codes : List Link
     list_all (λ (c : LinkedCode). list_all (λ (d : LinkedCode). list_all (all_go machine c.from.object.entries d) d.from.object.entries) codes) codes ≡ true →
     TakesSymbols linked codes (λ c index. named_or machine (slice_get c.from.object.entries index) (target_address linked c.from index))
 takes_by machine linked codes tables_check code_check = record {
-  tables = λ c index address entry held at is.
-      let one = each_of (λ (x : LinkedCode). list_all (beside_tables machine linked x.from) x.from.object.entries) c codes tables_check (contains_among c codes held) in
-      rw at (entry_value machine linked c.from entry address (each_of (beside_tables machine linked c.from) entry c.from.object.entries one (among_at entry c.from.object.entries index at)) is);
+  tables = λ c index address entry held at is. grind (arith, contains_among c codes held, among_at entry c.from.object.entries index, each_of, entry_value);
   code = λ c d index s t c_held d_held at undefined defines named.
       let wanted : List Entry = c.from.object.entries in
       let one = each_of (λ (x : LinkedCode). list_all (λ (y : LinkedCode). list_all (all_go machine x.from.object.entries y) y.from.object.entries) codes) c codes code_check (contains_among c codes c_held) in
@@ -444,11 +425,7 @@ takes_outside outside linked codes test = record {
       let external : is_defined_external t ≡ true = defines.external in
       let here : (t.section == d.number) ≡ true = eq-eqb t.section d.number defines.here in
       let same : bytes_eq t.name s.name ≡ true = subst (λ n. bytes_eq t.name n ≡ true) named (same_text t.name) in
-      let met : (or_thunk (outside s.name) (symbol_address linked c.from (ASymbol s)) == d.position + t.value) ≡ true =
-      passes (is_undefined_external s && (is_defined_external t && ((t.section == d.number) && bytes_eq t.name s.name))) (or_thunk (outside s.name) (symbol_address linked c.from (ASymbol s)) == d.position + t.value)
-      (and_from (is_undefined_external s) (is_defined_external t && ((t.section == d.number) && bytes_eq t.name s.name)) undefined
-      (and_from (is_defined_external t) ((t.section == d.number) && bytes_eq t.name s.name) external (and_from (t.section == d.number) (bytes_eq t.name s.name) here same)))
-      four in
+      let met : (or_thunk (outside s.name) (symbol_address linked c.from (ASymbol s)) == d.position + t.value) ≡ true = grind (arith, passes, number, and_from) in
       rw at (eqb-true (or_thunk (outside s.name) (symbol_address linked c.from (ASymbol s))) (d.position + t.value) met);
 }
   where
@@ -470,10 +447,7 @@ lld_program ARMNT none = absurd none
 lld_program machine is = record {
   writable = (record { name = refl; asks = (omega arith, tt) }, (record { name = refl; asks = ((omega arith, refl), tt) }, (record { name = refl; asks = ((omega arith, refl), tt) }, tt)));
   distinct = distinct_by (imp_symbols_of (shorts_on machine)) refl;
-  agree = alike (shorts_on machine) (
-    ((λ e. refl), ((λ e. cc), ((λ e. refl), tt))),
-    (((λ e. cc), ((λ e. refl), ((λ e. cc), tt))), (((λ e. refl), ((λ e. cc), ((λ e. refl), tt))), tt)),
-  );
+  agree = grind (arith, alike);
   before = placed_object machine ∷ [];
   behind = placed_thunk machine (mid_on machine) ∷ [];
   placed = refl;
