@@ -530,8 +530,6 @@ among_moved x xs ys moved held = contains_among x ys (Contains-permutation xs ys
 pub chosen_are : (l : Library) (wanted : List (List ℕ)) → chosen_exports l.definition (exports_wanted l.definition wanted) ≡ filter (is_wanted wanted) (exports_of l)
 chosen_are l wanted = passing_chosen (is_wanted wanted) [] (exports_of l)
 
--- The input of a library that is wanted, and what is chosen by an input.
-
 -- The symbols of what is linked differ, since those do that the archive lists.
 
 exports_fewer : (name : List ℕ) (test : ExportView → Bool) (es : List ExportView) → times name (flat_map archive_symbols (filter test es)) ≤ times name (flat_map symbols_of_export es)

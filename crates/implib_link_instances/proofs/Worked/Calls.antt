@@ -149,8 +149,6 @@ worked_reading = record {
       (program_tables AMD64 OfLinker touching_8 (map gnu_input (both_inputs AMD64)) (program_objects AMD64) worked_programs.amd64.made worked_programs.amd64.program);
 }
 
--- The direct call, its symbols and the stub's.
-
 abbrev pub is_none : Option ℕ → Bool
 is_none None = true
 is_none (Some n) = false
@@ -235,8 +233,6 @@ sections = record {
 once : DefineOnce branching_placed branch_codes
 unfolding opened_of_programs alias_specs encoded_size weak_object has_tables found found_in
 once = once_by branching_placed branch_codes refl refl
-
--- Of four bytes that are the number 1 the first is 1 and the third 0.
 
 pub worked_choices : WorkedChoices
 worked_choices = record {
