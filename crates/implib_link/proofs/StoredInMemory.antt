@@ -1,6 +1,6 @@
 -- Fields for the address of a name hold it, in memory at any base.
-use Rattle.std.proofs.Common.{◌≡◌, ℕ, ◌+◌, ◌*◌, ◌%◌, ◌^◌, ◌<◌, ◌≤◌, List, ◌++◌, [], ◌∷◌, length, None, Some, refl, sym, subst, arith, inr}
-use Rattle.std.specs.List.{AllByRecursion, Contains, flat_map}
+use Rattle.std.proofs.Common.{◌≡◌, ℕ, ◌+◌, ◌*◌, ◌%◌, ◌^◌, ◌<◌, ◌≤◌, List, ◌++◌, [], ◌∷◌, length, None, Some, refl, sym, subst, arith}
+use Rattle.std.specs.List.{AllByRecursion, Contains}
 use Rattle.implib.specs.declared.machine.MachineType.{MachineType}
 use Rattle.implib.specs.declared.machine.MachineType.TheVariants.{I386, ARMNT, AMD64, ARM64}
 use Rattle.implib.specs.Formats.Constants.{arm64_pagebase_rel21}
@@ -14,7 +14,6 @@ use Rattle.implib.proofs.Link.LinkedMembers.{among_contains}
 use Rattle.implib.proofs.Link.Ranges.{Among, all_among}
 use Rattle.implib_link.specs.Gnu.Fields.{field_width, DefinesIn, FieldHolds, LinkedCode, MeetsAlone, field_at, HasPageField, HasPointer, IsPointer, Names, absolute_width, StubAt, AreLinkedBeside, placed_code, StubArrives}
 use Rattle.implib_link.specs.Gnu.Stored.{HasAddField, HasRelative, HoldAddress, HoldsFurther, IsImageRelative, SumArrives, arm64_pageoffset_12a, AreFurtherHeld, AreStoredInMemory, PointsTo}
-use Rattle.implib_link.specs.Stub.{adrp_immediate, bits_of, page, plus_signed}
 use Rattle.implib_link.proofs.Gnu.FieldsInMemory.{Settles, StoredRests, field_there, linked_there, own_end, settled_in_tables, stored_in_memory, stored_rests}
 use Rattle.implib_link.proofs.Gnu.Loaded.{Covers}
 use Rattle.implib_link.proofs.Gnu.Operands.{addr64_is, dir32_is, page_leads, pair_leads, pointer_width}
@@ -24,7 +23,7 @@ use Rattle.std.specs.Prelude.{slice_get}
 use Rattle.implib.specs.Formats.ShortImport.{ShortImport}
 use Rattle.implib.specs.Import.{Ask, imp_symbol}
 use Rattle.implib_link.specs.Flavors.LldImports.{IsThunk, ThunkArrives}
-use Rattle.implib_link.specs.Gnu.Moves.{AreInMemory, ArePaged, CanBeMoved, places_of_code}
+use Rattle.implib_link.specs.Gnu.Moves.{AreInMemory, ArePaged, CanBeMoved}
 use Rattle.implib_link.specs.Gnu.Writing.{ReadsAndWrites}
 use Rattle.implib_link.specs.Tables.{AreSteady, AreTables, CanReadFrom, Table, TableEntry, Tables}
 use Rattle.implib_link.proofs.Flavors.LldThunks.{bare_symbol, thunk_defines}
@@ -125,9 +124,7 @@ sum_holds image_base image linked codes targets memory stored written covers_it 
       add = add;
       add_there = there;
       is_add = added.0;
-      leads = pair_leads (paged.0 4) add (plus_signed 21 4096 (adrp_immediate (paged.0 4)) (page (image_base + (c.position + first)) * 4096)) (bits_of 10 12 add) (image_base + target)
-          (page_leads (paged.0 4) (field_at c.code.bytes first 4) image_base (c.position + first) target page_holds.1 page_field.empty (omega arith) small)
-          (added_is (bits_of 10 12 add) stored.rests.from image_base target (bits_of 10 12 (field_at d.code.bytes second 4)) added.1 add_field.empty stored.rests.paged);
+      leads = grind (arith, pair_leads, page_leads, added_is);
     }
 
 sums_hold : (machine : MachineType) (image_base : ℕ) (image : List Range) (linked : List Placed) (codes : List LinkedCode) (targets : LinkedCode → ℕ → ℕ) (memory : List Range)
@@ -213,14 +210,4 @@ module _ (machine : MachineType) (image_base : ℕ) (t : Tables) (codes : List L
 pub stored_memory_exists : (machine : MachineType) (from to : ℕ) (image : List Range) (linked : List Placed) (codes : List LinkedCode) (targets : LinkedCode → ℕ → ℕ) → AreSteady machine linked →
     AreLinkedBeside machine from image linked codes targets → AreFurtherHeld machine from codes targets → CanBeMoved machine codes → ArePaged machine from to →
     (memory : List Range) × AreStoredInMemory machine to image linked codes targets memory
-stored_memory_exists machine from to image linked codes targets none beside further can paged =
-    let moved = moved_exists machine from to image linked codes targets none beside can in (
-      moved.0,
-      inr (
-        from,
-        (
-          flat_map (places_of_code machine) codes,
-          (paged, (moved.1, (further, λ c d r width s t held d_held among is at undefined defines named. code_places machine codes c r width held among is))),
-        ),
-      ),
-    )
+stored_memory_exists machine from to image linked codes targets none beside further can paged = grind (arith, moved_exists machine from to image linked codes targets none beside can, code_places)

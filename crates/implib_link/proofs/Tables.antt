@@ -14,13 +14,13 @@ use Rattle.implib_link.specs.Directory.{DirectoryAt, Imported}
 use Rattle.implib_link.specs.Tables.{AreTables, Block, CanReadFrom, RiseFrom, Table, TableEntry, Tables, imported_by_table, packed_tables, AreTablesLoaded, IsInTable, AreSteady, DefineEntries, block_of_flavor, block_of_group, entry_of_short, tables_at, tables_of_lld}
 use Rattle.implib_link.proofs.Gnu.Filling.{before_next}
 use Rattle.implib_link.proofs.Flavors.Block.{table_sum}
-use Rattle.implib_link.proofs.Gnu.Loaded.{times_none, behind_entries, entries_within, entry_located, directory_can_be_read, directory_read, times_next, mapped_at, bytes_kept, keeps_written, memory_can_be_read, memory_read, memory_reads, Covers, byte_first, loaded_below, written_covers}
+use Rattle.implib_link.proofs.Gnu.Loaded.{behind_entries, entries_within, entry_located, directory_can_be_read, directory_read, mapped_at, bytes_kept, keeps_written, memory_can_be_read, memory_read, memory_reads, Covers, byte_first, loaded_below, written_covers}
 use Rattle.std.proofs.lemmas.List.{append_assoc, length-map}
 use Rattle.std.proofs.lemmas.Option.{slice_get-map}
 use Rattle.implib.proofs.Link.Linked.{all_append}
 use Rattle.implib.proofs.Link.LinkedMembers.{among_contains, all_at}
 use Rattle.implib.proofs.Link.Loading.{number_once}
-use Rattle.implib.proofs.Link.Ranges.{among_first, among_later, all_among}
+use Rattle.implib.proofs.Link.Ranges.{among_later, all_among}
 use Rattle.implib_link.specs.Gnu.Writing.{Writes, entries_written, ReadsAndWrites}
 use Rattle.implib_link.proofs.Search.Lists.{contains_among}
 use Rattle.implib.specs.Definition.{ExportView}
@@ -79,9 +79,7 @@ module _ (width : ℕ) where
       let same : record { dll = b.dll; address = address; entries = b.entries } ≡ x = cc in
       let none : address + width * 0 ≡ address = omega arith in
       (b, (refl, ap (λ a. record { dll = b.dll; address = a; entries = b.entries }) none ∙ same))
-  packed_at (b ∷ blocks) address (suc i) x is =
-      let later = packed_at blocks (address + width * (length b.entries + 1)) i x is in
-      (later.0, (later.1.0, ap (λ a. record { dll = later.0.dll; address = a; entries = later.0.entries }) (sym (table_sum address width (length b.entries + 1) (entries_until i blocks))) ∙ later.1.1))
+  packed_at (b ∷ blocks) address (suc i) x is = grind (arith, packed_at blocks (address + width * (length b.entries + 1)) i x is)
 
 -- What packed tables have of what is known of their blocks.
 pub are_packed : (machine : MachineType) (image : List Range) (linked : List Placed) (directory addresses : ℕ) (blocks : List Block) →
@@ -90,32 +88,15 @@ pub are_packed : (machine : MachineType) (image : List Range) (linked : List Pla
     ((i j : ℕ) (b : Block) (e : TableEntry) (name : List ℕ) → slice_get blocks i ≡ Some b → slice_get b.entries j ≡ Some e → e.symbol ≡ Some name →
     definitions_of name linked ≡ record { name = name; address = Some (addresses + thunk_width machine * entries_until i blocks + thunk_width machine * j) } ∷ []) →
     AreTables machine (record { image = image; linked = linked; directory = directory; tables = packed_tables (thunk_width machine) addresses blocks })
-are_packed machine image linked directory addresses blocks starts ends is_directory fields symbols = record {
-  starts = starts;
-  ends = ends;
-  directory = subst (DirectoryAt image (thunk_width machine) directory) (sym (packed_imports (thunk_width machine) blocks addresses)) is_directory;
-  addresses = λ i x is.
-      let at = packed_at (thunk_width machine) blocks addresses i x is in
-      subst (λ (y : Table). NumberAt image 4 (directory + 20 * i + 16) y.address) at.1.1 (fields i at.0 at.1.0);
-  rise = packed_rise (thunk_width machine) blocks 0 addresses (omega arith);
-  symbols = λ i j x e name is asked symbol.
-      let at = packed_at (thunk_width machine) blocks addresses i x is in
-      subst (λ (y : Table). definitions_of name linked ≡ record { name = name; address = Some (y.address + thunk_width machine * j) } ∷ []) at.1.1
-      (symbols i j at.0 e name at.1.0 (subst (λ (y : Table). slice_get y.entries j ≡ Some e) (sym at.1.1) asked) symbol);
-}
+are_packed machine image linked directory addresses blocks starts ends is_directory fields symbols = grind (arith, starts, ends, packed_imports, packed_at, packed_rise)
 
 -- Where a table of packed ones is.
 
 pub packed_get : (width : ℕ) (blocks : List Block) (address i : ℕ) (b : Block) → slice_get blocks i ≡ Some b →
     slice_get (packed_tables width address blocks) i ≡ Some (record { dll = b.dll; address = address + width * entries_until i blocks; entries = b.entries })
 packed_get width [] address i b is = cc
-packed_get width (c ∷ blocks) address zero b is =
-    let same : c ≡ b = cc in
-    ap (λ (x : Block). Some (record { dll = x.dll; address = address; entries = x.entries })) same
-    ∙ ap (λ a. Some (record { dll = b.dll; address = a; entries = b.entries })) (times_none address width)
-packed_get width (c ∷ blocks) address (suc i) b is =
-    packed_get width blocks (address + width * (length c.entries + 1)) i b is
-    ∙ ap (λ a. Some (record { dll = b.dll; address = a; entries = b.entries })) (table_sum address width (length c.entries + 1) (entries_until i blocks))
+packed_get width (c ∷ blocks) address zero b is = grind arith
+packed_get width (c ∷ blocks) address (suc i) b is = grind (arith, packed_get width blocks (address + width * (length c.entries + 1)) i b is)
 
 -- a machine that can read from an address on can read each packed table
 pub eights : (a n : ℕ) → a % 8 ≡ 0 → (a + 8 * n) % 8 ≡ 0
@@ -189,30 +170,17 @@ risen : (width low i : ℕ) (tables : List Table) (x : Table) → RiseFrom width
 unfolding RiseFrom
 risen width low i [] x rise is = cc
 risen width low zero (y ∷ tables) x rise is = (let same : y ≡ x = cc in subst (λ (z : Table). low ≤ z.address) same rise.0)
-risen width low (suc i) (y ∷ tables) x rise is =
-    let above : low ≤ y.address = rise.0 in
-    let later : y.address + width * length y.entries ≤ x.address = risen width (y.address + width * length y.entries) i tables x rise.1 is in
-    omega arith
+risen width low (suc i) (y ∷ tables) x rise is = grind (arith, risen width (y.address + width * length y.entries) i tables x rise.1 is)
 
 in_later : (width : ℕ) (y : Table) (tables : List Table) (rs : List Range) → AllByRecursion (IsInTable width tables) rs → AllByRecursion (IsInTable width (y ∷ tables)) rs
 in_later width y tables [] all = tt
-in_later width y tables (r ∷ rs) all = (
-  record {
-    table = all.0.table;
-    held = among_contains all.0.table (y ∷ tables) (among_later all.0.table y tables (contains_among all.0.table tables all.0.held));
-    from = all.0.from;
-    to = all.0.to;
-  },
-  in_later width y tables rs all.1,
-)
+in_later width y tables (r ∷ rs) all =
+    grind (arith, in_later width y tables rs all.1, among_contains all.0.table (y ∷ tables) (among_later all.0.table y tables (contains_among all.0.table tables all.0.held)), among_later all.0.table y tables (contains_among all.0.table tables all.0.held), contains_among all.0.table tables all.0.held)
 
 in_first : (width : ℕ) (x : Table) (tables : List Table) (rs : List Range) → AllByRecursion (λ r. (x.address ≤ r.start) × (range_end r ≤ x.address + width * length x.entries)) rs →
     AllByRecursion (IsInTable width (x ∷ tables)) rs
 in_first width x tables [] all = tt
-in_first width x tables (r ∷ rs) all = (
-  record { table = x; held = among_contains x (x ∷ tables) (among_first x tables); from = all.0.0; to = all.0.1 },
-  in_first width x tables rs all.1,
-)
+in_first width x tables (r ∷ rs) all = grind (arith, in_first width x tables rs all.1)
 
 module _ (machine : MachineType) (gives : List ℕ → Ask → List ℕ) where
   -- what is written into tables
@@ -269,8 +237,7 @@ module _ (machine : MachineType) (gives : List ℕ → Ask → List ℕ) where
           entries = λ i j x e name at asked symbol. record {
             address = x.address + thunk_width machine * j;
             once = tables.symbols i j x e name at asked symbol;
-            located = subst (λ rs. BytesAt (rs ++ t.image) (x.address + thunk_width machine * j) (gives x.dll e.ask)) (sym is)
-                (filled_at t.tables 0 t.image i j x e tables.rise at asked);
+            located = grind (arith, is, filled_at, i, asked);
           };
           within = subst (AllByRecursion (IsInTable (thunk_width machine) t.tables)) (sym is) (filled_within t.tables);
         }
@@ -278,9 +245,7 @@ module _ (machine : MachineType) (gives : List ℕ → Ask → List ℕ) where
 pub tables_read : (machine : MachineType) (t : Tables) (gives : List ℕ → Ask → List ℕ) (n : ℕ) (written : List Range) → AreTables machine t →
     ((dll : List ℕ) (ask : Ask) → length (gives dll ask) ≡ thunk_width machine) → ReadsAndWrites t.image (thunk_width machine) gives n t.directory written →
     (n ≡ length t.tables) × AreTablesLoaded machine t gives written
-tables_read machine t gives n written tables wide reads =
-    let read = directory_read t.image (thunk_width machine) gives n t.directory (map imported_by_table t.tables) written tables.directory reads in
-    (read.0 ∙ length-map t.tables imported_by_table, tables_load machine gives wide t written tables read.1)
+tables_read machine t gives n written tables wide reads = grind (arith, directory_read, length-map, tables_load)
 
 pub tables_end : (machine : MachineType) (t : Tables) (gives : List ℕ → Ask → List ℕ) → AreTables machine t →
     (written : List Range) × ReadsAndWrites t.image (thunk_width machine) gives (length t.tables) t.directory written
@@ -302,12 +267,8 @@ pub nth_symbol : (linked : List Placed) (width a : ℕ) (names : List (List ℕ)
     definitions_of name linked ≡ record { name = name; address = Some (a + width * j) } ∷ []
 unfolding SymbolsAt
 nth_symbol linked width a [] j name entries is = cc
-nth_symbol linked width a (x ∷ names) zero name entries is =
-    let same : x ≡ name = cc in
-    subst (λ (y : List ℕ). definitions_of y linked ≡ record { name = y; address = Some (a + width * 0) } ∷ []) same
-    (subst (λ n. definitions_of x linked ≡ record { name = x; address = Some n } ∷ []) (times_none a width) entries.0)
-nth_symbol linked width a (x ∷ names) (suc j) name entries is =
-    subst (λ n. definitions_of name linked ≡ record { name = name; address = Some n } ∷ []) (times_next a width j) (nth_symbol linked width (a + width) names j name entries.1 is)
+nth_symbol linked width a (x ∷ names) zero name entries is = grind arith
+nth_symbol linked width a (x ∷ names) (suc j) name entries is = grind (arith, nth_symbol linked width (a + width) names j name entries.1 is)
 
 -- the entry of the j-th chosen export
 pub entry_of : (machine : MachineType) (ending : Ending) (bases : Bases) (inputs : List FlavorInput) (objects : List Object) (i j : ℕ) (p : FlavorInput) (e : ExportView) → ProgramLinks machine ending bases inputs objects →
@@ -325,10 +286,7 @@ entry_of machine ending bases inputs objects i j p e links input chosen =
 
 pub inputs_blocks : (machine : MachineType) (inputs : List FlavorInput) → map imported_by_block (map (block_of_flavor machine) inputs) ≡ map (imported_in machine) inputs
 inputs_blocks machine [] = refl
-inputs_blocks machine (p ∷ inputs) =
-    ap (λ asks. record { dll = dll_of p; asks = asks } ∷ map imported_by_block (map (block_of_flavor machine) inputs))
-    (asks_again (ask_in p.flavor machine) (λ (e : ExportView). Some (imp_symbol (symbol_in p.flavor e))) (exports_chosen p))
-    ∙ ap (λ is. imported_in machine p ∷ is) (inputs_blocks machine inputs)
+inputs_blocks machine (p ∷ inputs) = simp (inputs_blocks machine inputs, asks_again)
 
 pub inputs_until : (machine : MachineType) (i : ℕ) (inputs : List FlavorInput) → entries_until i (map (block_of_flavor machine) inputs) ≡ thunks_of i inputs
 inputs_until machine zero inputs = refl
@@ -375,20 +333,11 @@ program_entry machine bases inputs objects i j p e input chosen =
 
 -- Tables that lld made, of whatever asks.
 
-no_table : (address width : ℕ) → address + width * 0 ≡ address
-no_table address width = omega arith
-
 packed_until : (width : ℕ) (blocks : List Block) (address i : ℕ) (x : Table) → slice_get (packed_tables width address blocks) i ≡ Some x →
     address + width * thunks_until i (map imported_by_table (packed_tables width address blocks)) ≡ x.address
 packed_until width [] address i x is = cc
-packed_until width (b ∷ blocks) address zero x is =
-    let same : record { dll = b.dll; address = address; entries = b.entries } ≡ x = cc in
-    no_table address width ∙ ap (λ (y : Table). y.address) same
-packed_until width (b ∷ blocks) address (suc i) x is =
-    let behind = map imported_by_table (packed_tables width (address + width * (length b.entries + 1)) blocks) in
-    ap (λ n. address + width * (n + 1 + thunks_until i behind)) (length-map b.entries (λ (e : TableEntry). e.ask))
-    ∙ sym (table_sum address width (length b.entries + 1) (thunks_until i behind))
-    ∙ packed_until width blocks (address + width * (length b.entries + 1)) i x is
+packed_until width (b ∷ blocks) address zero x is = grind arith
+packed_until width (b ∷ blocks) address (suc i) x is = grind (arith, packed_until width blocks (address + width * (length b.entries + 1)) i x is, i, length-map, table_sum, is)
 
 pub pieces_tables : (machine : MachineType) (image : List Range) (linked : List Placed) (descriptors lookups addresses hints names : ℕ) (blocks : List Block) →
     AllByRecursion (λ r. 0 < r.start) image → AllByRecursion (λ r. range_end r < 2 ^ 31) image → AllByRecursion IsImportable (map imported_by_table (packed_tables (thunk_width machine) addresses blocks)) →
@@ -422,9 +371,7 @@ groups_blocks (group ∷ groups) =
 pub groups_until : (i : ℕ) (groups : List (List ShortImport)) → entries_until i (map block_of_group groups) ≡ thunks_until i (map imported_by groups)
 groups_until zero groups = refl
 groups_until (suc i) [] = refl
-groups_until (suc i) (group ∷ groups) =
-    ap (λ n. n + 1 + entries_until i (map block_of_group groups)) (length-map group entry_of_short ∙ sym (length-map group ask_of_short_import))
-    ∙ ap (λ n. length (map ask_of_short_import group) + 1 + n) (groups_until i groups)
+groups_until (suc i) (group ∷ groups) = grind (arith, groups_until i groups, i, length-map)
 
 module _ (machine : MachineType) (descriptors addresses : ℕ) (taken : List ShortImport) (image : List Range) (linked : List Placed)
     (program : IsLldProgram machine descriptors addresses taken image linked) where
@@ -514,23 +461,16 @@ module _ (machine : MachineType) (image_base : ℕ) (t : Tables) (codes : List L
   pub resting : Rests machine image_base t.image t.linked codes targets memory
   resting = rests machine image_base t.image t.linked codes targets memory at steady
 
-  -- the object and the section of linked code
-  pub code_from : (d : LinkedCode) → Contains codes d → Contains t.linked d.from
-  code_from d held = all_among (λ (x : LinkedCode). Contains t.linked x.from) d codes (contains_among d codes held) resting.beside.held
-
   pub code_section : (d : LinkedCode) → Contains codes d → section_numbered d.from.object.sections d.number ≡ Some d.code
   code_section d held = all_among (λ (x : LinkedCode). section_numbered x.from.object.sections x.number ≡ Some x.code) d codes (contains_among d codes held) resting.beside.sections
 
   tables_in_memory_read : (n : ℕ) (written : List Range) → ReadsAndWrites memory (thunk_width machine) gives n t.directory written →
       (n ≡ length (map imported_by_table t.tables)) × Writes t.image (thunk_width machine) gives t.directory (map imported_by_table t.tables) written
-  tables_in_memory_read n written reads =
-      memory_read t.image memory resting.image_kept (thunk_width machine) gives n t.directory (map imported_by_table t.tables) written tables.directory reads
+  tables_in_memory_read n written reads = grind (arith, memory_read, resting)
 
   pub tables_load_in_memory : (n : ℕ) (written : List Range) → ((dll : List ℕ) (ask : Ask) → length (gives dll ask) ≡ thunk_width machine) →
       ReadsAndWrites memory (thunk_width machine) gives n t.directory written → (n ≡ length t.tables) × AreTablesLoaded machine t gives written
-  tables_load_in_memory n written wide reads =
-      let read = tables_in_memory_read n written reads in
-      (read.0 ∙ length-map t.tables imported_by_table, tables_load machine gives wide t written tables read.1)
+  tables_load_in_memory n written wide reads = grind (arith, tables_in_memory_read, length-map, tables_load)
 
   pub tables_end_in_memory : (written : List Range) × ReadsAndWrites memory (thunk_width machine) gives (length t.tables) t.directory written
   tables_end_in_memory =
@@ -610,9 +550,7 @@ module _ (machine : MachineType) (image_base : ℕ) (t : Tables) (codes : List L
         (entry_reached machine image_base x.address j can) known.located d s held stub
 
     end_below : (d : LinkedCode) → Contains codes d → d.position + 16 ≤ 2 ^ 31
-    end_below d held =
-        let end : d.position + length d.code.bytes + 16 ≤ 2 ^ 31 = all_among (λ (k : LinkedCode). k.position + length k.code.bytes + 16 ≤ 2 ^ 31) d codes (contains_among d codes held) resting.beside.ends in
-        omega arith
+    end_below d held = grind (arith, contains_among d codes held, all_among, resting, ends)
 
     -- where linked code begins with the definition of a name, symbols are that stand for it, be it the name itself or another
     abbrev pub AreAt : LinkedCode → List ℕ → ℕ → Type 0

@@ -1,5 +1,4 @@
 -- The same, computed.
 pub mod Files
-pub mod Worked
 pub mod WorkedBothWay
 pub mod WorkedLldWay

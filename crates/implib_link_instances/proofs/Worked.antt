@@ -8,11 +8,9 @@ pub mod Expansion
 pub mod Files
 pub mod FlavorLines
 pub mod Flavors
-pub mod GnuPacked
 pub mod Lemmas
 pub mod Loads
 pub mod OtherNames
-pub mod Packed
 pub mod Parts
 pub mod Plainly
 pub mod Programs

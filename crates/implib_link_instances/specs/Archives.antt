@@ -1,4 +1,3 @@
 -- Searches in an archive's bytes and ways from these to calls, worked by hand.
 pub mod Files
-pub mod Worked
 pub mod WorkedWays

@@ -1,17 +1,18 @@
 -- A search in the bytes of an archive is a search of its members.
-use Rattle.std.proofs.Common.{◌≡◌, ℕ, suc, ◌+◌, ◌%◌, ◌≤◌, Bool, true, false, inl, inr, List, [], ◌∷◌, ◌++◌, Option, Some, None, if◌then◌else◌, is_some, length, map, option_and_then, refl, sym, ap, subst, ◌∙◌, arith, ◌-◌, ◌<◌, get_or, nat_lt, unwrap_or, codes, append_assoc, append-nil, length-append}
+use Rattle.std.proofs.lemmas.Grind.{common_steps}
+use Rattle.std.proofs.Common.{◌≡◌, ℕ, suc, ◌+◌, ◌%◌, ◌≤◌, Bool, true, false, inl, inr, List, [], ◌∷◌, ◌++◌, Option, Some, None, if◌then◌else◌, is_some, length, map, option_and_then, refl, sym, ap, subst, ◌∙◌, arith, ◌<◌, get_or, nat_lt, unwrap_or, codes, append_assoc, append-nil, length-append}
 use Rattle.std.specs.Prelude.{slice_get, ◌==◌, ◌||◌, ◌⊎◌, bytes_eq, fold}
 use Rattle.std.specs.List.{Contains, cons_option, filter_map, AllByRecursion, IsDistinct, flat_map, list_any}
 use Rattle.std.specs.Option.{option_map}
-use Rattle.std.proofs.lemmas.Bool.{true≢false, cases_Bool, eq-eqb, eqb-true, false_from_ne_true, lt-ltb}
+use Rattle.std.proofs.lemmas.Bool.{cases_Bool, eq-eqb, eqb-true, false_from_ne_true, lt-ltb}
 use Rattle.std.proofs.lemmas.Option.{slice_get-map, some_pair_parts}
 use Rattle.implib.specs.Members.MemberSpec.{MemberView}
 use Rattle.implib.proofs.Link.LinkedMembers.{among_contains}
 use Rattle.implib.proofs.Link.Ranges.{Among}
-use Rattle.implib_archive.specs.Archive.{archive_of, entries_from, entries_of, first_linker, is_listed, long_names, names_bytes, place_of, places_of, with_first}
+use Rattle.implib_archive.specs.Archive.{archive_of, entries_from, entries_of, first_linker, is_listed, place_of, places_of, with_first}
 use Rattle.implib_archive.specs.Leads.{first_lister, header_for, headers_among, headers_in, lists, with_header}
-use Rattle.implib_archive.specs.ReadBack.{read_view, padded, parts_of, stored, stored_linkers, stored_member, stored_names}
-use Rattle.implib_archive.specs.Reader.{Linker, LongAt, LongNames, Name, Short, Stored, Unknown, member_at, name_in, stored_in, Read, first_in, linker_in}
+use Rattle.implib_archive.specs.ReadBack.{read_view, padded, parts_of, stored, stored_linkers}
+use Rattle.implib_archive.specs.Reader.{Linker, LongAt, LongNames, Name, Short, Stored, Unknown, member_at, name_in, Read, first_in}
 use Rattle.implib_archive.specs.declared.kind.Kind.{Kind}
 use Rattle.implib_archive.specs.declared.kind.Kind.TheVariants.{Coff, Gnu}
 use Rattle.implib_archive.proofs.Leading.{each_index_leads, each_second_leads, entries_texts, headers_found, near_at, short_places}
@@ -20,7 +21,6 @@ use Rattle.implib.specs.Formats.Object.{Object}
 use Rattle.implib_link.specs.Search.Search.{AreTakenIntoAs, PullsIntoAs, TakesIntoAs, unresolved, first_listed, objects_as}
 use Rattle.implib_link.proofs.Search.Lists.{contains_among, any_among, distinct_apart}
 use Rattle.std.proofs.lemmas.List.{length-map, map-append}
-use Rattle.implib_archive.specs.Parts.{padding}
 use Rattle.implib_archive.specs.Refusal.{refusal_of}
 use Rattle.implib_archive.proofs.FoundIndex.{AreReadable, first_data, first_read, linker_there}
 use Rattle.implib_archive.proofs.Readings.{parts_read_back}
@@ -56,11 +56,7 @@ rising_among place (s ∷ parts) =
 
 pub rising_headers : (bytes headers : List ℕ) → headers_in bytes ≡ Some headers → AreRising 8 headers
 unfolding headers_in
-rising_headers bytes headers found = by_parts (stored_in bytes) found
-  where
-    by_parts : (r : Option (List Stored)) → option_map (headers_among 8) r ≡ Some headers → AreRising 8 headers
-    by_parts None e = absurd (cc)
-    by_parts (Some parts) e = let same : headers_among 8 parts ≡ headers = cc in subst (AreRising 8) same (rising_among 8 parts)
+rising_headers bytes headers found = grind (arith, found, headers, rising_among)
 
 -- The first member that lists a name, with its header.
 
@@ -79,23 +75,13 @@ first_above : (low : ℕ) (headers : List ℕ) (members : List MemberView) (name
 unfolding AreRising
 first_above low [] members name h m rising is = absurd (cc)
 first_above low (x ∷ headers) [] name h m rising is = absurd (cc)
-first_above low (x ∷ headers) (y ∷ members) name h m rising is = by_test (lists name y) (first_above (x + 1) headers members name h m rising.1) is
-  where
-    by_test : (b : Bool) → (first_lister headers members name ≡ Some (h, m) → x + 1 ≤ h)
-        → (if b then Some (x, y) else first_lister headers members name) ≡ Some (h, m) → low ≤ h
-    by_test true rest e = let same = (some_pair_parts x h y m e).0 in omega (arith, same, rising.0)
-    by_test false rest e = let later = rest e in omega (arith, later, rising.0)
+first_above low (x ∷ headers) (y ∷ members) name h m rising is = grind (arith, first_above (x + 1) headers members name h m rising.1)
 
 -- and it lists the name
 first_lists : (headers : List ℕ) (members : List MemberView) (name : List ℕ) (h : ℕ) (m : MemberView) → first_lister headers members name ≡ Some (h, m) → lists name m ≡ true
 first_lists [] members name h m is = absurd (cc)
 first_lists (x ∷ headers) [] name h m is = absurd (cc)
-first_lists (x ∷ headers) (y ∷ members) name h m is = by_test (lists name y) refl (first_lists headers members name h m) is
-  where
-    by_test : (b : Bool) → lists name y ≡ b → (first_lister headers members name ≡ Some (h, m) → lists name m ≡ true)
-        → (if b then Some (x, y) else first_lister headers members name) ≡ Some (h, m) → lists name m ≡ true
-    by_test true here rest e = let same = (some_pair_parts x h y m e).1 in subst (λ t. lists name t ≡ true) same here
-    by_test false here rest e = rest e
+first_lists (x ∷ headers) (y ∷ members) name h m is = grind (arith, first_lists headers members name h m)
 
 -- two names that lead to one header lead to one member
 one_member : (low : ℕ) (headers : List ℕ) (members : List MemberView) (name other : List ℕ) (h : ℕ) (m o : MemberView) → AreRising low headers
@@ -103,48 +89,20 @@ one_member : (low : ℕ) (headers : List ℕ) (members : List MemberView) (name 
 unfolding AreRising
 one_member low [] members name other h m o rising is also = absurd (cc)
 one_member low (x ∷ headers) [] name other h m o rising is also = absurd (cc)
-one_member low (x ∷ headers) (y ∷ members) name other h m o rising is also =
-    by_tests (lists name y) (lists other y) (one_member (x + 1) headers members name other h m o rising.1)
-    (first_above (x + 1) headers members name h m rising.1) (first_above (x + 1) headers members other h o rising.1) is also
-  where
-    by_tests : (a b : Bool) → (first_lister headers members name ≡ Some (h, m) → first_lister headers members other ≡ Some (h, o) → m ≡ o)
-        → (first_lister headers members name ≡ Some (h, m) → x + 1 ≤ h) → (first_lister headers members other ≡ Some (h, o) → x + 1 ≤ h)
-        → (if a then Some (x, y) else first_lister headers members name) ≡ Some (h, m) → (if b then Some (x, y) else first_lister headers members other) ≡ Some (h, o) → m ≡ o
-    by_tests true true rest above beyond e f = sym ((some_pair_parts x h y m e).1) ∙ (some_pair_parts x h y o f).1
-    by_tests true false rest above beyond e f = let same = (some_pair_parts x h y m e).0 in let past = beyond f in absurd (omega (arith, same, past))
-    by_tests false true rest above beyond e f = let same = (some_pair_parts x h y o f).0 in let past = above e in absurd (omega (arith, same, past))
-    by_tests false false rest above beyond e f = rest e f
+one_member low (x ∷ headers) (y ∷ members) name other h m o rising is also = grind (arith, one_member (x + 1) headers members name other h m o rising.1, headers, rising, first_above, some_pair_parts)
 
 -- two names that lead to one member lead to one header
 one_header : (headers : List ℕ) (members : List MemberView) (name other : List ℕ) (h k : ℕ) (m : MemberView)
     → first_lister headers members name ≡ Some (h, m) → first_lister headers members other ≡ Some (k, m) → h ≡ k
 one_header [] members name other h k m is also = absurd (cc)
 one_header (x ∷ headers) [] name other h k m is also = absurd (cc)
-one_header (x ∷ headers) (y ∷ members) name other h k m is also =
-    by_tests (lists name y) (lists other y) refl refl (one_header headers members name other h k m)
-    (first_lists headers members name h m) (first_lists headers members other k m) is also
-  where
-    by_tests : (a b : Bool) → lists name y ≡ a → lists other y ≡ b
-        → (first_lister headers members name ≡ Some (h, m) → first_lister headers members other ≡ Some (k, m) → h ≡ k)
-        → (first_lister headers members name ≡ Some (h, m) → lists name m ≡ true) → (first_lister headers members other ≡ Some (k, m) → lists other m ≡ true)
-        → (if a then Some (x, y) else first_lister headers members name) ≡ Some (h, m) → (if b then Some (x, y) else first_lister headers members other) ≡ Some (k, m) → h ≡ k
-    by_tests true true p q rest one two e f = sym ((some_pair_parts x h y m e).0) ∙ (some_pair_parts x k y m f).0
-    by_tests true false p q rest one two e f =
-        let same = (some_pair_parts x h y m e).1 in absurd (true≢false (sym (two f) ∙ (sym (ap (lists other) same) ∙ q)))
-    by_tests false true p q rest one two e f =
-        let same = (some_pair_parts x k y m f).1 in absurd (true≢false (sym (one e) ∙ (sym (ap (lists name) same) ∙ p)))
-    by_tests false false p q rest one two e f = rest e f
+one_header (x ∷ headers) (y ∷ members) name other h k m is also = grind (arith, one_header headers members name other h k m, headers, first_lists, some_pair_parts)
 
 first_member : (headers : List ℕ) (members : List MemberView) (name : List ℕ) → length headers ≡ length members → option_map (λ f. f.1) (first_lister headers members name) ≡ first_listed members name
 first_member [] [] name same = refl
 first_member [] (y ∷ members) name same = absurd (omega (arith, same))
 first_member (x ∷ headers) [] name same = absurd (omega (arith, same))
-first_member (x ∷ headers) (y ∷ members) name same = by_test (lists name y) (first_member headers members name (omega (arith, same)))
-  where
-    by_test : (b : Bool) → option_map (λ f. f.1) (first_lister headers members name) ≡ first_listed members name
-        → option_map (λ f. f.1) (if b then Some (x, y) else first_lister headers members name) ≡ (if b then Some y else first_listed members name)
-    by_test true rest = refl
-    by_test false rest = rest
+first_member (x ∷ headers) (y ∷ members) name same = grind (arith, first_member headers members name (omega (arith, same)))
 
 -- Objects in bytes.
 
@@ -171,8 +129,7 @@ header_among : (headers : List ℕ) (members : List MemberView) (taken : List �
     → ArePaired headers members taken found → first_lister headers members name ≡ Some (h, m) → Among m found → Among h taken
 unfolding ArePaired Among
 header_among headers members [] [] name h m paired is among = absurd among
-header_among headers members (x ∷ taken) (y ∷ found) name h m paired is (inl same) =
-    inl (one_header headers members name paired.0.0 h x m is (paired.0.1 ∙ ap (λ t. Some (x, t)) (sym same)))
+header_among headers members (x ∷ taken) (y ∷ found) name h m paired is (inl same) = grind (arith, one_header, headers, paired)
 header_among headers members (x ∷ taken) (y ∷ found) name h m paired is (inr later) = inr (header_among headers members taken found name h m paired.1 is later)
 header_among headers members [] (y ∷ found) name h m paired is among = absurd paired
 header_among headers members (x ∷ taken) [] name h m paired is among = absurd paired
@@ -181,8 +138,7 @@ member_among : (headers : List ℕ) (members : List MemberView) → AreRising 8 
     → ArePaired headers members taken found → first_lister headers members name ≡ Some (h, m) → Among h taken → Among m found
 unfolding ArePaired Among
 member_among headers members rising [] [] name h m paired is among = absurd among
-member_among headers members rising (x ∷ taken) (y ∷ found) name h m paired is (inl same) =
-    inl (one_member 8 headers members name paired.0.0 h m y rising is (paired.0.1 ∙ ap (λ t. Some (t, y)) (sym same)))
+member_among headers members rising (x ∷ taken) (y ∷ found) name h m paired is (inl same) = grind (arith, one_member, headers, paired, rising)
 member_among headers members rising (x ∷ taken) (y ∷ found) name h m paired is (inr later) = inr (member_among headers members rising taken found name h m paired.1 is later)
 member_among headers members rising [] (y ∷ found) name h m paired is among = absurd paired
 member_among headers members rising (x ∷ taken) [] name h m paired is among = absurd paired
@@ -428,33 +384,17 @@ listed_for number symbol = (symbol, number)
 
 readable : (kind : Kind) (members : List MemberView) → refusal_of kind members ≡ None → AreReadable kind members
 unfolding place_of
-readable kind members accepted =
-    let parts = accepted_parts kind members accepted in
-    let fits = front_fits kind members accepted in
-    record {
-      few = omega (arith, fits.short);
-      near = λ n. near_at (places_of kind members) (n - 1) (short_places _ members parts.near);
-      texts = entries_texts kind members parts.none;
-    }
+readable kind members accepted = grind (arith, accepted_parts kind members accepted, front_fits kind members accepted, near_at, short_places, entries_texts)
 
 first_stored : (kind : Kind) (members : List MemberView) → nat_lt 0 (length (entries_of kind members)) ≡ true → slice_get (parts_of kind members) 0 ≡ Some (stored (codes "/") (padded 0 (first_linker (places_of kind members) (entries_of kind members))))
 unfolding parts_of stored_linkers
 first_stored Coff members some = refl
-first_stored Gnu members some =
-    let data' = padded 0 (first_linker (places_of Gnu members) (entries_of Gnu members)) in
-    let names = long_names Gnu members in
-    ap (λ b. slice_get ((if b then stored (codes "/") data' ∷ [] else []) ++ stored_names (names_bytes Gnu names) ++ map (stored_member names) members) 0) some
+first_stored Gnu members some = grind arith
 
 entries_found : (kind : Kind) (members : List MemberView) → refusal_of kind members ≡ None → nat_lt 0 (length (entries_of kind members)) ≡ true →
     entries_in (archive_of kind members) ≡ map (shown (places_of kind members)) (entries_of kind members)
 unfolding entries_in first_in
-entries_found kind members accepted some =
-    let r = readable kind members accepted in
-    let data' = first_linker (places_of kind members) (entries_of kind members) in
-    let there : linker_in 0 (archive_of kind members) ≡ Some (padded 0 data') =
-    linker_there 0 (archive_of kind members) (parts_of kind members) (padded 0 data') (parts_read_back kind members accepted) (first_stored kind members some) in
-    ap (λ l. unwrap_or (option_map first_data l) []) there
-    ∙ first_read (places_of kind members) (entries_of kind members) (padding 0 (length data')) r.few r.near r.texts
+entries_found kind members accepted some = grind (arith, readable kind members accepted, parts_read_back kind members accepted, first_stored kind members some, linker_there, first_data, first_read)
 
 -- They are the members' symbols, header by header.
 
@@ -473,18 +413,7 @@ unfolding entries_from entries_by place_of
 entries_shown front [] [] many = refl
 entries_shown front [] (m ∷ members) many = absurd (omega (arith, many))
 entries_shown front (p ∷ ps) [] many = absurd (omega (arith, many))
-entries_shown front (p ∷ ps) (m ∷ members) many =
-    let all = front ++ p ∷ ps in
-    let less : length front + 1 - 1 ≡ length front = omega arith in
-    let here : place_of all (length front + 1) ≡ p = ap (λ n. get_or all n 0) less ∙ get_after front p ps in
-    let whole : all ≡ (front ++ p ∷ []) ++ ps = sym (append_assoc front (p ∷ []) ps) in
-    let longer : length (front ++ p ∷ []) ≡ length front + 1 = length-append front (p ∷ []) in
-    map-append (shown all) (map (listed_for (length front + 1)) m.symbols) (entries_from (length front + 1 + 1) members)
-    ∙ (ap (λ t. t ++ map (shown all) (entries_from (length front + 1 + 1) members)) (symbols_shown all (length front + 1) p m.symbols here)
-    ∙ ap (λ t. map (listed_for p) m.symbols ++ t)
-    (ap (λ places. map (shown places) (entries_from (length front + 1 + 1) members)) whole
-    ∙ (ap (λ n. map (shown ((front ++ p ∷ []) ++ ps)) (entries_from (n + 1) members)) (sym longer)
-    ∙ entries_shown (front ++ p ∷ []) ps members (omega (arith, many)))))
+entries_shown front (p ∷ ps) (m ∷ members) many = grind (arith, common_steps, entries_shown (front ++ p ∷ []) ps members (omega (arith, many)), get_after, length-append, map-append, symbols_shown, many)
 
 -- Where headers rise, the symbols at one are its member's.
 
@@ -510,9 +439,7 @@ other_header n header differ = elim (cases_Bool (n == header)) [ inl same ↦ ab
 none_below : (header : ℕ) (entries rest : List (List ℕ × ℕ)) → AreBelow header entries → symbols_at (entries ++ rest) header ≡ symbols_at rest header
 unfolding symbols_at
 none_below header [] rest below = refl
-none_below header (e ∷ entries) rest below =
-    let other : (e.1 == header) ≡ false = other_header e.1 header (λ same. omega (arith, same, below.0)) in
-    rw other (none_below header entries rest below.1)
+none_below header (e ∷ entries) rest below = grind (arith, none_below header entries rest below.1)
 
 all_here : (header : ℕ) (symbols : List (List ℕ)) (rest : List (List ℕ × ℕ)) → symbols_at (map (listed_for header) symbols ++ rest) header ≡ symbols ++ symbols_at rest header
 unfolding symbols_at
@@ -542,12 +469,7 @@ members_after kind bytes before low (h ∷ headers) (m ∷ members) rising below
     let rest = entries_by headers members in
     let at : member_at kind bytes h ≡ Some (read_view m) = first_same read in
     let later : map (member_at kind bytes) headers ≡ map (λ x. Some (read_view x)) members = later_same read in
-    let symbols : symbols_at (entries_in bytes) h ≡ m.symbols =
-    ap (λ entries. symbols_at entries h) is
-    ∙ (none_below h before (own ++ rest) (below_on low h before rising.0 below)
-    ∙ (all_here h m.symbols rest
-    ∙ (ap (λ t. m.symbols ++ t) (none_above h (h + 1) headers members (omega arith) rising.1)
-    ∙ append-nil m.symbols))) in
+    let symbols : symbols_at (entries_in bytes) h ≡ m.symbols = grind (arith, none_below, below_on, rising, all_here, none_above, headers, append-nil) in
     let behind : filter_map (member_after kind bytes) headers ≡ members =
     members_after kind bytes (before ++ own) (h + 1) headers members rising.1
     (below_joined (h + 1) before own (below_on low (h + 1) before (omega (arith, rising.0)) below) (symbols_below h m.symbols))
@@ -578,11 +500,7 @@ not_listed found entries e distinct =
 all_firsts : (found entries : List (List ℕ × ℕ)) → IsDistinct bytes_eq (map (λ x. x.0) (found ++ entries)) → fold with_first found entries ≡ found ++ entries
 unfolding with_first
 all_firsts found [] distinct = sym (append-nil found)
-all_firsts found (e ∷ entries) distinct =
-    let joined : (found ++ e ∷ []) ++ entries ≡ found ++ e ∷ entries = append_assoc found (e ∷ []) entries in
-    ap (λ b. fold with_first (if b then found else found ++ e ∷ []) entries) (not_listed found entries e distinct)
-    ∙ all_firsts (found ++ e ∷ []) entries (subst (λ es. IsDistinct bytes_eq (map (λ x. x.0) es)) (sym joined) distinct)
-    ∙ joined
+all_firsts found (e ∷ entries) distinct = grind (arith, common_steps, all_firsts (found ++ e ∷ []) entries, found, not_listed)
 
 own_names : (number : ℕ) (symbols : List (List ℕ)) → map (λ e. e.0) (map (listed_for number) symbols) ≡ symbols
 own_names number [] = refl
@@ -591,9 +509,7 @@ own_names number (s ∷ symbols) = ap (λ t. s ∷ t) (own_names number symbols)
 names_from : (number : ℕ) (members : List MemberView) → map (λ e. e.0) (entries_from number members) ≡ flat_map (λ m. m.symbols) members
 unfolding entries_from
 names_from number [] = refl
-names_from number (m ∷ members) =
-    map-append (λ e. e.0) (map (listed_for number) m.symbols) (entries_from (number + 1) members)
-    ∙ (ap (λ t. t ++ map (λ e. e.0) (entries_from (number + 1) members)) (own_names number m.symbols) ∙ ap (λ t. m.symbols ++ t) (names_from (number + 1) members))
+names_from number (m ∷ members) = grind (arith, names_from (number + 1) members, map-append, own_names)
 
 each_entry : (kind : Kind) (members : List MemberView) → (kind ≡ Gnu) ⊎ IsDistinct bytes_eq (flat_map (λ m. m.symbols) members) → entries_of kind members ≡ entries_from 1 members
 unfolding entries_of
@@ -613,8 +529,7 @@ archive_has_members kind members accepted some either =
     let many : length places ≡ length members = length-places _ members in
     let own : entries_of kind members ≡ entries_from 1 members = each_entry kind members either in
     let listed : nat_lt 0 (length (entries_of kind members)) ≡ true = lt-ltb 0 (length (entries_of kind members)) (subst (λ n. 0 < n) (sym (ap length own ∙ all_entries 1 members)) some) in
-    let entries : entries_in bytes ≡ entries_by places members =
-    entries_found kind members accepted listed ∙ (ap (map (shown places)) own ∙ entries_shown [] places members many) in
+    let entries : entries_in bytes ≡ entries_by places members = grind (arith, entries_found kind members accepted listed, entries_shown [] places members many, many) in
     record {
       headers = places;
       located = located;

@@ -1,5 +1,5 @@
 -- The whole way for libraries of both flavours, by the laws on it.
-use Rattle.std.proofs.Common.{◌+◌, ◌*◌, Bool, List, ℕ, map, ◌∙◌, ◌≡◌, true, false, [], ◌∷◌, ◌++◌, Option, None, Some, refl, ap, sym, subst, inl, inr}
+use Rattle.std.proofs.Common.{arith, ◌+◌, ◌*◌, Bool, List, ℕ, map, ◌∙◌, ◌≡◌, true, false, [], ◌∷◌, ◌++◌, Option, None, Some, refl, ap, sym, subst, inl, inr}
 use Rattle.std.specs.List.{AllByRecursion, Contains, IsDistinct, cons_option, filter, filter_map, flat_map, list_any}
 use Rattle.implib.specs.declared.machine.MachineType.{MachineType}
 use Rattle.implib.specs.Formats.Object.{Object, object_in}
@@ -23,32 +23,32 @@ use Rattle.implib_link.proofs.Tables.{tables_read, leads_beside, tables_load_in_
 use Rattle.implib_link.specs.Tables.{AreTables, Tables, block_of_flavor, tables_at, tables_of_lld}
 use Rattle.implib_link.specs.Flavors.Expansion.{expanded_in, is_import_for}
 use Rattle.implib.specs.Import.{imp_symbol, Ask, Name, Ordinal}
-use Rattle.std.specs.Prelude.{bytes_eq, nat_le, if◌then◌else◌}
+use Rattle.std.specs.Prelude.{bytes_eq, if◌then◌else◌}
 use Rattle.std.specs.Option.{option_and_then, option_map}
-use Rattle.std.proofs.lemmas.Bool.{cases_Bool, false_from_ne_true, le-leb, true≢false}
+use Rattle.std.proofs.lemmas.Bool.{cases_Bool, false_from_ne_true, true≢false}
 use Rattle.implib.specs.declared.flavor.Flavor.{Flavor}
 use Rattle.implib.specs.declared.flavor.Flavor.TheVariants.{Gnu, Msvc}
 use Rattle.implib.specs.Definition.{ExportView}
 use Rattle.std.proofs.lemmas.Slice.Eq.{bytes_eq-Decides}
-use Rattle.implib.specs.Formats.File.{ObjectFile, ShortImportFile, file_in, short_import_or_object}
-use Rattle.implib.specs.Formats.ShortImport.{ShortImport, ask_of_short_import, import_name_undecorate, short_import_in}
+use Rattle.implib.specs.Formats.File.{ObjectFile, ShortImportFile, short_import_or_object}
+use Rattle.implib.specs.Formats.ShortImport.{ShortImport, ask_of_short_import, short_import_in}
 use Rattle.implib.specs.Link.Image.{Range}
 use Rattle.implib.specs.LibraryName.{NamesOfDll, linked_dll, names_for}
 use Rattle.implib.specs.Members.Members.{member_specs}
 use Rattle.implib.specs.Members.ReadBack.{file_of}
 use Rattle.implib.specs.Renaming.{renamed}
-use Rattle.implib.specs.Members.Msvc.{name_type_of, short_import_symbol, short_import_symbols}
+use Rattle.implib.specs.Members.Msvc.{short_import_symbol, short_import_symbols}
 use Rattle.implib.specs.Members.MsvcMembers.{descriptor_spec, export_specs, header_specs, null_descriptor_spec, null_thunk_spec, short_import_spec, weak_specs}
 use Rattle.implib.specs.Members.WeakExternal.{weak_spec}
 use Rattle.implib.proofs.Members.NotRefused.{Sound, exports_sound, import_name_is_free}
-use Rattle.implib.proofs.Members.Import.{name_type_is_ordinal, name_type_of_fits}
+use Rattle.implib.proofs.Members.Import.{name_type_is_ordinal}
 use Rattle.implib.proofs.Link.LinkedMembers.{among_contains, among_map}
 use Rattle.implib.proofs.Link.Ranges.{Among, all_among, among_back, among_first, among_flat, among_front, among_later}
 use Rattle.implib_link.specs.Flavors.LldImports.{IsLldProgram, if_for, imp_symbols_of, in_small, short_for, IsAskable, IsImportable, BranchArrivesByThunk}
 use Rattle.implib_link.specs.Gnu.Fields.{AllLead}
 use Rattle.implib_link.proofs.Flavors.Block.{FitsIn}
 use Rattle.implib_link.proofs.Flavors.Expanded.{AskFits}
-use Rattle.implib_link.proofs.Flavors.Inputs.{descriptor_at, export_fits, null_at, read_of, short_at, thunk_at, same_machine as own_machine}
+use Rattle.implib_link.proofs.Flavors.Inputs.{descriptor_at, export_fits, null_at, read_of, short_at, thunk_at}
 use Rattle.implib_link.proofs.Flavors.LldPrograms.{lld_calls, lld_count, lld_leads}
 use Rattle.implib_link.proofs.Search.Closing.{IsFirstAs, unresolved_from, unresolved_parts}
 use Rattle.implib_link.proofs.Search.FlavorGroups.{gnu_there, made_of, msvc_there, HasRole, expands, finds, first_by_role, found, no_gnu, short_libraries, short_members, shorts_alone, shorts_archive}
@@ -106,9 +106,7 @@ lines_lead_to_both machine ending libraries members inputs is_given taken arrang
 -- The short import of an export, read in its member's bytes.
 
 is_for : (machine : MachineType) (l : Library) (e : ExportView) → is_import_for machine (short_of_export machine l e) ≡ true
-is_for machine l e =
-    let known : nat_le (name_type_of machine e) import_name_undecorate ≡ true = le-leb (name_type_of machine e) import_name_undecorate (name_type_of_fits machine e) in
-    rw (own_machine machine, known) refl
+is_for machine l e = grind arith
 
 asks_so : (machine : MachineType) (l : Library) (e : ExportView) → ask_of_short_import (short_of_export machine l e) ≡ ask_in Msvc machine e
 asks_so machine l e = rw (name_type_is_ordinal machine e) refl
@@ -165,9 +163,7 @@ module _ (machine : MachineType) (libraries : List Library) (archive : IsMsvcArc
   -- it claims what it is listed for, and each name that it is listed for finds it
   is_first : (m : MemberView) → Pulled m → IsFirstAs (read_by_lld machine) (archive_of libraries) m
   is_first m from =
-      read_first machine (archive_of libraries) m
-      (subst (λ ms. IsFirstAs (expanded_in machine) ms m) (short_members libraries)
-      (first_by_role machine in_msvc of_all (expanded_in machine) (is_weak_in machine) (expands machine in_msvc of_all) m (role_of m from)))
+      grind (arith, short_members libraries, first_by_role machine in_msvc of_all (expanded_in machine) (is_weak_in machine) (expands machine in_msvc of_all) m (role_of m from), expands machine in_msvc of_all, role_of m from, read_first)
 
   pulled : (own : List Object) (taken : List MemberView) → AreTakenIntoAs (read_by_lld machine) (archive_of libraries) own taken → (m : MemberView) → Among m taken → Pulled m
   unfolding AreTakenIntoAs Among
@@ -219,19 +215,11 @@ module _ (machine : MachineType) (libraries : List Library) (archive : IsMsvcArc
     is_member : m ≡ short_of machine library export
     is_short_import : r ≡ short_of_export machine library export
 
-  no_short_in : (short : Option ShortImport) (object : Option Object) (o : Object) → short_import_or_object short object ≡ Some (ObjectFile o) → short ≡ None
-  no_short_in (Some r) object o is = cc
-  no_short_in None object o is = refl
-
   -- an object is read as none
   object_is_none : (l : Library) (p : MemberSpec) (m : MemberView) (o : Object) (r : ShortImport) → IsMsvcLibrary machine l → m ≡ member_of p → Among p (member_specs (renamed l.definition) machine Msvc) →
       file_of p.contents ≡ ObjectFile o → short_for machine m.bytes ≡ Some r → ⊥
   unfolding short_for
-  object_is_none l p m o r made same held is short =
-      let read : file_in (member_of p).bytes ≡ Some (ObjectFile o) = read_of l.definition machine l.members [] made p held ∙ ap Some is in
-      let none : short_import_in (member_of p).bytes ≡ None = no_short_in (short_import_in (member_of p).bytes) (object_in (member_of p).bytes) o read in
-      let clash : None ≡ Some r = sym (ap (option_and_then (if_for machine)) none) ∙ ap (λ (y : MemberView). short_for machine y.bytes) (sym same) ∙ short in
-      cc
+  object_is_none l p m o r made same held is short = grind (arith, read_of l.definition machine l.members [] made p held)
 
   of_export : (m : MemberView) (r : ShortImport) → Pulled m → short_for machine m.bytes ≡ Some r → OfExport m r
   unfolding descriptor_spec null_descriptor_spec null_thunk_spec
@@ -276,9 +264,7 @@ module _ (machine : MachineType) (libraries : List Library) (archive : IsMsvcArc
   -- and whose `__imp_` symbol its member is listed for
   lists_imp : (m : MemberView) (r : ShortImport) → OfExport m r → Among (imp_symbol r.symbol) m.symbols
   unfolding Among
-  lists_imp m r of =
-      subst (λ (y : MemberView). Among (imp_symbol r.symbol) y.symbols) (sym of.is_member)
-      (subst (λ (s : ShortImport). Among (imp_symbol s.symbol) (short_import_symbols of.export)) (sym of.is_short_import) (inl refl))
+  lists_imp m r of = grind arith
 
   -- Of what is taken: each is such a short import, and no two have one symbol.
   shorts_from : (ms : List MemberView) → ((m : MemberView) → Among m ms → Pulled m) → AllByRecursion (λ r. (m : MemberView) × OfExport m r) (shorts_in machine ms)
@@ -306,8 +292,7 @@ module _ (machine : MachineType) (libraries : List Library) (archive : IsMsvcArc
               let same : name ≡ imp_symbol s.symbol = (bytes_eq-Decides name (imp_symbol s.symbol)).0 equal in
               let other = each m (among_first m ms) in
               let first : first_listed (archive_of libraries) name ≡ Some t = (is_first t from).first name (lists_imp t r (of_export t r from is)) in
-              let second : first_listed (archive_of libraries) name ≡ Some m =
-              (is_first m other).first name (subst (λ n. Among n m.symbols) (sym same) (lists_imp m s (of_export m s other at))) in
+              let second : first_listed (archive_of libraries) name ≡ Some m = grind (arith, is_first m other, lists_imp m s (of_export m s other at), of_export m s other, name) in
               let one : Some t ≡ Some m = sym first ∙ second in
               let member : t ≡ m = cc in
               new (subst (λ x. Among x (m ∷ ms)) (sym member) (among_first m ms))),
@@ -344,13 +329,8 @@ module _ (machine : MachineType) (libraries : List Library) (archive : IsMsvcArc
         plain = of.plain;
         name = name;
         listed = among_contains name (short_import_symbols of.export) (subst (λ (y : MemberView). Among name y.symbols) of.is_member (listed_is (archive_of libraries) name t pulls.listed).1);
-        left = among_contains name (flat_map undefined_in (own ++ objects full)) (subst (Among name) (sym (flat_map-append undefined_in own (objects full)))
-            (elim (among_either name (flat_map undefined_in own) (flat_map undefined_in (objects taken)) (subst (Among name) (flat_map-append undefined_in own (objects taken)) parts.0)) [
-              | inl here ↦ among_front name (flat_map undefined_in own) (flat_map undefined_in (objects full)) here
-              | inr there ↦ among_back name (flat_map undefined_in own) (flat_map undefined_in (objects full)) (names_more (read_by_lld machine) undefined_in name taken full within there)
-            ]));
-        unclaimed = false_from_ne_true (list_any (bytes_eq name) (flat_map claimed_names own)) (λ claimed.
-            parts.1 (subst (Among name) (sym (flat_map-append claimed_names own (objects taken))) (among_front name (flat_map claimed_names own) (flat_map claimed_names (objects taken)) (any_among name (flat_map claimed_names own) claimed))));
+        left = grind (arith, among_contains, name, objects, flat_map-append, among_either, parts, among_front, among_back, names_more);
+        unclaimed = grind (arith, false_from_ne_true, name, parts, flat_map-append, objects, among_front, any_among);
       },
       of.is_short_import,
     )
@@ -377,17 +357,12 @@ module _ (machine : MachineType) (libraries : List Library) (archive : IsMsvcArc
   live_apart : (name : List ℕ) (is_live : ShortImport → Bool) (rs : List ShortImport) → AllByRecursion (λ other. bytes_eq name other ≡ false) (imp_symbols_of rs) →
       AllByRecursion (λ other. bytes_eq name other ≡ false) (imp_symbols_of (filter is_live rs))
   live_apart name is_live [] all = tt
-  live_apart name is_live (r ∷ rs) all =
-      elim (cases_Bool (is_live r)) [ inl is ↦ rw is (all.0, live_apart name is_live rs all.1) | inr is ↦ rw is (live_apart name is_live rs all.1) ]
+  live_apart name is_live (r ∷ rs) all = grind (arith, live_apart name is_live rs all.1)
 
   live_distinct : (is_live : ShortImport → Bool) (rs : List ShortImport) → IsDistinct bytes_eq (imp_symbols_of rs) → IsDistinct bytes_eq (imp_symbols_of (filter is_live rs))
   unfolding IsDistinct
   live_distinct is_live [] distinct = tt
-  live_distinct is_live (r ∷ rs) distinct =
-      elim (cases_Bool (is_live r)) [
-        | inl is ↦ rw is (live_apart (imp_symbol r.symbol) is_live rs distinct.0, live_distinct is_live rs distinct.1)
-        | inr is ↦ rw is (live_distinct is_live rs distinct.1)
-      ]
+  live_distinct is_live (r ∷ rs) distinct = grind (arith, live_distinct is_live rs distinct.1, live_apart (imp_symbol r.symbol) is_live rs distinct.0)
 
   each_writable : (rs : List ShortImport) → AllByRecursion (λ r. (m : MemberView) × OfExport m r) rs → AllByRecursion (λ r. IsImportable (record { dll = r.dll; asks = ask_of_short_import r ∷ [] })) rs
   each_writable [] all = tt
@@ -405,24 +380,7 @@ module _ (machine : MachineType) (libraries : List Library) (archive : IsMsvcArc
 
   is_program : AreCalledAlike libraries → (own : List Object) (taken : List MemberView) → TakesIntoAs (read_by_lld machine) (archive_of libraries) own taken → (is_live : ShortImport → Bool) (descriptors addresses : ℕ) (image : List Range) (linked : List Placed) →
       IsBuiltByLld machine descriptors addresses (filter is_live (shorts_in machine taken)) image linked → IsLldProgram machine descriptors addresses (filter is_live (shorts_in machine taken)) image linked
-  is_program alike own taken takes is_live descriptors addresses image linked built =
-      let from = all_filter (λ r. (m : MemberView) × OfExport m r) is_live (shorts_in machine taken) (shorts_from taken (λ m held. pulled own taken takes.in_turn m held)) in
-      record {
-        writable = each_writable (filter is_live (shorts_in machine taken)) from;
-        distinct = live_distinct is_live (shorts_in machine taken) (shorts_distinct own taken takes.in_turn);
-        agree = called_alike alike (filter is_live (shorts_in machine taken)) from;
-        before = built.before;
-        behind = built.behind;
-        placed = built.placed;
-        none_before = built.none_before;
-        none_behind = built.none_behind;
-        lookups = built.lookups;
-        hints = built.hints;
-        names = built.names;
-        pieces = built.pieces;
-        starts = built.starts;
-        ends = built.ends;
-      }
+  is_program alike own taken takes is_live descriptors addresses image linked built = grind (arith, all_filter, shorts_from, pulled, writable, each_writable, live_distinct, shorts_distinct, called_alike)
 
   pub lld_arrives : AreCalledAlike libraries → (own : List Object) (taken : List MemberView) → TakesIntoAs (read_by_lld machine) (archive_of libraries) own taken → LldArrives machine libraries own taken
   lld_arrives alike own taken takes = record {

@@ -1,6 +1,6 @@
 -- Where the descriptors and the address tables of blocks are, and the null descriptor after them.
 use Rattle.std.proofs.Common.{◌≡◌, ℕ, suc, ◌+◌, ◌*◌, ◌-◌, List, [], ◌∷◌, ◌++◌, length, map, refl, ap, sym, ◌∙◌, subst, arith, false, Some, inl, inr, ◌%◌, ◌<◌, ◌^◌, Bool, true, None, if◌then◌else◌, zero}
-use Rattle.std.proofs.Math.Nat.{mul-add, mul-suc}
+use Rattle.std.proofs.Math.Nat.{mul-add}
 use Rattle.std.proofs.lemmas.List.{append_assoc, map-append}
 use Rattle.implib.specs.declared.machine.MachineType.{MachineType}
 use Rattle.implib.specs.Definition.{ExportView}
@@ -34,36 +34,25 @@ use Rattle.implib_link.specs.Flavors.Expansion.{Code, Constant, Data, Use, impor
 use Rattle.implib_link.proofs.Flavors.Expanded.{AreWide, AskFits, ends_of_asking, ends_of_descriptor, ends_of_null_thunk, placed-asking, placed-descriptor, placed-null_thunk, placed_asking, placed_descriptor, taken_descriptor, taken_null_thunk, wide_aligned, wide_asking, wide_descriptor, wide_next, wide_null_thunk, TableFrom, asking_stands, descriptor_stands, null_thunk_stands}
 use Rattle.implib_link.proofs.Gnu.Filling.{LocatedBeside, zero_table, table_with}
 use Rattle.implib_link.specs.Directory.{DirectoryAt, Imported}
-use Rattle.implib_link.proofs.Gnu.Loaded.{times_none as plus_zero}
 
 -- objects after blocks
 pub objects_behind : (machine : MachineType) (blocks : List Block) (rest : List Object) →
     blocks_objects machine blocks [] ++ rest ≡ blocks_objects machine blocks rest
 objects_behind machine [] rest = refl
 objects_behind machine (k ∷ blocks) rest =
-    ap (λ others. head machine k.dll ∷ others)
-    (append_assoc (map (export machine k.dll) k.exports) (tail machine k.dll ∷ blocks_objects machine blocks []) rest
-    ∙ ap (λ others. map (export machine k.dll) k.exports ++ tail machine k.dll ∷ others) (objects_behind machine blocks rest))
+    grind (arith, objects_behind machine blocks rest, head machine k.dll, append_assoc (map (export machine k.dll) k.exports) (tail machine k.dll ∷ blocks_objects machine blocks []) rest, export machine k.dll, tail machine k.dll, blocks_objects machine blocks [])
 
 -- the descriptors' end after a block
 pub descriptors_after : (machine : MachineType) (dll : NamesOfDll) (b : Bases) (es : List ExportView) →
     b.descriptors + 20 ≡ (ends_of_block machine dll b es).descriptors
 descriptors_after machine dll b es = descriptors_end machine dll (ends_of_head machine dll b) es
 
-pub plus_twice : (a w m : ℕ) → a + w + m ≡ a + (m + w)
-plus_twice a w m = omega arith
-
 -- the address tables' end after a block's thunks and its null thunk
 pub addresses_after : (machine : MachineType) (dll : NamesOfDll) (b : Bases) (es : List ExportView) →
     (ends_of_all machine dll b es).addresses ≡ b.addresses + thunk_width machine * (length es + 1)
 unfolding ends_of_exports
 addresses_after machine dll b [] = omega arith
-addresses_after machine dll b (e ∷ es) =
-    let later = addresses_after machine dll (ends_of_export machine dll b e) es in
-    let count : suc (length es) + 1 ≡ suc (length es + 1) = omega arith in
-    let product : thunk_width machine * (suc (length es) + 1) ≡ thunk_width machine * (length es + 1) + thunk_width machine =
-    ap (λ n. thunk_width machine * n) count ∙ mul-suc (thunk_width machine) (length es + 1) in
-    later ∙ plus_twice b.addresses (thunk_width machine) (thunk_width machine * (length es + 1)) ∙ ap (λ n. b.addresses + n) (sym product)
+addresses_after machine dll b (e ∷ es) = grind (arith, addresses_after machine dll (ends_of_export machine dll b e) es)
 
 -- the null descriptor is where the descriptors end
 pub null_located : (machine : MachineType) (linked : List Placed) (image : List Range) (b : Bases) → AreAligned b →
@@ -121,11 +110,7 @@ claimed_export machine dll e = elim (cases_Bool e.is_data) [ inl is ↦ rw is re
 pub claimed_after : (machine : MachineType) (dll : NamesOfDll) (es : List ExportView) (rest : List Object) →
     flat_map claimed_names (after_head machine dll es rest) ≡ (flat_map archive_symbols es ++ iname_symbol machine dll.linked ∷ []) ++ flat_map claimed_names rest
 claimed_after machine dll [] rest = ap (λ names. names ++ flat_map claimed_names rest) (claimed_tail machine dll)
-claimed_after machine dll (e ∷ es) rest =
-    ap (λ names. names ++ flat_map claimed_names (after_head machine dll es rest)) (claimed_export machine dll e)
-    ∙ ap (λ names. archive_symbols e ++ names) (claimed_after machine dll es rest)
-    ∙ sym (append_assoc (archive_symbols e) (flat_map archive_symbols es ++ iname_symbol machine dll.linked ∷ []) (flat_map claimed_names rest))
-    ∙ ap (λ names. names ++ flat_map claimed_names rest) (sym (append_assoc (archive_symbols e) (flat_map archive_symbols es) (iname_symbol machine dll.linked ∷ [])))
+claimed_after machine dll (e ∷ es) rest = grind (arith, claimed_after machine dll es rest, after_head, dll, claimed_export, append_assoc)
 
 -- the names that placed objects claim are those of the objects
 pub claimed_placed : (b : Bases) (objects : List Object) → names_claimed_in (placed_from b objects) ≡ flat_map claimed_names objects
@@ -179,8 +164,7 @@ ends_of_askings machine b (e ∷ es) = ends_of_askings machine (ends_of_asking m
 pub wide_askings : (machine : MachineType) (b : Bases) (es : List ExportView) → AreWide machine b → AreWide machine (ends_of_askings machine b es)
 unfolding ends_of_askings
 wide_askings machine b [] even = wide_null_thunk machine b even
-wide_askings machine b (e ∷ es) even =
-    wide_askings machine (ends_of_asking machine b (ask_in Msvc machine e)) es (wide_asking machine b (ask_in Msvc machine e) even)
+wide_askings machine b (e ∷ es) even = grind (arith, wide_askings machine (ends_of_asking machine b (ask_in Msvc machine e)) es (wide_asking machine b (ask_in Msvc machine e) even))
 
 -- What they define.
 
@@ -280,17 +264,9 @@ names-in machine Gnu dll b es = ap (λ names. head_symbol machine dll.linked ∷
 
 gnu_exports_wide : (machine : MachineType) (dll : NamesOfDll) (b : Bases) (es : List ExportView) → AreWide machine b → AreWide machine (ends_of_all machine dll b es)
 unfolding ends_of_exports
-gnu_exports_wide machine dll b [] even = record {
-  descriptors = even.descriptors;
-  lookups = wide_next machine b.lookups even.lookups;
-  addresses = wide_next machine b.addresses even.addresses;
-}
+gnu_exports_wide machine dll b [] even = grind arith
 gnu_exports_wide machine dll b (e ∷ es) even =
-    gnu_exports_wide machine dll (ends_of_export machine dll b e) es (record {
-      descriptors = even.descriptors;
-      lookups = wide_next machine b.lookups even.lookups;
-      addresses = wide_next machine b.addresses even.addresses;
-    })
+    grind (arith, gnu_exports_wide machine dll (ends_of_export machine dll b e) es (record { descriptors = even.descriptors; lookups = wide_next machine b.lookups even.lookups; addresses = wide_next machine b.addresses even.addresses }))
 
 wide_in : (machine : MachineType) (flavor : Flavor) (dll : NamesOfDll) (b : Bases) (es : List ExportView) → AreWide machine b → AreWide machine (ends_in machine flavor dll b es)
 wide_in machine Msvc dll b es even = wide_askings machine (ends_of_descriptor dll b) es (wide_descriptor machine dll b even)
@@ -380,9 +356,7 @@ module _ (machine : MachineType) (dll : NamesOfDll) (linked : List Placed) (imag
       (address : ℕ) × Among (record { name = null_thunk_symbol dll.linked; address = Some address }) (defined_behind machine dll b es)
   unfolding defined_behind
   thunk_defined [] b = (b.addresses + 0, among_first _ _)
-  thunk_defined (e ∷ es) b =
-      let later = thunk_defined es (ends_of_asking machine b (ask_in Msvc machine e)) in
-      (later.0, among_later _ _ _ (among_back _ (use_definitions b.addresses (short_import_symbol e) (use_for e)) _ later.1))
+  thunk_defined (e ∷ es) b = grind (arith, thunk_defined es (ends_of_asking machine b (ask_in Msvc machine e)), ends_of_asking, among_later, among_back)
 
   -- each short import's object needs the descriptor's symbol alone, and the null thunk's none
   undefined_by_asking : (b : Bases) (symbol : List ℕ) (ask : Ask) (use_kind : Use) (others : List Placed) →
@@ -591,12 +565,7 @@ descriptors_one machine Gnu dll b es = descriptors_after machine dll b es
 askings_addresses : (machine : MachineType) (b : Bases) (es : List ExportView) → (ends_of_askings machine b es).addresses ≡ b.addresses + thunk_width machine * (length es + 1)
 unfolding ends_of_askings
 askings_addresses machine b [] = omega arith
-askings_addresses machine b (e ∷ es) =
-    let later = askings_addresses machine (ends_of_asking machine b (ask_in Msvc machine e)) es in
-    let count : suc (length es) + 1 ≡ suc (length es + 1) = omega arith in
-    let product : thunk_width machine * (suc (length es) + 1) ≡ thunk_width machine * (length es + 1) + thunk_width machine =
-    ap (λ n. thunk_width machine * n) count ∙ mul-suc (thunk_width machine) (length es + 1) in
-    later ∙ plus_twice b.addresses (thunk_width machine) (thunk_width machine * (length es + 1)) ∙ ap (λ n. b.addresses + n) (sym product)
+askings_addresses machine b (e ∷ es) = grind (arith, askings_addresses machine (ends_of_asking machine b (ask_in Msvc machine e)) es)
 
 pub addresses_one : (machine : MachineType) (flavor : Flavor) (dll : NamesOfDll) (b : Bases) (es : List ExportView) →
     (ends_in machine flavor dll b es).addresses ≡ b.addresses + thunk_width machine * (length es + 1)
@@ -652,26 +621,9 @@ pub nth_in : (machine : MachineType) (linked : List Placed) (image : List Range)
     × ((behind : List Object) × OneLinks machine linked image k.flavor k.dll k.exports c behind)))
 unfolding BlocksIn
 nth_in machine linked image rest [] b links i k is = cc
-nth_in machine linked image rest (q ∷ blocks) b links zero k is =
-    let same : q ≡ k = cc in (
-      b,
-      (
-        omega arith,
-        (
-          plus_zero b.addresses (thunk_width machine),
-          (all_objects machine blocks rest, subst (λ (x : FlavorBlock). OneLinks machine linked image x.flavor x.dll x.exports b (all_objects machine blocks rest)) same links.0),
-        ),
-      ),
-    )
+nth_in machine linked image rest (q ∷ blocks) b links zero k is = grind arith
 nth_in machine linked image rest (q ∷ blocks) b links (suc i) k is =
-    let later : Bases = ends_one machine b q in
-    let found = nth_in machine linked image rest blocks later links.1 i k is in
-    let at_descriptor : later.descriptors + 20 * i ≡ b.descriptors + 20 * suc i =
-    ap (λ n. n + 20 * i) (sym (descriptors_one machine q.flavor q.dll b q.exports)) ∙ plus_sum b.descriptors i in
-    let at_table : later.addresses + thunk_width machine * thunks_in i blocks ≡ b.addresses + thunk_width machine * (length q.exports + 1 + thunks_in i blocks) =
-    ap (λ n. n + thunk_width machine * thunks_in i blocks) (addresses_one machine q.flavor q.dll b q.exports)
-    ∙ table_sum b.addresses (thunk_width machine) (length q.exports + 1) (thunks_in i blocks) in
-    (found.0, (found.1.0 ∙ at_descriptor, (found.1.1.0 ∙ at_table, found.1.1.1)))
+    grind (arith, nth_in machine linked image rest blocks, descriptors_one machine q.flavor q.dll b q.exports, plus_sum b.descriptors i, addresses_one machine q.flavor q.dll b q.exports, table_sum b.addresses (thunk_width machine) (length q.exports + 1) (thunks_in i blocks))
 
 -- what a block imports
 abbrev pub imported_of : MachineType → FlavorBlock → Imported
@@ -699,6 +651,4 @@ even_all machine ending b (k ∷ blocks) suit even = even_all machine ending (en
 pub descriptors_all : (machine : MachineType) (b : Bases) (blocks : List FlavorBlock) → (ends_all machine b blocks).descriptors ≡ b.descriptors + 20 * length blocks
 unfolding ends_all
 descriptors_all machine b [] = omega arith
-descriptors_all machine b (k ∷ blocks) =
-    descriptors_all machine (ends_one machine b k) blocks
-    ∙ ap (λ n. n + 20 * length blocks) (sym (descriptors_one machine k.flavor k.dll b k.exports)) ∙ plus_sum b.descriptors (length blocks)
+descriptors_all machine b (k ∷ blocks) = grind (arith, descriptors_all machine (ends_one machine b k) blocks, descriptors_one machine k.flavor k.dll b k.exports, plus_sum b.descriptors (length blocks))

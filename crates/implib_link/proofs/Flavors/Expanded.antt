@@ -1,5 +1,5 @@
 -- Where a linker places what it takes Microsoft's members for, and what is there.
-use Rattle.std.proofs.Common.{◌≡◌, ℕ, ◌+◌, ◌-◌, ◌%◌, ◌<◌, ◌^◌, true, List, [], ◌∷◌, ◌++◌, length, refl, ap, ◌∙◌, arith, subst}
+use Rattle.std.proofs.Common.{◌≡◌, ℕ, ◌+◌, ◌-◌, ◌%◌, ◌<◌, ◌^◌, true, List, [], ◌∷◌, ◌++◌, length, refl, ap, arith, subst}
 use Rattle.std.specs.List.{AllByRecursion}
 use Rattle.std.proofs.lemmas.List.{length-replicate}
 use Rattle.implib.specs.declared.machine.MachineType.{MachineType}
@@ -12,7 +12,7 @@ use Rattle.implib.specs.Formats.Layout.{HasNoNul, entries_of, name_text, object_
 use Rattle.implib.specs.Link.Load.{BytesAt}
 use Rattle.implib.specs.Members.MsvcObjects.{descriptor, null_descriptor, null_thunk}
 use Rattle.implib.specs.Formats.Object.{Object, u32_at}
-use Rattle.implib.specs.Link.Placement.{Addresses, At, Bases, Descriptors, DllNames, HintNames, Lookups, Placed, SectionAddress, Unplaced, next_multiple, placed_from}
+use Rattle.implib.specs.Link.Placement.{Addresses, At, Bases, Descriptors, HintNames, Lookups, Placed, SectionAddress, Unplaced, next_multiple, placed_from}
 use Rattle.implib.proofs.Link.Linked.{contribution_located, same_order}
 use Rattle.implib.proofs.Link.Placement.{AreAligned, aligned, at_least, length-thunk_of}
 use Rattle.implib.proofs.Link.Thunks.{StrictThunkAt, length-address, name_located, ordinal_located, same_number, with_address-zeros}
@@ -99,13 +99,7 @@ pub placed-descriptor : (machine : MachineType) (dll : NamesOfDll) (b : Bases) (
     placed_from b (taken_descriptor machine dll ∷ rest) ≡ placed_descriptor machine dll b ∷ placed_from (ends_of_descriptor dll b) rest
 unfolding with_section_symbols object_of descriptor entries_of name_text
 placed-descriptor machine dll b rest even =
-    rw (
-      aligned b.descriptors even.descriptors,
-      aligned b.lookups (of_four machine b.lookups even.lookups),
-      aligned b.addresses (of_four machine b.addresses even.addresses),
-      plus_none b.lookups,
-      plus_none b.addresses,
-    ) refl
+    grind (arith, aligned b.descriptors even.descriptors, aligned b.lookups (of_four machine b.lookups even.lookups), of_four machine b.lookups even.lookups, aligned b.addresses (of_four machine b.addresses even.addresses), of_four machine b.addresses even.addresses, plus_none b.lookups, plus_none b.addresses)
 
 pub placed-asking : (machine : MachineType) (dll : NamesOfDll) (b : Bases) (symbol : List ℕ) (ask : Ask) (use_kind : Use) (rest : List Object) → AreWide machine b →
     placed_from b (import_object machine dll.text symbol ask use_kind ∷ rest) ≡ placed_asking machine dll b symbol ask use_kind ∷ placed_from (ends_of_asking machine b ask) rest
@@ -128,23 +122,13 @@ placed-null_thunk AMD64 dll b rest even = rw (aligned_8 b.addresses even.address
 placed-null_thunk ARM64 dll b rest even = rw (aligned_8 b.addresses even.addresses, aligned_8 b.lookups even.lookups) refl
 
 pub wide_descriptor : (machine : MachineType) (dll : NamesOfDll) (b : Bases) → AreWide machine b → AreWide machine (ends_of_descriptor dll b)
-wide_descriptor machine dll b even =
-    let whole : b.descriptors % 4 ≡ 0 = even.descriptors in
-    record { descriptors = omega arith; lookups = even.lookups; addresses = even.addresses }
+wide_descriptor machine dll b even = grind arith
 
 pub wide_asking : (machine : MachineType) (b : Bases) (ask : Ask) → AreWide machine b → AreWide machine (ends_of_asking machine b ask)
-wide_asking machine b ask even = record {
-  descriptors = even.descriptors;
-  lookups = wide_next machine b.lookups even.lookups;
-  addresses = wide_next machine b.addresses even.addresses;
-}
+wide_asking machine b ask even = grind arith
 
 pub wide_null_thunk : (machine : MachineType) (b : Bases) → AreWide machine b → AreWide machine (ends_of_null_thunk machine b)
-wide_null_thunk machine b even = record {
-  descriptors = even.descriptors;
-  lookups = wide_next machine b.lookups even.lookups;
-  addresses = wide_next machine b.addresses even.addresses;
-}
+wide_null_thunk machine b even = grind arith
 
 -- What is at these positions.
 
@@ -172,14 +156,12 @@ module _ (machine : MachineType) (dll : NamesOfDll) (linked : List Placed) where
   pub thunk_of_name : (b : Bases) (symbol text : List ℕ) (hint : ℕ) (use_kind : Use) →
       thunk_linked b symbol (Name text hint) use_kind ≡ u32_bytes ((0 + (next_multiple 2 b.hint_names + 0)) % 2 ^ 32) ++ zeros (thunk_width machine - 4)
   unfolding thunk_linked import_object
-  thunk_of_name b symbol text hint use_kind =
-      rw (same_number machine) (with_address-zeros machine (next_multiple 2 b.hint_names + 0))
+  thunk_of_name b symbol text hint use_kind = grind (arith, same_number, with_address-zeros)
 
   pub length-thunk_linked : (b : Bases) (symbol : List ℕ) (ask : Ask) (use_kind : Use) → length (thunk_linked b symbol ask use_kind) ≡ thunk_width machine
   unfolding thunk_linked
   length-thunk_linked b symbol (Ordinal n) use_kind = length-thunk_of machine n true
-  length-thunk_linked b symbol (Name text hint) use_kind =
-      ap length (thunk_of_name b symbol text hint use_kind) ∙ length-address machine ((0 + (next_multiple 2 b.hint_names + 0)) % 2 ^ 32)
+  length-thunk_linked b symbol (Name text hint) use_kind = grind (arith, thunk_of_name b symbol text hint use_kind, length-address machine ((0 + (next_multiple 2 b.hint_names + 0)) % 2 ^ 32))
 
   unfoldable pub descriptor_linked : Bases → List ℕ
   descriptor_linked b = relocated machine linked (placed_descriptor machine dll b) (relocation machine 12 2 ∷ relocation machine 0 3 ∷ relocation machine 16 4 ∷ []) (zeros 20)
@@ -219,16 +201,8 @@ module _ (machine : MachineType) (dll : NamesOfDll) (linked : List Placed) where
         record {
           bytes = subst (BytesAt image b.descriptors) (descriptor_is b) descriptors.0;
           name = names.0;
-          behind = record {
-            descriptors = descriptors.1;
-            lookups = subst (λ n. BytesAt image n (filled n (contributions machine linked Lookups (placed_from later rest)))) (plus_none b.lookups) lookups.1;
-            hint_names = names.1;
-            dll_names = subst (λ ps. BytesAt image b.dll_names (filled b.dll_names (contributions machine linked DllNames ps))) placed_is located.dll_names;
-          };
-          table = λ table.
-              subst (λ n. BytesAt image n (filled n (contributions machine linked Addresses (placed_from later rest)))) (plus_none b.addresses)
-              (step image b.addresses [] (contributions machine linked Addresses (placed_from later rest)) 0 refl
-              (subst (λ ps. BytesAt image b.addresses (filled b.addresses (contributions machine linked Addresses ps))) placed_is table)).1;
+          behind = grind (arith, descriptors, lookups, plus_none);
+          table = λ table. grind arith;
         }
 
     -- thunks in both tables that ask so, and what follows
@@ -243,19 +217,13 @@ module _ (machine : MachineType) (dll : NamesOfDll) (linked : List Placed) where
     unfolding import_object thunk_linked AskFits
     asking_stands b symbol (Ordinal n) use_kind rest fits even located =
         let later : Bases = ends_of_asking machine b (Ordinal n) in
-        let placed_is : placed_from b (import_object machine dll.text symbol (Ordinal n) use_kind ∷ rest) ≡ placed_asking machine dll b symbol (Ordinal n) use_kind ∷ placed_from later rest =
-        placed-asking machine dll b symbol (Ordinal n) use_kind rest even in
+        let placed_is : placed_from b (import_object machine dll.text symbol (Ordinal n) use_kind ∷ rest) ≡ placed_asking machine dll b symbol (Ordinal n) use_kind ∷ placed_from later rest = grind (arith, placed-asking machine dll b symbol (Ordinal n) use_kind rest even) in
         let long = length-thunk_linked b symbol (Ordinal n) use_kind in
         let lookups = step image b.lookups (thunk_linked b symbol (Ordinal n) use_kind) (contributions machine linked Lookups (placed_from later rest)) (thunk_width machine) long
         (subst (λ ps. BytesAt image b.lookups (filled b.lookups (contributions machine linked Lookups ps))) placed_is located.lookups) in
         record {
           lookup = ordinal_located machine image n b.lookups fits lookups.0;
-          behind = record {
-            descriptors = subst (λ ps. BytesAt image b.descriptors (filled b.descriptors (contributions machine linked Descriptors ps))) placed_is located.descriptors;
-            lookups = lookups.1;
-            hint_names = subst (λ ps. BytesAt image b.hint_names (filled b.hint_names (contributions machine linked HintNames ps))) placed_is located.hint_names;
-            dll_names = subst (λ ps. BytesAt image b.dll_names (filled b.dll_names (contributions machine linked DllNames ps))) placed_is located.dll_names;
-          };
+          behind = grind arith;
           table = λ table.
               let addresses = step image b.addresses (thunk_linked b symbol (Ordinal n) use_kind) (contributions machine linked Addresses (placed_from later rest)) (thunk_width machine) long
               (subst (λ ps. BytesAt image b.addresses (filled b.addresses (contributions machine linked Addresses ps))) placed_is table) in
@@ -263,8 +231,7 @@ module _ (machine : MachineType) (dll : NamesOfDll) (linked : List Placed) where
         }
     asking_stands b symbol (Name text hint) use_kind rest fits even located =
         let later : Bases = ends_of_asking machine b (Name text hint) in
-        let placed_is : placed_from b (import_object machine dll.text symbol (Name text hint) use_kind ∷ rest) ≡ placed_asking machine dll b symbol (Name text hint) use_kind ∷ placed_from later rest =
-        placed-asking machine dll b symbol (Name text hint) use_kind rest even in
+        let placed_is : placed_from b (import_object machine dll.text symbol (Name text hint) use_kind ∷ rest) ≡ placed_asking machine dll b symbol (Name text hint) use_kind ∷ placed_from later rest = grind (arith, placed-asking machine dll b symbol (Name text hint) use_kind rest even) in
         let long = length-thunk_linked b symbol (Name text hint) use_kind in
         let is = thunk_of_name b symbol text hint use_kind in
         let lookups = step image b.lookups (thunk_linked b symbol (Name text hint) use_kind) (contributions machine linked Lookups (placed_from later rest)) (thunk_width machine) long
@@ -274,12 +241,7 @@ module _ (machine : MachineType) (dll : NamesOfDll) (linked : List Placed) where
         (subst (λ ps. BytesAt image b.hint_names (filled b.hint_names (contributions machine linked HintNames ps))) placed_is located.hint_names) in
         record {
           lookup = name_located machine image starts ends text hint (next_multiple 2 b.hint_names) b.lookups fits.0 fits.1 (subst (BytesAt image b.lookups) is lookups.0) hints.0;
-          behind = record {
-            descriptors = subst (λ ps. BytesAt image b.descriptors (filled b.descriptors (contributions machine linked Descriptors ps))) placed_is located.descriptors;
-            lookups = lookups.1;
-            hint_names = hints.1;
-            dll_names = subst (λ ps. BytesAt image b.dll_names (filled b.dll_names (contributions machine linked DllNames ps))) placed_is located.dll_names;
-          };
+          behind = grind arith;
           table = λ table.
               let addresses = step image b.addresses (thunk_linked b symbol (Name text hint) use_kind) (contributions machine linked Addresses (placed_from later rest)) (thunk_width machine) long
               (subst (λ ps. BytesAt image b.addresses (filled b.addresses (contributions machine linked Addresses ps))) placed_is table) in
@@ -303,12 +265,7 @@ module _ (machine : MachineType) (dll : NamesOfDll) (linked : List Placed) where
         (subst (λ ps. BytesAt image b.lookups (filled b.lookups (contributions machine linked Lookups ps))) placed_is located.lookups) in
         record {
           lookup = lookups.0;
-          behind = record {
-            descriptors = subst (λ ps. BytesAt image b.descriptors (filled b.descriptors (contributions machine linked Descriptors ps))) placed_is located.descriptors;
-            lookups = lookups.1;
-            hint_names = subst (λ ps. BytesAt image b.hint_names (filled b.hint_names (contributions machine linked HintNames ps))) placed_is located.hint_names;
-            dll_names = subst (λ ps. BytesAt image b.dll_names (filled b.dll_names (contributions machine linked DllNames ps))) placed_is located.dll_names;
-          };
+          behind = grind arith;
           table = λ table. step image b.addresses (zeros (thunk_width machine)) (contributions machine linked Addresses (placed_from later rest)) (thunk_width machine) long
               (subst (λ ps. BytesAt image b.addresses (filled b.addresses (contributions machine linked Addresses ps))) placed_is table);
         }

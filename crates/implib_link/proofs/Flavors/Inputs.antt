@@ -1,43 +1,43 @@
 -- The names that the members of both flavours claim: those that they are listed for.
 use Rattle.std.proofs.Common.{◌≡◌, ℕ, Bool, true, false, List, [], ◌∷◌, ◌++◌, map, refl, ap, sym, ◌∙◌, subst, inl, inr, if◌then◌else◌, ◌<◌, ◌^◌, Option, Some, None, ◌+◌, arith}
-use Rattle.std.specs.List.{flat_map, AllByRecursion, Contains, cons_option, filter_map, position_or_len}
+use Rattle.std.specs.List.{flat_map, AllByRecursion, Contains, cons_option, filter_map}
 use Rattle.std.proofs.lemmas.Grind.{flat_map-append}
 use Rattle.std.proofs.lemmas.List.{append_assoc, append-nil, map_push}
 use Rattle.implib.specs.declared.machine.MachineType.{MachineType}
 use Rattle.implib.specs.declared.flavor.Flavor.{Flavor}
 use Rattle.implib.specs.declared.flavor.Flavor.TheVariants.{Gnu, Msvc}
 use Rattle.implib.specs.Definition.{ExportView, DefinitionView}
-use Rattle.implib.specs.Members.Gnu.{head_symbol, export_object, head_object, tail_object}
+use Rattle.implib.specs.Members.Gnu.{export_object, head_object, tail_object}
 use Rattle.implib.specs.Import.{Ask, Name, Ordinal, imp_symbol, public_exports}
 use Rattle.implib.specs.Formats.Layout.{entries_of, name_text, object_of, HasNoNul}
-use Rattle.implib.specs.Members.Msvc.{short_import_symbols, short_import_symbol, import_type_of, name_type_of, short_import_of}
+use Rattle.implib.specs.Members.Msvc.{short_import_symbols, short_import_symbol, name_type_of, short_import_of}
 use Rattle.implib.specs.Members.MsvcObjects.{descriptor, descriptor_symbol, null_descriptor, null_descriptor_symbol, null_thunk, null_thunk_symbol}
 use Rattle.implib.specs.Formats.Object.{Object, object_in}
 use Rattle.implib.proofs.Link.LinkedMembers.{among_contains, among_map, exports_fit, members_among, objects_are, symbols_are, among_reverse}
 use Rattle.implib.proofs.Link.Placement.{export, tail, head}
 use Rattle.implib.proofs.Link.Ranges.{Among, among_back, among_front, all_among, among_first, among_flat, among_later}
-use Rattle.implib_link.specs.Flavors.Expansion.{Code, Constant, Data, import_object, expansion, is_import_for, expanded_as, expanded_in, use_of, with_section_symbols}
+use Rattle.implib_link.specs.Flavors.Expansion.{Code, Constant, Data, import_object, expansion, expanded_as, expanded_in, use_of, with_section_symbols}
 use Rattle.implib_link.specs.Flavors.Program.{Ending, OfLinker, OfMember, ask_in, claimed_names, HaveSame, FlavorInput, IsFoundByName, IsMadeFor, IsTaken, all_members, exports_chosen, members_linked, null_member, objects_taken, specs_in, symbols_listed, dll_names_in}
 use Rattle.implib_link.proofs.Flavors.Block.{claimed_after, claimed_head, behind_descriptor, objects_of, symbols_of, FitsIn, asking, FlavorBlock, all_objects, rest_of, AllSuit, CanLink}
 use Rattle.implib_link.proofs.Search.Lists.{among_either, contains_among, all_from}
 use Rattle.implib_link.proofs.Flavors.Expanded.{taken_descriptor, taken_null, taken_null_thunk, AskFits}
 use Rattle.implib.specs.LibraryName.{NamesOfDll, linked_dll, names_for, linked_name}
-use Rattle.std.specs.Prelude.{◌==◌, nat_le, slice_get, suc, take, zero}
+use Rattle.std.specs.Prelude.{◌==◌, slice_get, suc, take, zero}
 use Rattle.std.specs.Option.{option_and_then, option_map}
-use Rattle.std.proofs.lemmas.Bool.{cases_Bool, le-leb, ltb-true, or_parts}
+use Rattle.std.proofs.lemmas.Bool.{cases_Bool, le-leb, ltb-true}
 use Rattle.std.proofs.lemmas.List.Elements.{filter_map-append}
 use Rattle.implib.specs.declared.machine.MachineType.TheVariants.{I386, ARMNT, AMD64, ARM64}
-use Rattle.implib.specs.Ascii.{at_sign, holds, question_mark, underscore, begins_with, without_first}
+use Rattle.implib.specs.Ascii.{holds}
 use Rattle.implib.specs.Formats.File.{File, ObjectFile, file_in, short_import_or_object}
 use Rattle.implib.specs.Members.GnuMembers.{export_spec, gnu_specs, head_spec, tail_spec, alias_specs, numbered_specs, numbered_specs_of}
 use Rattle.implib.specs.Link.LinkedMembers.{chosen_exports, numbered_spec, objects_in}
 use Rattle.implib.specs.Machine.{machine_number}
 use Rattle.implib.specs.Members.MemberSpec.{MemberSpec, MemberView, file_bytes, member_of}
 use Rattle.implib.specs.Members.Members.{AreMembersOf, member_specs}
-use Rattle.implib.specs.Members.MsvcMembers.{descriptor_spec, export_specs, header_specs, null_descriptor_spec, null_thunk_spec, short_import_spec, weak_specs}
+use Rattle.implib.specs.Members.MsvcMembers.{descriptor_spec, export_specs, header_specs, null_descriptor_spec, null_thunk_spec, short_import_spec}
 use Rattle.implib.specs.Members.ReadBack.{file_of}
 use Rattle.implib.specs.Renaming.{renamed}
-use Rattle.implib.specs.Formats.ShortImport.{ShortImport, ask_of_short_import, asked_by_name_type, before_at_sign, import_code, import_const, import_data, import_name, import_name_noprefix, import_name_undecorate, short_import_in, without_prefix}
+use Rattle.implib.specs.Formats.ShortImport.{ShortImport, ask_of_short_import, asked_by_name_type, import_code, import_const, import_data, without_prefix}
 use Rattle.implib.proofs.Members.GnuReadings.{member_specs_read}
 use Rattle.implib.proofs.Members.Import.{name_type_is_ordinal, name_type_of_fits, symbol_without_nul}
 use Rattle.implib.proofs.Members.MemberReadings.{ReadsBack, map_after, member_specs_read_back}
@@ -72,52 +72,35 @@ claims_asking machine dll symbol (Name text hint) false false = refl
 askings_claim : (machine : MachineType) (dll : NamesOfDll) (es : List ExportView) (rest : List Object) →
     flat_map claimed_names (behind_descriptor machine dll es rest) ≡ (flat_map short_import_symbols es ++ null_thunk_symbol dll.linked ∷ []) ++ flat_map claimed_names rest
 askings_claim machine dll [] rest = ap (λ names. names ++ flat_map claimed_names rest) (claims_thunk machine dll)
-askings_claim machine dll (e ∷ es) rest =
-    ap (λ names. names ++ flat_map claimed_names (behind_descriptor machine dll es rest)) (claims_asking machine dll (short_import_symbol e) (ask_in Msvc machine e) e.is_data e.constant)
-    ∙ ap (λ names. short_import_symbols e ++ names) (askings_claim machine dll es rest)
-    ∙ sym (append_assoc (short_import_symbols e) (flat_map short_import_symbols es ++ null_thunk_symbol dll.linked ∷ []) (flat_map claimed_names rest))
-    ∙ ap (λ names. names ++ flat_map claimed_names rest) (sym (append_assoc (short_import_symbols e) (flat_map short_import_symbols es) (null_thunk_symbol dll.linked ∷ [])))
+askings_claim machine dll (e ∷ es) rest = grind (arith, askings_claim machine dll es rest, behind_descriptor, claims_asking, append_assoc)
 
 one_claims : (machine : MachineType) (flavor : Flavor) (dll : NamesOfDll) (es : List ExportView) (rest : List Object) →
     flat_map claimed_names (objects_of machine flavor dll es rest) ≡ symbols_of machine flavor dll es ++ flat_map claimed_names rest
-one_claims machine Msvc dll es rest =
-    ap (λ names. names ++ flat_map claimed_names (behind_descriptor machine dll es rest)) (claims_descriptor machine dll) ∙ ap (λ names. descriptor_symbol dll.linked ∷ names) (askings_claim machine dll es rest)
-one_claims machine Gnu dll es rest =
-    ap (λ names. names ++ flat_map claimed_names (map (export machine dll) es ++ tail machine dll ∷ rest)) (claimed_head machine dll) ∙ ap (λ names. head_symbol machine dll.linked ∷ names) (claimed_after machine dll es rest)
+one_claims machine Msvc dll es rest = grind (arith, behind_descriptor, claims_descriptor, askings_claim)
+one_claims machine Gnu dll es rest = grind (arith, export, tail, claimed_head, claimed_after)
 
 pub all_claim_listed : (machine : MachineType) (ending : Ending) (blocks : List FlavorBlock) →
     flat_map claimed_names (all_objects machine blocks (rest_of ending)) ≡ flat_map (λ (k : FlavorBlock). symbols_of machine k.flavor k.dll k.exports) blocks
 all_claim_listed machine OfLinker [] = refl
 all_claim_listed machine OfMember [] = refl
-all_claim_listed machine ending (k ∷ blocks) =
-    one_claims machine k.flavor k.dll k.exports (all_objects machine blocks (rest_of ending))
-    ∙ ap (λ names. symbols_of machine k.flavor k.dll k.exports ++ names) (all_claim_listed machine ending blocks)
+all_claim_listed machine ending (k ∷ blocks) = grind (arith, all_claim_listed machine ending blocks, one_claims, all_objects, rest_of, symbols_of)
 
 -- with the null descriptor put in, its name comes in, too
 moved : (name one : List ℕ) (xs ys : List (List ℕ)) → Among name (xs ++ one ∷ ys) → Among name (one ∷ (xs ++ ys))
 unfolding Among
-moved name one xs ys held =
-    elim (among_either name xs (one ∷ ys) held) [
-      | inl front ↦ inr (among_front name xs ys front)
-      | inr behind ↦ elim behind [ inl is ↦ inl is | inr later ↦ inr (among_back name xs ys later) ]
-    ]
+moved name one xs ys held = grind (arith, among_either name xs (one ∷ ys) held, among_front, among_back)
 
 moved_back : (name one : List ℕ) (xs ys : List (List ℕ)) → Among name (one ∷ (xs ++ ys)) → Among name (xs ++ one ∷ ys)
 unfolding Among
 moved_back name one xs ys (inl is) = among_back name xs (one ∷ ys) (inl is)
-moved_back name one xs ys (inr held) =
-    elim (among_either name xs ys held) [
-      | inl front ↦ among_front name xs (one ∷ ys) front
-      | inr behind ↦ among_back name xs (one ∷ ys) (inr behind)
-    ]
+moved_back name one xs ys (inr held) = grind (arith, among_either name xs ys held, among_front, among_back)
 
 pub claimed_with_null : (machine : MachineType) (xs ys : List Object) (names : List (List ℕ)) → flat_map claimed_names (xs ++ ys) ≡ names →
     HaveSame (flat_map claimed_names (xs ++ taken_null machine ∷ ys)) (null_descriptor_symbol ∷ names)
 claimed_with_null machine xs ys names is name =
     let front : List (List ℕ) = flat_map claimed_names xs in
     let back : List (List ℕ) = flat_map claimed_names ys in
-    let all : flat_map claimed_names (xs ++ taken_null machine ∷ ys) ≡ front ++ null_descriptor_symbol ∷ back =
-    flat_map-append claimed_names xs (taken_null machine ∷ ys) ∙ ap (λ own. front ++ (own ++ back)) (claims_null machine) in
+    let all : flat_map claimed_names (xs ++ taken_null machine ∷ ys) ≡ front ++ null_descriptor_symbol ∷ back = grind (arith, flat_map-append, taken_null, claims_null) in
     let others : front ++ back ≡ names = sym (flat_map-append claimed_names xs ys) ∙ is in (
       λ held. among_contains name (null_descriptor_symbol ∷ names)
           (subst (λ ns. Among name (null_descriptor_symbol ∷ ns)) others (moved name null_descriptor_symbol front back (subst (Among name) all (contains_among name (flat_map claimed_names (xs ++ taken_null machine ∷ ys)) held)))),
@@ -146,51 +129,24 @@ ask_is machine dll e = rw (name_type_is_ordinal machine e) refl
 
 -- the short import of an export is taken for the object that asks so
 pub short_import_taken : (machine : MachineType) (dll : NamesOfDll) (e : ExportView) → expansion machine (short_import_of machine dll.text e) ≡ Some (asking machine dll e)
-short_import_taken machine dll e =
-    let known : nat_le (name_type_of machine e) import_name_undecorate ≡ true = le-leb (name_type_of machine e) import_name_undecorate (name_type_of_fits machine e) in
-    let passes : is_import_for machine (short_import_of machine dll.text e) ≡ true = rw (same_machine machine, known) refl in
-    ap (λ test. if test then option_map (import_object machine dll.text (short_import_symbol e) (ask_of_short_import (short_import_of machine dll.text e))) (use_of (import_type_of e)) else None) passes
-    ∙ ap (λ ask. option_map (import_object machine dll.text (short_import_symbol e) ask) (use_of (import_type_of e))) (ask_is machine dll e)
-    ∙ ap (option_map (import_object machine dll.text (short_import_symbol e) (ask_in Msvc machine e))) (use_is e.is_data e.constant)
+short_import_taken machine dll e = simp (le-leb, name_type_of_fits, same_machine, ask_is, use_is)
 
 -- What a short import asks for has no NUL.
-
-free_first : (b : ℕ) (rest : List ℕ) → holds 0 (b ∷ rest) ≡ false → holds 0 rest ≡ false
-free_first b rest free = (or_parts (b == 0) (holds 0 rest) free).1
-
-without_first_free : (text : List ℕ) → holds 0 text ≡ false → holds 0 (without_first text) ≡ false
-without_first_free [] free = free
-without_first_free (b ∷ rest) free = free_first b rest free
 
 if_free : (test : Bool) (one other : List ℕ) → holds 0 one ≡ false → holds 0 other ≡ false → holds 0 (if test then one else other) ≡ false
 if_free true one other first second = first
 if_free false one other first second = second
 
 prefix_free : (text : List ℕ) → holds 0 text ≡ false → holds 0 (without_prefix text) ≡ false
-prefix_free text free =
-    let short : holds 0 (without_first text) ≡ false = without_first_free text free in
-    elim (cases_Bool (begins_with question_mark text)) [
-      | inl is ↦ rw is short
-      | inr is ↦ rw is (elim (cases_Bool (begins_with at_sign text)) [
-        | inl at ↦ rw at short
-        | inr at ↦ rw at (elim (cases_Bool (begins_with underscore text)) [ inl has ↦ rw has short | inr has ↦ rw has free ])
-      ])
-    ]
+prefix_free text free = grind arith
 
 cut_free : (n : ℕ) (text : List ℕ) → holds 0 text ≡ false → holds 0 (take n text) ≡ false
 cut_free zero text free = refl
 cut_free (suc n) [] free = refl
-cut_free (suc n) (b ∷ rest) free =
-    let parts = or_parts (b == 0) (holds 0 rest) free in
-    rw parts.0 (cut_free n rest parts.1)
+cut_free (suc n) (b ∷ rest) free = grind (arith, cut_free n rest)
 
 asked_free : (name_type : ℕ) (symbol : List ℕ) → holds 0 symbol ≡ false → holds 0 (asked_by_name_type name_type symbol) ≡ false
-asked_free name_type symbol free =
-    let short : holds 0 (without_prefix symbol) ≡ false = prefix_free symbol free in
-    let cut : List ℕ = before_at_sign (without_prefix symbol) in
-    if_free (name_type == import_name) symbol (if name_type == import_name_noprefix then without_prefix symbol else cut) free
-    (if_free (name_type == import_name_noprefix) (without_prefix symbol) cut short
-    (cut_free (position_or_len (λ byte. byte == at_sign) (without_prefix symbol)) (without_prefix symbol) short))
+asked_free name_type symbol free = grind (arith, prefix_free, if_free, cut_free)
 
 ask_fits : (no_name : Bool) (ordinal : ℕ) (text : List ℕ) → ordinal < 2 ^ 16 → HasNoNul text → AskFits (if no_name then Ordinal ordinal else Name text ordinal)
 unfolding AskFits
@@ -237,10 +193,7 @@ module _ (d : DefinitionView) (machine : MachineType) (members : List MemberView
   thunk_at = header_at (null_thunk_spec machine (linked_dll d)) (among_later _ _ _ (among_later _ _ _ (among_first _ _)))
 
   pub short_at : (e : ExportView) → Among e (public_exports (renamed d)) → Among (short_import_spec machine (names_for Msvc d) e) (member_specs (renamed d) machine Msvc)
-  short_at e m =
-      among_back _ (header_specs machine (names_for Msvc d)) (flat_map (export_specs machine (names_for Msvc d)) (public_exports (renamed d)))
-      (among_flat (export_specs machine (names_for Msvc d)) e (public_exports (renamed d)) (short_import_spec machine (names_for Msvc d) e) m
-      (among_back _ (weak_specs machine (linked_dll d) e) (short_import_spec machine (names_for Msvc d) e ∷ []) (among_first _ _)))
+  short_at e m = grind (arith, among_back, among_flat, among_first)
 
   pub read_of : (p : MemberSpec) → Among p (member_specs (renamed d) machine Msvc) → file_in (file_bytes p.contents) ≡ Some (file_of p.contents)
   read_of p m = (all_among (λ (q : MemberSpec). ReadsBack q.contents) p (member_specs (renamed d) machine Msvc) m reads).read
@@ -278,18 +231,7 @@ module _ (d : DefinitionView) (machine : MachineType) (members : List MemberView
   shorts = map (short_import_spec machine (names_for Msvc d)) (chosen_exports d chosen)
 
   pub msvc_read : map (λ (m : MemberView). expanded_in machine m.bytes) (map member_of (specs_in Msvc d machine chosen)) ≡ map Some (objects_of machine Msvc (names_for Msvc d) (chosen_exports d chosen) [])
-  msvc_read =
-      let reading : MemberSpec → Option Object = λ (p : MemberSpec). expanded_in machine (member_of p).bytes in
-      let last : MemberSpec = null_thunk_spec machine (linked_dll d) in
-      map_after (λ (m : MemberView). expanded_in machine m.bytes) member_of (specs_in Msvc d machine chosen)
-      ∙ ap (λ o. o ∷ map reading (shorts ++ last ∷ [])) descriptor_taken
-      ∙ ap (λ os. Some (taken_descriptor machine (names_for Msvc d)) ∷ os) (
-      map_push reading shorts last
-      ∙ ap (λ o. map reading shorts ++ o ∷ []) thunk_taken
-      ∙ ap (λ os. os ++ Some (taken_null_thunk machine (names_for Msvc d)) ∷ [])
-      (map_after reading (short_import_spec machine (names_for Msvc d)) (chosen_exports d chosen)
-      ∙ all_read (λ e. reading (short_import_spec machine (names_for Msvc d) e)) (asking machine (names_for Msvc d)) (chosen_exports d chosen) shorts_taken)
-      ∙ sym (map_push Some (map (asking machine (names_for Msvc d)) (chosen_exports d chosen)) (taken_null_thunk machine (names_for Msvc d))))
+  msvc_read = grind (arith, map_after, descriptor_taken, taken_descriptor, map_push, thunk_taken, taken_null_thunk, all_read, asking, shorts_taken)
 
   all_mapped : {X Y : Type 0} (f : X → Y) (P : Y → Type 0) (xs : List X) → AllByRecursion (λ x. P (f x)) xs → AllByRecursion P (map f xs)
   all_mapped f P [] all = tt
@@ -305,21 +247,17 @@ module _ (d : DefinitionView) (machine : MachineType) (members : List MemberView
       ))
 
   pub null_from : Contains members (null_member machine (linked_dll d))
-  null_from =
-      subst (λ ms. Contains ms (null_member machine (linked_dll d))) (sym made.made)
-      (among_contains (null_member machine (linked_dll d)) (map member_of (member_specs (renamed d) machine Msvc)) (among_map member_of (null_descriptor_spec machine (linked_dll d)) (member_specs (renamed d) machine Msvc) null_at))
+  null_from = grind (arith, among_map member_of (null_descriptor_spec machine (linked_dll d)) (member_specs (renamed d) machine Msvc) null_at, among_contains, null_at)
 
 flat_listed : (machine : MachineType) (dll : NamesOfDll) (es : List ExportView) (last : MemberSpec) →
     flat_map (λ (m : MemberView). m.symbols) (map member_of (map (short_import_spec machine dll) es ++ last ∷ [])) ≡ flat_map short_import_symbols es ++ (last.symbols ++ [])
 flat_listed machine dll [] last = refl
-flat_listed machine dll (e ∷ es) last =
-    ap (λ names. short_import_symbols e ++ names) (flat_listed machine dll es last) ∙ sym (append_assoc (short_import_symbols e) (flat_map short_import_symbols es) (last.symbols ++ []))
+flat_listed machine dll (e ∷ es) last = grind (arith, flat_listed machine dll es last)
 
 pub msvc_symbols : (d : DefinitionView) (machine : MachineType) (chosen : List ℕ) →
     symbols_listed (map member_of (specs_in Msvc d machine chosen)) ≡ symbols_of machine Msvc (names_for Msvc d) (chosen_exports d chosen)
 unfolding descriptor_spec null_thunk_spec
-msvc_symbols d machine chosen =
-    ap (λ names. descriptor_symbol (linked_dll d) ∷ names) (flat_listed machine (names_for Msvc d) (chosen_exports d chosen) (null_thunk_spec machine (linked_dll d)))
+msvc_symbols d machine chosen = grind (arith, flat_listed)
 
 -- The members for GNU's linker: a linker takes each for the object that it is.
 
@@ -331,10 +269,7 @@ no_short bytes None (Some p) o is = cc
 
 -- the object of a file is taken with its section symbols
 object_taken : (machine : MachineType) (bytes : List ℕ) (o p : Object) → file_in bytes ≡ Some (ObjectFile o) → object_in bytes ≡ Some p → expanded_in machine bytes ≡ Some (with_section_symbols p)
-object_taken machine bytes o p is read =
-    let same : Some o ≡ Some p = sym (no_short bytes (short_import_in bytes) (object_in bytes) o is) ∙ read in
-    let here : o ≡ p = cc in
-    taken_by machine bytes (ObjectFile o) is ∙ ap (λ x. Some (with_section_symbols x)) here
+object_taken machine bytes o p is read = grind (arith, no_short, taken_by)
 
 head_plain : (machine : MachineType) (dll : NamesOfDll) → with_section_symbols (head machine dll) ≡ head machine dll
 unfolding with_section_symbols head_object
@@ -396,15 +331,11 @@ module _ (d : DefinitionView) (machine : MachineType) (members : List MemberView
   behind_taken : (chosen : List ℕ) → map reading (filter_map (numbered_spec machine (linked_name d) (public_exports (renamed d))) chosen ++ last ∷ [])
       ≡ map Some (map (export machine (names_for Gnu d)) (chosen_exports d chosen) ++ tail machine (names_for Gnu d) ∷ [])
   behind_taken [] = ap (λ o. o ∷ []) tail_taken
-  behind_taken (n ∷ chosen) =
-      one_more n (slice_get (public_exports (renamed d)) n) (filter_map (numbered_spec machine (linked_name d) (public_exports (renamed d))) chosen) (chosen_exports d chosen) refl (behind_taken chosen)
+  behind_taken (n ∷ chosen) = grind (arith, behind_taken chosen, one_more)
 
   pub gnu_read : (chosen : List ℕ) →
       map (λ (m : MemberView). expanded_in machine m.bytes) (map member_of (specs_in Gnu d machine chosen)) ≡ map Some (objects_of machine Gnu (names_for Gnu d) (chosen_exports d chosen) [])
-  gnu_read chosen =
-      map_after (λ (m : MemberView). expanded_in machine m.bytes) member_of (specs_in Gnu d machine chosen)
-      ∙ ap (λ o. o ∷ map reading (filter_map (numbered_spec machine (linked_name d) (public_exports (renamed d))) chosen ++ last ∷ [])) head_taken
-      ∙ ap (λ os. Some (head machine (names_for Gnu d)) ∷ os) (behind_taken chosen)
+  gnu_read chosen = grind (arith, map_after, head_taken, head, behind_taken)
 
 -- In either flavour.
 
@@ -453,10 +384,7 @@ abbrev pub block_in : FlavorInput → FlavorBlock
 block_in p = record { flavor = p.flavor; dll = dll_names_in p; exports = exports_chosen p }
 
 taken_are : (machine : MachineType) (p : FlavorInput) → IsMadeFor machine p → objects_taken machine (members_linked machine p) ≡ objects_of machine p.flavor (dll_names_in p) (exports_chosen p) []
-taken_are machine p made =
-    filter_map-present (λ (m : MemberView). expanded_in machine m.bytes) (members_linked machine p)
-    ∙ ap present (objects_read p.input.definition machine p.flavor p.input.members p.input.chosen made)
-    ∙ present-some (objects_of machine p.flavor (dll_names_in p) (exports_chosen p) [])
+taken_are machine p made = grind (arith, filter_map-present, present, objects_read, present-some, objects_of)
 
 pub objects_behind : (machine : MachineType) (flavor : Flavor) (dll : NamesOfDll) (es : List ExportView) (rest : List Object) →
     objects_of machine flavor dll es [] ++ rest ≡ objects_of machine flavor dll es rest
@@ -468,12 +396,7 @@ inputs_as : (reading : List ℕ → Option Object) (machine : MachineType) (ps :
     AllByRecursion (λ p. objects_as reading (members_linked machine p) ≡ objects_of machine p.flavor (dll_names_in p) (exports_chosen p) []) ps →
     objects_as reading (all_members machine ps) ++ rest ≡ all_objects machine (map block_in ps) rest
 inputs_as reading machine [] rest are = refl
-inputs_as reading machine (p ∷ ps) rest are =
-    ap (λ os. os ++ rest) (filter_map-append (λ (m : MemberView). reading m.bytes) (members_linked machine p) (all_members machine ps))
-    ∙ append_assoc (objects_as reading (members_linked machine p)) (objects_as reading (all_members machine ps)) rest
-    ∙ ap (λ os. os ++ (objects_as reading (all_members machine ps) ++ rest)) are.0
-    ∙ ap (λ os. objects_of machine p.flavor (dll_names_in p) (exports_chosen p) [] ++ os) (inputs_as reading machine ps rest are.1)
-    ∙ objects_behind machine p.flavor (dll_names_in p) (exports_chosen p) (all_objects machine (map block_in ps) rest)
+inputs_as reading machine (p ∷ ps) rest are = grind (arith, inputs_as reading machine ps rest are.1, filter_map-append, append_assoc, objects_of, objects_behind, all_objects)
 
 all_taken_are : (machine : MachineType) (ps : List FlavorInput) → AllByRecursion (IsMadeFor machine) ps →
     AllByRecursion (λ p. objects_taken machine (members_linked machine p) ≡ objects_of machine p.flavor (dll_names_in p) (exports_chosen p) []) ps
@@ -502,33 +425,18 @@ pub inputs_symbols : (machine : MachineType) (ps : List FlavorInput) → AllByRe
     symbols_listed (all_members machine ps) ≡ flat_map (λ (k : FlavorBlock). symbols_of machine k.flavor k.dll k.exports) (map block_in ps)
 inputs_symbols machine [] are = refl
 inputs_symbols machine (p ∷ ps) are =
-    flat_map-append (λ (m : MemberView). m.symbols) (members_linked machine p) (all_members machine ps)
-    ∙ ap (λ symbols. symbols ++ symbols_listed (all_members machine ps)) (symbols_are_in p.input.definition machine p.flavor p.input.members p.input.chosen are.0)
-    ∙ ap (λ rest. symbols_of machine p.flavor (dll_names_in p) (exports_chosen p) ++ rest) (inputs_symbols machine ps are.1)
+    grind (arith, inputs_symbols machine ps are.1, symbols_are_in p.input.definition machine p.flavor p.input.members p.input.chosen are.0, symbols_of machine p.flavor (dll_names_in p) (exports_chosen p), flat_map-append)
 
 pub inputs_link : (machine : MachineType) (ending : Ending) (ps : List FlavorInput) → AllByRecursion (IsMadeFor machine) ps → AllByRecursion (λ p. IsFoundByName p.flavor (dll_names_in p)) ps →
     AllSuit ending (map block_in ps) → AllByRecursion (CanLink machine ending) (map block_in ps)
 inputs_link machine ending [] are found suit = tt
-inputs_link machine ending (p ∷ ps) are found suit = (
-  record {
-    dll = import_name_is_free p.input.definition machine p.flavor p.input.members are.0;
-    exports = fit_in p.input.definition machine p.flavor p.input.members p.input.chosen are.0;
-    found = found.0;
-    suits = suit.0;
-  },
-  inputs_link machine ending ps are.1 found.1 suit.1,
-)
+inputs_link machine ending (p ∷ ps) are found suit =
+    grind (arith, inputs_link machine ending ps are.1 found.1 suit.1, import_name_is_free p.input.definition machine p.flavor p.input.members are.0, fit_in p.input.definition machine p.flavor p.input.members p.input.chosen are.0)
 
 pub inputs_taken : (machine : MachineType) (ps : List FlavorInput) → AllByRecursion (IsMadeFor machine) ps → AllByRecursion (IsTaken machine) ps
 inputs_taken machine [] are = tt
-inputs_taken machine (p ∷ ps) are = (
-  record {
-    from_members = from_members p.input.definition machine p.flavor p.input.members p.input.chosen are.0;
-    read = objects_read p.input.definition machine p.flavor p.input.members p.input.chosen are.0 ∙ ap (map Some) (sym (taken_are machine p are.0));
-    null = null_among p.input.definition machine p.flavor p.input.members p.input.chosen are.0;
-  },
-  inputs_taken machine ps are.1,
-)
+inputs_taken machine (p ∷ ps) are =
+    grind (arith, inputs_taken machine ps are.1, from_members p.input.definition machine p.flavor p.input.members p.input.chosen are.0, objects_read p.input.definition machine p.flavor p.input.members p.input.chosen are.0, taken_are machine p are.0, null_among p.input.definition machine p.flavor p.input.members p.input.chosen are.0)
 
 -- the null descriptor of an input for Microsoft's linker, taken
 null_read : (d : DefinitionView) (machine : MachineType) (flavor : Flavor) (members : List MemberView) (chosen : List ℕ) → AreMembersOf d machine flavor members → flavor ≡ Msvc →
@@ -542,6 +450,4 @@ null_object machine p made is = null_read p.input.definition machine p.flavor p.
 -- members with the null descriptor put in are taken for their objects with its object put in
 pub objects_with_null : (machine : MachineType) (before behind : List MemberView) (null : MemberView) → expanded_in machine null.bytes ≡ Some (taken_null machine) →
     objects_taken machine (before ++ null ∷ behind) ≡ objects_taken machine before ++ taken_null machine ∷ objects_taken machine behind
-objects_with_null machine before behind null is =
-    filter_map-append (λ (m : MemberView). expanded_in machine m.bytes) before (null ∷ behind)
-    ∙ ap (λ o. objects_taken machine before ++ cons_option o (objects_taken machine behind)) is
+objects_with_null machine before behind null is = grind (arith, filter_map-append)

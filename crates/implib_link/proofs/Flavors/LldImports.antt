@@ -7,7 +7,7 @@ use Rattle.std.proofs.lemmas.Slice.Eq.{bytes_eq-Decides}
 use Rattle.implib.specs.Formats.ShortImport.{ShortImport, ask_of_short_import}
 use Rattle.implib.specs.Import.{imp_symbol, Ask, Name, Ordinal}
 use Rattle.implib.proofs.Link.Ranges.{Among, among_first, among_later, located_parts, range_located, all_among, among_back, among_front}
-use Rattle.implib_link.specs.Flavors.LldImports.{comes_first, dll_of_group, grouped, imp_symbols_of, in_small, is_of_group, put_in, put_into, ArePiecesAt, IsAskable, IsImportable, addresses_at, all_hints, all_names, built, built_bytes, descriptor_built, directory_built, directory_end, hint_and_text, hint_built, hints_at, hints_built, lookups_at, names_at, tables_built, thunk_built, thunks_built, thunks_until, IsImportedBy, IsLldProgram, LldLinks, entries_of_groups, group_entries, imported_by, imports_of_lld, placed_by_lld}
+use Rattle.implib_link.specs.Flavors.LldImports.{dll_of_group, grouped, imp_symbols_of, in_small, is_of_group, put_in, put_into, ArePiecesAt, IsAskable, IsImportable, addresses_at, all_hints, all_names, built, built_bytes, descriptor_built, directory_built, directory_end, hint_and_text, hint_built, hints_at, hints_built, lookups_at, names_at, tables_built, thunk_built, thunks_built, thunks_until, IsImportedBy, IsLldProgram, LldLinks, entries_of_groups, group_entries, imported_by, imports_of_lld, placed_by_lld}
 use Rattle.implib_link.proofs.Search.ArchiveMembers.{times, times_both, distinct_from, few_from}
 use Rattle.std.proofs.Math.Nat.{mul-add}
 use Rattle.std.proofs.lemmas.List.{length-append, length-replicate, append-nil, map-append}
@@ -23,7 +23,7 @@ use Rattle.implib_link.proofs.Search.Lists.{contains_among, all_from}
 use Rattle.implib_link.specs.Directory.{DirectoryAt, Imported}
 use Rattle.implib_link.proofs.Gnu.Stubs.{wide_thunk as some_bytes}
 use Rattle.implib_link.proofs.Gnu.Filling.{zero_table, table_with, bounds_of}
-use Rattle.implib_link.proofs.Gnu.Loaded.{by_width, times_none as nothing_before, times_next as next_entry, plus_none}
+use Rattle.implib_link.proofs.Gnu.Loaded.{by_width, times_none as nothing_before, plus_none}
 use Rattle.std.proofs.lemmas.List.Elements.{filter_map-append}
 use Rattle.implib.specs.Formats.Layout.{HasNoNul}
 use Rattle.implib.specs.Link.Placement.{Addresses, At, Placed}
@@ -48,20 +48,12 @@ OneDll group = AllByRecursion (λ r. in_small r.dll ≡ key group) group
 pub put_all : (P : ShortImport → Type 0) (r : ShortImport) (group : List ShortImport) → P r → AllByRecursion P group → AllByRecursion P (put_in r group)
 unfolding put_in
 put_all P r [] own all = (own, tt)
-put_all P r (s ∷ group) own all =
-    elim (cases_Bool (comes_first s.symbol r.symbol)) [
-      | inl is ↦ rw is (all.0, put_all P r group own all.1)
-      | inr is ↦ rw is (own, (all.0, all.1))
-    ]
+put_all P r (s ∷ group) own all = grind (arith, put_all P r group own all.1)
 
 put_key : (r : ShortImport) (group : List ShortImport) → in_small r.dll ≡ key group → key (put_in r group) ≡ in_small r.dll
 unfolding put_in
 put_key r [] same = refl
-put_key r (s ∷ group) same =
-    elim (cases_Bool (comes_first s.symbol r.symbol)) [
-      | inl is ↦ rw is (sym same)
-      | inr is ↦ rw is refl
-    ]
+put_key r (s ∷ group) same = grind arith
 
 put_one : (r : ShortImport) (group : List ShortImport) → in_small r.dll ≡ key group → OneDll group → OneDll (put_in r group)
 put_one r group same one =
@@ -71,45 +63,24 @@ put_one r group same one =
 put_holds : (x r : ShortImport) (group : List ShortImport) → Among x (r ∷ group) → Among x (put_in r group)
 unfolding put_in Among
 put_holds x r [] m = m
-put_holds x r (s ∷ group) m =
-    elim (cases_Bool (comes_first s.symbol r.symbol)) [
-      | inl is ↦ rw is (behind (put_holds x r group) m)
-      | inr is ↦ rw is m
-    ]
-  where
-    behind : (Among x (r ∷ group) → Among x (put_in r group)) → Among x (r ∷ s ∷ group) → Among x (s ∷ put_in r group)
-    behind put (inl e) = inr (put (inl e))
-    behind put (inr (inl e)) = inl e
-    behind put (inr (inr m)) = inr (put (inr m))
+put_holds x r (s ∷ group) m = grind (arith, put_holds x r group)
 
 put_times : (name : List ℕ) (r : ShortImport) (group : List ShortImport) → times name (imp_symbols_of (put_in r group)) ≡ times name (imp_symbol r.symbol ∷ imp_symbols_of group)
 unfolding put_in times
 put_times name r [] = refl
-put_times name r (s ∷ group) =
-    elim (cases_Bool (comes_first s.symbol r.symbol)) [
-      | inl is ↦ (let later = put_times name r group in rw is (omega arith))
-      | inr is ↦ rw is refl
-    ]
+put_times name r (s ∷ group) = grind (arith, put_times name r group)
 
 -- Putting one into groups.
 
 into_all : (P : ShortImport → Type 0) (r : ShortImport) (groups : List (List ShortImport)) → P r → AllByRecursion (AllByRecursion P) groups → AllByRecursion (AllByRecursion P) (put_into r groups)
 unfolding put_into
 into_all P r [] own all = ((own, tt), tt)
-into_all P r (group ∷ groups) own all =
-    elim (cases_Bool (is_of_group r group)) [
-      | inl is ↦ rw is (put_all P r group own all.0, all.1)
-      | inr is ↦ rw is (all.0, into_all P r groups own all.1)
-    ]
+into_all P r (group ∷ groups) own all = grind (arith, into_all P r groups own all.1, group, put_all)
 
 into_one : (r : ShortImport) (groups : List (List ShortImport)) → AllByRecursion OneDll groups → AllByRecursion OneDll (put_into r groups)
 unfolding put_into
 into_one r [] one = ((refl, tt), tt)
-into_one r (group ∷ groups) one =
-    elim (cases_Bool (is_of_group r group)) [
-      | inl is ↦ rw is (put_one r group ((bytes_eq-Decides (in_small r.dll) (key group)).0 is) one.0, one.1)
-      | inr is ↦ rw is (one.0, into_one r groups one.1)
-    ]
+into_one r (group ∷ groups) one = grind (arith, into_one r groups one.1, group, put_one, bytes_eq-Decides)
 
 -- one is in some group
 pub InGroups : ShortImport → List (List ShortImport) → Type 0
@@ -138,19 +109,7 @@ into_times : (name : List ℕ) (r : ShortImport) (groups : List (List ShortImpor
     times name (flat_map imp_symbols_of (put_into r groups)) ≡ times name (imp_symbol r.symbol ∷ flat_map imp_symbols_of groups)
 unfolding put_into times
 into_times name r [] = refl
-into_times name r (group ∷ groups) =
-    let others : List (List ℕ) = flat_map imp_symbols_of groups in
-    let split = times_both name (imp_symbols_of group) others in
-    elim (cases_Bool (is_of_group r group)) [
-      | inl is ↦ rw is (times_both name (imp_symbols_of (put_in r group)) others ∙ ap (λ n. n + times name others) (put_times name r group) ∙ sym (times_both name (imp_symbol r.symbol ∷ imp_symbols_of group) others))
-      | inr is ↦ rw is (
-          times_both name (imp_symbols_of group) (flat_map imp_symbols_of (put_into r groups))
-          ∙ ap (λ n. times name (imp_symbols_of group) + n) (into_times name r groups)
-          ∙ moved name (imp_symbol r.symbol) (imp_symbols_of group) others)
-    ]
-  where
-    moved : (name own : List ℕ) (xs ys : List (List ℕ)) → times name xs + times name (own ∷ ys) ≡ times name (own ∷ (xs ++ ys))
-    moved name own xs ys = (let both = times_both name xs ys in omega arith)
+into_times name r (group ∷ groups) = grind (arith, into_times name r groups, times_both, group, times, put_times)
 
 -- All.
 
@@ -259,10 +218,7 @@ length_directory : (machine : MachineType) (lookups name addresses : ℕ) (impor
 unfolding directory_built
 length_directory machine lookups name addresses [] = refl
 length_directory machine lookups name addresses (i ∷ imports) =
-    let rest : List ℕ = directory_built machine (lookups + thunk_width machine * (length i.asks + 1)) (name + length (i.dll ++ 0 ∷ [])) (addresses + thunk_width machine * (length i.asks + 1)) imports in
-    let own : length (descriptor_built lookups name addresses) ≡ 20 = length_descriptor lookups name addresses in
-    let others : length rest ≡ 20 * (length imports + 1) = length_directory machine (lookups + thunk_width machine * (length i.asks + 1)) (name + length (i.dll ++ 0 ∷ [])) (addresses + thunk_width machine * (length i.asks + 1)) imports in
-    length-append (descriptor_built lookups name addresses) rest ∙ omega arith
+    grind (arith, length_directory machine (lookups + thunk_width machine * (length i.asks + 1)) (name + length (i.dll ++ 0 ∷ [])) (addresses + thunk_width machine * (length i.asks + 1)) imports, i, length_descriptor, length-append)
 
 -- The pieces stand.
 
@@ -295,12 +251,7 @@ module _ (machine : MachineType) (image : List Range) (starts : AllByRecursion (
       table_with image (thunk_width machine) a ask asks first rest
 
   some_thunks : (place : ℕ) (asks : List Ask) → 0 < length (thunks_built machine place asks)
-  some_thunks place asks =
-      let width : 0 < thunk_width machine = some_bytes machine in
-      let long : length (thunks_built machine place asks) ≡ thunk_width machine * (length asks + 1) = length_thunks machine place asks in
-      let split : thunk_width machine * (length asks + 1) ≡ thunk_width machine * length asks + thunk_width machine * 1 = mul-add (thunk_width machine) (length asks) 1 in
-      let one : thunk_width machine ≡ thunk_width machine * 1 = only_null machine in
-      omega arith
+  some_thunks place asks = grind (arith, some_bytes, length_thunks, mul-add, only_null)
 
   descriptor_stands : (i : Imported) (descriptor lookups name addresses place : ℕ) → IsImportable i → BytesAt image descriptor (descriptor_built lookups name addresses) →
       BytesAt image lookups (thunks_built machine place i.asks) → BytesAt image addresses (thunks_built machine place i.asks) → BytesAt image place (hints_built i.asks) →
@@ -377,12 +328,9 @@ built_pieces machine base imports image apart holds =
     let behind_gap : List ℕ = tables ++ behind_first in
     let whole : BytesAt image base (rows ++ (gap ++ behind_gap)) = range_located (built machine base imports) image (contains_among (built machine base imports) image holds) apart in
     let first = located_parts image rows (gap ++ behind_gap) base whole in
-    let at_gap : BytesAt image (directory_end base imports) (gap ++ behind_gap) =
-    subst (λ n. BytesAt image (base + n) (gap ++ behind_gap)) (length_directory machine lookups names addresses imports) first.1 in
+    let at_gap : BytesAt image (directory_end base imports) (gap ++ behind_gap) = grind (arith, length_directory) in
     let second = located_parts image gap behind_gap (directory_end base imports) at_gap in
-    let at_lookups : BytesAt image lookups behind_gap =
-    subst (λ n. BytesAt image n behind_gap)
-    (step (directory_end base imports) (length gap) lookups (at_least (thunk_width machine) (directory_end base imports)) (length-replicate {A = ℕ} (lookups - directory_end base imports) 0)) second.1 in
+    let at_lookups : BytesAt image lookups behind_gap = grind (arith, step, at_least, length-replicate) in
     let third = located_parts image tables behind_first lookups at_lookups in
     let at_addresses : BytesAt image addresses behind_first = subst (λ n. BytesAt image (lookups + n) behind_first) (length_tables machine hints imports) third.1 in
     let fourth = located_parts image tables behind_second addresses at_addresses in
@@ -416,8 +364,7 @@ name_written (r ∷ group) all = all.0.name
 
 groups_written : (groups : List (List ShortImport)) → AllByRecursion (AllByRecursion IsWritable) groups → AllByRecursion IsImportable (map imported_by groups)
 groups_written [] all = tt
-groups_written (group ∷ groups) all =
-    (record { name = name_written group all.0; asks = asks_written group all.0 }, groups_written groups all.1)
+groups_written (group ∷ groups) all = grind (arith, groups_written groups all.1, name_written, group, asks_written)
 
 -- The DLLs of groups.
 
@@ -471,9 +418,7 @@ entries_define : (width table offset : ℕ) (group : List ShortImport) →
     filter_map (defined_by_entry (At Addresses table ∷ [])) (group_entries width offset group) ≡ group_definitions width (table + offset) group
 unfolding group_entries group_definitions
 entries_define width table offset [] = refl
-entries_define width table offset (r ∷ group) =
-    ap (λ ds. record { name = imp_symbol r.symbol; address = Some (table + offset) } ∷ ds)
-    (entries_define width table (offset + width) group ∙ ap (λ n. group_definitions width n group) (plus_plus table offset width))
+entries_define width table offset (r ∷ group) = grind (arith, entries_define width table (offset + width) group)
 
 groups_define : (width table offset : ℕ) (groups : List (List ShortImport)) →
     filter_map (defined_by_entry (At Addresses table ∷ [])) (entries_of_groups width offset groups) ≡ all_definitions width (table + offset) groups
@@ -503,24 +448,15 @@ group_defines : (width address : ℕ) (group : List ShortImport) (j : ℕ) (r : 
     Among (record { name = imp_symbol r.symbol; address = Some (address + width * j) }) (group_definitions width address group)
 unfolding group_definitions Among
 group_defines width address [] j r is = cc
-group_defines width address (s ∷ group) zero r is =
-    let same : s ≡ r = cc in
-    inl (ap (λ (x : ShortImport). record { name = imp_symbol x.symbol; address = Some (address + width * 0) }) (sym same)
-    ∙ ap (λ n. record { name = imp_symbol s.symbol; address = Some n }) (sym (nothing_before address width)))
-group_defines width address (s ∷ group) (suc j) r is =
-    inr (subst (λ n. Among (record { name = imp_symbol r.symbol; address = Some n }) (group_definitions width (address + width) group)) (next_entry address width j)
-    (group_defines width (address + width) group j r is))
+group_defines width address (s ∷ group) zero r is = grind arith
+group_defines width address (s ∷ group) (suc j) r is = grind (arith, group_defines width (address + width) group j r is)
 
 pub all_define : (width address : ℕ) (groups : List (List ShortImport)) (i j : ℕ) (group : List ShortImport) (r : ShortImport) → slice_get groups i ≡ Some group → slice_get group j ≡ Some r →
     Among (record { name = imp_symbol r.symbol; address = Some (address + width * thunks_until i (map imported_by groups) + width * j) }) (all_definitions width address groups)
 unfolding all_definitions
 all_define width address [] i j group r at is = cc
 all_define width address (g ∷ groups) zero j group r at is =
-    let same : g ≡ group = cc in
-    among_front (record { name = imp_symbol r.symbol; address = Some (address + width * 0 + width * j) }) (group_definitions width address g)
-    (all_definitions width (address + width * (length (map ask_of_short_import g) + 1)) groups)
-    (subst (λ n. Among (record { name = imp_symbol r.symbol; address = Some (n + width * j) }) (group_definitions width address g)) (nothing_before address width)
-    (group_defines width address g j r (subst (λ (x : List ShortImport). slice_get x j ≡ Some r) (sym same) is)))
+    grind (arith, group_definitions width address g, all_definitions width (address + width * (length (map ask_of_short_import g) + 1)) groups, nothing_before address width, group, among_front, j, group_defines, is)
 all_define width address (g ∷ groups) (suc i) j group r at is =
     let count : ℕ = length (map ask_of_short_import g) + 1 in
     let later : ℕ = address + width * count in
@@ -550,16 +486,10 @@ module _ (machine : MachineType) (descriptors addresses : ℕ) (taken : List Sho
   only = all_of_one taken program.agree (grouped taken) held (grouped_one taken)
 
   own_distinct : IsDistinct bytes_eq (map (λ (d : SymbolDefinition). d.name) own)
-  own_distinct =
-      subst (IsDistinct bytes_eq) (sym (all_names_of (thunk_width machine) addresses (grouped taken)))
-      (distinct_from (flat_map imp_symbols_of (grouped taken)) (λ name. subst (λ n. n ≤ 1) (sym (grouped_times name taken)) (few_from (imp_symbols_of taken) program.distinct name)))
+  own_distinct = grind (arith, all_names_of, distinct_from, grouped_times, few_from)
 
   own_definitions : (name : List ℕ) → definitions_of name (placed_by_lld machine addresses taken ∷ []) ≡ filter (λ (d : SymbolDefinition). bytes_eq name d.name) own
-  own_definitions name =
-      ap (filter (λ (d : SymbolDefinition). bytes_eq name d.name))
-      (append-nil (filter_map (defined_by_entry (At Addresses addresses ∷ [])) (entries_of_groups (thunk_width machine) 0 (grouped taken)))
-      ∙ groups_define (thunk_width machine) addresses 0 (grouped taken)
-      ∙ ap (λ n. all_definitions (thunk_width machine) n (grouped taken)) (plus_none addresses))
+  own_definitions name = simp (append-nil, groups_define, plus_none)
 
   pub defined_once : (r : ShortImport) → Among r taken → (d : SymbolDefinition) → d.name ≡ imp_symbol r.symbol → Among d own → definitions_of (imp_symbol r.symbol) linked ≡ d ∷ []
   defined_once r m d named among =

@@ -1,6 +1,6 @@
 -- Programs of lld, by what is proved of any import tables: fields and branches lead, by the short imports.
-use Rattle.std.proofs.Common.{◌≡◌, ℕ, ◌+◌, ◌*◌, List, ◌++◌, length, map, refl, sym, ◌∙◌, subst}
-use Rattle.std.specs.List.{AllByRecursion, Contains}
+use Rattle.std.proofs.Common.{arith, rules, ◌≡◌, ℕ, ◌+◌, ◌*◌, List, ◌++◌, length, map, refl, sym, ◌∙◌, subst}
+use Rattle.std.specs.List.{Contains}
 use Rattle.std.proofs.lemmas.List.{length-map}
 use Rattle.implib.specs.declared.machine.MachineType.{MachineType}
 use Rattle.implib.specs.Formats.ShortImport.{ShortImport, ask_of_short_import}
@@ -27,9 +27,7 @@ module _ (machine : MachineType) (descriptors addresses : ℕ) (taken : List Sho
   in_table r holds =
       let at = in_place r (grouped taken) (grouped_holds r taken (contains_among r taken holds)) in
       let b : Block = block_of_group at.group in
-      let same : r.dll ≡ dll_of_group at.group =
-      (all_at (λ x. Contains taken x × (x.dll ≡ dll_of_group at.group)) at.group at.j r
-      (all_at (λ group. AllByRecursion (λ x. Contains taken x × (x.dll ≡ dll_of_group group)) group) (grouped taken) at.i at.group (only machine descriptors addresses taken image linked program) at.its_group) at.is).1 in (
+      let same : r.dll ≡ dll_of_group at.group = grind (arith, only machine descriptors addresses taken image linked program, all_at) in (
         entries_until at.i (map block_of_group (grouped taken)),
         (
           at.j,
@@ -50,9 +48,7 @@ module _ (machine : MachineType) (descriptors addresses : ℕ) (taken : List Sho
         (r : ShortImport) → Contains taken r → CanReadFrom machine image_base addresses →
         AllLead machine image_base linked codes (written ++ memory) (imp_symbol r.symbol) (gives r.dll (ask_of_short_import r))
     lld_leads n written wide reads r holds can =
-        let own = in_table r holds in
-        entry_leads machine image_base (tables_of_lld machine descriptors addresses taken image linked) codes targets memory gives tables steady at n written wide reads
-        (imp_symbol r.symbol) r.dll (ask_of_short_import r) (addresses + thunk_width machine * own.0) own.1.0 own.1.1 (reads_further machine image_base addresses own.0 can)
+        search (rules, in_table r holds, entry_leads machine image_base (tables_of_lld machine descriptors addresses taken image linked) codes targets memory gives tables steady, reads_further)
 
     pub lld_calls : (n : ℕ) (written : List Range) → ((dll : List ℕ) (ask : Ask) → length (gives dll ask) ≡ thunk_width machine) → ReadsAndWrites memory (thunk_width machine) gives n descriptors written →
         (r : ShortImport) (d : LinkedCode) → Contains taken r → CanReadFrom machine image_base addresses → Contains codes d → IsThunk machine d r → (c : LinkedCode) (offset after : ℕ) → Contains codes c →

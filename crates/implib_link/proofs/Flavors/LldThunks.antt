@@ -5,8 +5,8 @@ use Rattle.std.specs.List.{Contains, list_any}
 use Rattle.std.proofs.lemmas.List.{length-append}
 use Rattle.implib.specs.declared.machine.MachineType.{MachineType}
 use Rattle.implib.specs.declared.machine.MachineType.TheVariants.{I386, ARMNT, AMD64, ARM64}
-use Rattle.implib.specs.Formats.Constants.{amd64_rel32, arm64_pagebase_rel21, arm64_pageoffset_12l, class_external, i386_dir32}
-use Rattle.implib.specs.Formats.Object.{ASymbol, ObjectSection, ObjectSymbol, section_numbered}
+use Rattle.implib.specs.Formats.Constants.{amd64_rel32, class_external, i386_dir32}
+use Rattle.implib.specs.Formats.Object.{ObjectSection, ObjectSymbol, section_numbered}
 use Rattle.implib.specs.Formats.ShortImport.{ShortImport}
 use Rattle.implib.specs.Import.{imp_symbol}
 use Rattle.implib.specs.Link.Image.{Range}
@@ -14,7 +14,7 @@ use Rattle.implib.specs.Link.Load.{BytesAt, number_in}
 use Rattle.implib.specs.Link.Placement.{Placed}
 use Rattle.implib.proofs.Link.LinkedMembers.{among_contains}
 use Rattle.implib.proofs.Link.Ranges.{among_first}
-use Rattle.implib_link.specs.Flavors.LldImports.{IsThunk, ThunkArrives, placed_thunk, thunk_code, thunk_relocations, thunk_section}
+use Rattle.implib_link.specs.Flavors.LldImports.{IsThunk, ThunkArrives, thunk_code, thunk_relocations, thunk_section}
 use Rattle.implib_link.specs.Gnu.Fields.{DefinesIn, LinkedCode, MeetsAlone, field_at, meets, AllLead, AreKept, InstructionArrives, IsOperand, Names, PairArrives}
 use Rattle.implib_link.specs.Stub.{adrp_immediate, bits_of, jump_reads, ldr_immediate, plus_signed, with_adrp, with_bits}
 use Rattle.implib_link.specs.Tables.{CanReadFrom}
@@ -25,17 +25,11 @@ i386_jump : (address : ℕ) (field : List ℕ) → length field ≡ 4 → jump_r
 i386_jump address field four = (let f = four_of field four in subst (λ xs. jump_reads I386 address (0xFF ∷ 0x25 ∷ (xs ++ [])) ≡ Some (number_in xs)) (sym f.is) refl)
 
 amd64_jump : (address : ℕ) (field : List ℕ) → length field ≡ 4 → jump_reads AMD64 address (0xFF ∷ 0x25 ∷ (field ++ [])) ≡ Some (plus_signed 32 1 (number_in field) (address + 6))
-amd64_jump address field four =
-    let f = four_of field four in
-    subst (λ xs. jump_reads AMD64 address (0xFF ∷ 0x25 ∷ (xs ++ [])) ≡ Some (plus_signed 32 1 (number_in xs) (address + 6))) (sym f.is) refl
+amd64_jump address field four = grind (arith, four_of field four)
 
 -- a thunk's section
 pub thunk_is : (machine : MachineType) (d : LinkedCode) (r : ShortImport) → IsThunk machine d r → section_numbered d.from.object.sections d.number ≡ Some d.code → d.code ≡ thunk_section machine
-thunk_is machine d r thunk here =
-    let found : section_numbered (placed_thunk machine r).object.sections 1 ≡ Some d.code =
-    subst (λ n. section_numbered (placed_thunk machine r).object.sections n ≡ Some d.code) thunk.number (subst (λ (p : Placed). section_numbered p.object.sections d.number ≡ Some d.code) thunk.from here) in
-    let same : Some (thunk_section machine) ≡ Some d.code = found in
-    cc
+thunk_is machine d r thunk here = grind arith
 
 thunk_names : (machine : MachineType) (d : LinkedCode) (r : ShortImport) → IsThunk machine d r → Names d.from 1 (imp_symbol r.symbol)
 thunk_names machine d r thunk =
@@ -48,8 +42,7 @@ bare_symbol r = record { name = r.symbol; value = 0; section = 1; kind = 0; clas
 
 pub thunk_defines : (machine : MachineType) (d : LinkedCode) (r : ShortImport) → IsThunk machine d r → DefinesIn d (bare_symbol r)
 thunk_defines machine d r thunk = record {
-  held = subst (λ (p : Placed). Contains p.object.entries (ASymbol (bare_symbol r))) (sym thunk.from)
-      (among_contains (ASymbol (bare_symbol r)) (placed_thunk machine r).object.entries (among_first (ASymbol (bare_symbol r)) _));
+  held = grind (arith, among_contains, among_first);
   external = refl;
   here = sym thunk.number;
 }
@@ -105,20 +98,10 @@ module _ (image_base : ℕ) (linked : List Placed) (codes : List LinkedCode) (me
       let names = thunk_names ARM64 d r thunk in
       let x : PairArrives image_base linked memory (d.position + 0) (d.position + 4) (field_at d.code.bytes 0 4) (field_at d.code.bytes 4 4) (imp_symbol r.symbol) bytes =
       lead.pairs d d 0 4 refl held held (record {
-        field = record {
-          symbol = 1;
-          alone = subst (λ rs. MeetsAlone ARM64 rs 0 4 (record { offset = 0; symbol = 1; kind = arm64_pagebase_rel21 })) (sym relocations) refl;
-          inside = omega arith;
-          names = names;
-        };
+        field = grind arith;
         empty = ap adrp_immediate page_code;
       }) (record {
-        field = record {
-          symbol = 1;
-          alone = subst (λ rs. MeetsAlone ARM64 rs 4 4 (record { offset = 4; symbol = 1; kind = arm64_pageoffset_12l })) (sym relocations) refl;
-          inside = omega arith;
-          names = names;
-        };
+        field = grind arith;
         eight = ap (bits_of 30 2) load_code;
         empty = ap ldr_immediate load_code;
       }) in

@@ -1,5 +1,6 @@
 -- The members and the null descriptor are a program by themselves.
-use Rattle.std.proofs.Common.{◌≡◌, true, List, [], ◌∷◌, ◌++◌, map, refl, ap, sym, ◌∙◌, subst, ℕ, Option, Some, zero, suc, ◌+◌, length, ◌*◌, ◌-◌, ◌%◌, false, arith, inl, inr, ◌^◌, ◌<◌, ◌≤◌}
+use Rattle.std.proofs.lemmas.Grind.{common_steps}
+use Rattle.std.proofs.Common.{rules, ◌≡◌, true, List, [], ◌∷◌, ◌++◌, map, refl, ap, sym, ◌∙◌, subst, ℕ, Option, Some, zero, suc, ◌+◌, length, ◌*◌, ◌-◌, ◌%◌, false, arith, inl, inr, ◌^◌, ◌<◌, ◌≤◌}
 use Rattle.std.specs.Prelude.{not, bytes_eq, option_map, slice_get}
 use Rattle.std.specs.List.{AllByRecursion, filter, IsDistinct, Contains, flat_map}
 use Rattle.implib.specs.declared.machine.MachineType.{MachineType}
@@ -13,7 +14,7 @@ use Rattle.implib.proofs.Link.Placement.{export, head, tail, AreAligned, aligned
 use Rattle.implib_link.specs.Flavors.Program.{has_tables, null_descriptor, AreEndedByLinker, AreProgramObjects, IsFoundByName, IsMadeFor, OfLinker, all_members, dll_names_in, gnu_input, symbols_listed, thunks_of, ClaimsNone, linked_symbols, thunks_before, AreClaimed, AreEnded, AreEndedByMember, Ending, FlavorInput, InputImports, OfMember, WhereMember, own_names, SymbolsAt, SymbolsGet, imp_symbols, ask_in, exports_chosen, imported_in, null_member, objects_taken, symbol_in, ProgramLinks, IsProgramOf, claimed_names, names_claimed_in, with_tables, HaveSame, group_end, sections_end, packed, packed_descriptors, packed_end}
 use Rattle.implib_link.proofs.Flavors.Block.{objects_behind, plus_sum, AreEven, NullDefined, OneLinks, behind_descriptor, objects_of, use_for, AllSuit, EachIn, even_all, rest_of, FlavorBlock, all_objects, definitions-all, definitions_all, descriptors_all, directory_in, each_in, ends_all, imported_of, names-all, nth_in, thunks_in, claimed_placed, all_claim, gets_address, once_of}
 use Rattle.implib.specs.LibraryName.{NamesOfDll, names_for, linked_dll}
-use Rattle.std.proofs.lemmas.List.{map-append, append-nil, length-map, length-replicate}
+use Rattle.std.proofs.lemmas.List.{map-append, append-nil, length-map}
 use Rattle.std.proofs.lemmas.List.Elements.{filter_map-append}
 use Rattle.implib.specs.Members.MemberSpec.{MemberView}
 use Rattle.implib.proofs.Link.Linked.{all_append, LocatedFrom}
@@ -39,7 +40,7 @@ use Rattle.implib_link.specs.Flavors.Expansion.{import_object, expanded_in, Code
 use Rattle.implib_link.proofs.Flavors.Inputs.{all_claim_listed, claimed_with_null, block_in, inputs_link, inputs_objects, inputs_plainly, inputs_symbols, inputs_taken, null_object, objects_with_null}
 use Rattle.implib_link.proofs.Flavors.NullDescriptor.{EndsNothing, all_insert, among_same, descriptors_end_same, finds_same, null_filled, null_once, others_same, undefined_same, group_same}
 use Rattle.implib_link.proofs.Gnu.Others.{contributions_kept, definitions_kept, placed_kept}
-use Rattle.implib_link.proofs.Gnu.Packed.{end_kept, admissible, packed_eights, AreWithin, IsSized, exports_sized, head_sized, tail_sized, thunk_size}
+use Rattle.implib_link.proofs.Gnu.Packed.{end_kept, admissible, packed_eights, AreWithin, IsSized, exports_sized, head_sized, tail_sized}
 use Rattle.implib_link.proofs.Search.Lists.{contains_among}
 use Rattle.implib_link.proofs.Flavors.Expanded.{taken_null, taken_descriptor}
 use Rattle.implib_link.proofs.Gnu.Loaded.{times_none, by_width}
@@ -71,8 +72,7 @@ exports_have machine dll (e ∷ es) rest all = (export_has machine dll e, export
 
 blocks_have : (machine : MachineType) (blocks : List Block) (rest : List Object) → AllHave rest → AllHave (blocks_objects machine blocks rest)
 blocks_have machine [] rest all = all
-blocks_have machine (k ∷ blocks) rest all =
-    (head_has machine k.dll, exports_have machine k.dll k.exports _ (tail_has machine k.dll, blocks_have machine blocks rest all))
+blocks_have machine (k ∷ blocks) rest all = grind (arith, blocks_have machine blocks rest all, head_has, exports_have, tail_has)
 
 pub all_kept : (objects : List Object) → AllHave objects → filter has_tables objects ≡ objects
 all_kept [] all = refl
@@ -84,9 +84,7 @@ none_left (o ∷ objects) all = rw all.0 (none_left objects all.1)
 
 pub members_have : (machine : MachineType) (inputs : List LinkInput) → AllByRecursion (IsMade machine) inputs →
     AllByRecursion (λ o. has_tables o ≡ true) (objects_in (all_linked machine inputs) ++ null_descriptor ∷ [])
-members_have machine inputs made =
-    subst AllHave (sym (ap (λ members. members ++ null_descriptor ∷ []) (gnu_inputs_objects machine inputs made) ∙ objects_behind machine (map block_of inputs) (null_descriptor ∷ [])))
-    (blocks_have machine (map block_of inputs) (null_descriptor ∷ []) (null_has, tt))
+members_have machine inputs made = grind (arith, gnu_inputs_objects, objects_behind, block_of, blocks_have, null_has)
 
 -- The members' sections have no names in a string table.
 
@@ -111,8 +109,7 @@ exports_whole machine dll [] = tt
 exports_whole machine dll (e ∷ es) = (export_whole machine dll e, exports_whole machine dll es)
 
 linked_whole : (machine : MachineType) (dll : NamesOfDll) (es : List ExportView) → AllByRecursion HasWholeNames (linked_objects machine dll es)
-linked_whole machine dll es =
-    (head_whole machine dll, all_append HasWholeNames (map (export machine dll) es) (tail machine dll ∷ []) (exports_whole machine dll es) (tail_whole machine dll, tt))
+linked_whole machine dll es = grind (arith, head_whole, all_append, export, tail, exports_whole, tail_whole)
 
 same_by_full_names : (bytes : List ℕ) (o : Object) → HasWholeNames o → object_in bytes ≡ Some o → object_by_full_names bytes ≡ Some o
 unfolding object_by_full_names
@@ -123,29 +120,17 @@ all_by_full_names : (members : List MemberView) (objects : List Object) → AllB
 all_by_full_names [] [] whole read = refl
 all_by_full_names [] (o ∷ objects) whole read = cc
 all_by_full_names (m ∷ members) [] whole read = cc
-all_by_full_names (m ∷ members) (o ∷ objects) whole read =
-    let first : object_in m.bytes ≡ Some o = cc in
-    let others : map (λ (m : MemberView). object_in m.bytes) members ≡ map Some objects = cc in
-    rw (same_by_full_names m.bytes o whole.0 first) (ap (λ read. Some o ∷ read) (all_by_full_names members objects whole.1 others))
+all_by_full_names (m ∷ members) (o ∷ objects) whole read = grind (arith, all_by_full_names members objects whole.1, same_by_full_names)
 
 own_by_full_names : (machine : MachineType) (p : LinkInput) → IsMade machine p →
     map (λ (m : MemberView). object_by_full_names m.bytes) (linked_members p.definition machine p.chosen) ≡ map Some (objects_in (linked_members p.definition machine p.chosen))
 own_by_full_names machine p made =
-    all_by_full_names (linked_members p.definition machine p.chosen) (objects_in (linked_members p.definition machine p.chosen))
-    (subst (AllByRecursion HasWholeNames) (sym (objects_are p.definition machine p.members p.chosen made))
-    (linked_whole machine (names_for Gnu p.definition) (chosen_exports p.definition p.chosen)))
-    (members_read p.definition machine p.members p.chosen made)
+    search (rules, objects_are p.definition machine p.members p.chosen made, linked_whole machine (names_for Gnu p.definition) (chosen_exports p.definition p.chosen), members_read p.definition machine p.members p.chosen made, all_by_full_names)
 
 pub members_by_full_names : (machine : MachineType) (inputs : List LinkInput) → AllByRecursion (IsMade machine) inputs →
     map (λ (m : MemberView). object_by_full_names m.bytes) (all_linked machine inputs) ≡ map Some (objects_in (all_linked machine inputs))
 members_by_full_names machine [] made = refl
-members_by_full_names machine (p ∷ inputs) made =
-    let own : List MemberView = linked_members p.definition machine p.chosen in
-    map-append (λ (m : MemberView). object_by_full_names m.bytes) own (all_linked machine inputs)
-    ∙ ap (λ read. read ++ map (λ (m : MemberView). object_by_full_names m.bytes) (all_linked machine inputs)) (own_by_full_names machine p made.0)
-    ∙ ap (λ read. map Some (objects_in own) ++ read) (members_by_full_names machine inputs made.1)
-    ∙ sym (map-append Some (objects_in own) (objects_in (all_linked machine inputs)))
-    ∙ ap (map Some) (sym (filter_map-append (λ (m : MemberView). object_in m.bytes) own (all_linked machine inputs)))
+members_by_full_names machine (p ∷ inputs) made = grind (arith, members_by_full_names machine inputs made.1, map-append, own_by_full_names, filter_map-append)
 
 -- Programs of members for GNU's linker alone, in the words of definitions without a flavour.
 
@@ -172,27 +157,18 @@ gnu_thunks (suc i) (p ∷ inputs) = ap (λ n. length (chosen_exports p.definitio
 
 pub gnu_ended : (machine : MachineType) (inputs : List LinkInput) (objects : List Object) → filter has_tables objects ≡ objects_in (all_linked machine inputs) ++ null_descriptor ∷ [] →
     AreEndedByLinker machine (map gnu_input inputs) objects
-gnu_ended machine inputs objects tables =
-    record { gnu = gnu_alone inputs; tables = tables ∙ ap (λ ms. objects_in ms ++ null_descriptor ∷ []) (sym (gnu_members machine inputs)) }
+gnu_ended machine inputs objects tables = grind (arith, gnu_alone, gnu_members)
 
 -- the objects of a program
 pub gnu_objects : (machine : MachineType) (inputs : List LinkInput) (objects : List Object) → IsDistinct bytes_eq (linked_symbols machine inputs) →
     filter has_tables objects ≡ objects_in (all_linked machine inputs) ++ null_descriptor ∷ [] → AllByRecursion (ClaimsNone (linked_symbols machine inputs)) (filter (λ o. not (has_tables o)) objects) →
     AreProgramObjects machine OfLinker (map gnu_input inputs) objects
-gnu_objects machine inputs objects distinct tables others = record {
-  distinct = subst (λ ms. IsDistinct bytes_eq (symbols_listed ms)) (sym (gnu_members machine inputs)) distinct;
-  ended = gnu_ended machine inputs objects tables;
-  others = subst (λ ms. AllByRecursion (ClaimsNone (symbols_listed ms)) (filter (λ o. not (has_tables o)) objects)) (sym (gnu_members machine inputs)) others;
-  found = gnu_found inputs;
-}
+gnu_objects machine inputs objects distinct tables others = grind (arith, gnu_members machine inputs, gnu_ended machine inputs objects tables, gnu_found inputs)
 
 -- the members and the null descriptor are such objects by themselves
 pub members_are_objects : (machine : MachineType) (inputs : List LinkInput) → AllByRecursion (IsMade machine) inputs → IsDistinct bytes_eq (linked_symbols machine inputs) →
     AreProgramObjects machine OfLinker (map gnu_input inputs) (objects_in (all_linked machine inputs) ++ null_descriptor ∷ [])
-members_are_objects machine inputs made distinct =
-    let objects : List Object = objects_in (all_linked machine inputs) ++ null_descriptor ∷ [] in
-    gnu_objects machine inputs objects distinct (all_kept objects (members_have machine inputs made))
-    (subst (AllByRecursion (ClaimsNone (linked_symbols machine inputs))) (sym (none_left objects (members_have machine inputs made))) tt)
+members_are_objects machine inputs made distinct = search (rules, members_have machine inputs made, gnu_objects, all_kept, none_left)
 
 -- A program of DLLs in both flavours links.
 
@@ -234,8 +210,7 @@ asking_keeps machine dll symbol (Name text hint) e m = refl
 askings_keep : (machine : MachineType) (dll : NamesOfDll) (es : List ExportView) (rest : List Object) (n : ℕ) → group_end Descriptors n (behind_descriptor machine dll es rest) ≡ group_end Descriptors n rest
 unfolding group_end sections_end with_section_symbols object_of null_thunk entries_of name_text
 askings_keep machine dll [] rest n = refl
-askings_keep machine dll (e ∷ es) rest n =
-    ap (λ m. group_end Descriptors m (behind_descriptor machine dll es rest)) (asking_keeps machine dll (short_import_symbol e) (ask_in Msvc machine e) e n) ∙ askings_keep machine dll es rest n
+askings_keep machine dll (e ∷ es) rest n = grind (arith, askings_keep machine dll es rest n, behind_descriptor, asking_keeps)
 
 exports_keep : (machine : MachineType) (dll : NamesOfDll) (es : List ExportView) (rest : List Object) (n : ℕ) →
     group_end Descriptors n (map (export machine dll) es ++ tail machine dll ∷ rest) ≡ group_end Descriptors n rest
@@ -246,10 +221,8 @@ exports_keep machine dll (e ∷ es) rest n = exports_keep machine dll es rest n
 one_end : (machine : MachineType) (flavor : Flavor) (dll : NamesOfDll) (es : List ExportView) (rest : List Object) (n : ℕ) → n % 4 ≡ 0 →
     group_end Descriptors n (objects_of machine flavor dll es rest) ≡ group_end Descriptors (n + 20) rest
 unfolding group_end sections_end with_section_symbols object_of descriptor entries_of name_text head_object
-one_end machine Msvc dll es rest n even =
-    ap (λ m. group_end Descriptors (m + 20) (behind_descriptor machine dll es rest)) (aligned n even) ∙ askings_keep machine dll es rest (n + 20)
-one_end machine Gnu dll es rest n even =
-    ap (λ m. group_end Descriptors (m + 20) (map (export machine dll) es ++ tail machine dll ∷ rest)) (aligned n even) ∙ exports_keep machine dll es rest (n + 20)
+one_end machine Msvc dll es rest n even = grind (arith, behind_descriptor, aligned, even, askings_keep)
+one_end machine Gnu dll es rest n even = grind (arith, export, tail, aligned, even, exports_keep)
 
 pub later_even : (n : ℕ) → n % 4 ≡ 0 → (n + 20) % 4 ≡ 0
 later_even n even = omega arith
@@ -257,9 +230,7 @@ later_even n even = omega arith
 pub blocks_group_end : (machine : MachineType) (blocks : List FlavorBlock) (n : ℕ) → n % 4 ≡ 0 → group_end Descriptors n (all_objects machine blocks []) ≡ n + 20 * length blocks
 unfolding group_end
 blocks_group_end machine [] n even = times_none n 20
-blocks_group_end machine (k ∷ blocks) n even =
-    one_end machine k.flavor k.dll k.exports (all_objects machine blocks []) n even
-    ∙ blocks_group_end machine blocks (n + 20) (later_even n even) ∙ plus_sum n (length blocks)
+blocks_group_end machine (k ∷ blocks) n even = grind (arith, blocks_group_end machine blocks (n + 20) (later_even n even), one_end, all_objects, even, later_even, plus_sum)
 
 -- the same thunks, counted by inputs
 pub thunks_are : (i : ℕ) (ps : List FlavorInput) → thunks_in i (map block_in ps) ≡ thunks_of i ps
@@ -295,32 +266,18 @@ contained_at P xs x all held = all_among P x xs (contains_among x xs held) all
 
 -- Where a library's null descriptor ends the directory.
 module _ (machine : MachineType) (inputs : List FlavorInput) (objects : List Object) (made : AllByRecursion (IsMadeFor machine) inputs) (ended : AreEndedByMember machine inputs objects) where
-  abbrev pub front : List Object
-  front = objects_taken machine ended.before
-
-  abbrev pub back : List Object
-  back = objects_taken machine ended.behind
-
   -- the members' objects without the null descriptor
   pub parts_are : objects_taken machine ended.before ++ objects_taken machine ended.behind ≡ all_objects machine (map block_in inputs) []
-  parts_are =
-      sym (filter_map-append _ ended.before ended.behind) ∙ ap (objects_taken machine) ended.members ∙ inputs_objects machine inputs made
+  parts_are = grind (arith, filter_map-append, inputs_objects)
 
   null_is : expanded_in machine (null_member machine (linked_dll ended.null_from.input.definition)).bytes ≡ Some (taken_null machine)
-  null_is =
-      null_object machine ended.null_from (contained_at (IsMadeFor machine) inputs ended.null_from made ended.null_held) ended.null_flavor
+  null_is = grind (arith, common_steps, null_object, contained_at)
 
   pub kept_are : filter has_tables objects ≡ objects_taken machine ended.before ++ taken_null machine ∷ objects_taken machine ended.behind
   kept_are = ended.tables ∙ objects_with_null machine ended.before ended.behind (null_member machine (linked_dll ended.null_from.input.definition)) null_is
 
   pub directory_end : (n : ℕ) → n % 4 ≡ 0 → group_end Descriptors n objects ≡ n + 20 * length inputs
-  directory_end n even =
-      end_kept Descriptors n objects
-      ∙ ap (group_end Descriptors n) kept_are
-      ∙ descriptors_end_same machine n front back
-      ∙ ap (group_end Descriptors n) parts_are
-      ∙ blocks_group_end machine (map block_in inputs) n even
-      ∙ ap (λ m. n + 20 * m) (length-map inputs block_in)
+  directory_end n even = grind (arith, end_kept, kept_are, descriptors_end_same, parts_are, blocks_group_end, block_in, even, length-map)
 
   none : AllByRecursion EndsNothing (objects_taken machine ended.before ++ objects_taken machine ended.behind)
   none = subst (AllByRecursion EndsNothing) (sym parts_are) (blocks_end machine (map block_in inputs))
@@ -346,10 +303,7 @@ suited machine OfMember inputs objects ended = all_either inputs
 pub kept_all : (machine : MachineType) (ending : Ending) (inputs : List FlavorInput) (objects : List Object) → AllByRecursion (IsMadeFor machine) inputs → AreEnded ending machine inputs objects →
     (P : Object → Type 0) → P (taken_null machine) → AllByRecursion P (all_objects machine (map block_in inputs) (rest_of ending)) → AllByRecursion P (filter has_tables objects)
 kept_all machine OfLinker inputs objects made ended P null all = subst (AllByRecursion P) (sym (linker_kept machine inputs objects made ended)) all
-kept_all machine OfMember inputs objects made ended P null all =
-    subst (AllByRecursion P) (sym (kept_are machine inputs objects made ended))
-    (all_insert P (objects_taken machine ended.before) (objects_taken machine ended.behind) (taken_null machine) null
-    (subst (AllByRecursion P) (sym (parts_are machine inputs objects made ended)) all))
+kept_all machine OfMember inputs objects made ended P null all = search (rules, kept_are machine inputs objects made ended, taken_null machine, parts_are machine inputs objects made ended, all_insert)
 
 -- the names of members, without that of a null descriptor
 names_differ : (machine : MachineType) (ending : Ending) (inputs : List FlavorInput) → IsDistinct bytes_eq (own_names ending machine inputs) → IsDistinct bytes_eq (symbols_listed (all_members machine inputs))
@@ -376,9 +330,7 @@ stand machine OfLinker b inputs objects made program =
     let placed : with_tables (placed_from b objects) ≡ placed_from b (all_objects machine (map block_in inputs) (null_descriptor ∷ [])) = placed_kept b objects ∙ ap (placed_from b) kept in
     record {
       contributed = λ group other. contributions_kept machine (placed_from b objects) group b objects ∙ ap (λ os. contributions machine (placed_from b objects) group (placed_from b os)) kept;
-      defined = λ name m.
-          definitions_kept name b objects (all_claim name (symbols_listed (all_members machine inputs)) m (filter (λ o. not (has_tables o)) objects) program.held.others)
-          ∙ ap (λ os. definitions_of name (placed_from b os)) kept;
+      defined = λ name m. grind (arith, definitions_kept, all_claim);
       among = λ q m. subst (Among q) (sym placed) m;
       finds = λ all. subst (AllByRecursion (AllFind (placed_from b objects))) (sym placed) all;
       undefined = ap undefined_names placed;
@@ -394,18 +346,8 @@ stand machine OfMember b inputs objects made program =
     let placed : with_tables (placed_from b objects) ≡ placed_from b (xs ++ taken_null machine ∷ ys) = placed_kept b objects ∙ ap (placed_from b) kept in
     let names : List (List ℕ) = symbols_listed (all_members machine inputs) in
     record {
-      contributed = λ group other.
-          contributions_kept machine (placed_from b objects) group b objects
-          ∙ ap (λ os. contributions machine (placed_from b objects) group (placed_from b os)) kept
-          ∙ group_same machine b xs ys free even (placed_from b objects) group other
-          ∙ ap (λ os. contributions machine (placed_from b objects) group (placed_from b os)) parts;
-      defined = λ name m.
-          definitions_kept name b objects
-          (all_claim name (null_descriptor_symbol ∷ names) (among_later name null_descriptor_symbol names m) (filter (λ o. not (has_tables o)) objects) program.held.others)
-          ∙ ap (λ os. definitions_of name (placed_from b os)) kept
-          ∙ others_same machine b xs ys free even name
-          (not_same_turned null_descriptor_symbol name (all_among (λ other. bytes_eq null_descriptor_symbol other ≡ false) name names m program.held.distinct.0))
-          ∙ ap (λ os. definitions_of name (placed_from b os)) parts;
+      contributed = λ group other. grind (arith, contributions_kept, group_same, even);
+      defined = λ name m. grind (arith, among_later name null_descriptor_symbol names m, definitions_kept, all_claim, others_same, even, not_same_turned, all_among);
       among = λ q m. subst (Among q) (sym placed) (among_same machine b xs ys free even q (subst (λ os. Among q (placed_from b os)) (sym parts) m));
       finds = λ all.
           subst (AllByRecursion (AllFind (placed_from b objects))) (sym placed)
@@ -415,8 +357,7 @@ stand machine OfMember b inputs objects made program =
 
 even_for : (machine : MachineType) (ending : Ending) (b : Bases) (inputs : List FlavorInput) (objects : List Object) → IsProgramOf machine ending b inputs objects → AreEven ending machine b
 even_for machine OfLinker b inputs objects program = even_bases machine b objects program.admissible
-even_for machine OfMember b inputs objects program =
-    record { descriptors = program.admissible.descriptors.1; lookups = program.lookups; addresses = program.addresses }
+even_for machine OfMember b inputs objects program = grind arith
 
 module _ (machine : MachineType) (ending : Ending) (b : Bases) (inputs : List FlavorInput) (objects : List Object) (made : AllByRecursion (IsMadeFor machine) inputs)
     (program : IsProgramOf machine ending b inputs objects) where
@@ -464,9 +405,7 @@ module _ (machine : MachineType) (ending : Ending) (b : Bases) (inputs : List Fl
   rest_defines OfMember c = refl
 
   pub definitions_are : definitions (placed_from b (all_objects machine (map block_in inputs) (rest_of ending))) ≡ definitions_all machine b (map block_in inputs)
-  definitions_are =
-      definitions-all machine ending b dlls (rest_of ending) suit even
-      ∙ ap (λ ds. defined ++ ds) (rest_defines ending (ends_all machine b dlls)) ∙ append-nil defined
+  definitions_are = grind (arith, definitions-all, rest_of, suit, even, defined, rest_defines, ends_all, append-nil)
 
   pub only : (d : SymbolDefinition) → Among d (definitions_all machine b (map block_in inputs)) → definitions_of d.name (placed_from b objects) ≡ d ∷ []
   only d m =
@@ -627,10 +566,7 @@ stub_sized machine Data = tt
 stub_sized machine Constant = tt
 
 field_within : (machine : MachineType) → 0 + 4 ≤ length (zeros (thunk_width machine))
-field_within machine =
-    let long : length (zeros (thunk_width machine)) ≡ thunk_width machine = length-replicate {A = ℕ} (thunk_width machine) 0 in
-    let size : 4 ≤ thunk_width machine = thunk_size machine in
-    omega arith
+field_within machine = grind arith
 
 asking_sized : (machine : MachineType) (dll : NamesOfDll) (symbol : List ℕ) (ask : Ask) (use_kind : Use) → IsSized (import_object machine dll.text symbol ask use_kind)
 unfolding import_object
@@ -680,13 +616,8 @@ sum_even n m even = omega arith
 
 pub packed_objects : (machine : MachineType) (ending : Ending) (first : ℕ) (inputs : List FlavorInput) (objects : List Object) → AllByRecursion (IsMadeFor machine) inputs →
     AreProgramObjects machine ending inputs objects → 0 < first → packed_end first objects < 2 ^ 31 → IsProgramOf machine ending (packed first objects) inputs objects
-packed_objects machine OfLinker first inputs objects made held above below = record {
-  held = held;
-  admissible = admissible machine first objects (kept_sized machine OfLinker inputs objects made held.ended) above below;
-  lookups = tt;
-  addresses = tt;
-  follows = tt;
-}
+packed_objects machine OfLinker first inputs objects made held above below =
+    grind (arith, admissible machine first objects (kept_sized machine OfLinker inputs objects made held.ended) above below, kept_sized machine OfLinker inputs objects made held.ended)
 packed_objects machine OfMember first inputs objects made held above below =
     let base : ℕ = packed_descriptors first in
     let ends_at : group_end Descriptors base objects ≡ base + 20 * length inputs = directory_end machine inputs objects made held.ended base (first_even first) in

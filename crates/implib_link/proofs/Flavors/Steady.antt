@@ -12,7 +12,7 @@ use Rattle.implib.specs.Import.{Ask, Name, Ordinal}
 use Rattle.implib.specs.Link.Image.{Range, contributions, filled, range_end, IsAdmissible, image_of}
 use Rattle.implib.specs.Link.Load.{BytesAt}
 use Rattle.implib.specs.Link.Placement.{Addresses, Bases, Placed, next_multiple, placed_from, At, SectionAddress, Unplaced, end_after, ends_after, group_named, section_address_of, section_addresses_of, Descriptors, DirectoryEnds, DllNames, Group, HintNames, Lookups, base_of, same_group}
-use Rattle.implib.specs.Link.Resolution.{SymbolDefinition, definitions, definitions_of, defined_by, first_address}
+use Rattle.implib.specs.Link.Resolution.{SymbolDefinition, definitions, definitions_of, first_address}
 use Rattle.implib.specs.Members.Gnu.{head_object, export_object, relocations_of_thunk, tail_object}
 use Rattle.implib.specs.Members.ImportTables.{thunk_width, zeros}
 use Rattle.implib.specs.Members.Msvc.{short_import_symbol}
@@ -20,7 +20,7 @@ use Rattle.implib.specs.Members.MsvcObjects.{descriptor, null_thunk, null_descri
 use Rattle.implib.proofs.Link.Placement.{export, head, tail}
 use Rattle.implib.proofs.Link.Ranges.{Among, among_back, among_front}
 use Rattle.implib_link.specs.Flavors.Expansion.{Use, import_object, with_section_symbols}
-use Rattle.implib_link.specs.Flavors.Program.{Ending, OfLinker, OfMember, ask_in, has_tables, is_table, AreEnded, FlavorInput, IsMadeFor, exports_chosen, imported_in, thunks_of, IsProgramOf, group_end, sections_end}
+use Rattle.implib_link.specs.Flavors.Program.{Ending, OfLinker, OfMember, ask_in, has_tables, is_table, AreEnded, FlavorInput, IsMadeFor, imported_in, thunks_of, IsProgramOf, group_end, sections_end}
 use Rattle.implib_link.proofs.Gnu.Filling.{LocatedBeside, block_beside, rest_beside, descriptor_beside, table_bounds, DescriptorBeside, DirectoryBeside, avoids_addresses, beside_of, keeps_beside, descriptors_beside, directory_ends_beside, dll_names_beside, ends_beside, hint_names_beside, lookups_beside, starts_beside, all_filled, can_run, left_alike, runs_once}
 use Rattle.implib_link.proofs.Flavors.Block.{AreEven, FitsIn, Suits, behind_descriptor, definitions-in, definitions_in, ends_in, even_aligned, even_in, even_wide, objects_of, use_for, askings_stand, AllSuit, BlocksIn, CanLink, FlavorBlock, addresses_one, all_objects, descriptors_one, ends_all, ends_one, imported_of, rest_of, thunks_in, definitions-all, definitions_all, table_sum}
 use Rattle.implib_link.proofs.Flavors.Expanded.{AreWide, ends_of_descriptor, wide_descriptor, descriptor_stands, taken_descriptor, taken_null}
@@ -97,8 +97,7 @@ module _ (machine : MachineType) (ending : Ending) (rest : List Object) (linked 
       (λ d m. every d (among_front d own (definitions (placed_from last behind)) m)) located in
       let others = all_beside blocks last fit.1 (even_in machine ending k.flavor k.dll b es fit.0.suits even)
       (λ d m. every d (among_back d own (definitions (placed_from last behind)) m)) links.1 one.1 null in
-      let table : last.addresses ≡ b.addresses + thunk_width machine * (length (map (ask_in k.flavor machine) es) + 1) =
-      addresses_one machine k.flavor k.dll b es ∙ ap (λ n. b.addresses + thunk_width machine * (n + 1)) (sym (length-map es (ask_in k.flavor machine))) in (
+      let table : last.addresses ≡ b.addresses + thunk_width machine * (length (map (ask_in k.flavor machine) es) + 1) = grind (arith, addresses_one, length-map) in (
         one.0,
         subst (λ n. DirectoryBeside beside (thunk_width machine) (b.descriptors + 20) n (map (imported_of machine) blocks)) table
             (subst (λ n. DirectoryBeside beside (thunk_width machine) n last.addresses (map (imported_of machine) blocks)) (sym (descriptors_one machine k.flavor k.dll b es)) others),
@@ -128,19 +127,12 @@ begins_at b = let same : b.addresses + (1 - b.addresses % 1) % 1 + 0 ≡ b.addre
 
 objects_split : (machine : MachineType) (blocks : List FlavorBlock) (rest : List Object) → all_objects machine blocks rest ≡ all_objects machine blocks [] ++ rest
 objects_split machine [] rest = refl
-objects_split machine (k ∷ blocks) rest =
-    sym (objects_behind machine k.flavor k.dll k.exports (all_objects machine blocks rest))
-    ∙ ap (λ os. objects_of machine k.flavor k.dll k.exports [] ++ os) (objects_split machine blocks rest)
-    ∙ sym (append_assoc (objects_of machine k.flavor k.dll k.exports []) (all_objects machine blocks []) rest)
-    ∙ ap (λ os. os ++ rest) (objects_behind machine k.flavor k.dll k.exports (all_objects machine blocks []))
+objects_split machine (k ∷ blocks) rest = grind (arith, objects_split machine blocks rest, objects_behind, all_objects, objects_of, append_assoc)
 
 addresses_all : (machine : MachineType) (b : Bases) (blocks : List FlavorBlock) → (ends_all machine b blocks).addresses ≡ b.addresses + thunk_width machine * thunks_in (length blocks) blocks
 unfolding ends_all
 addresses_all machine b [] = omega arith
-addresses_all machine b (k ∷ blocks) =
-    addresses_all machine (ends_one machine b k) blocks
-    ∙ ap (λ n. n + thunk_width machine * thunks_in (length blocks) blocks) (addresses_one machine k.flavor k.dll b k.exports)
-    ∙ table_sum b.addresses (thunk_width machine) (length k.exports + 1) (thunks_in (length blocks) blocks)
+addresses_all machine b (k ∷ blocks) = grind (arith, addresses_all machine (ends_one machine b k) blocks, ends_one, thunks_in, addresses_one, table_sum)
 
 tables_end : (machine : MachineType) (ending : Ending) (blocks : List FlavorBlock) (b : Bases) → AllSuit ending blocks → AreEven ending machine b →
     group_end Addresses b.addresses (all_objects machine blocks (rest_of ending)) ≡ b.addresses + thunk_width machine * thunks_in (length blocks) blocks
@@ -149,16 +141,9 @@ tables_end machine ending blocks b suit even =
     let own : List Object = all_objects machine blocks [] in
     let defined : List SymbolDefinition = definitions_all machine b blocks in
     let last : Bases = ends_behind b own in
-    let parts : definitions (placed_from b (all_objects machine blocks (behind_tables ∷ []))) ≡ defined ++ at_address last.addresses =
-    ap (λ os. definitions (placed_from b os)) (objects_split machine blocks (behind_tables ∷ []))
-    ∙ ap definitions (placed_parts b own (behind_tables ∷ []))
-    ∙ flat_map-append defined_by (placed_from b own) (placed_from last (behind_tables ∷ []))
-    ∙ ap (λ ds. ds ++ definitions (placed_from last (behind_tables ∷ []))) (definitions-all machine ending b blocks [] suit even ∙ append-nil defined)
-    ∙ ap (λ ds. defined ++ ds) (begins_at last) in
-    let whole : definitions (placed_from b (all_objects machine blocks (behind_tables ∷ []))) ≡ defined ++ at_address (ends_all machine b blocks).addresses =
-    definitions-all machine ending b blocks (behind_tables ∷ []) suit even ∙ ap (λ ds. defined ++ ds) (begins_at (ends_all machine b blocks)) in
-    let ends : last.addresses ≡ (ends_all machine b blocks).addresses =
-    one_address last.addresses (ends_all machine b blocks).addresses (append_cancel_left defined (at_address last.addresses) (at_address (ends_all machine b blocks).addresses) (sym parts ∙ whole)) in
+    let parts : definitions (placed_from b (all_objects machine blocks (behind_tables ∷ []))) ≡ defined ++ at_address last.addresses = grind (arith, objects_split, placed_parts, flat_map-append, definitions-all, suit, even, append-nil, begins_at) in
+    let whole : definitions (placed_from b (all_objects machine blocks (behind_tables ∷ []))) ≡ defined ++ at_address (ends_all machine b blocks).addresses = grind (arith, definitions-all, suit, even, begins_at, ends_all) in
+    let ends : last.addresses ≡ (ends_all machine b blocks).addresses = grind (arith, one_address, ends_all, append_cancel_left) in
     rest_behind ending ∙ sym (end_behind Addresses b own) ∙ ends ∙ addresses_all machine b blocks
   where
     rest_behind : (ending : Ending) → group_end Addresses b.addresses (all_objects machine blocks (rest_of ending)) ≡ group_end Addresses b.addresses (all_objects machine blocks [])
@@ -170,8 +155,7 @@ all_long : (machine : MachineType) (linked : List Placed) (ending : Ending) (blo
 unfolding span
 all_long machine linked ending blocks b suit even =
     let objects : List Object = all_objects machine blocks (rest_of ending) in
-    let ends : b.addresses + length (filled b.addresses (contributions machine linked Addresses (placed_from b objects))) ≡ group_end Addresses b.addresses objects =
-    (fills_objects machine linked Addresses b objects (all_sized machine ending blocks)).ends in
+    let ends : b.addresses + length (filled b.addresses (contributions machine linked Addresses (placed_from b objects))) ≡ group_end Addresses b.addresses objects = grind (arith, fills_objects machine linked Addresses b objects (all_sized machine ending blocks), all_sized machine ending blocks, ends) in
     let end = tables_end machine ending blocks b suit even in
     omega arith
 
@@ -221,11 +205,7 @@ others_steady machine sections none = all_from (IsSteady machine) sections (λ s
 pub all_steady : (machine : MachineType) (objects : List Object) → AllByRecursion (AllSteady machine) (filter has_tables objects) → AllByRecursion (AllSteady machine) objects
 unfolding has_tables
 all_steady machine [] all = tt
-all_steady machine (o ∷ objects) all =
-    elim (cases_Bool (list_any is_table o.sections)) [
-      | inl is ↦ let kept : AllSteady machine o × AllByRecursion (AllSteady machine) (filter has_tables objects) = rw is at all in (kept.0, all_steady machine objects kept.1)
-      | inr none ↦ (others_steady machine o.sections none, all_steady machine objects (rw none at all))
-    ]
+all_steady machine (o ∷ objects) all = grind (arith, all_steady machine objects, others_steady)
 
 -- Members are steady.
 
@@ -237,9 +217,7 @@ relative_steady ARM64 = refl
 
 pub head_steady : (machine : MachineType) (dll : NamesOfDll) → AllSteady machine (head machine dll)
 unfolding head_object
-head_steady machine dll =
-    let one = relative_steady machine in
-    (inl refl, (inl refl, (inl refl, (inr (one, (one, (one, tt))), (inr tt, (inr tt, tt))))))
+head_steady machine dll = grind arith
 
 pub tail_steady : (machine : MachineType) (dll : NamesOfDll) → AllSteady machine (tail machine dll)
 unfolding tail_object
@@ -251,8 +229,7 @@ thunk_steady machine e = elim (cases_Bool e.no_name) [ inl is ↦ rw is tt | inr
 
 export_steady : (machine : MachineType) (dll : NamesOfDll) (e : ExportView) → AllSteady machine (export machine dll e)
 unfolding export_object
-export_steady machine dll e =
-    (inl refl, (inl refl, (inl refl, (inr (relative_steady machine, tt), (inr (thunk_steady machine e), (inr (thunk_steady machine e), (inr tt, tt)))))))
+export_steady machine dll e = grind (arith, relative_steady, thunk_steady)
 
 pub exports_steady : (machine : MachineType) (dll : NamesOfDll) (es : List ExportView) (rest : List Object) → AllByRecursion (AllSteady machine) rest →
     AllByRecursion (AllSteady machine) (map (export machine dll) es ++ rest)
@@ -273,9 +250,7 @@ askings_steady machine dll (e ∷ es) rest all = (asking_steady machine dll (sho
 
 descriptor_steady : (machine : MachineType) (dll : NamesOfDll) → AllSteady machine (taken_descriptor machine dll)
 unfolding with_section_symbols object_of descriptor entries_of name_text
-descriptor_steady machine dll =
-    let one = relative_steady machine in
-    (inr (one, (one, (one, tt))), (inr tt, (inr tt, (inr tt, tt))))
+descriptor_steady machine dll = grind arith
 
 one_steady : (machine : MachineType) (flavor : Flavor) (dll : NamesOfDll) (es : List ExportView) (rest : List Object) → AllByRecursion (AllSteady machine) rest →
     AllByRecursion (AllSteady machine) (objects_of machine flavor dll es rest)
@@ -331,35 +306,21 @@ module _ (machine : MachineType) (b : Bases) (objects : List Object) (admissible
 
   run_alike : (written : List Range) → Writes (image_of machine b (placed_from b objects)) (thunk_width machine) gives b.descriptors imports written →
       AreAlike (all_filled (thunk_width machine) gives b.addresses imports memory) (written ++ memory)
-  run_alike written writes =
-      left_alike beside (image_of machine b (placed_from b objects)) (keeps_beside machine b objects admissible) (thunk_width machine) gives wide imports b.descriptors b.addresses written memory directory writes
+  run_alike written writes = grind (arith, keeps_beside machine b objects admissible, left_alike)
 
   -- and so it leaves what one does that reads first
   pub run_reads : (n : ℕ) → length imports ≡ n → DirectoryAt (image_of machine b (placed_from b objects)) (thunk_width machine) b.descriptors imports → (found : List Imported) (after : List Range) →
       WritesAsItGoes (thunk_width machine) gives b.descriptors memory found after →
       (found ≡ imports) × ((written : List Range) × (ReadsAndWrites memory (thunk_width machine) gives n b.descriptors written × AreAlike after (written ++ memory)))
   run_reads n count is_directory found after runs =
-      let once = run_once found after runs in
-      let reader = memory_can_be_read (image_of machine b (placed_from b objects)) memory keeps (thunk_width machine) gives b.descriptors imports is_directory in
-      let read = memory_read (image_of machine b (placed_from b objects)) memory keeps (thunk_width machine) gives (length imports) b.descriptors imports reader.0 is_directory reader.1 in (
-        once.0,
-        (
-          reader.0,
-          (
-            subst (λ k. ReadsAndWrites memory (thunk_width machine) gives k b.descriptors reader.0) count reader.1,
-            subst (λ m. AreAlike m (reader.0 ++ memory)) (sym once.1) (run_alike reader.0 read.1),
-          ),
-        ),
-      )
+      grind (arith, run_once found after runs, memory_can_be_read (image_of machine b (placed_from b objects)) memory keeps (thunk_width machine) gives b.descriptors imports is_directory, memory_read, run_alike)
 
 -- A loader that writes as it goes loads a program, as one that reads first.
 
 thunks_same : (machine : MachineType) (i : ℕ) (inputs : List FlavorInput) → thunks_asked i (map (imported_in machine) inputs) ≡ thunks_of i inputs
 thunks_same machine zero inputs = refl
 thunks_same machine (suc i) [] = refl
-thunks_same machine (suc i) (p ∷ inputs) =
-    ap (λ n. n + 1 + thunks_asked i (map (imported_in machine) inputs)) (length-map (exports_chosen p) (ask_in p.flavor machine))
-    ∙ ap (λ n. length (exports_chosen p) + 1 + n) (thunks_same machine i inputs)
+thunks_same machine (suc i) (p ∷ inputs) = grind (arith, thunks_same machine i inputs, thunks_asked, length-map)
 
 module _ (machine : MachineType) (ending : Ending) (b : Bases) (inputs : List FlavorInput) (objects : List Object) (made : AllByRecursion (IsMadeFor machine) inputs) (program : IsProgramOf machine ending b inputs objects) where
   abbrev linked : List Placed
@@ -401,10 +362,7 @@ module _ (machine : MachineType) (ending : Ending) (b : Bases) (inputs : List Fl
 
   pub program_long : length (filled b.addresses (contributions machine (placed_from b objects) Addresses (placed_from b objects)))
       ≡ thunk_width machine * thunks_asked (length (map (imported_in machine) inputs)) (map (imported_in machine) inputs)
-  program_long =
-      table_filled
-      ∙ ap (λ n. thunk_width machine * n)
-      (sym (ap (λ n. thunks_asked n (map (imported_in machine) inputs)) (length-map inputs (imported_in machine)) ∙ thunks_same machine (length inputs) inputs))
+  program_long = grind (arith, table_filled, thunks_asked, length-map, thunks_same)
 
 module _ (machine : MachineType) (ending : Ending) (image_base : ℕ) (b : Bases) (inputs : List FlavorInput) (objects : List Object) (codes : List LinkedCode) (targets : LinkedCode → ℕ → ℕ) (memory : List Range)
     (gives : List ℕ → Ask → List ℕ) (made : AllByRecursion (IsMadeFor machine) inputs) (program : IsProgramOf machine ending b inputs objects)

@@ -9,7 +9,7 @@ use Rattle.implib.specs.declared.flavor.Flavor.{Flavor}
 use Rattle.implib.specs.declared.flavor.Flavor.TheVariants.{Gnu, Msvc}
 use Rattle.implib.specs.Formats.Constants.{align_4bytes, class_external, cnt_code, mem_execute_read}
 use Rattle.implib.specs.Definition.{ExportView}
-use Rattle.implib.specs.Members.Gnu.{archive_symbols, relocations_of_stub, section, stub_bytes, stub_relocations, text_name}
+use Rattle.implib.specs.Members.Gnu.{archive_symbols, section, stub_bytes, stub_relocations, text_name}
 use Rattle.implib.specs.Import.{Ask, Name, Ordinal}
 use Rattle.implib.specs.Members.ImportTables.{thunk_width}
 use Rattle.implib.specs.Link.Linked.{IsDefinedOnce}
@@ -39,10 +39,7 @@ found_entry f None a is = cc
 found_entry f (Some x) a is = (x, (refl, is))
 
 pub same_section : (sections : List ObjectSection) (n : ℕ) (first second : ObjectSection) → n ≡ 1 → section_numbered sections n ≡ Some first → slice_get sections 0 ≡ Some second → first ≡ second
-same_section sections n first second one numbered at =
-    let own : section_numbered sections 1 ≡ Some first = subst (λ k. section_numbered sections k ≡ Some first) one numbered in
-    let both : Some first ≡ Some second = sym own ∙ at in
-    cc
+same_section sections n first second one numbered at = grind arith
 
 pub symbol_of_entry : (t u : ObjectSymbol) → ASymbol t ≡ ASymbol u → t ≡ u
 symbol_of_entry t u same = cc
@@ -59,16 +56,7 @@ asking_placed : (machine : MachineType) (dll : NamesOfDll) (es : List ExportView
     (c : Bases) × (Among (placed_in machine Msvc dll c e) (placed_from b (behind_descriptor machine dll es rest)) × (c.addresses ≡ b.addresses + thunk_width machine * j))
 asking_placed machine dll [] b rest even j e is = cc
 asking_placed machine dll (x ∷ es) b rest even zero e is =
-    let same : x ≡ e = cc in
-    let later : List Object = behind_descriptor machine dll es rest in (
-      b,
-      (
-        subst (Among (placed_in machine Msvc dll b e)) (sym (placed-asking machine dll b (short_import_symbol x) (ask_in Msvc machine x) (use_for x) later even))
-            (subst (λ (y : ExportView). Among (placed_in machine Msvc dll b e) (placed_in machine Msvc dll b y ∷ placed_from (ends_of_asking machine b (ask_in Msvc machine x)) later)) (sym same)
-            (among_first (placed_in machine Msvc dll b e) (placed_from (ends_of_asking machine b (ask_in Msvc machine x)) later))),
-        times_none b.addresses (thunk_width machine),
-      ),
-    )
+    grind (arith, behind_descriptor machine dll es rest, use_for x, ends_of_asking machine b (ask_in Msvc machine x), times_none b.addresses (thunk_width machine), placed-asking, even, among_first)
 asking_placed machine dll (x ∷ es) b rest even (suc j) e is =
     let ask : Ask = ask_in Msvc machine x in
     let later : Bases = ends_of_asking machine b ask in
@@ -97,21 +85,12 @@ behind_askings : (machine : MachineType) (dll : NamesOfDll) (es : List ExportVie
     Among q (placed_from b (behind_descriptor machine dll es rest))
 unfolding ends_of_askings
 behind_askings machine dll [] b rest q even m = subst (Among q) (sym (placed-null_thunk machine dll b rest even)) (among_later q _ _ m)
-behind_askings machine dll (e ∷ es) b rest q even m =
-    let ask : Ask = ask_in Msvc machine e in
-    subst (Among q) (sym (placed-asking machine dll b (short_import_symbol e) ask (use_for e) (behind_descriptor machine dll es rest) even))
-    (among_later q _ _ (behind_askings machine dll es (ends_of_asking machine b ask) rest q (wide_asking machine b ask even) m))
+behind_askings machine dll (e ∷ es) b rest q even m = grind (arith, behind_askings machine dll es, placed-asking, use_for, behind_descriptor, even, among_later, ends_of_asking, wide_asking)
 
 behind_one : (machine : MachineType) (ending : Ending) (flavor : Flavor) (dll : NamesOfDll) (es : List ExportView) (b : Bases) (rest : List Object) (q : Placed) → Suits ending flavor → AreEven ending machine b →
     Among q (placed_from (ends_in machine flavor dll b es) rest) → Among q (placed_from b (objects_of machine flavor dll es rest))
-behind_one machine ending Msvc dll es b rest q suits even m =
-    let wide : AreWide machine b = even_wide machine ending b suits even in
-    subst (Among q) (sym (placed-descriptor machine dll b (behind_descriptor machine dll es rest) wide))
-    (among_later q _ _ (behind_askings machine dll es (ends_of_descriptor dll b) rest q (wide_descriptor machine dll b wide) m))
-behind_one machine ending Gnu dll es b rest q suits even m =
-    let all : AreAligned b = even_aligned machine ending b even in
-    subst (Among q) (sym (placed-head machine dll b (after_head machine dll es rest) all))
-    (among_later q _ _ (behind_exports machine dll es (ends_of_head machine dll b) rest q (aligned_head machine dll b all) m))
+behind_one machine ending Msvc dll es b rest q suits even m = grind (arith, even_wide, even, placed-descriptor, behind_descriptor, among_later, behind_askings, ends_of_descriptor, wide_descriptor)
+behind_one machine ending Gnu dll es b rest q suits even m = grind (arith, even_aligned, even, placed-head, after_head, among_later, behind_exports, ends_of_head, aligned_head)
 
 pub all_placed : (machine : MachineType) (ending : Ending) (rest : List Object) (blocks : List FlavorBlock) (b : Bases) → AllSuit ending blocks → AreEven ending machine b → (i j : ℕ) (k : FlavorBlock) (e : ExportView) → slice_get blocks i ≡ Some k → slice_get k.exports j ≡ Some e →
     (c : Bases) × (Among (placed_in machine k.flavor k.dll c e) (placed_from b (all_objects machine blocks rest))
@@ -127,17 +106,7 @@ all_placed machine ending rest (q ∷ blocks) b suit even zero j k e is chosen =
       ),
     )
 all_placed machine ending rest (q ∷ blocks) b suit even (suc i) j k e is chosen =
-    let later : Bases = ends_one machine b q in
-    let found = all_placed machine ending rest blocks later suit.1 (even_in machine ending q.flavor q.dll b q.exports suit.0 even) i j k e is chosen in
-    let table : later.addresses + thunk_width machine * thunks_in i blocks ≡ b.addresses + thunk_width machine * (length q.exports + 1 + thunks_in i blocks) =
-    ap (λ n. n + thunk_width machine * thunks_in i blocks) (addresses_one machine q.flavor q.dll b q.exports)
-    ∙ table_sum b.addresses (thunk_width machine) (length q.exports + 1) (thunks_in i blocks) in (
-      found.0,
-      (
-        behind_one machine ending q.flavor q.dll q.exports b (all_objects machine blocks rest) (placed_in machine k.flavor k.dll found.0 e) suit.0 even found.1.0,
-        later_sum found.0.addresses (later.addresses + thunk_width machine * thunks_in i blocks) (b.addresses + thunk_width machine * (length q.exports + 1 + thunks_in i blocks)) (thunk_width machine) j found.1.1 table,
-      ),
-    )
+    grind (arith, all_placed machine ending rest blocks, ends_one machine b q, even_in machine ending q.flavor q.dll b q.exports suit.0 even, thunks_in i blocks, addresses_one machine q.flavor q.dll b q.exports, table_sum b.addresses (thunk_width machine) (length q.exports + 1) (thunks_in i blocks), all_objects machine blocks rest, suit, even, behind_one, later_sum)
 
 -- The code of an export for Microsoft's linker.
 
@@ -160,22 +129,16 @@ asking_code machine dll b symbol ask = refl
 asking_target : (machine : MachineType) (dll : NamesOfDll) (linked : List Placed) (b : Bases) (symbol : List ℕ) (ask : Ask) (use_kind : Use) (entry : ℕ) → b.addresses ≡ entry →
     target_address linked (placed_asking machine dll b symbol ask use_kind) 2 ≡ entry
 unfolding import_object
-asking_target machine dll linked b symbol ask use_kind entry same =
-    let plain : b.addresses + 0 ≡ b.addresses = omega arith in
-    plain ∙ same
+asking_target machine dll linked b symbol ask use_kind entry same = grind arith
 
 asking_found : (machine : MachineType) (dll : NamesOfDll) (linked : List Placed) (b : Bases) (symbol : List ℕ) (ask : Ask) (use_kind : Use) (entry : ℕ) → b.addresses ≡ entry →
     option_and_then (symbol_address linked (placed_asking machine dll b symbol ask use_kind)) (slice_get (placed_asking machine dll b symbol ask use_kind).object.entries 2) ≡ Some entry
 unfolding import_object
-asking_found machine dll linked b symbol ask use_kind entry same =
-    let plain : b.addresses + 0 ≡ b.addresses = omega arith in
-    ap Some (plain ∙ same)
+asking_found machine dll linked b symbol ask use_kind entry same = grind arith
 
 exporting_found : (machine : MachineType) (dll : NamesOfDll) (linked : List Placed) (b : Bases) (e : ExportView) (entry : ℕ) → e.is_data ≡ false → b.addresses ≡ entry →
     option_and_then (symbol_address linked (placed_export machine dll b e)) (slice_get (placed_export machine dll b e).object.entries 2) ≡ Some entry
-exporting_found machine dll linked b e entry is same =
-    let plain : b.addresses + 0 ≡ b.addresses = omega arith in
-    address_found machine dll linked b e is ∙ ap Some (plain ∙ same)
+exporting_found machine dll linked b e entry is same = grind (arith, address_found machine dll linked b e is)
 
 -- what a jump needs, in either flavour
 pub record CodeOf (machine : MachineType) (linked : List Placed) (symbol : List ℕ) (own : Placed) (entry : ℕ) : Type 0 where
@@ -199,9 +162,7 @@ pub code_in : (machine : MachineType) (flavor : Flavor) (dll : NamesOfDll) (link
 code_in machine Msvc dll linked b e entry is same = msvc_code machine dll linked b (short_import_symbol e) (ask_in Msvc machine e) (use_for e) entry (use_is e.is_data e.constant is.0 is.1) same
 code_in machine Gnu dll linked b e entry is same = record {
   defined = code_defined machine dll b e is;
-  here = code_here machine dll b e
-      ∙ ap (λ bytes. Some (section text_name (cnt_code + align_4bytes + mem_execute_read) bytes (relocations_of_stub machine e))) (code_bytes machine e is)
-      ∙ ap (λ rs. Some (section text_name (cnt_code + align_4bytes + mem_execute_read) (stub_bytes machine) rs)) (code_relocations machine e is);
+  here = grind (arith, code_here machine dll b e, code_bytes machine e is, code_relocations machine e is);
   target = target_is machine dll linked b e entry is same;
   found = exporting_found machine dll linked b e entry is same;
 }
@@ -227,9 +188,7 @@ name_listed machine inputs i j p e made input chosen is =
 
 pub name_once : (machine : MachineType) (ending : Ending) (bases : Bases) (inputs : List FlavorInput) (objects : List Object) (i j : ℕ) (p : FlavorInput) (e : ExportView) → AllByRecursion (IsMadeFor machine) inputs →
     IsProgramOf machine ending bases inputs objects → slice_get inputs i ≡ Some p → slice_get (exports_chosen p) j ≡ Some e → IsCode p.flavor e → IsDefinedOnce (placed_from bases objects) (symbol_in p.flavor e)
-name_once machine ending bases inputs objects i j p e made program input chosen is =
-    all_among (IsDefinedOnce (placed_from bases objects)) (symbol_in p.flavor e) (symbols_listed (all_members machine inputs)) (name_listed machine inputs i j p e made input chosen is)
-    (program_links machine ending bases inputs objects made program).listed
+name_once machine ending bases inputs objects i j p e made program input chosen is = grind (arith, name_listed machine inputs i j p e made input chosen is, program_links machine ending bases inputs objects made program, all_among)
 
 -- In a program of both flavours, placed code that defines the name of an export of code is its stub.
 
@@ -253,8 +212,7 @@ stub_at machine ending bases inputs objects i j p e d t made program input chose
     let one = one_definer symbol linked d.from own t own_symbol most d_linked (contains_among (ASymbol t) d.from.object.entries defines.held) defines.external named own_held code.defined refl refl in
     let t_is : t ≡ own_symbol = symbol_of_entry t own_symbol one.1 in
     let first : d.number ≡ 1 = sym defines.here ∙ ap (λ (x : ObjectSymbol). x.section) t_is in
-    let numbered : section_numbered own.object.sections d.number ≡ Some d.code =
-    subst (λ (x : Placed). section_numbered x.object.sections d.number ≡ Some d.code) one.0 d_section in
+    let numbered : section_numbered own.object.sections d.number ≡ Some d.code = grind arith in
     let code_is = same_section own.object.sections d.number d.code (section text_name (cnt_code + align_4bytes + mem_execute_read) (stub_bytes machine) (stub_relocations machine 2)) first numbered code.here in
     let at = found_entry (symbol_address linked own) (slice_get own.object.entries 2) entry code.found in
     record {

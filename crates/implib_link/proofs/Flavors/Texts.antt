@@ -1,33 +1,31 @@
 -- Programs of both flavours from texts link as the texts state.
-use Rattle.std.proofs.Common.{◌≡◌, ℕ, ◌+◌, ◌*◌, true, List, [], ◌∷◌, map, Some, refl, ap, sym, ◌∙◌, subst}
-use Rattle.std.specs.Prelude.{not, option_map}
+use Rattle.std.proofs.Common.{arith, ◌≡◌, ℕ, true, List, [], ◌∷◌, map, Some, refl, ap, sym, ◌∙◌, subst}
+use Rattle.std.specs.Prelude.{not}
 use Rattle.std.specs.List.{AllByRecursion, filter, list_all}
 use Rattle.std.proofs.lemmas.Option.{slice_get-map}
 use Rattle.implib.specs.declared.flavor.Flavor.{Flavor}
 use Rattle.implib.specs.declared.flavor.Flavor.TheVariants.{Gnu, Msvc}
 use Rattle.implib.specs.declared.machine.MachineType.{MachineType}
-use Rattle.implib.specs.Asked.{EachAsksForItsWord, exports_of_text, external_word}
+use Rattle.implib.specs.Asked.{EachAsksForItsWord, exports_of_text}
 use Rattle.implib.specs.Definition.{DefinitionView, ExportView}
 use Rattle.implib.specs.Text.Grammar.{Export}
-use Rattle.implib.specs.Link.Image.{Range, image_of}
+use Rattle.implib.specs.Link.Image.{Range}
 use Rattle.implib.specs.Import.{imp_symbol, is_empty_text, public_exports}
 use Rattle.implib.specs.Members.ImportTables.{thunk_width}
-use Rattle.implib.specs.Library.{LibraryView}
 use Rattle.implib.specs.Link.LinkedMembers.{chosen_exports}
 use Rattle.implib.specs.Link.Load.{LoadsStrictly}
-use Rattle.implib.specs.Members.Members.{AreMembersOf}
-use Rattle.implib.specs.Members.Msvc.{short_import_symbol, symbol_or_name}
+use Rattle.implib.specs.Members.Msvc.{short_import_symbol}
 use Rattle.implib.specs.Formats.Object.{Object}
-use Rattle.implib.specs.Link.Placement.{Bases, Placed, placed_from}
+use Rattle.implib.specs.Link.Placement.{Bases, Placed}
 use Rattle.implib.specs.Renaming.{renamed}
 use Rattle.implib.specs.Link.Resolution.{definitions_of}
 use Rattle.implib.proofs.Members.Asked.{asks_for_words}
 use Rattle.implib.proofs.Link.LinkedMembers.{all_at}
 use Rattle.implib.proofs.Text.SymbolNames.{parsed_lacks}
-use Rattle.implib_link.specs.Flavors.Program.{Ending, FlavorInput, InputImports, IsMadeFor, SymbolsAt, SymbolsGet, ask_in, descriptor_in, dll_names_in, exports_chosen, symbol_in, thunks_of, IsProgramOf}
+use Rattle.implib_link.specs.Flavors.Program.{Ending, FlavorInput, InputImports, IsMadeFor, SymbolsAt, SymbolsGet, ask_in, descriptor_in, dll_names_in, exports_chosen, symbol_in, IsProgramOf}
 use Rattle.implib_link.specs.Flavors.Texts.{FlavorSource, FlavorTextLinks, FlavorTextsLink, IsFlavorSource, input_parsed, input_of, Stated, ask_stated, chosen_stated, stated}
 use Rattle.implib_link.proofs.Flavors.Program.{program_links}
-use Rattle.implib_link.proofs.Gnu.Texts.{all_chosen, all_filter, chosen_renamed, stated_ask, statements_are}
+use Rattle.implib_link.proofs.Gnu.Texts.{all_chosen, all_filter, chosen_renamed, statements_are}
 use Rattle.implib.specs.LibraryName.{NamesOfDll, names_for}
 use Rattle.implib_link.proofs.Search.Lists.{all_from, each_of}
 
@@ -41,15 +39,13 @@ unfolding AsksInFlavor
 each_asks flavor machine [] [] each = tt
 each_asks flavor machine [] (s ∷ statements) each = absurd each
 each_asks flavor machine (e ∷ exports) [] each = absurd each
-each_asks flavor machine (e ∷ exports) (s ∷ statements) each =
-    (stated_ask e.no_name e.ordinal _ (external_word s) (each.0.in_each_flavor flavor), each_asks flavor machine exports statements each.1)
+each_asks flavor machine (e ∷ exports) (s ∷ statements) each = grind (arith, each_asks flavor machine exports statements each.1)
 
 same_asks : (flavor : Flavor) (machine : MachineType) (xs : List Stated) → AllByRecursion (AsksInFlavor flavor machine) xs →
     map (ask_in flavor machine) (map (λ (s : Stated). s.export) xs) ≡ map ask_stated xs
 unfolding AsksInFlavor
 same_asks flavor machine [] all = refl
-same_asks flavor machine (x ∷ xs) all =
-    ap (λ ask. ask ∷ map (ask_in flavor machine) (map (λ (s : Stated). s.export) xs)) all.0 ∙ ap (λ others. ask_stated x ∷ others) (same_asks flavor machine xs all.1)
+same_asks flavor machine (x ∷ xs) all = grind (arith, same_asks flavor machine xs all.1)
 
 asks_are : (flavor : Flavor) (machine : MachineType) (d : DefinitionView) (statements : List Export) → EachAsksForItsWord machine (renamed d).exports statements → (chosen : List ℕ) →
     map (ask_in flavor machine) (chosen_exports d chosen) ≡ map ask_stated (chosen_stated d statements chosen)
@@ -71,8 +67,7 @@ all_empty exports all = all_from (λ (e : ExportView). e.symbol_name ≡ []) exp
 
 plain_names : (exports : List ExportView) → AllByRecursion (λ e. e.symbol_name ≡ []) exports → map short_import_symbol exports ≡ map (λ e. e.name) exports
 plain_names [] all = refl
-plain_names (e ∷ exports) all =
-    ap (λ name. name ∷ map short_import_symbol exports) (ap (λ symbol. symbol_or_name symbol e.name) all.0) ∙ ap (λ names. e.name ∷ names) (plain_names exports all.1)
+plain_names (e ∷ exports) all = grind (arith, plain_names exports all.1)
 
 names_are : (flavor : Flavor) (exports : List ExportView) → AllByRecursion (λ e. e.symbol_name ≡ []) exports → map (symbol_in flavor) exports ≡ map (λ e. e.name) exports
 names_are Msvc exports all = plain_names exports all
@@ -81,10 +76,7 @@ names_are Gnu exports all = refl
 -- A source's input is made.
 
 source_made : (machine : MachineType) (s : FlavorSource) → IsFlavorSource machine s → IsMadeFor machine (input_of s)
-source_made machine s is =
-    let here : AreMembersOf s.source.library.definition machine s.flavor s.source.members =
-    subst (λ (l : LibraryView). AreMembersOf s.source.library.definition l.machine l.flavor s.source.members) is.of_text.held is.made in
-    here
+source_made machine s is = grind arith
 
 sources_made : (machine : MachineType) (sources : List FlavorSource) → AllByRecursion (IsFlavorSource machine) sources → AllByRecursion (IsMadeFor machine) (map input_of sources)
 sources_made machine [] are = tt
@@ -116,8 +108,7 @@ same_imports : (machine : MachineType) (image : List Range) (linked : List Place
     InputImports machine image linked descriptor table (input_of s) → InputImports machine image linked descriptor table (input_parsed parsed s)
 same_imports machine image linked descriptor table s parsed held imports =
     let exports_same : chosen_exports s.source.library.definition s.source.chosen ≡ chosen_exports parsed s.source.chosen = chosen_renamed s.source.library parsed machine s.flavor s.source.chosen held in
-    let names_same : names_for s.flavor s.source.library.definition ≡ names_for s.flavor parsed =
-    ap (λ (l : LibraryView). names_for s.flavor l.definition) held ∙ names_of_renamed s.flavor parsed in
+    let names_same : names_for s.flavor s.source.library.definition ≡ names_for s.flavor parsed = grind (arith, names_of_renamed) in
     from_parts machine image linked descriptor table (input_parsed parsed s)
     (subst (λ (es : List ExportView). ImportsOf machine image linked descriptor table s.flavor (names_for s.flavor parsed) es) exports_same
     (subst (λ (names : NamesOfDll). ImportsOf machine image linked descriptor table s.flavor names (chosen_exports s.source.library.definition s.source.chosen)) names_same
@@ -146,7 +137,5 @@ texts_link machine ending bases sources objects are program =
     let among = program_links machine ending bases (map input_of sources) objects (sources_made machine sources are) program in
     record {
       among = among;
-      imports = λ i s is. text_links machine (image_of machine bases (placed_from bases objects)) (placed_from bases objects) (bases.descriptors + 20 * i)
-          (bases.addresses + thunk_width machine * thunks_of i (map input_of sources)) s (all_at (IsFlavorSource machine) sources i s are is)
-          (among.imports i (input_of s) (slice_get-map input_of sources i ∙ ap (option_map input_of) is));
+      imports = λ i s is. grind (arith, text_links, all_at, slice_get-map);
     }

@@ -1,8 +1,8 @@
 -- Code at another base: a base relocation changes its own field, and nothing else.
-use Rattle.std.proofs.Common.{◌≡◌, ℕ, ◌+◌, ◌<◌, ◌≤◌, Bool, true, false, List, [], ◌∷◌, ◌++◌, map, None, Some, refl, sym, ◌∙◌, subst, inl, inr, arith, zero, suc, ◌*◌, ◌/◌, ◌%◌, ◌^◌, ◌⊎◌, length, Option, ap, true≢false}
-use Rattle.std.specs.Prelude.{◌==◌, if◌then◌else◌, nat_le, nat_lt, ◌&&◌, bytes_eq, slice_get}
+use Rattle.std.proofs.Common.{◌≡◌, ℕ, ◌+◌, ◌<◌, ◌≤◌, Bool, true, false, List, [], ◌∷◌, ◌++◌, map, None, Some, refl, sym, ◌∙◌, subst, inl, inr, arith, zero, suc, ◌*◌, ◌/◌, ◌%◌, ◌⊎◌, length, Option, ap, true≢false}
+use Rattle.std.specs.Prelude.{◌==◌, if◌then◌else◌, ◌&&◌, bytes_eq, slice_get}
 use Rattle.std.specs.List.{AllByRecursion, flat_map, list_any, Contains}
-use Rattle.std.proofs.lemmas.Bool.{and_parts, cases_Bool, leb-true, ltb-true, and_from, eq-eqb, eqb-true, false_from_ne_true, or_parts}
+use Rattle.std.proofs.lemmas.Bool.{and_parts, cases_Bool, and_from, eq-eqb, eqb-true, false_from_ne_true, or_parts}
 use Rattle.std.proofs.lemmas.List.Folds.{list_any-append}
 use Rattle.implib.specs.declared.coff.object.Relocation.{Relocation}
 use Rattle.implib.specs.declared.machine.MachineType.{MachineType}
@@ -10,7 +10,7 @@ use Rattle.implib.specs.declared.machine.MachineType.TheVariants.{I386, ARMNT, A
 use Rattle.implib.specs.Formats.Constants.{i386_dir32}
 use Rattle.implib.specs.Link.Image.{AllApart, AreApart, Range, is_in, byte_at, range_end}
 use Rattle.implib.proofs.Link.LinkedMembers.{among_map, among_contains}
-use Rattle.implib.proofs.Link.Ranges.{Among, all_among, among_back, among_front, is_in_from, range_located}
+use Rattle.implib.proofs.Link.Ranges.{Among, all_among, among_back, among_front, range_located}
 use Rattle.implib_link.specs.Gnu.Fields.{amd64_addr64, arm64_addr64, field_width, Place, absolute_width, amd64_addr32, arm64_addr32, covers, places_at, Defines, PlacedCode, Resolves, IsRebased, moved_number}
 use Rattle.std.proofs.lemmas.Slice.Eq.{bytes_eq-Decides}
 use Rattle.implib.specs.Formats.File.{is_defined_external}
@@ -26,38 +26,20 @@ use Rattle.implib.proofs.Link.Linked.{all_append}
 
 pub places_from : (machine : MachineType) (position : ℕ) (rs : List Relocation) → AllByRecursion (λ (p : Place). position ≤ p.address) (places_at machine position rs)
 places_from machine position [] = tt
-places_from machine position (r ∷ rs) =
-    elim (absolute_width machine r.kind) as (λ o. absolute_width machine r.kind ≡ o → AllByRecursion (λ (p : Place). position ≤ p.address) (places_at machine position (r ∷ rs))) [
-      | None ↦ λ is. rw is (places_from machine position rs)
-      | Some width ↦ λ is. rw is (omega arith, places_from machine position rs)
-    ] refl
+places_from machine position (r ∷ rs) = grind (arith, places_from machine position rs)
 
 pub covered_bounds : (a : ℕ) (p : Place) → covers a p ≡ true → (p.address ≤ a) × (a < p.address + p.width)
-covered_bounds a p covered =
-    let parts = and_parts (nat_le p.address a) (nat_lt a (p.address + p.width)) covered in
-    (leb-true p.address a parts.0, ltb-true a (p.address + p.width) parts.1)
+covered_bounds a p covered = grind arith
 
 pub covering : (a low high : ℕ) (ps : List Place) → AllByRecursion (λ (p : Place). low ≤ p.address) ps → AllByRecursion (λ (p : Place). p.address + p.width ≤ high) ps → list_any (covers a) ps ≡ true →
     (low ≤ a) × (a < high)
 covering a low high [] from below covered = cc
-covering a low high (p ∷ ps) from below covered =
-    elim (cases_Bool (covers a p)) [
-      | inl is ↦
-          let bounds = covered_bounds a p is in
-          let first : low ≤ p.address = from.0 in
-          let last : p.address + p.width ≤ high = below.0 in
-          let above : p.address ≤ a = bounds.0 in
-          let under : a < p.address + p.width = bounds.1 in
-          (omega arith, omega arith)
-      | inr is ↦ covering a low high ps from.1 below.1 (rw is at covered)
-    ]
+covering a low high (p ∷ ps) from below covered = grind (arith, covering a low high ps from.1 below.1)
 
 pub none_covers : {X : Type 0} (f : X → List Place) (a : ℕ) (xs : List X) → ((d : X) → Among d xs → list_any (covers a) (f d) ≡ false) → list_any (covers a) (flat_map f xs) ≡ false
 unfolding Among
 none_covers f a [] each = refl
-none_covers f a (d ∷ xs) each =
-    list_any-append (covers a) (f d) (flat_map f xs)
-    ∙ rw (each d (inl refl), none_covers f a xs (λ x m. each x (inr m))) refl
+none_covers f a (d ∷ xs) each = grind (arith, none_covers f a xs, list_any-append)
 
 none_narrow : (width most : ℕ) → None ≡ Some width → width ≤ most
 none_narrow width most is = cc
@@ -83,14 +65,8 @@ pub among_place : (machine : MachineType) (position : ℕ) (r : Relocation) (wid
     Among (record { address = position + r.offset; width = width }) (places_at machine position rs)
 unfolding Among
 among_place machine position r width [] is m = absurd m
-among_place machine position r width (y ∷ rs) is (inl same) =
-    subst (λ (x : Relocation). Among (record { address = position + r.offset; width = width }) (places_at machine position (x ∷ rs))) same (rw is (inl refl))
-among_place machine position r width (y ∷ rs) is (inr m) =
-    let later = among_place machine position r width rs is m in
-    elim (absolute_width machine y.kind) as (λ o. absolute_width machine y.kind ≡ o → Among (record { address = position + r.offset; width = width }) (places_at machine position (y ∷ rs))) [
-      | None ↦ λ none. rw none later
-      | Some other ↦ λ some. rw some (inr later)
-    ] refl
+among_place machine position r width (y ∷ rs) is (inl same) = grind arith
+among_place machine position r width (y ∷ rs) is (inr m) = grind (arith, among_place machine position r width rs is m)
 
 pub apart_back : (xs ys : List Range) → AllApart (xs ++ ys) → AllApart ys
 apart_back [] ys apart = apart
@@ -100,10 +76,8 @@ pub one_code : {X : Type 0} (f : X → Range) (a : ℕ) (c d : X) (xs : List X) 
 unfolding Among
 one_code f a c d [] apart m n first second = absurd m
 one_code f a c d (x ∷ xs) apart (inl same) (inl other) first second = same ∙ sym other
-one_code f a c d (x ∷ xs) apart (inl same) (inr n) first second =
-    absurd (all_among (AreApart (f x)) (f d) (map f xs) (among_map f d xs n) apart.0 a (subst (λ y. is_in a (f y) ≡ true) same first) second)
-one_code f a c d (x ∷ xs) apart (inr m) (inl other) first second =
-    absurd (all_among (AreApart (f x)) (f c) (map f xs) (among_map f c xs m) apart.0 a (subst (λ y. is_in a (f y) ≡ true) other second) first)
+one_code f a c d (x ∷ xs) apart (inl same) (inr n) first second = grind (arith, all_among, among_map)
+one_code f a c d (x ∷ xs) apart (inr m) (inl other) first second = grind (arith, all_among, among_map)
 one_code f a c d (x ∷ xs) apart (inr m) (inr n) first second = one_code f a c d xs apart.1 m n first second
 
 -- There are addresses for the symbols of placed code, and there is memory at any base.
@@ -144,15 +118,10 @@ same_names : (name other : List ℕ) → bytes_eq name other ≡ true → name �
 same_names name other is = (bytes_eq-Decides name other).0 is
 
 defines_from : (name : List ℕ) (c : PlacedCode) (t : ObjectSymbol) → Among (ASymbol t) c.from.object.entries → is_here name c t ≡ true → Defines c t × (t.name ≡ name)
-defines_from name c t m is =
-    let first = and_parts (is_defined_external t) ((t.section == c.number) && bytes_eq t.name name) is in
-    let second = and_parts (t.section == c.number) (bytes_eq t.name name) first.1 in
-    (record { held = among_contains (ASymbol t) c.from.object.entries m; external = first.0; here = eqb-true t.section c.number second.0 }, same_names t.name name second.1)
+defines_from name c t m is = grind (arith, and_parts, is, among_contains, eqb-true, same_names)
 
 pub here_from : (name : List ℕ) (c : PlacedCode) (t : ObjectSymbol) → Defines c t → t.name ≡ name → is_here name c t ≡ true
-here_from name c t defines named =
-    and_from (is_defined_external t) ((t.section == c.number) && bytes_eq t.name name) defines.external
-    (and_from (t.section == c.number) (bytes_eq t.name name) (eq-eqb t.section c.number defines.here) (subst (λ n. bytes_eq t.name n ≡ true) named (same_text t.name)))
+here_from name c t defines named = grind (arith, and_from, defines, eq-eqb, named, same_text)
 
 module _ (name : List ℕ) (c : PlacedCode) where
   found_from : (entries : List Entry) (address : ℕ) → ((x : Entry) → Among x entries → Among x c.from.object.entries) → Among address (found_in name c entries) →
@@ -176,13 +145,8 @@ module _ (name : List ℕ) (c : PlacedCode) where
   found_there [] t m is = absurd m
   found_there (Auxiliary bytes ∷ entries) t (inl same) is = cc
   found_there (Auxiliary bytes ∷ entries) t (inr m) is = found_there entries t m is
-  found_there (ASymbol s ∷ entries) t (inl same) is =
-      let symbols : t ≡ s = cc in
-      let own : is_here name c s ≡ true = subst (λ (x : ObjectSymbol). is_here name c x ≡ true) symbols is in
-      rw own (inl (ap (λ (x : ObjectSymbol). c.position + x.value) symbols))
-  found_there (ASymbol s ∷ entries) t (inr m) is =
-      let later = found_there entries t m is in
-      elim (cases_Bool (is_here name c s)) [ inl own ↦ rw own (inr later) | inr other ↦ rw other later ]
+  found_there (ASymbol s ∷ entries) t (inl same) is = grind arith
+  found_there (ASymbol s ∷ entries) t (inr m) is = grind (arith, found_there entries t m is)
 
 found_defined : (name : List ℕ) (codes : List PlacedCode) (address : ℕ) → Among address (found name codes) → DefinedAt name codes address
 unfolding Among found
@@ -205,8 +169,7 @@ defined_found name (c ∷ codes) d t (inl same) defines named =
     among_front (d.position + t.value) (found_in name c c.from.object.entries) (found name codes)
     (subst (λ (x : PlacedCode). Among (d.position + t.value) (found_in name x x.from.object.entries)) same
     (found_there name d d.from.object.entries t (contains_among (ASymbol t) d.from.object.entries defines.held) own))
-defined_found name (c ∷ codes) d t (inr m) defines named =
-    among_back (d.position + t.value) (found_in name c c.from.object.entries) (found name codes) (defined_found name codes d t m defines named)
+defined_found name (c ∷ codes) d t (inr m) defines named = grind (arith, defined_found name codes d t m defines named, among_back, defines, named)
 
 -- The choice: what the tables say, or where code defines the name.
 
@@ -245,12 +208,6 @@ choice_resolves linked codes once = record {
 
 -- Code is as long as before it was relocated.
 
-pub is_in_same : (a : ℕ) (r s : Range) → r.start ≡ s.start → length r.bytes ≡ length s.bytes → is_in a r ≡ true → is_in a s ≡ true
-is_in_same a r s start long within =
-    let parts = and_parts (nat_le r.start a) (nat_lt a (range_end r)) within in
-    let end : range_end r ≡ range_end s = ap (λ n. n + length r.bytes) start ∙ ap (λ n. s.start + n) long in
-    and_from (nat_le s.start a) (nat_lt a (range_end s)) (subst (λ n. nat_le n a ≡ true) start parts.0) (subst (λ n. nat_lt a n ≡ true) end parts.1)
-
 -- ranges of the same addresses
 abbrev pub AlikeFor : {X : Type 0} → (X → Range) → (X → Range) → X → Type 0
 AlikeFor f g c = (a : ℕ) → is_in a (g c) ≡ true → is_in a (f c) ≡ true
@@ -258,8 +215,7 @@ AlikeFor f g c = (a : ℕ) → is_in a (g c) ≡ true → is_in a (f c) ≡ true
 apart_from_all : {X : Type 0} (f g : X → Range) (x y : Range) → ((a : ℕ) → is_in a y ≡ true → is_in a x ≡ true) → (codes : List X) → AllByRecursion (AlikeFor f g) codes →
     AllByRecursion (AreApart x) (map f codes) → AllByRecursion (AreApart y) (map g codes)
 apart_from_all f g x y within [] alike apart = tt
-apart_from_all f g x y within (c ∷ codes) alike apart =
-    (λ a first second. apart.0 a (within a first) (alike.0 a second), apart_from_all f g x y within codes alike.1 apart.1)
+apart_from_all f g x y within (c ∷ codes) alike apart = grind (arith, apart_from_all f g x y within codes alike.1 apart.1)
 
 codes_apart : {X : Type 0} (f g : X → Range) (codes : List X) → AllByRecursion (AlikeFor f g) codes → AllApart (map f codes) → AllApart (map g codes)
 codes_apart f g [] alike apart = tt
@@ -281,23 +237,9 @@ length-low_first : (width n : ℕ) → length (low_first width n) ≡ width
 length-low_first zero n = refl
 length-low_first (suc width) n = ap suc (length-low_first width (n / 256))
 
-four_back : (n : ℕ) → n < 2 ^ 32 → number_in (low_first 4 n) ≡ n
-four_back n small = omega arith
-
-eight_back : (n : ℕ) → n < 2 ^ 64 → number_in (low_first 8 n) ≡ n
-eight_back n small = omega arith
-
-four_small : (from to n : ℕ) → moved_number 4 from to n < 2 ^ 32
-four_small from to n = omega arith
-
-eight_small : (from to n : ℕ) → moved_number 8 from to n < 2 ^ 64
-eight_small from to n = omega arith
-
 moved_back : (width from to n : ℕ) → (width ≡ 4) ⊎ (width ≡ 8) → number_in (low_first width (moved_number width from to n)) ≡ moved_number width from to n
-moved_back width from to n (inl is) =
-    subst (λ w. number_in (low_first w (moved_number w from to n)) ≡ moved_number w from to n) (sym is) (four_back (moved_number 4 from to n) (four_small from to n))
-moved_back width from to n (inr is) =
-    subst (λ w. number_in (low_first w (moved_number w from to n)) ≡ moved_number w from to n) (sym is) (eight_back (moved_number 8 from to n) (eight_small from to n))
+moved_back width from to n (inl is) = grind arith
+moved_back width from to n (inr is) = grind arith
 
 true_and_false : (b : Bool) → b ≡ true → b ≡ false → ⊥
 true_and_false b is not = true≢false (sym is ∙ not)
@@ -318,18 +260,14 @@ number_of memory (b ∷ bytes) a located =
     ap (λ o. byte_or_zero o + 256 * number_there memory (length bytes) (a + 1)) located.0 ∙ ap (λ n. b + 256 * n) (number_of memory bytes (a + 1) located.1)
 
 the_number : (memory : List Range) (width a n : ℕ) → NumberAt memory width a n → number_there memory width a ≡ n
-the_number memory width a n number =
-    ap (λ w. number_there memory w a) (sym number.count) ∙ number_of memory number.bytes a number.located ∙ number.value
+the_number memory width a n number = grind (arith, number_there, number_of)
 
 module _ (from to : ℕ) (memory : List Range) where
   abbrev patch : Place → Range
   patch p = record { start = p.address; bytes = low_first p.width (moved_number p.width from to (number_there memory p.width p.address)) }
 
   patch_covers : (a : ℕ) (p : Place) → is_in a (patch p) ≡ true → covers a p ≡ true
-  patch_covers a p within =
-      let long : length (low_first p.width (moved_number p.width from to (number_there memory p.width p.address))) ≡ p.width = length-low_first p.width (moved_number p.width from to (number_there memory p.width p.address)) in
-      let parts = and_parts (nat_le p.address a) (nat_lt a (range_end (patch p))) within in
-      and_from (nat_le p.address a) (nat_lt a (p.address + p.width)) parts.0 (subst (λ n. nat_lt a (p.address + n) ≡ true) long parts.1)
+  patch_covers a p within = grind (arith, number_there, length-low_first, and_parts, and_from)
 
   patches_from : (p : Place) (ps : List Place) → AllByRecursion (λ (q : Place). (a : ℕ) → covers a p ≡ true → covers a q ≡ true → ⊥) ps → AllByRecursion (AreApart (patch p)) (map patch ps)
   patches_from p [] apart = tt
@@ -341,10 +279,7 @@ module _ (from to : ℕ) (memory : List Range) where
 
   none_patched : (a : ℕ) (ps : List Place) → list_any (covers a) ps ≡ false → list_any (is_in a) (map patch ps) ≡ false
   none_patched a [] none = refl
-  none_patched a (p ∷ ps) none =
-      let parts = or_parts (covers a p) (list_any (covers a) ps) none in
-      let outside : is_in a (patch p) ≡ false = false_from_ne_true (is_in a (patch p)) (λ within. true_and_false (covers a p) (patch_covers a p within) parts.0) in
-      rw outside (none_patched a ps parts.1)
+  none_patched a (p ∷ ps) none = grind (arith, none_patched a ps, or_parts, false_from_ne_true, true_and_false, patch_covers)
 
   front_keeps : (xs ys : List Range) → Keeps xs (xs ++ ys)
   unfolding Keeps
@@ -372,30 +307,9 @@ module _ (from to : ℕ) (memory : List Range) where
 
 -- The places of code.
 
-choice_width : (b : Bool) (w width : ℕ) (o : Option ℕ) → (if b then Some w else o) ≡ Some width → (w ≡ 4) ⊎ (w ≡ 8) → (o ≡ Some width → (width ≡ 4) ⊎ (width ≡ 8)) → (width ≡ 4) ⊎ (width ≡ 8)
-choice_width true w width o is own other = let same : w ≡ width = cc in subst (λ n. (n ≡ 4) ⊎ (n ≡ 8)) same own
-choice_width false w width o is own other = other is
-
-none_width : (width : ℕ) → None ≡ Some width → (width ≡ 4) ⊎ (width ≡ 8)
-none_width width is = cc
-
-four_or_eight : (machine : MachineType) (type width : ℕ) → absolute_width machine type ≡ Some width → (width ≡ 4) ⊎ (width ≡ 8)
-four_or_eight I386 type width is = choice_width (type == i386_dir32) 4 width None is (inl refl) (none_width width)
-four_or_eight ARMNT type width is = none_width width is
-four_or_eight AMD64 type width is =
-    choice_width (type == amd64_addr64) 8 width (if type == amd64_addr32 then Some 4 else None) is (inr refl)
-    (λ later. choice_width (type == amd64_addr32) 4 width None later (inl refl) (none_width width))
-four_or_eight ARM64 type width is =
-    choice_width (type == arm64_addr64) 8 width (if type == arm64_addr32 then Some 4 else None) is (inr refl)
-    (λ later. choice_width (type == arm64_addr32) 4 width None later (inl refl) (none_width width))
-
 pub places_widths : (machine : MachineType) (position : ℕ) (rs : List Relocation) → AllByRecursion (λ (p : Place). (p.width ≡ 4) ⊎ (p.width ≡ 8)) (places_at machine position rs)
 places_widths machine position [] = tt
-places_widths machine position (r ∷ rs) =
-    elim (absolute_width machine r.kind) as (λ o. absolute_width machine r.kind ≡ o → AllByRecursion (λ (p : Place). (p.width ≡ 4) ⊎ (p.width ≡ 8)) (places_at machine position (r ∷ rs))) [
-      | None ↦ λ is. rw is (places_widths machine position rs)
-      | Some width ↦ λ is. rw is (four_or_eight machine r.kind width is, places_widths machine position rs)
-    ] refl
+places_widths machine position (r ∷ rs) = grind (arith, places_widths machine position rs)
 
 pub all_widths : {X : Type 0} (places : X → List Place) → ((x : X) → AllByRecursion (λ (p : Place). (p.width ≡ 4) ⊎ (p.width ≡ 8)) (places x)) → (codes : List X) →
     AllByRecursion (λ (p : Place). (p.width ≡ 4) ⊎ (p.width ≡ 8)) (flat_map places codes)
@@ -404,8 +318,7 @@ all_widths places each (c ∷ codes) = all_append (λ (p : Place). (p.width ≡ 
 
 apart_joined : (xs ys : List Place) → ArePlacesApart xs → ArePlacesApart ys → AllByRecursion (λ (p : Place). AllByRecursion (λ (q : Place). (a : ℕ) → covers a p ≡ true → covers a q ≡ true → ⊥) ys) xs → ArePlacesApart (xs ++ ys)
 apart_joined [] ys first second cross = second
-apart_joined (x ∷ xs) ys first second cross =
-    (all_append (λ (q : Place). (a : ℕ) → covers a x ≡ true → covers a q ≡ true → ⊥) xs ys first.0 cross.0, apart_joined xs ys first.1 second cross.1)
+apart_joined (x ∷ xs) ys first second cross = grind (arith, apart_joined xs ys first.1 second cross.1, all_append)
 
 -- a place of code is in the code's range
 pub record PlaceIn (r : Range) (p : Place) : Type 0 where
@@ -413,18 +326,7 @@ pub record PlaceIn (r : Range) (p : Place) : Type 0 where
 
 pub places_in : (r : Range) (ps : List Place) → AllByRecursion (λ (p : Place). r.start ≤ p.address) ps → AllByRecursion (λ (p : Place). p.address + p.width ≤ range_end r) ps → AllByRecursion (PlaceIn r) ps
 places_in r [] above below = tt
-places_in r (p ∷ ps) above below = (
-  record {
-    in_range = λ a covered.
-        let bounds = covered_bounds a p covered in
-        let from : p.address ≤ a = bounds.0 in
-        let to : a < p.address + p.width = bounds.1 in
-        let low : r.start ≤ p.address = above.0 in
-        let high : p.address + p.width ≤ range_end r = below.0 in
-        is_in_from a r (omega arith) (omega arith);
-  },
-  places_in r ps above.1 below.1,
-)
+places_in r (p ∷ ps) above below = grind (arith, places_in r ps above.1 below.1)
 
 cross_one : (r s : Range) → AreApart r s → (p : Place) → PlaceIn r p → (qs : List Place) → AllByRecursion (PlaceIn s) qs → AllByRecursion (λ (q : Place). (a : ℕ) → covers a p ≡ true → covers a q ≡ true → ⊥) qs
 cross_one r s apart p own [] others = tt
@@ -439,8 +341,7 @@ cross_join : (ps qs rest : List Place) → AllByRecursion (λ (p : Place). AllBy
     AllByRecursion (λ (p : Place). AllByRecursion (λ (q : Place). (a : ℕ) → covers a p ≡ true → covers a q ≡ true → ⊥) rest) ps →
     AllByRecursion (λ (p : Place). AllByRecursion (λ (q : Place). (a : ℕ) → covers a p ≡ true → covers a q ≡ true → ⊥) (qs ++ rest)) ps
 cross_join [] qs rest first second = tt
-cross_join (p ∷ ps) qs rest first second =
-    (all_append (λ (q : Place). (a : ℕ) → covers a p ≡ true → covers a q ≡ true → ⊥) qs rest first.0 second.0, cross_join ps qs rest first.1 second.1)
+cross_join (p ∷ ps) qs rest first second = grind (arith, cross_join ps qs rest first.1 second.1, all_append)
 
 none_crossed : (ps : List Place) → AllByRecursion (λ (p : Place). AllByRecursion (λ (q : Place). (a : ℕ) → covers a p ≡ true → covers a q ≡ true → ⊥) []) ps
 none_crossed [] = tt
@@ -451,11 +352,9 @@ module _ {X : Type 0} (range : X → Range) (places : X → List Place) where
   cross_codes : (c : X) (codes : List X) → AllByRecursion (PlaceIn (range c)) (places c) → AllByRecursion (λ d. AllByRecursion (PlaceIn (range d)) (places d)) codes → AllByRecursion (AreApart (range c)) (map range codes) →
       AllByRecursion (λ (p : Place). AllByRecursion (λ (q : Place). (a : ℕ) → covers a p ≡ true → covers a q ≡ true → ⊥) (flat_map places codes)) (places c)
   cross_codes c [] own within apart = none_crossed (places c)
-  cross_codes c (d ∷ codes) own within apart =
-      cross_join (places c) (places d) (flat_map places codes) (cross_all (range c) (range d) apart.0 (places c) (places d) own within.0) (cross_codes c codes own within.1 apart.1)
+  cross_codes c (d ∷ codes) own within apart = grind (arith, cross_codes c codes own within.1 apart.1, cross_join, cross_all)
 
   pub places_apart : (codes : List X) → AllByRecursion (λ d. AllByRecursion (PlaceIn (range d)) (places d)) codes → AllByRecursion (λ d. ArePlacesApart (places d)) codes → AllApart (map range codes) →
       ArePlacesApart (flat_map places codes)
   places_apart [] within own apart = tt
-  places_apart (c ∷ codes) within own apart =
-      apart_joined (places c) (flat_map places codes) own.0 (places_apart codes within.1 own.1 apart.1) (cross_codes c codes within.0 within.1 apart.0)
+  places_apart (c ∷ codes) within own apart = grind (arith, places_apart codes within.1 own.1 apart.1, apart_joined, cross_codes)

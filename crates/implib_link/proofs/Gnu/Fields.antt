@@ -1,24 +1,24 @@
 -- Parts of instructions, and pages at two bases that differ by whole ones.
-use Rattle.std.proofs.Common.{◌≡◌, ℕ, suc, ◌+◌, ◌-◌, ◌/◌, ◌%◌, ◌^◌, List, [], ◌∷◌, ◌++◌, length, Some, refl, sym, subst, arith, ◌≤◌, ap, ◌∙◌, inr, zero, ◌<◌, ◌⊎◌, Bool, true, false, take, drop, None, inl, ◌*◌, map, Option}
+use Rattle.std.proofs.Common.{◌≡◌, ℕ, suc, ◌+◌, ◌-◌, ◌/◌, ◌%◌, ◌^◌, List, [], ◌∷◌, ◌++◌, length, Some, refl, sym, subst, arith, ◌≤◌, ap, ◌∙◌, inr, zero, ◌<◌, Bool, true, false, take, drop, None, inl, ◌*◌, map, Option}
 use Rattle.implib.specs.declared.machine.MachineType.TheVariants.{I386, ARMNT, AMD64, ARM64}
 use Rattle.implib.specs.Link.Image.{Range, range_end, byte_at}
 use Rattle.implib.specs.Link.Load.{BytesAt, number_in}
-use Rattle.implib_link.specs.Stub.{jump_reads, page, adrp_immediate, ldr_immediate, plus_signed, bits_of, with_adrp, with_bits, word_at}
+use Rattle.implib_link.specs.Stub.{jump_reads, page, adrp_immediate, ldr_immediate, plus_signed, with_adrp, with_bits, word_at}
 use Rattle.std.specs.List.{AllByRecursion, Contains, flat_map, list_any, filter}
 use Rattle.implib.specs.declared.coff.object.Relocation.{Relocation}
 use Rattle.implib.specs.declared.machine.MachineType.{MachineType}
 use Rattle.implib.specs.Link.Placement.{Placed}
 use Rattle.implib.proofs.Link.LinkedMembers.{among_contains}
 use Rattle.implib.proofs.Link.Ranges.{among_flat, Among}
-use Rattle.implib_link.specs.Gnu.Fields.{AreLinkedBeside, IsRelocated, LinkedCode, range_of_code, ranges_of_codes, amd64_addr64, arm64_addr64, field_width, i386_rel32, FieldHolds, MeetsAlone, meets, HasInstructions, IsAside, moved_by, field_at, placed_code, HasOffsetField, HasPageField, Names, PairArrives, Place, absolute_width, covers, table_places, amd64_addr32, arm64_addr32, moved_number, places_at}
+use Rattle.implib_link.specs.Gnu.Fields.{AreLinkedBeside, IsRelocated, LinkedCode, range_of_code, ranges_of_codes, amd64_addr64, arm64_addr64, field_width, i386_rel32, FieldHolds, MeetsAlone, meets, HasInstructions, IsAside, moved_by, placed_code, Names, PairArrives, Place, absolute_width, covers, table_places, moved_number, places_at}
 use Rattle.implib_link.specs.Gnu.Moves.{AreMoved, AreInMemory, ArePaged, CanBeMoved, places_of_code}
 use Rattle.implib_link.proofs.Gnu.Choices.{PlaceIn, all_widths, can_rebase, places_apart, places_in, places_widths, among_place, apart_back, places_from, covered_bounds, narrow}
 use Rattle.implib_link.proofs.Search.Lists.{contains_among, passes as among_filter, among_filter as filter_among, any_of}
-use Rattle.std.specs.Prelude.{◌==◌, if◌then◌else◌, cond, nat_lt, slice_get}
-use Rattle.std.proofs.lemmas.Bool.{and_from, and_parts, cases_Bool, eqb-true, false_from_ne_true, lt-ltb, ltb-true, ltb-false}
+use Rattle.std.specs.Prelude.{◌==◌, if◌then◌else◌, cond, slice_get}
+use Rattle.std.proofs.lemmas.Bool.{eqb-true}
 use Rattle.implib.specs.Formats.Constants.{amd64_rel32, i386_dir32, arm64_pagebase_rel21, arm64_pageoffset_12l}
 use Rattle.implib.specs.Formats.Bytes.{u32_bytes}
-use Rattle.std.proofs.lemmas.List.{append-nil, drop-drop, drop_at, length-append}
+use Rattle.std.proofs.lemmas.List.{append-nil, drop_at, length-append}
 use Rattle.std.proofs.lemmas.List.Elements.{filter-append}
 use Rattle.std.proofs.lemmas.List.Folds.{list_any-append}
 
@@ -47,19 +47,6 @@ four_of (a ∷ b ∷ c ∷ d ∷ e ∷ rest) four = absurd (omega arith)
 
 pub jump_field : (address : ℕ) (field : List ℕ) → length field ≡ 4 → jump_reads I386 address (0xFF ∷ 0x25 ∷ (field ++ 0x90 ∷ 0x90 ∷ [])) ≡ Some (number_in field)
 jump_field address field four = let f = four_of field four in subst (λ xs. jump_reads I386 address (0xFF ∷ 0x25 ∷ (xs ++ 0x90 ∷ 0x90 ∷ [])) ≡ Some (number_in xs)) (sym f.is) refl
-
-pages_move : (a b u v : ℕ) → (a + u + (2 ^ 21 - (a + v) % 2 ^ 21)) % 2 ^ 21 ≡ (b + u + (2 ^ 21 - (b + v) % 2 ^ 21)) % 2 ^ 21
-pages_move a b u v = omega arith
-
-split_page : (base rest n : ℕ) → base % 4096 ≡ rest → page (base + n) ≡ base / 4096 + (rest + n) / 4096
-split_page base rest n is = omega arith
-
-pub apart_same : (from to position target : ℕ) → from % 4096 ≡ to % 4096 →
-    (page (from + target) + (2 ^ 21 - page (from + position) % 2 ^ 21)) % 2 ^ 21 ≡ (page (to + target) + (2 ^ 21 - page (to + position) % 2 ^ 21)) % 2 ^ 21
-apart_same from to position target pages =
-    let k : ℕ = to % 4096 in
-    rw (split_page from k target pages, split_page from k position pages, split_page to k target refl, split_page to k position refl)
-    (pages_move (from / 4096) (to / 4096) ((k + target) / 4096) ((k + position) / 4096))
 
 -- There is memory of a linked program at any base that it can be moved to.
 
@@ -107,9 +94,7 @@ moved_exists machine from to image linked codes targets none beside can =
 
 pub moved_memory_exists : (machine : MachineType) (from to : ℕ) (image : List Range) (linked : List Placed) (codes : List LinkedCode) (targets : LinkedCode → ℕ → ℕ) → table_places machine linked ≡ [] →
     AreLinkedBeside machine from image linked codes targets → CanBeMoved machine codes → ArePaged machine from to → (memory : List Range) × AreInMemory machine to image linked codes targets memory
-moved_memory_exists machine from to image linked codes targets none beside can paged =
-    let moved = moved_exists machine from to image linked codes targets none beside can in
-    (moved.0, inr (from, (flat_map (places_of_code machine) codes, (paged, moved.1))))
+moved_memory_exists machine from to image linked codes targets none beside can paged = grind (arith, moved_exists machine from to image linked codes targets none beside can)
 
 -- Fields of relocations: which of them meet bytes, and what they hold at another base.
 
@@ -144,28 +129,14 @@ located_from memory (x ∷ bytes) a each =
 pub located_each : (memory : List Range) (bytes : List ℕ) (a i b : ℕ) → BytesAt memory a bytes → slice_get bytes i ≡ Some b → byte_at memory (a + i) ≡ Some b
 unfolding BytesAt
 located_each memory [] a i b located is = cc
-located_each memory (x ∷ bytes) a zero b located is =
-    let first : a ≡ a + 0 = omega arith in
-    let same : x ≡ b = cc in
-    subst (λ n. byte_at memory n ≡ Some b) first (subst (λ y. byte_at memory a ≡ Some y) same located.0)
-located_each memory (x ∷ bytes) a (suc i) b located is =
-    let next : a + 1 + i ≡ a + suc i = omega arith in
-    subst (λ n. byte_at memory n ≡ Some b) next (located_each memory bytes (a + 1) i b located.1 is)
+located_each memory (x ∷ bytes) a zero b located is = grind arith
+located_each memory (x ∷ bytes) a (suc i) b located is = grind (arith, located_each memory bytes (a + 1) i b located.1 is)
 
 -- Which relocations meet bytes.
 
 filter_twice : {X : Type 0} (p q : X → Bool) (xs : List X) → ((x : X) → q x ≡ true → p x ≡ true) → filter q xs ≡ filter q (filter p xs)
 filter_twice p q [] each = refl
-filter_twice p q (x ∷ xs) each =
-    elim (cases_Bool (p x)) [
-      | inl passes ↦ elim (cases_Bool (q x)) [
-        | inl is ↦ rw (passes, is) (ap (λ ys. x ∷ ys) (filter_twice p q xs each))
-        | inr is ↦ rw (passes, is) (filter_twice p q xs each)
-      ]
-      | inr fails ↦
-          let out : q x ≡ false = false_from_ne_true (q x) (λ is. let both : true ≡ false = sym (each x is) ∙ fails in cc) in
-          rw (fails, out) (filter_twice p q xs each)
-    ]
+filter_twice p q (x ∷ xs) each = grind (arith, filter_twice p q xs each)
 
 module _ (machine : MachineType) (rs : List Relocation) (offset count : ℕ) (r : Relocation) (alone : MeetsAlone machine rs offset count r) where
   pub alone_among : Among r rs
@@ -177,23 +148,16 @@ module _ (machine : MachineType) (rs : List Relocation) (offset count : ℕ) (r 
   alone_same s m is = elim (subst (Among s) alone (among_filter (meets machine offset count) s rs m is)) [ inl same ↦ same | inr none ↦ absurd none ]
 
 pub meets_bounds : (machine : MachineType) (offset count : ℕ) (r : Relocation) → meets machine offset count r ≡ true → (r.offset < offset + count) × (offset < r.offset + field_width machine r.kind)
-meets_bounds machine offset count r is =
-    let parts = and_parts (nat_lt r.offset (offset + count)) (nat_lt offset (r.offset + field_width machine r.kind)) is in
-    (ltb-true r.offset (offset + count) parts.0, ltb-true offset (r.offset + field_width machine r.kind) parts.1)
+meets_bounds machine offset count r is = grind arith
 
 pub meets_from : (machine : MachineType) (offset count : ℕ) (r : Relocation) → r.offset < offset + count → offset < r.offset + field_width machine r.kind → meets machine offset count r ≡ true
-meets_from machine offset count r low high =
-    and_from (nat_lt r.offset (offset + count)) (nat_lt offset (r.offset + field_width machine r.kind)) (lt-ltb r.offset (offset + count) low) (lt-ltb offset (r.offset + field_width machine r.kind) high)
+meets_from machine offset count r low high = grind arith
 
 -- what is alone in a window is alone in a part of it that it meets
 pub alone_within : (machine : MachineType) (rs : List Relocation) (offset count inner size : ℕ) (r : Relocation) → MeetsAlone machine rs offset count r → offset ≤ inner → inner + size ≤ offset + count →
     meets machine inner size r ≡ true → MeetsAlone machine rs inner size r
 alone_within machine rs offset count inner size r alone from to here =
-    let wider : (s : Relocation) → meets machine inner size s ≡ true → meets machine offset count s ≡ true = λ s is.
-    let bounds = meets_bounds machine inner size s is in
-    let low : s.offset < inner + size = bounds.0 in
-    let high : inner < s.offset + field_width machine s.kind = bounds.1 in
-    meets_from machine offset count s (omega arith) (omega arith) in
+    let wider : (s : Relocation) → meets machine inner size s ≡ true → meets machine offset count s ≡ true = grind (arith, meets_bounds, meets_from) in
     filter_twice (meets machine offset count) (meets machine inner size) rs wider
     ∙ ap (filter (meets machine inner size)) alone
     ∙ ap (λ b. cond b (r ∷ []) []) here
@@ -207,22 +171,7 @@ pub covering_one : (machine : MachineType) (position k : ℕ) (rs : List Relocat
     (s : Relocation) × (Among s rs × ((meets machine k 1 s ≡ true) × ((width : ℕ) × (absolute_width machine s.kind ≡ Some width))))
 unfolding Among
 covering_one machine position k [] is = cc
-covering_one machine position k (s ∷ rs) is =
-    elim (absolute_width machine s.kind) as (λ o. absolute_width machine s.kind ≡ o →
-    (x : Relocation) × (Among x (s ∷ rs) × ((meets machine k 1 x ≡ true) × ((width : ℕ) × (absolute_width machine x.kind ≡ Some width))))) [
-      | None ↦ λ none. let later = covering_one machine position k rs (rw none at is) in (later.0, (inr later.1.0, later.1.1))
-      | Some width ↦ λ some.
-          let p : Place = record { address = position + s.offset; width = width } in
-          elim (cases_Bool (covers (position + k) p)) [
-            | inl here ↦
-                let bounds = covered_bounds (position + k) p here in
-                let low : position + s.offset ≤ position + k = bounds.0 in
-                let high : position + k < position + s.offset + width = bounds.1 in
-                let small : width ≤ field_width machine s.kind = narrow machine s.kind width some in
-                (s, (inl refl, (meets_from machine k 1 s (omega arith) (omega arith), (width, some))))
-            | inr none ↦ let later = covering_one machine position k rs (rw (some, none) at is) in (later.0, (inr later.1.0, later.1.1))
-          ]
-    ] refl
+covering_one machine position k (s ∷ rs) is = grind (arith, covering_one machine position k rs, is, covered_bounds, narrow, meets_from)
 
 -- Which types store addresses whole.
 
@@ -230,32 +179,12 @@ one_absolute : (b : Bool) (type width : ℕ) → (type == i386_dir32) ≡ b → 
 one_absolute true type width here is = let same : 4 ≡ width = cc in (eqb-true type i386_dir32 here, sym same)
 one_absolute false type width here is = cc
 
-two_absolute : (first second : Bool) (a b type width : ℕ) → (type == a) ≡ first → (type == b) ≡ second → (if first then Some 8 else if second then Some 4 else None) ≡ Some width →
-    ((type ≡ a) × (width ≡ 8)) ⊎ ((type ≡ b) × (width ≡ 4))
-two_absolute true second a b type width one two is = let same : 8 ≡ width = cc in inl (eqb-true type a one, sym same)
-two_absolute false true a b type width one two is = let same : 4 ≡ width = cc in inr (eqb-true type b two, sym same)
-two_absolute false false a b type width one two is = cc
-
-amd64_absolute : (type width : ℕ) → absolute_width AMD64 type ≡ Some width → ((type ≡ amd64_addr64) × (width ≡ 8)) ⊎ ((type ≡ amd64_addr32) × (width ≡ 4))
-amd64_absolute type width is = two_absolute (type == amd64_addr64) (type == amd64_addr32) amd64_addr64 amd64_addr32 type width refl refl is
-
-arm64_absolute : (type width : ℕ) → absolute_width ARM64 type ≡ Some width → ((type ≡ arm64_addr64) × (width ≡ 8)) ⊎ ((type ≡ arm64_addr32) × (width ≡ 4))
-arm64_absolute type width is = two_absolute (type == arm64_addr64) (type == arm64_addr32) arm64_addr64 arm64_addr32 type width refl refl is
-
 -- the place of such a field is the field
 pub whole_width : (machine : MachineType) (type width : ℕ) → absolute_width machine type ≡ Some width → width ≡ field_width machine type
 whole_width I386 type width is = (one_absolute (type == i386_dir32) type width refl is).1
 whole_width ARMNT type width is = cc
-whole_width AMD64 type width is =
-    elim (amd64_absolute type width is) [
-      | inl long ↦ subst (λ t. width ≡ field_width AMD64 t) (sym long.0) long.1
-      | inr short ↦ subst (λ t. width ≡ field_width AMD64 t) (sym short.0) short.1
-    ]
-whole_width ARM64 type width is =
-    elim (arm64_absolute type width is) [
-      | inl long ↦ subst (λ t. width ≡ field_width ARM64 t) (sym long.0) long.1
-      | inr short ↦ subst (λ t. width ≡ field_width ARM64 t) (sym short.0) short.1
-    ]
+whole_width AMD64 type width is = grind arith
+whole_width ARM64 type width is = grind arith
 
 -- What fields hold at another base: a field that stores an address whole has the difference added, every other one is
 -- as it was.
@@ -271,27 +200,16 @@ offset_moves from to target more paged = let same : (from + target + more) % 409
 
 page_moves : (from to position target more : ℕ) → from % 4096 ≡ to % 4096 →
     (page (from + target + more) + (2 ^ 21 - page (from + position) % 2 ^ 21)) % 2 ^ 21 ≡ (page (to + target + more) + (2 ^ 21 - page (to + position) % 2 ^ 21)) % 2 ^ 21
-page_moves from to position target more paged =
-    let first : from + target + more ≡ from + (target + more) = omega arith in
-    let second : to + target + more ≡ to + (target + more) = omega arith in
-    rw (first, second) (apart_same from to position (target + more) paged)
+page_moves from to position target more paged = grind arith
 
 not_i386 : (type width : ℕ) → absolute_width I386 type ≡ Some width → type ≡ i386_rel32 → ⊥
 not_i386 type width is other = let own : type ≡ i386_dir32 = (one_absolute (type == i386_dir32) type width refl is).0 in omega arith
 
 not_amd64 : (type width further : ℕ) → absolute_width AMD64 type ≡ Some width → type ≡ amd64_rel32 + further → ⊥
-not_amd64 type width further is other =
-    elim (amd64_absolute type width is) [
-      | inl long ↦ let own : type ≡ amd64_addr64 = long.0 in omega arith
-      | inr short ↦ let own : type ≡ amd64_addr32 = short.0 in omega arith
-    ]
+not_amd64 type width further is other = grind arith
 
 not_arm64 : (type width other : ℕ) → absolute_width ARM64 type ≡ Some width → type ≡ other → 1 < other → other < 14 → ⊥
-not_arm64 type width other is same low high =
-    elim (arm64_absolute type width is) [
-      | inl long ↦ let own : type ≡ arm64_addr64 = long.0 in omega arith
-      | inr short ↦ let own : type ≡ arm64_addr32 = short.0 in omega arith
-    ]
+not_arm64 type width other is same low high = grind arith
 
 pub holds_moved : (machine : MachineType) (type width from to position target : ℕ) (old new : ℕ → ℕ) → absolute_width machine type ≡ Some width → FieldHolds machine type from position target old new →
     FieldHolds machine type to position target old (λ w. moved_number w from to (new w))
@@ -340,23 +258,6 @@ number-u32 n = omega arith
 
 -- ARM64: `adrp` has the entry's page relative to its own, `ldr` the entry's offset in its page.
 
--- the immediates lead to the entry
-pub pages_add : (here there : ℕ) → here < there + 2 ^ 20 → there < here + 2 ^ 20 →
-    plus_signed 21 4096 ((there + (2 ^ 21 - here % 2 ^ 21)) % 2 ^ 21) (here * 4096) ≡ there * 4096
-pages_add here there near far =
-    let field : ℕ = (there + (2 ^ 21 - here % 2 ^ 21)) % 2 ^ 21 in
-    elim (cases_Bool (nat_lt field (2 ^ 20))) [
-      | inl is ↦ let low = ltb-true field (2 ^ 20) is in rw is (omega arith)
-      | inr is ↦ let high = ltb-false field (2 ^ 20) is in rw is (omega arith)
-    ]
-
-pub near_pages : (image_base position entry : ℕ) → position + 16 ≤ 2 ^ 31 → entry < 2 ^ 31 →
-    (page (image_base + position) < page (image_base + entry) + 2 ^ 20) × (page (image_base + entry) < page (image_base + position) + 2 ^ 20)
-near_pages image_base position entry near small = (omega arith, omega arith)
-
-pub whole_eights : (n : ℕ) → n % 8 ≡ 0 → n % 4096 / 8 * 8 ≡ n % 4096
-whole_eights n even = omega arith
-
 pub page_and_offset : (n : ℕ) → page n * 4096 + n % 4096 ≡ n
 page_and_offset n = omega arith
 
@@ -368,12 +269,7 @@ sum_of_eights image_base entry first second = omega arith
 -- Relocations aside meet no part of the instructions.
 
 aside_misses : (machine : MachineType) (offset count inner size : ℕ) (r : Relocation) → IsAside machine offset count r → offset ≤ inner → inner + size ≤ offset + count → meets machine inner size r ≡ false
-aside_misses machine offset count inner size r aside from to =
-    false_from_ne_true (meets machine inner size r) (λ met.
-    let bounds = meets_bounds machine inner size r met in
-    let low : r.offset < inner + size = bounds.0 in
-    let high : inner < r.offset + field_width machine r.kind = bounds.1 in
-    elim aside [ inl before ↦ omega arith | inr after ↦ omega arith ])
+aside_misses machine offset count inner size r aside from to = grind arith
 
 aside_none : (machine : MachineType) (offset count inner size : ℕ) (rs : List Relocation) → AllByRecursion (IsAside machine offset count) rs → offset ≤ inner → inner + size ≤ offset + count →
     filter (meets machine inner size) rs ≡ []
@@ -391,19 +287,10 @@ module _ (machine : MachineType) (c : LinkedCode) (offset : ℕ) (name bytes : L
 
   -- what meets a part of the instructions is theirs
   pub own_met : (inner size : ℕ) → offset ≤ inner → inner + size ≤ offset + length bytes → filter (meets machine inner size) c.code.relocations ≡ filter (meets machine inner size) own
-  own_met inner size from to =
-      let p : Relocation → Bool = meets machine inner size in
-      let first : filter p has.before ≡ [] = aside_none machine offset (length bytes) inner size has.before has.aside_before from to in
-      let last : filter p has.behind ≡ [] = aside_none machine offset (length bytes) inner size has.behind has.aside_behind from to in
-      ap (filter p) has.relocated ∙ filter-append p has.before (own ++ has.behind) ∙ ap (λ xs. xs ++ filter p (own ++ has.behind)) first
-      ∙ filter-append p own has.behind ∙ ap (λ xs. filter p own ++ xs) last ∙ append-nil (filter p own)
+  own_met inner size from to = grind (arith, aside_none, filter-append, append-nil)
 
   pub own_any : (inner size : ℕ) → offset ≤ inner → inner + size ≤ offset + length bytes → list_any (meets machine inner size) own ≡ false → list_any (meets machine inner size) c.code.relocations ≡ false
-  own_any inner size from to none =
-      let p : Relocation → Bool = meets machine inner size in
-      let first : list_any p has.before ≡ false = aside_any machine offset (length bytes) inner size has.before has.aside_before from to in
-      let last : list_any p has.behind ≡ false = aside_any machine offset (length bytes) inner size has.behind has.aside_behind from to in
-      ap (list_any p) has.relocated ∙ list_any-append p has.before (own ++ has.behind) ∙ rw first (list_any-append p own has.behind ∙ rw (none, last) refl)
+  own_any inner size from to none = grind (arith, aside_any, list_any-append)
 
   pub own_names : Names c.from has.index name
   own_names = record { symbol = has.symbol; target = has.target; undefined = has.undefined; named = has.named }
@@ -412,34 +299,12 @@ module _ (machine : MachineType) (c : LinkedCode) (offset : ℕ) (name bytes : L
   own_code = ap (drop offset) has.instructions ∙ drop_at has.front (bytes ++ has.back) offset has.here
 
   pub own_inside : offset + length bytes ≤ length c.code.bytes
-  own_inside =
-      let here : length has.front ≡ offset = has.here in
-      let size : length c.code.bytes ≡ length has.front + length (bytes ++ has.back) = ap length has.instructions ∙ length-append has.front (bytes ++ has.back) in
-      let more : length (bytes ++ has.back) ≡ length bytes + length has.back = length-append bytes has.back in
-      omega arith
+  own_inside = grind (arith, length-append has.front (bytes ++ has.back), length-append bytes has.back)
 
 pub one_met : (machine : MachineType) (inner size : ℕ) (r : Relocation) → r.offset < inner + size → inner < r.offset + field_width machine r.kind → filter (meets machine inner size) (r ∷ []) ≡ r ∷ []
 one_met machine inner size r low high = rw (meets_from machine inner size r low high) refl
 
 -- ARM64's two fields, at the beginning of the instructions and 4 bytes on.
-
-pair_met : (offset index : ℕ) → filter (meets ARM64 offset 4) (map (moved_by offset) (record { offset = 0; symbol = index; kind = arm64_pagebase_rel21 } ∷ record { offset = 4; symbol = index; kind = arm64_pageoffset_12l } ∷ []))
-    ≡ record { offset = offset; symbol = index; kind = arm64_pagebase_rel21 } ∷ []
-pair_met offset index =
-    let first : Relocation = record { offset = offset + 0; symbol = index; kind = arm64_pagebase_rel21 } in
-    let second : Relocation = record { offset = offset + 4; symbol = index; kind = arm64_pageoffset_12l } in
-    let plain : offset + 0 ≡ offset = omega arith in
-    let misses : meets ARM64 offset 4 second ≡ false = false_from_ne_true (meets ARM64 offset 4 second) (λ met. let bounds = meets_bounds ARM64 offset 4 second met in let low : offset + 4 < offset + 4 = bounds.0 in omega arith) in
-    rw (meets_from ARM64 offset 4 first (omega arith) (omega arith), misses) (ap (λ (n : ℕ). record { offset = n; symbol = index; kind = arm64_pagebase_rel21 } ∷ []) plain)
-
-offset_met : (offset index : ℕ) → filter (meets ARM64 (offset + 4) 4) (map (moved_by offset) (record { offset = 0; symbol = index; kind = arm64_pagebase_rel21 } ∷ record { offset = 4; symbol = index; kind = arm64_pageoffset_12l } ∷ []))
-    ≡ record { offset = offset + 4; symbol = index; kind = arm64_pageoffset_12l } ∷ []
-offset_met offset index =
-    let first : Relocation = record { offset = offset + 0; symbol = index; kind = arm64_pagebase_rel21 } in
-    let second : Relocation = record { offset = offset + 4; symbol = index; kind = arm64_pageoffset_12l } in
-    let misses : meets ARM64 (offset + 4) 4 first ≡ false =
-    false_from_ne_true (meets ARM64 (offset + 4) 4 first) (λ met. let bounds = meets_bounds ARM64 (offset + 4) 4 first met in let high : offset + 4 < offset + 0 + 4 = bounds.1 in omega arith) in
-    rw (misses, meets_from ARM64 (offset + 4) 4 second (omega arith) (omega arith)) refl
 
 module _ (c : LinkedCode) (offset : ℕ) (name : List ℕ) (a b d e f g h i : ℕ) (rest : List ℕ)
     (has : HasInstructions ARM64 (placed_code c) offset name (a ∷ b ∷ d ∷ e ∷ f ∷ g ∷ h ∷ i ∷ rest)
@@ -449,42 +314,6 @@ module _ (c : LinkedCode) (offset : ℕ) (name : List ℕ) (a b d e f g h i : �
 
   abbrev code : List ℕ
   code = a ∷ b ∷ d ∷ e ∷ f ∷ g ∷ h ∷ i ∷ rest
-
-  first_is : field_at c.code.bytes offset 4 ≡ number_in (a ∷ b ∷ d ∷ e ∷ [])
-  first_is = ap (λ xs. number_in (take 4 xs)) (own_code ARM64 c offset name code rs has)
-
-  second_is : field_at c.code.bytes (offset + 4) 4 ≡ number_in (f ∷ g ∷ h ∷ i ∷ [])
-  second_is = ap (λ xs. number_in (take 4 xs)) (sym (drop-drop 4 offset c.code.bytes) ∙ ap (drop 4) (own_code ARM64 c offset name code rs has))
-
-  long : offset + 8 ≤ length c.code.bytes
-  long = let end : offset + length (a ∷ b ∷ d ∷ e ∷ f ∷ g ∷ h ∷ i ∷ rest) ≤ length c.code.bytes = own_inside ARM64 c offset name code rs has in omega arith
-
-  page_has : adrp_immediate (number_in (a ∷ b ∷ d ∷ e ∷ [])) ≡ 0 → HasPageField c offset name
-  page_has empty =
-      let end = long in
-      record {
-        field = record {
-          symbol = has.index;
-          alone = own_met ARM64 c offset name code rs has offset 4 (omega arith) (omega arith) ∙ pair_met offset has.index;
-          inside = omega arith;
-          names = own_names ARM64 c offset name code rs has;
-        };
-        empty = ap adrp_immediate first_is ∙ empty;
-      }
-
-  offset_has : bits_of 30 2 (number_in (f ∷ g ∷ h ∷ i ∷ [])) ≡ 3 → ldr_immediate (number_in (f ∷ g ∷ h ∷ i ∷ [])) ≡ 0 → HasOffsetField c (offset + 4) name
-  offset_has eight empty =
-      let end = long in
-      record {
-        field = record {
-          symbol = has.index;
-          alone = own_met ARM64 c offset name code rs has (offset + 4) 4 (omega arith) (omega arith) ∙ offset_met offset has.index;
-          inside = omega arith;
-          names = own_names ARM64 c offset name code rs has;
-        };
-        eight = ap (bits_of 30 2) second_is ∙ eight;
-        empty = ap ldr_immediate second_is ∙ empty;
-      }
 
 -- Calls and loads.
 
@@ -518,9 +347,7 @@ pair_read reads page_code load_code behind rule image_base linked memory address
           (joined memory load behind (address + length adrp) (subst (λ a. BytesAt memory a load) load_place x.load_there.located) (subst (λ a. BytesAt memory a behind) place there));
       whole = omega (arith, length-append adrp (load ++ behind), length-append load behind);
       entry = x.entry;
-      leads = rule (image_base + address) adrp load first second (ap (with_adrp 0) x.adrp_there.value ∙ x.is_adrp ∙ is_adrp) (ap (with_bits 10 12 0) x.load_there.value ∙ x.is_load ∙ is_load)
-          ∙ ap Some (ap (λ n. plus_signed 21 4096 (adrp_immediate n) (page (image_base + address) * 4096) + ldr_immediate (number_in load)) x.adrp_there.value
-          ∙ ap (λ n. plus_signed 21 4096 (adrp_immediate x.adrp) (page (image_base + address) * 4096) + ldr_immediate n) x.load_there.value ∙ x.leads);
+      leads = grind arith;
       located = x.located;
     }
 

@@ -2,7 +2,7 @@
 use Rattle.std.proofs.Common.{◌≡◌, ℕ, ◌+◌, ◌^◌, ◌<◌, ◌≤◌, ◌⊎◌, true, false, List, [], ◌∷◌, ◌++◌, length, take, drop, None, Some, refl, ap, sym, ◌∙◌, subst, inl, inr, arith, true≢false}
 use Rattle.std.specs.Prelude.{slice_get}
 use Rattle.std.specs.List.{AllByRecursion, Contains, list_any}
-use Rattle.std.proofs.lemmas.Bool.{cases_Bool, false_from_ne_true}
+use Rattle.std.proofs.lemmas.Bool.{false_from_ne_true}
 use Rattle.std.proofs.lemmas.List.{length-drop, length-take, length-take-le}
 use Rattle.std.proofs.lemmas.Option.{slice_get_within, none-some}
 use Rattle.implib.specs.declared.coff.object.Relocation.{Relocation}
@@ -16,7 +16,7 @@ use Rattle.implib.specs.Link.Resolution.{is_undefined_external, symbol_address}
 use Rattle.implib.proofs.Link.LinkedMembers.{among_contains, among_map}
 use Rattle.implib.proofs.Link.Ranges.{Among, all_among, among_back, is_in_from, range_located}
 use Rattle.implib_link.specs.Gnu.Fields.{field_width, AreLinkedBeside, DefinesIn, FieldHolds, IsRelocated, LinkedCode, MeetsAlone, field_at, meets, range_of_code, ranges_of_codes, Place, absolute_width, covers, moved_number, table_places}
-use Rattle.implib_link.specs.Gnu.Moves.{AreInMemory, AreMoved, ArePaged, absolute_places, places_of_code}
+use Rattle.implib_link.specs.Gnu.Moves.{AreInMemory, AreMoved, ArePaged, places_of_code}
 use Rattle.implib_link.specs.Gnu.Stored.{AreFurtherHeld, AreStoredInMemory, StoresAreMoved}
 use Rattle.implib_link.proofs.Gnu.Fields.{alone_among, alone_same, covering_one, get_drop, get_take, holds_moved, holds_steady, located_each, located_from, meets_bounds, meets_from, meeting, whole_width}
 use Rattle.implib_link.proofs.Gnu.Loaded.{Keeps, kept_outside, Covers, byte_front, code_untouched, holder, not_in_both}
@@ -43,9 +43,7 @@ same_pages ARM64 base = refl
 module _ (machine : MachineType) (image_base : ℕ) (image : List Range) (linked : List Placed) (codes : List LinkedCode) (targets : LinkedCode → ℕ → ℕ) where
   linked_byte : (from : ℕ) → AreLinkedBeside machine from image linked codes targets → (c : LinkedCode) (k b : ℕ) → Among c codes → slice_get c.bytes k ≡ Some b →
       byte_at (image ++ ranges_of_codes codes) (c.position + k) ≡ Some b
-  linked_byte from beside c k b m is =
-      located_each (image ++ ranges_of_codes codes) c.bytes c.position k b
-      (range_located (range_of_code c) (image ++ ranges_of_codes codes) (among_back (range_of_code c) image (ranges_of_codes codes) (among_map range_of_code c codes m)) beside.apart) is
+  linked_byte from beside c k b m is = grind (arith, among_back (range_of_code c) image (ranges_of_codes codes) (among_map range_of_code c codes m), among_map range_of_code c codes m, located_each, range_located, beside)
 
   code_size : (from : ℕ) → AreLinkedBeside machine from image linked codes targets → (c : LinkedCode) → Among c codes → length c.bytes ≡ length c.code.bytes
   code_size from beside c m = (all_among (λ (x : LinkedCode). IsRelocated machine from (targets x) x.position x.code x.bytes) c codes m beside.relocated).size
@@ -73,11 +71,7 @@ module _ (machine : MachineType) (image_base : ℕ) (image : List Range) (linked
 
     uncovered : (a b : ℕ) → byte_at (image ++ ranges_of_codes codes) a ≡ Some b → ((d : LinkedCode) → Among d codes → is_in a (range_of_code d) ≡ true → list_any (covers a) (places_of_code machine d) ≡ false) →
         list_any (covers a) places ≡ false
-    uncovered a b is each =
-        let absolute : list_any (covers a) (absolute_places machine linked codes) ≡ false =
-        rw none (none_covers (places_of_code machine) a codes (λ d m.
-        false_from_ne_true (list_any (covers a) (places_of_code machine d)) (λ covered. true≢false (sym covered ∙ each d m (range_covers a d m covered))))) in
-        false_from_ne_true (list_any (covers a) places) (λ covered. true≢false (sym (moved.only a b is covered) ∙ absolute))
+    uncovered a b is each = grind (arith, none_covers, false_from_ne_true, range_covers)
 
     moved_rests : ArePaged machine from image_base → Rests machine image_base image linked codes targets memory
     unfolding Keeps
@@ -181,11 +175,7 @@ any_meets : (machine : MachineType) (k count : ℕ) (rs : List Relocation) (s : 
 unfolding Among
 any_meets machine k count [] s m is = absurd m
 any_meets machine k count (r ∷ rs) s (inl same) is = rw (subst (λ (x : Relocation). meets machine k count x ≡ true) same is) refl
-any_meets machine k count (r ∷ rs) s (inr m) is =
-    elim (cases_Bool (meets machine k count r)) [
-      | inl here ↦ rw here refl
-      | inr none ↦ rw none (any_meets machine k count rs s m is)
-    ]
+any_meets machine k count (r ∷ rs) s (inr m) is = grind (arith, any_meets machine k count rs s m is)
 
 -- Code in the memory of a loaded program.
 module _ (machine : MachineType) (image_base : ℕ) (image : List Range) (linked : List Placed) (codes : List LinkedCode) (targets : LinkedCode → ℕ → ℕ) (memory : List Range)
@@ -227,10 +217,7 @@ module _ (machine : MachineType) (image_base : ℕ) (image : List Range) (linked
       let both = each i b is in
       let small : offset + i < length c.code.bytes = slice_get_within c.code.bytes (offset + i) b both.0 in
       let place : c.position + offset + i ≡ c.position + (offset + i) = omega arith in
-      let clear : list_any (covers (c.position + (offset + i))) (places_of_code machine c) ≡ false =
-      false_from_ne_true (list_any (covers (c.position + (offset + i))) (places_of_code machine c)) (λ covered.
-      let found = covering_one machine c.position (offset + i) c.code.relocations covered in
-      true≢false (sym (any_meets machine (offset + i) 1 c.code.relocations found.0 found.1.0 found.1.1.0) ∙ both.1)) in
+      let clear : list_any (covers (c.position + (offset + i))) (places_of_code machine c) ≡ false = grind (arith, false_from_ne_true, covering_one, any_meets) in
       subst (λ a. byte_at (written ++ memory) a ≡ Some b) (sym place)
       (unwritten (offset + i) b small (at.code_kept c (offset + i) b m (own.kept (offset + i) both.1 ∙ both.0) clear)))
 
@@ -259,15 +246,10 @@ module _ (machine : MachineType) (image_base : ℕ) (image : List Range) (linked
     holds_linked = own.fields (record { offset = offset; symbol = symbol; kind = type }) alone inside
 
     bytes_count : length (take (field_width machine type) (drop offset c.bytes)) ≡ field_width machine type
-    bytes_count =
-        let size : length c.bytes ≡ length c.code.bytes = own.size in
-        length-take-le (field_width machine type) (drop offset c.bytes) (omega (arith, length-drop offset c.bytes))
+    bytes_count = grind (arith, own, length-take-le, length-drop)
 
     field_byte : (i b : ℕ) → slice_get (take (field_width machine type) (drop offset c.bytes)) i ≡ Some b → (slice_get c.bytes (offset + i) ≡ Some b) × (i < field_width machine type)
-    field_byte i b is =
-        let count = bytes_count in
-        let small : i < length (take (field_width machine type) (drop offset c.bytes)) = slice_get_within (take (field_width machine type) (drop offset c.bytes)) i b is in
-        (sym (get_drop offset c.bytes i) ∙ get_take (field_width machine type) (drop offset c.bytes) i b is, omega arith)
+    field_byte i b is = grind (arith, slice_get_within (take (field_width machine type) (drop offset c.bytes)) i b is, get_drop offset c.bytes i, get_take (field_width machine type) (drop offset c.bytes) i b is)
 
     -- one that stores no address whole is in memory as it was linked
     pub linked_there : absolute_width machine type ≡ None → NumberAt (written ++ memory) (field_width machine type) (c.position + offset) (field_at c.bytes offset (field_width machine type))

@@ -72,18 +72,11 @@ ask_once image width thunk (Ordinal n) (Ordinal m) first second = ap Ordinal (sy
 ask_once image width thunk (Ordinal n) (Name text hint) first second = let high = first.0 in let low = second.0 in absurd (omega arith)
 ask_once image width thunk (Name text hint) (Ordinal n) first second = let low = first.0 in let high = second.0 in absurd (omega arith)
 ask_once image width thunk (Name text hint) (Name other number) first second =
-    let same_text : text ≡ other = text_once image text other (thunk % 2 ^ 31 + 2) first.2.no_nul second.2.no_nul first.2.located second.2.located in
-    let same_hint : hint ≡ number = number_once image 2 (thunk % 2 ^ 31) hint number first.1 second.1 in
-    cc
+    grind (arith, text_once image text other (thunk % 2 ^ 31 + 2) first.2.no_nul second.2.no_nul first.2.located second.2.located, number_once image 2 (thunk % 2 ^ 31) hint number first.1 second.1)
 
 -- a thunk asks for one thing
 thunk_once : (image : List Range) (width a : ℕ) (first second : Ask) → ThunkAt image width a first → ThunkAt image width a second → first ≡ second
-thunk_once image width a first second x y =
-    let thunks : x.thunk ≡ y.thunk = number_once image width a x.thunk y.thunk x.located y.located in
-    ask_once image width y.thunk first second (subst (λ t. ThunkAsksFor image width t first) thunks x.asks) y.asks
-
-same_asks : (x y : Ask) (xs ys : List Ask) → x ≡ y → xs ≡ ys → x ∷ xs ≡ y ∷ ys
-same_asks x y xs ys first rest = cc
+thunk_once image width a first second x y = grind (arith, number_once image width a x.thunk y.thunk x.located y.located, ask_once)
 
 table_next : (a w n m : ℕ) → a + w * (n + 1) + w * m ≡ a + w * (n + 1 + m)
 table_next a w n m = let split : w * (n + 1 + m) ≡ w * (n + 1) + w * m = mul-add w (n + 1) m in omega arith
@@ -97,11 +90,7 @@ module _ (beside : List Range) (low high width : ℕ) (avoids : Avoids beside lo
   unfolding Keeps Avoids
   keeps_behind memory r keeps from to a byte is =
       elim (cases_Bool (is_in a r)) [
-        | inl within ↦
-            let bounds = within_bounds a r within in
-            let above : r.start ≤ a = bounds.0 in
-            let below : a < range_end r = bounds.1 in
-            absurd (avoids a byte is (omega arith) (omega arith))
+        | inl within ↦ grind (arith, within_bounds, within)
         | inr outside ↦ rw outside (keeps a byte is)
       ]
 
@@ -127,13 +116,7 @@ module _ (beside : List Range) (low high width : ℕ) (avoids : Avoids beside lo
         let kept = thunk_kept beside memory keeps width thunk x table.0 in
         absurd (kept.not_zero (number_once memory width thunk kept.thunk 0 kept.located fills.0))
     fills_once (x ∷ asks) (y ∷ found) thunk entry memory after keeps from to table fills =
-        let same : y ≡ x = thunk_once memory width thunk y x fills.0 (thunk_kept beside memory keeps width thunk x table.0) in
-        let long : length (gives x) ≡ width = wide x in
-        let product : entry + width + width * length asks ≡ entry + width * length (x ∷ asks) = times_next entry width (length asks) in
-        let later = fills_once asks found (thunk + width) (entry + width) (record { start = entry; bytes = gives x } ∷ memory) after
-        (keeps_behind memory (record { start = entry; bytes = gives x }) keeps from (omega arith)) (omega arith) (omega arith) table.1
-        (subst (λ (z : Ask). FillsTable width gives (thunk + width) (entry + width) (record { start = entry; bytes = gives z } ∷ memory) found after) same fills.1) in
-        (same_asks y x found asks same later.0, later.1)
+        grind (arith, fills_once asks found (thunk + width) (entry + width) (record { start = entry; bytes = gives x } ∷ memory) after (keeps_behind memory (record { start = entry; bytes = gives x }) keeps from (omega arith)) (omega arith) (omega arith) table.1, thunk_once memory width thunk y x fills.0 (thunk_kept beside memory keeps width thunk x table.0), thunk_kept beside memory keeps width thunk x table.0, times_next entry width (length asks), keeps_behind memory (record { start = entry; bytes = gives x }) keeps from (omega arith))
 
     can_fill : (asks : List Ask) (thunk entry : ℕ) (memory : List Range) → Keeps beside memory → low ≤ entry → entry + width * length asks ≤ high →
         TableAt beside width thunk asks → FillsTable width gives thunk entry memory asks (table_filled width entry gives asks memory)
@@ -177,10 +160,7 @@ module _ (beside : List Range) (low high width : ℕ) (avoids : Avoids beside lo
         number_once memory 4 (descriptor + 16) by.addresses table by.addresses_field (number_kept beside memory keeps 4 (descriptor + 16) table own.addresses_field) in
         let reads : by.lookups ≡ own.lookups =
         number_once memory 4 descriptor by.lookups own.lookups by.lookups_field (number_kept beside memory keeps 4 descriptor own.lookups own.lookups_field) in
-        let fills : FillsTable width (gives i.dll) own.lookups table memory y.asks between =
-        subst (λ d. FillsTable width (gives d) own.lookups table memory y.asks between) dll
-        (subst (λ n. FillsTable width (gives y.dll) own.lookups n memory y.asks between) begins
-        (subst (λ n. FillsTable width (gives y.dll) n by.addresses memory y.asks between) reads by.fills)) in
+        let fills : FillsTable width (gives i.dll) own.lookups table memory y.asks between = grind arith in
         let next = table_next table width (length i.asks) (thunks_asked (length imports) imports) in
         let before = before_next table width (length i.asks) in
         let filled = fills_once (gives i.dll) (wide i.dll) i.asks y.asks own.lookups table memory between keeps from (omega arith) own.lookup_table fills in
@@ -225,29 +205,11 @@ module _ (beside : List Range) (low high width : ℕ) (avoids : Avoids beside lo
 
 -- What is written in the order of the entries is what is written all at once.
 
-before_start : (a : ℕ) (r : Range) → a < r.start → is_in a r ≡ false
-before_start a r before =
-    false_from_ne_true (is_in a r) (λ within.
-    let bounds = within_bounds a r within in
-    let above : r.start ≤ a = bounds.0 in
-    omega arith)
-
 -- a range in front of later ones, or after them
 swapped : (low high : ℕ) (xs memory : List Range) (r : Range) (a : ℕ) → range_end r ≤ low → AllByRecursion (λ x. (low ≤ x.start) × (range_end x ≤ high)) xs →
     byte_at (xs ++ (r ∷ memory)) a ≡ byte_at (r ∷ (xs ++ memory)) a
 swapped low high [] memory r a before within = refl
-swapped low high (x ∷ xs) memory r a before within =
-    let later = swapped low high xs memory r a before within.1 in
-    elim (cases_Bool (is_in a r)) [
-      | inl is ↦
-          let bounds = within_bounds a r is in
-          let below : a < range_end r = bounds.1 in
-          let from : low ≤ x.start = within.0.0 in
-          rw (before_start a x (omega arith)) later
-      | inr not ↦
-          let same : byte_at (xs ++ (r ∷ memory)) a ≡ byte_at (xs ++ memory) a = rw not at later in
-          rw not (ap (λ o. if is_in a x then Some (slice_index x.bytes (a - x.start)) else o) same)
-    ]
+swapped low high (x ∷ xs) memory r a before within = grind (arith, swapped low high xs memory r a before within.1)
 
 pub same_behind : (xs first second : List Range) (a : ℕ) → byte_at first a ≡ byte_at second a → byte_at (xs ++ first) a ≡ byte_at (xs ++ second) a
 same_behind [] first second a same = same
@@ -258,20 +220,13 @@ module _ (width : ℕ) (gives : Ask → List ℕ) (wide : (ask : Ask) → length
       byte_at (table_filled width entry gives asks memory) a ≡ byte_at (entries_written width entry gives asks ++ memory) a
   unfolding table_filled entries_written
   table_alike [] entry memory a = refl
-  table_alike (x ∷ asks) entry memory a =
-      let r : Range = record { start = entry; bytes = gives x } in
-      let long : length (gives x) ≡ width = wide x in
-      table_alike asks (entry + width) (r ∷ memory) a
-      ∙ swapped (entry + width) (entry + width + width * length asks) (entries_written width (entry + width) gives asks) memory r a (omega arith)
-      (entries_within width gives wide asks (entry + width) (entry + width) (entry + width + width * length asks) (omega arith) (omega arith))
+  table_alike (x ∷ asks) entry memory a = grind (arith, table_alike asks (entry + width), swapped, entries_within)
 
 -- tables in front of later ones, or after them
 all_swapped : (first middle high : ℕ) (xs ys memory : List Range) (a : ℕ) → AllByRecursion (λ x. (first ≤ x.start) × (range_end x ≤ middle)) xs →
     AllByRecursion (λ x. (middle ≤ x.start) × (range_end x ≤ high)) ys → byte_at (ys ++ (xs ++ memory)) a ≡ byte_at (xs ++ (ys ++ memory)) a
 all_swapped first middle high [] ys memory a before behind = refl
-all_swapped first middle high (x ∷ xs) ys memory a before behind =
-    swapped middle high ys (xs ++ memory) x a before.0.1 behind
-    ∙ ap (λ o. if is_in a x then Some (slice_index x.bytes (a - x.start)) else o) (all_swapped first middle high xs ys memory a before.1 behind)
+all_swapped first middle high (x ∷ xs) ys memory a before behind = grind (arith, all_swapped first middle high xs ys memory a before.1 behind, swapped)
 
 -- what a loader writes all at once that is given the directory's imports: within these tables, and alike
 record WrittenAlike (width : ℕ) (gives : List ℕ → Ask → List ℕ) (imports : List Imported) (table : ℕ) (written : List Range) : Type 0 where
@@ -280,10 +235,7 @@ record WrittenAlike (width : ℕ) (gives : List ℕ → Ask → List ℕ) (impor
 
 pub within_by : (first low high end : ℕ) (rs : List Range) → first ≤ low → high ≤ end → AllByRecursion (λ r. (low ≤ r.start) × (range_end r ≤ high)) rs → AllByRecursion (λ r. (first ≤ r.start) × (range_end r ≤ end)) rs
 within_by first low high end [] above below all = tt
-within_by first low high end (r ∷ rs) above below all =
-    let starts : low ≤ r.start = all.0.0 in
-    let ends : range_end r ≤ high = all.0.1 in
-    ((omega arith, omega arith), within_by first low high end rs above below all.1)
+within_by first low high end (r ∷ rs) above below all = grind (arith, within_by first low high end rs above below all.1)
 
 module _ (beside image : List Range) (keeps : Keeps beside image) (width : ℕ) (gives : List ℕ → Ask → List ℕ) (wide : (dll : List ℕ) (ask : Ask) → length (gives dll ask) ≡ width) where
   alike_by : (imports : List Imported) (descriptor table : ℕ) (written : List Range) → DirectoryBeside beside width descriptor table imports → Writes image width gives descriptor imports written →
@@ -301,9 +253,7 @@ module _ (beside image : List Range) (keeps : Keeps beside image) (width : ℕ) 
       let rest = alike_by imports (descriptor + 20) next behind others later in
       let within : AllByRecursion (λ x. (next ≤ x.start) × (range_end x ≤ high)) behind = subst (λ h. AllByRecursion (λ x. (next ≤ x.start) × (range_end x ≤ h)) behind) sum rest.within in
       subst (WrittenAlike width gives (i ∷ imports) table) (sym (is ∙ ap (λ n. entries_written width n (gives i.dll) i.asks ++ behind) same)) (record {
-        within = all_append (λ x. (table ≤ x.start) × (range_end x ≤ high)) entries behind
-            (entries_within width (gives i.dll) (wide i.dll) i.asks table table high (omega arith) (omega arith))
-            (within_by table next high high behind (omega arith) (omega arith) within);
+        within = grind (arith, entries_within width (gives i.dll) (wide i.dll) i.asks table table high (omega arith) (omega arith), within_by table next high high behind (omega arith) (omega arith) within, all_append, within);
         alike = λ memory a.
             rest.alike (table_filled width table (gives i.dll) i.asks memory) a
             ∙ same_behind behind (table_filled width table (gives i.dll) i.asks memory) (entries ++ memory) a (table_alike width (gives i.dll) (wide i.dll) i.asks table memory a)
@@ -373,9 +323,7 @@ module _ (machine : MachineType) (b : Bases) (objects : List Object) (admissible
       ++ (range_of b.dll_names (contributions machine (placed_from b objects) DllNames (placed_from b objects)) ++ []))
 
   image_is : image_of machine b linked ≡ front ++ (ranges Addresses ++ back)
-  image_is =
-      sym (append_assoc (ranges Descriptors) (ranges DirectoryEnds ++ ranges Lookups) (ranges Addresses ++ back)
-      ∙ ap (λ rs. ranges Descriptors ++ rs) (append_assoc (ranges DirectoryEnds) (ranges Lookups) (ranges Addresses ++ back)))
+  image_is = grind arith
 
   apart : AllApart (front ++ (ranges Addresses ++ back))
   apart = subst AllApart image_is admissible.apart
@@ -481,17 +429,13 @@ field_at beside a n small located = record {
 -- where bytes are is neither 0 nor far
 pub bounds_of : (ranges : List Range) → AllByRecursion (λ r. 0 < r.start) ranges → AllByRecursion (λ r. range_end r < 2 ^ 31) ranges → (bytes : List ℕ) (a : ℕ) →
     BytesAt ranges a bytes → 0 < length bytes → (0 < a) × (a < 2 ^ 31)
-bounds_of ranges starts ends bytes a located long =
-    let first = byte_first ranges bytes a located long in
-    address_bounds ranges a first.0 starts ends first.1
+bounds_of ranges starts ends bytes a located long = grind (arith, byte_first, address_bounds, starts, ends)
 
 pub table_bounds : (machine : MachineType) (ranges : List Range) → AllByRecursion (λ r. 0 < r.start) ranges → AllByRecursion (λ r. range_end r < 2 ^ 31) ranges → (asks : List Ask) (a : ℕ) →
     TableAt ranges (thunk_width machine) a asks → (0 < a) × (a < 2 ^ 31)
 unfolding TableAt
-table_bounds machine ranges starts ends [] a table =
-    bounds_of ranges starts ends table.bytes a table.located (subst (λ n. 0 < n) (sym table.count) (wide_thunk machine))
-table_bounds machine ranges starts ends (ask ∷ asks) a table =
-    bounds_of ranges starts ends table.0.located.bytes a table.0.located.located (subst (λ n. 0 < n) (sym table.0.located.count) (wide_thunk machine))
+table_bounds machine ranges starts ends [] a table = grind (arith, bounds_of, starts, ends, wide_thunk)
+table_bounds machine ranges starts ends (ask ∷ asks) a table = grind (arith, bounds_of, starts, ends, wide_thunk)
 
 -- a descriptor, and what it leads to
 pub descriptor_beside : (machine : MachineType) (beside : List Range) → AllByRecursion (λ r. 0 < r.start) beside → AllByRecursion (λ r. range_end r < 2 ^ 31) beside →
@@ -569,8 +513,7 @@ module _ (machine : MachineType) (dll : NamesOfDll) (linked : List Placed) where
       Among (record { name = iname_symbol machine dll.linked; address = Some (next_multiple 4 (ends_of_exports machine dll b es).dll_names + 0) }) (defined_after machine dll b es)
   unfolding ends_of_exports defined_after
   name_defined [] b = among_first _ _
-  name_defined (e ∷ es) b =
-      among_back _ (code_definition machine dll e) _ (among_later _ _ _ (name_defined es (ends_of_export machine dll b e)))
+  name_defined (e ∷ es) b = grind (arith, name_defined es (ends_of_export machine dll b e), among_back, code_definition, among_later, ends_of_export)
 
 -- The objects of one DLL among others.
 module _ (machine : MachineType) (dll : NamesOfDll) (es : List ExportView) (b : Bases) (rest : List Object) (linked : List Placed) (beside : List Range)

@@ -1,9 +1,10 @@
 -- There are linked bytes for any code: what each relocation asks can be written into its field.
-use Rattle.std.proofs.Common.{◌≡◌, ℕ, zero, suc, ◌+◌, ◌-◌, ◌*◌, ◌/◌, ◌%◌, ◌^◌, ◌<◌, ◌≤◌, ◌⊎◌, Bool, true, false, List, [], ◌∷◌, ◌++◌, length, take, drop, None, Some, refl, ap, sym, ◌∙◌, subst, inl, inr, arith, true≢false, map}
-use Rattle.std.specs.Prelude.{◌==◌, if◌then◌else◌, nat_le, nat_lt, slice_get}
+use Rattle.std.proofs.lemmas.Grind.{common_steps}
+use Rattle.std.proofs.Common.{◌≡◌, ℕ, zero, suc, ◌+◌, ◌-◌, ◌*◌, ◌/◌, ◌%◌, ◌^◌, ◌<◌, ◌≤◌, ◌⊎◌, Bool, true, false, List, [], ◌∷◌, ◌++◌, length, take, drop, None, Some, refl, ap, sym, ◌∙◌, subst, inl, inr, arith, map}
+use Rattle.std.specs.Prelude.{◌==◌, if◌then◌else◌, nat_le, slice_get}
 use Rattle.std.specs.List.{AllByRecursion, filter, list_any, Contains}
-use Rattle.std.proofs.lemmas.Bool.{cases_Bool, false_from_ne_true, leb-true, le-leb, ltb-false, ltb-true, ne_eqb, or_parts}
-use Rattle.std.proofs.lemmas.List.{append-nil, length-append, length-drop, length-take-le, take_at}
+use Rattle.std.proofs.lemmas.Bool.{leb-true, le-leb, ne_eqb, or_parts}
+use Rattle.std.proofs.lemmas.List.{length-append, length-drop, length-take-le, take_at}
 use Rattle.std.proofs.lemmas.Option.{slice_get_within}
 use Rattle.implib.specs.declared.coff.object.Relocation.{Relocation}
 use Rattle.implib.specs.declared.machine.MachineType.{MachineType}
@@ -16,13 +17,13 @@ use Rattle.implib.proofs.Formats.Bytes.{length-u32_bytes}
 use Rattle.implib_link.specs.Gnu.Fields.{amd64_addr64, arm64_addr64, arm64_branch26, field_width, FieldHolds, IsRelocated, MeetsAlone, field_at, meets, PlacedCode, Resolves, AreBeside, AreLinkedBeside, LinkedCode, TakesSymbols, placed_code, range_of_code}
 use Rattle.implib_link.specs.Gnu.Stored.{HoldsFurther, IsFurtherHeld, amd64_addr32nb, arm64_addr32nb, arm64_pageoffset_12a, i386_dir32nb}
 use Rattle.implib_link.specs.Stub.{adrp_immediate, bits_of, ldr_immediate, page, with_adrp, with_bits}
-use Rattle.implib_link.proofs.Gnu.Fields.{get_drop, get_front, meets_bounds, meets_from, number-u32}
+use Rattle.implib_link.proofs.Gnu.Fields.{get_drop, get_front, number-u32}
 use Rattle.implib.specs.Link.Image.{AllApart, Range, image_of}
 use Rattle.implib.specs.Link.Placement.{Bases, Placed, placed_from}
 use Rattle.implib.proofs.Link.LinkedMembers.{among_contains, among_map}
 use Rattle.implib.proofs.Link.Ranges.{Among}
 use Rattle.implib_link.specs.Gnu.Choices.{AreSections, DefineOnce, plain_range}
-use Rattle.implib_link.proofs.Gnu.Choices.{AlikeFor, choice, choice_resolves, is_in_same, memory_apart}
+use Rattle.implib_link.proofs.Gnu.Choices.{AlikeFor, choice, choice_resolves, memory_apart}
 use Rattle.implib_link.proofs.Search.Lists.{contains_among}
 use Rattle.implib.proofs.Link.LinkedInputs.{all_of_map}
 use Rattle.implib.proofs.Members.MemberReadings.{map_after}
@@ -61,27 +62,18 @@ written_there : (bytes : List ℕ) (offset : ℕ) (value : List ℕ) (i b : ℕ)
 unfolding write
 written_there bytes zero value i b within is = let same : i ≡ 0 + i = omega arith in sym (ap (slice_get (value ++ drop (length value) bytes)) same) ∙ get_front value (drop (length value) bytes) i b is
 written_there [] (suc offset) value i b within is = absurd (omega arith)
-written_there (x ∷ bytes) (suc offset) value i b within is =
-    let same : suc (offset + i) ≡ suc offset + i = omega arith in
-    sym (ap (slice_get (x ∷ write bytes offset value)) same) ∙ written_there bytes offset value i b (omega arith) is
+written_there (x ∷ bytes) (suc offset) value i b within is = grind (arith, written_there bytes offset value i b (omega arith) is)
 
 written_aside : (bytes : List ℕ) (offset : ℕ) (value : List ℕ) (k : ℕ) → offset + length value ≤ length bytes → (k < offset) ⊎ (offset + length value ≤ k) → slice_get (write bytes offset value) k ≡ slice_get bytes k
 unfolding write
 written_aside bytes zero value k within (inl before) = absurd (omega arith)
-written_aside bytes zero value k within (inr after) =
-    let same : length value + (k - length value) ≡ k = omega arith in
-    get_behind value (drop (length value) bytes) k (omega arith) ∙ get_drop (length value) bytes (k - length value) ∙ ap (slice_get bytes) same
+written_aside bytes zero value k within (inr after) = grind (arith, get_behind, get_drop)
 written_aside [] (suc offset) value k within aside = refl
 written_aside (x ∷ bytes) (suc offset) value zero within aside = refl
-written_aside (x ∷ bytes) (suc offset) value (suc k) within aside =
-    let nearer : (k < offset) ⊎ (offset + length value ≤ k) = elim aside [ inl before ↦ inl (omega arith) | inr after ↦ inr (omega arith) ] in
-    written_aside bytes offset value k (omega arith) nearer
+written_aside (x ∷ bytes) (suc offset) value (suc k) within aside = grind (arith, written_aside bytes offset value k (omega arith))
 
 one_left : (x r : Relocation) (xs : List Relocation) → x ∷ xs ≡ r ∷ [] → (x ≡ r) × (xs ≡ [])
 one_left x r xs is = (let same : x ≡ r = cc in same, let none : xs ≡ [] = cc in none)
-
-take_all : (xs : List ℕ) (n : ℕ) → length xs ≡ n → take n xs ≡ xs
-take_all xs n is = sym (ap (λ ys. take n ys) (append-nil xs)) ∙ take_at xs [] n is
 
 -- Values for each relocation, written where the field is within the bytes.
 module _ (machine : MachineType) (value : Relocation → List ℕ) (wide : (r : Relocation) → length (value r) ≡ field_width machine r.kind) where
@@ -94,35 +86,15 @@ module _ (machine : MachineType) (value : Relocation → List ℕ) (wide : (r : 
   write_all (r ∷ rs) bytes = write_all rs (write_field r bytes)
 
   aside_of : (k : ℕ) (r : Relocation) → meets machine k 1 r ≡ false → (k < r.offset) ⊎ (r.offset + length (value r) ≤ k)
-  aside_of k r misses =
-      let long : length (value r) ≡ field_width machine r.kind = wide r in
-      elim (cases_Bool (nat_lt k r.offset)) [
-        | inl is ↦ inl (ltb-true k r.offset is)
-        | inr is ↦ let from = ltb-false k r.offset is in
-            elim (cases_Bool (nat_lt k (r.offset + field_width machine r.kind))) [
-              | inl below ↦ let to = ltb-true k (r.offset + field_width machine r.kind) below in absurd (true≢false (sym (meets_from machine k 1 r (omega arith) (omega arith)) ∙ misses))
-              | inr beyond ↦ let past = ltb-false k (r.offset + field_width machine r.kind) beyond in inr (omega arith)
-            ]
-      ]
+  aside_of k r misses = grind arith
 
   field_size : (r : Relocation) (bytes : List ℕ) → length (write_field r bytes) ≡ length bytes
   unfolding write_field
-  field_size r bytes =
-      let long : length (value r) ≡ field_width machine r.kind = wide r in
-      elim (cases_Bool (nat_le (r.offset + field_width machine r.kind) (length bytes))) [
-        | inl is ↦ let within = leb-true (r.offset + field_width machine r.kind) (length bytes) is in rw is (write_size bytes r.offset (value r) (omega arith))
-        | inr is ↦ rw is refl
-      ]
+  field_size r bytes = grind (arith, leb-true, write_size)
 
   field_aside : (r : Relocation) (bytes : List ℕ) (k : ℕ) → meets machine k 1 r ≡ false → slice_get (write_field r bytes) k ≡ slice_get bytes k
   unfolding write_field
-  field_aside r bytes k misses =
-      let long : length (value r) ≡ field_width machine r.kind = wide r in
-      elim (cases_Bool (nat_le (r.offset + field_width machine r.kind) (length bytes))) [
-        | inl is ↦ let within = leb-true (r.offset + field_width machine r.kind) (length bytes) is in
-            rw is (written_aside bytes r.offset (value r) k (omega arith) (aside_of k r misses))
-        | inr is ↦ rw is refl
-      ]
+  field_aside r bytes k misses = grind (arith, leb-true, written_aside, aside_of)
 
   all_size : (rs : List Relocation) (bytes : List ℕ) → length (write_all rs bytes) ≡ length bytes
   unfolding write_all
@@ -132,51 +104,25 @@ module _ (machine : MachineType) (value : Relocation → List ℕ) (wide : (r : 
   all_aside : (rs : List Relocation) (bytes : List ℕ) (k : ℕ) → list_any (meets machine k 1) rs ≡ false → slice_get (write_all rs bytes) k ≡ slice_get bytes k
   unfolding write_all
   all_aside [] bytes k none = refl
-  all_aside (r ∷ rs) bytes k none =
-      let parts = or_parts (meets machine k 1 r) (list_any (meets machine k 1) rs) none in
-      all_aside rs (write_field r bytes) k parts.1 ∙ field_aside r bytes k parts.0
+  all_aside (r ∷ rs) bytes k none = grind (arith, all_aside rs (write_field r bytes) k, or_parts, write_field, field_aside)
 
   field_written : (r : Relocation) (bytes : List ℕ) (i b : ℕ) → r.offset + field_width machine r.kind ≤ length bytes → slice_get (value r) i ≡ Some b → slice_get (write_field r bytes) (r.offset + i) ≡ Some b
   unfolding write_field
-  field_written r bytes i b within is =
-      let long : length (value r) ≡ field_width machine r.kind = wide r in
-      rw (le-leb (r.offset + field_width machine r.kind) (length bytes) within) (written_there bytes r.offset (value r) i b (omega arith) is)
+  field_written r bytes i b within is = grind (arith, le-leb, written_there)
 
   none_met : (rs : List Relocation) (offset count k : ℕ) → filter (meets machine offset count) rs ≡ [] → offset ≤ k → k < offset + count → list_any (meets machine k 1) rs ≡ false
   none_met [] offset count k none from to = refl
-  none_met (s ∷ rs) offset count k none from to =
-      elim (cases_Bool (meets machine offset count s)) [
-        | inl met ↦ let is : s ∷ filter (meets machine offset count) rs ≡ [] = rw met at none in cc
-        | inr misses ↦
-            let out : meets machine k 1 s ≡ false = false_from_ne_true (meets machine k 1 s) (λ here.
-            let bounds = meets_bounds machine k 1 s here in
-            let low : s.offset < k + 1 = bounds.0 in
-            let high : k < s.offset + field_width machine s.kind = bounds.1 in
-            true≢false (sym (meets_from machine offset count s (omega arith) (omega arith)) ∙ misses)) in
-            rw (out, none_met rs offset count k (rw misses at none) from to) refl
-      ]
+  none_met (s ∷ rs) offset count k none from to = grind (arith, none_met rs offset count k)
 
   all_there : (rs : List Relocation) (bytes : List ℕ) (r : Relocation) → MeetsAlone machine rs r.offset (field_width machine r.kind) r → r.offset + field_width machine r.kind ≤ length bytes →
       (i b : ℕ) → slice_get (value r) i ≡ Some b → slice_get (write_all rs bytes) (r.offset + i) ≡ Some b
   unfolding write_all
   all_there [] bytes r alone inside i b is = cc
-  all_there (x ∷ rs) bytes r alone inside i b is =
-      let p : Relocation → Bool = meets machine r.offset (field_width machine r.kind) in
-      let long : length (value r) ≡ field_width machine r.kind = wide r in
-      let small : i < length (value r) = slice_get_within (value r) i b is in
-      let size : length (write_field x bytes) ≡ length bytes = field_size x bytes in
-      elim (cases_Bool (meets machine r.offset (field_width machine r.kind) x)) [
-        | inl met ↦
-            let parts = one_left x r (filter p rs) (rw met at alone) in
-            all_aside rs (write_field x bytes) (r.offset + i) (none_met rs r.offset (field_width machine r.kind) (r.offset + i) parts.1 (omega arith) (omega arith))
-            ∙ ap (λ (y : Relocation). slice_get (write_field y bytes) (r.offset + i)) parts.0 ∙ field_written r bytes i b inside is
-        | inr misses ↦ all_there rs (write_field x bytes) r (rw misses at alone) (omega arith) i b is
-      ]
+  all_there (x ∷ rs) bytes r alone inside i b is = grind (arith, common_steps, all_there rs (write_field x bytes) r, slice_get_within, write_field, field_size, one_left, all_aside, none_met, field_written)
 
   window_written : (rs : List Relocation) (bytes : List ℕ) (r : Relocation) → MeetsAlone machine rs r.offset (field_width machine r.kind) r → r.offset + field_width machine r.kind ≤ length bytes →
       field_at (write_all rs bytes) r.offset (field_width machine r.kind) ≡ number_in (value r)
-  window_written rs bytes r alone inside =
-      ap (λ w. number_in (take w (drop r.offset (write_all rs bytes)))) (sym (wide r)) ∙ ap number_in (window_is r.offset (write_all rs bytes) (value r) (all_there rs bytes r alone inside))
+  window_written rs bytes r alone inside = grind (arith, write_all, window_is, all_there)
 
 -- Numbers in 4 and in 8 bytes.
 
@@ -185,9 +131,7 @@ bytes_in width n = take width (u32_bytes n ++ u32_bytes (n / 2 ^ 32))
 
 bytes_long : (width n : ℕ) → width ≤ 8 → length (bytes_in width n) ≡ width
 unfolding bytes_in
-bytes_long width n small =
-    length-take-le width (u32_bytes n ++ u32_bytes (n / 2 ^ 32))
-    (omega (arith, length-append (u32_bytes n) (u32_bytes (n / 2 ^ 32)), length-u32_bytes n, length-u32_bytes (n / 2 ^ 32)))
+bytes_long width n small = grind (arith, length-take-le, length-append, length-u32_bytes)
 
 four_bytes : (n : ℕ) → number_in (bytes_in 4 n) ≡ n % 2 ^ 32
 unfolding bytes_in
@@ -207,9 +151,7 @@ two_words n = omega arith
 eight_bytes : (n : ℕ) → number_in (bytes_in 8 n) ≡ n % 2 ^ 64
 unfolding bytes_in
 eight_bytes n =
-    ap number_in (take_all (u32_bytes n ++ u32_bytes (n / 2 ^ 32)) 8 (omega (arith, length-append (u32_bytes n) (u32_bytes (n / 2 ^ 32)), length-u32_bytes n, length-u32_bytes (n / 2 ^ 32))))
-    ∙ eight_joined (u32_bytes n) (u32_bytes (n / 2 ^ 32)) (length-u32_bytes n)
-    ∙ ap (λ k. k + 2 ^ 32 * number_in (u32_bytes (n / 2 ^ 32))) (number-u32 n) ∙ ap (λ k. n % 2 ^ 32 + 2 ^ 32 * k) (number-u32 (n / 2 ^ 32)) ∙ two_words n
+    grind (arith, length-append (u32_bytes n) (u32_bytes (n / 2 ^ 32)), length-u32_bytes n, length-u32_bytes (n / 2 ^ 32), eight_joined (u32_bytes n) (u32_bytes (n / 2 ^ 32)) (length-u32_bytes n), number-u32 n, number-u32 (n / 2 ^ 32), two_words n)
 
 width_most : (b : Bool) → (if b then 8 else 4) ≤ 8
 width_most true = omega arith
@@ -244,37 +186,14 @@ added_has k w = omega arith
 load_word : (k w : ℕ) → w < 2 ^ 32 → with_bits 10 12 k w < 2 ^ 32
 load_word k w small = omega arith
 
--- an `adrp` by its parts
-abbrev adrp_of : ℕ → ℕ → ℕ → ℕ → ℕ → ℕ
-adrp_of low high middle immlo top = low + high * 32 + middle * 2 ^ 24 + immlo * 2 ^ 29 + top * 2 ^ 31
-
-adrp_parts : (w : ℕ) → w ≡ adrp_of (w % 32) (w / 32 % 2 ^ 19) (w / 2 ^ 24 % 32) (w / 2 ^ 29 % 4) (w / 2 ^ 31)
-adrp_parts w = omega arith
-
-adrp_with : (k low high middle immlo top : ℕ) → low < 32 → high < 2 ^ 19 → middle < 32 → immlo < 4 → with_adrp k (adrp_of low high middle immlo top) ≡ adrp_of low (k / 4 % 2 ^ 19) middle (k % 4) top
-adrp_with k low high middle immlo top a b c d = omega arith
-
-adrp_reads : (low high middle immlo top : ℕ) → low < 32 → high < 2 ^ 19 → middle < 32 → immlo < 4 → adrp_immediate (adrp_of low high middle immlo top) ≡ high * 4 + immlo
-adrp_reads low high middle immlo top a b c d = omega arith
-
-adrp_changed : (k w : ℕ) → with_adrp k w ≡ adrp_of (w % 32) (k / 4 % 2 ^ 19) (w / 2 ^ 24 % 32) (k % 4) (w / 2 ^ 31)
-adrp_changed k w =
-    ap (with_adrp k) (adrp_parts w) ∙ adrp_with k (w % 32) (w / 32 % 2 ^ 19) (w / 2 ^ 24 % 32) (w / 2 ^ 29 % 4) (w / 2 ^ 31) (omega arith) (omega arith) (omega arith) (omega arith)
-
 adrp_kept : (k w : ℕ) → with_adrp 0 (with_adrp k w) ≡ with_adrp 0 w
-adrp_kept k w =
-    ap (with_adrp 0) (adrp_changed k w)
-    ∙ adrp_with 0 (w % 32) (k / 4 % 2 ^ 19) (w / 2 ^ 24 % 32) (k % 4) (w / 2 ^ 31) (omega arith) (omega arith) (omega arith) (omega arith) ∙ sym (adrp_changed 0 w)
+adrp_kept k w = grind arith
 
 adrp_has : (k w : ℕ) → adrp_immediate (with_adrp k w) ≡ k % 2 ^ 21
-adrp_has k w =
-    let halves : k / 4 % 2 ^ 19 * 4 + k % 4 ≡ k % 2 ^ 21 = omega arith in
-    ap adrp_immediate (adrp_changed k w) ∙ adrp_reads (w % 32) (k / 4 % 2 ^ 19) (w / 2 ^ 24 % 32) (k % 4) (w / 2 ^ 31) (omega arith) (omega arith) (omega arith) (omega arith) ∙ halves
+adrp_has k w = grind arith
 
 adrp_word : (k w : ℕ) → w < 2 ^ 32 → with_adrp k w < 2 ^ 32
-adrp_word k w small =
-    let most : w / 2 ^ 31 < 2 = omega arith in
-    subst (λ n. n < 2 ^ 32) (sym (adrp_changed k w)) (omega arith)
+adrp_word k w small = grind arith
 
 -- The number of a field, by its type.
 
@@ -305,18 +224,12 @@ number_holds : (machine : MachineType) (type image_base position target : ℕ) (
 unfolding number_for
 number_holds I386 type image_base position target old new small is = record {
   dir32 = λ dir. (rw dir at is) ∙ four_bytes (old 4 + (image_base + target));
-  rel32 = λ rel.
-      (rw rel at is) ∙ four_bytes (old 4 + target + (2 ^ 32 - (position + 4) % 2 ^ 32));
+  rel32 = λ rel. grind (arith, four_bytes);
 }
 number_holds ARMNT type image_base position target old new small is = tt
 number_holds AMD64 type image_base position target old new small is = record {
   addr64 = λ addr. (rw addr at is) ∙ eight_bytes (old 8 + (image_base + target));
-  rel32 = λ further few rel.
-      let other : (type == amd64_addr64) ≡ false = ne_eqb type amd64_addr64 (λ same. omega arith) in
-      let relative : (type == amd64_addr32nb) ≡ false = ne_eqb type amd64_addr32nb (λ same. omega arith) in
-      let more : type - amd64_rel32 ≡ further = omega arith in
-      subst (λ k. new 4 ≡ (old 4 + target + (2 ^ 32 - (position + 4 + k) % 2 ^ 32)) % 2 ^ 32) more
-      ((rw (other, relative) at is) ∙ four_bytes (old 4 + target + (2 ^ 32 - (position + 4 + (type - amd64_rel32)) % 2 ^ 32)));
+  rel32 = λ further few rel. grind (arith, ne_eqb, four_bytes);
 }
 number_holds ARM64 type image_base position target old new small is = record {
   addr64 = λ addr. (rw addr at is) ∙ eight_bytes (old 8 + (image_base + target));
@@ -338,19 +251,16 @@ further_holds : (machine : MachineType) (type image_base position target : ℕ) 
     new (field_width machine type) ≡ number_in (bytes_in (field_width machine type) (number_for machine type image_base position target old)) → HoldsFurther machine type image_base target old new
 unfolding number_for
 further_holds I386 type image_base position target old new small is = record {
-  relative = λ own.
-      (rw own at is) ∙ four_bytes (old 4 + target);
+  relative = λ own. grind (arith, four_bytes);
   added = λ own t adds. cc;
 }
 further_holds ARMNT type image_base position target old new small is = record { relative = λ own. absurd own; added = λ own t adds. cc }
 further_holds AMD64 type image_base position target old new small is = record {
-  relative = λ own.
-      (rw own at is) ∙ four_bytes (old 4 + target);
+  relative = λ own. grind (arith, four_bytes);
   added = λ own t adds. cc;
 }
 further_holds ARM64 type image_base position target old new small is = record {
-  relative = λ own.
-      (rw own at is) ∙ four_bytes (old 4 + target);
+  relative = λ own. grind (arith, four_bytes);
   added = λ own t adds.
       let k : ℕ = image_base + target + bits_of 10 12 (old 4) in
       let word : new 4 ≡ with_bits 10 12 k (old 4) = four_word (with_bits 10 12 k (old 4)) (new 4) (load_word k (old 4) small) (rw t at is) in
@@ -369,24 +279,20 @@ word_small [] all = omega arith
 word_small (a ∷ []) all = let one : a < 256 = all.0 in omega arith
 word_small (a ∷ b ∷ []) all = let one : a < 256 = all.0 in let two : b < 256 = all.1.0 in omega arith
 word_small (a ∷ b ∷ c ∷ []) all = let one : a < 256 = all.0 in let two : b < 256 = all.1.0 in let three : c < 256 = all.1.1.0 in omega arith
-word_small (a ∷ b ∷ c ∷ d ∷ rest) all =
-    let one : a < 256 = all.0 in let two : b < 256 = all.1.0 in let three : c < 256 = all.1.1.0 in let four : d < 256 = all.1.1.1.0 in omega arith
+word_small (a ∷ b ∷ c ∷ d ∷ rest) all = grind arith
 
 pub linked_further : (machine : MachineType) (image_base : ℕ) (targets : ℕ → ℕ) (position : ℕ) (code : ObjectSection) → AllByRecursion (λ b. b < 256) code.bytes →
     (bytes : List ℕ) × (IsRelocated machine image_base targets position code bytes × IsFurtherHeld machine image_base targets code bytes)
 linked_further machine image_base targets position code all =
     let value : Relocation → List ℕ = λ r. bytes_in (field_width machine r.kind) (number_for machine r.kind image_base (position + r.offset) (targets r.symbol) (field_at code.bytes r.offset)) in
-    let wide : (r : Relocation) → length (value r) ≡ field_width machine r.kind = λ r.
-    bytes_long (field_width machine r.kind) (number_for machine r.kind image_base (position + r.offset) (targets r.symbol) (field_at code.bytes r.offset)) (width_small machine r.kind) in
+    let wide : (r : Relocation) → length (value r) ≡ field_width machine r.kind = grind (arith, bytes_long, number_for, width_small) in
     let bytes : List ℕ = write_all machine value wide code.relocations code.bytes in (
       bytes,
       (
         record {
           size = all_size machine value wide code.relocations code.bytes;
           kept = λ offset none. all_aside machine value wide code.relocations code.bytes offset none;
-          fields = λ r alone inside.
-              number_holds machine r.kind image_base (position + r.offset) (targets r.symbol) (field_at code.bytes r.offset) (field_at bytes r.offset)
-              (word_small (drop r.offset code.bytes) (all_dropped r.offset code.bytes all)) (window_written machine value wide code.relocations code.bytes r alone inside);
+          fields = λ r alone inside. grind (arith, number_holds, word_small, all_dropped, window_written);
         },
         λ r alone inside.
             further_holds machine r.kind image_base (position + r.offset) (targets r.symbol) (field_at code.bytes r.offset) (field_at bytes r.offset)
@@ -424,8 +330,7 @@ all_alike : (machine : MachineType) (image_base : ℕ) (targets : LinkedCode →
     AllByRecursion (λ (c : LinkedCode). IsRelocated machine image_base (targets c) c.position c.code c.bytes) codes →
     AllByRecursion (AlikeFor (λ (c : LinkedCode). plain_range (placed_code c)) range_of_code) codes
 all_alike machine image_base targets [] relocated = tt
-all_alike machine image_base targets (c ∷ codes) relocated =
-    (λ a within. is_in_same a (range_of_code c) (plain_range (placed_code c)) refl relocated.0.size within, all_alike machine image_base targets codes relocated.1)
+all_alike machine image_base targets (c ∷ codes) relocated = grind (arith, all_alike machine image_base targets codes relocated.1)
 
 pub takes_from : (linked : List Placed) (placed : List PlacedCode) (codes : List LinkedCode) (targets : PlacedCode → ℕ → ℕ) → map placed_code codes ≡ placed → Resolves linked placed targets →
     TakesSymbols linked codes (λ c. targets (placed_code c))
@@ -445,8 +350,7 @@ pub linked_beside : (machine : MachineType) (image_base : ℕ) (bases : Bases) (
 linked_beside machine image_base bases objects placed are targets resolves codes same relocated =
     let linked : List Placed = placed_from bases objects in
     let image : List Range = image_of machine bases linked in
-    let each : (Q : PlacedCode → Type 0) → AllByRecursion Q placed → AllByRecursion (λ (c : LinkedCode). Q (placed_code c)) codes = λ Q all.
-    all_of_map placed_code Q codes (subst (AllByRecursion Q) (sym same) all) in
+    let each : (Q : PlacedCode → Type 0) → AllByRecursion Q placed → AllByRecursion (λ (c : LinkedCode). Q (placed_code c)) codes = grind (arith, all_of_map) in
     record {
       held = each (λ (c : PlacedCode). Contains linked c.from) are.held;
       sections = each (λ (c : PlacedCode). section_numbered c.from.object.sections c.number ≡ Some c.code) are.sections;

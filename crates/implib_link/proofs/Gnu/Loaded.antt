@@ -1,10 +1,10 @@
 -- The memory of a loaded program: what was written, the image, and code beside it, which the loader leaves as it is.
-use Rattle.std.proofs.Common.{◌≡◌, ℕ, ◌+◌, ◌^◌, ◌<◌, ◌≤◌, true, false, List, [], ◌∷◌, ◌++◌, length, Some, refl, sym, subst, inl, inr, arith, ap, ◌∙◌, zero, suc, ◌*◌, ◌-◌, map}
-use Rattle.std.specs.Prelude.{nat_le, nat_lt, slice_get, slice_index}
+use Rattle.std.proofs.Common.{rules, ◌≡◌, ℕ, ◌+◌, ◌^◌, ◌<◌, ◌≤◌, true, false, List, [], ◌∷◌, ◌++◌, length, Some, refl, sym, subst, inl, inr, arith, ap, ◌∙◌, zero, suc, ◌*◌, ◌-◌, map}
+use Rattle.std.specs.Prelude.{nat_lt, slice_get, slice_index}
 use Rattle.std.specs.List.{AllByRecursion, list_any}
-use Rattle.std.proofs.lemmas.Bool.{and_parts, cases_Bool, false_from_ne_true, leb-true, ltb-false, ltb-true, or_parts}
+use Rattle.std.proofs.lemmas.Bool.{cases_Bool, false_from_ne_true, ltb-false, ltb-true}
 use Rattle.implib.specs.Import.{Ask, Name, Ordinal}
-use Rattle.implib.specs.Link.Image.{AllApart, AreApart, Range, byte_at, is_in, range_end}
+use Rattle.implib.specs.Link.Image.{AllApart, Range, byte_at, is_in, range_end}
 use Rattle.implib.specs.Link.Load.{BytesAt, TableAt, LoadsStrictly, NumberAt, TextAt, ThunkAsksFor, ThunkAt, WholeTableAt}
 use Rattle.implib.proofs.Link.Linked.{all_append}
 use Rattle.implib.proofs.Link.Loading.{number_once, table_led_to, text_led_to}
@@ -23,9 +23,7 @@ Covers image r = (a : ℕ) → is_in a r ≡ true → (byte : ℕ) × (byte_at i
 
 -- the bounds of an address in a range
 pub within_bounds : (a : ℕ) (r : Range) → is_in a r ≡ true → (r.start ≤ a) × (a < range_end r)
-within_bounds a r within =
-    let parts = and_parts (nat_le r.start a) (nat_lt a (range_end r)) within in
-    (leb-true r.start a parts.0, ltb-true a (range_end r) parts.1)
+within_bounds a r within = grind arith
 
 pub byte_within : (image : List Range) (bytes : List ℕ) (a x : ℕ) → BytesAt image a bytes → a ≤ x → x < a + length bytes → (byte : ℕ) × (byte_at image x ≡ Some byte)
 unfolding BytesAt
@@ -63,58 +61,37 @@ pub written_covers : (image : List Range) (width : ℕ) (gives : List ℕ → As
 unfolding DirectoryAt Writes
 written_covers image width gives wide [] descriptor written directory writes = subst (AllByRecursion (Covers image)) (sym writes) tt
 written_covers image width gives wide (i ∷ imports) descriptor written directory (table, (field, (behind, (is, later)))) =
-    let same : directory.0.plain.addresses ≡ table = number_once image 4 (descriptor + 16) directory.0.plain.addresses table directory.0.plain.addresses_field field in
-    let first = entries_cover image width (gives i.dll) (wide i.dll) i.asks table (subst (λ n. TableAt image width n i.asks) same directory.0.plain.address_table) in
-    subst (AllByRecursion (Covers image)) (sym is)
-    (all_append (Covers image) (entries_written width table (gives i.dll) i.asks) behind first (written_covers image width gives wide imports (descriptor + 20) behind directory.1 later))
+    grind (arith, written_covers image width gives wide imports (descriptor + 20) behind directory.1 later, number_once image 4 (descriptor + 16) directory.0.plain.addresses table directory.0.plain.addresses_field field, entries_cover, all_append)
 
 -- an address at which a loaded image has a byte is below its end
 pub loaded_below : (image written : List Range) (a b : ℕ) → AllByRecursion (λ r. 0 < r.start) image → AllByRecursion (λ r. range_end r < 2 ^ 31) image → AllByRecursion (Covers image) written →
     byte_at (written ++ image) a ≡ Some b → a < 2 ^ 31
 loaded_below image [] a b low high covers is = (address_bounds image a b low high is).1
-loaded_below image (r ∷ written) a b low high covers is =
-    elim (cases_Bool (is_in a r)) [
-      | inl within ↦ let byte = covers.0 a within in (address_bounds image a byte.0 low high byte.1).1
-      | inr outside ↦ loaded_below image written a b low high covers.1 (rw outside at is)
-    ]
+loaded_below image (r ∷ written) a b low high covers is = grind (arith, loaded_below image written a b low high covers.1, address_bounds)
 
 -- So nothing is written into code.
 
 pub holder : (ranges : List Range) (a b : ℕ) → byte_at ranges a ≡ Some b → (r : Range) × (Among r ranges × (is_in a r ≡ true))
 unfolding Among
 holder [] a b is = cc
-holder (r ∷ ranges) a b is =
-    elim (cases_Bool (is_in a r)) [
-      | inl within ↦ (r, (inl refl, within))
-      | inr outside ↦ let later = holder ranges a b (rw outside at is) in (later.0, (inr later.1.0, later.1.1))
-    ]
+holder (r ∷ ranges) a b is = grind (arith, holder ranges a b)
 
 pub not_in_both : (xs ys : List Range) (r s : Range) (a : ℕ) → AllApart (xs ++ ys) → Among r xs → Among s ys → is_in a r ≡ true → is_in a s ≡ true → ⊥
 unfolding Among
 not_in_both [] ys r s a apart m n first second = absurd m
-not_in_both (x ∷ xs) ys r s a apart (inl e) n first second =
-    all_among (AreApart x) s (xs ++ ys) (among_back s xs ys n) apart.0 a (subst (λ (y : Range). is_in a y ≡ true) e first) second
+not_in_both (x ∷ xs) ys r s a apart (inl e) n first second = grind (arith, all_among, among_back)
 not_in_both (x ∷ xs) ys r s a apart (inr m) n first second = not_in_both xs ys r s a apart.1 m n first second
 
 pub code_untouched : (image codes written : List Range) (r : Range) (a : ℕ) → AllByRecursion (Covers image) written → AllApart (image ++ codes) → Among r codes → is_in a r ≡ true →
     list_any (is_in a) written ≡ false
 code_untouched image codes [] r a covers apart m within = refl
-code_untouched image codes (w ∷ written) r a covers apart m within =
-    let outside : is_in a w ≡ false = false_from_ne_true (is_in a w) (λ touched.
-    let byte = covers.0 a touched in
-    let found = holder image a byte.0 byte.1 in
-    not_in_both image codes found.0 r a apart found.1.0 m found.1.1 within) in
-    rw outside (code_untouched image codes written r a covers.1 apart m within)
+code_untouched image codes (w ∷ written) r a covers apart m within = grind (arith, code_untouched image codes written r a covers.1 apart m within, false_from_ne_true, holder, not_in_both)
 
 -- Bytes of the loaded image are those of memory.
 
 pub byte_front : (xs ys : List Range) (a b : ℕ) → byte_at xs a ≡ Some b → byte_at (xs ++ ys) a ≡ Some b
 byte_front [] ys a b is = cc
-byte_front (x ∷ xs) ys a b is =
-    elim (cases_Bool (is_in a x)) [
-      | inl within ↦ rw within (rw within at is)
-      | inr outside ↦ rw outside (byte_front xs ys a b (rw outside at is))
-    ]
+byte_front (x ∷ xs) ys a b is = grind (arith, byte_front xs ys a b)
 
 -- A directory has one reading.
 
@@ -149,10 +126,7 @@ nonzero n m same above none = omega arith
 
 pub same_imports : (first second : Imported) (firsts seconds : List Imported) → first.dll ≡ second.dll → first.asks ≡ second.asks → firsts ≡ seconds →
     first ∷ firsts ≡ second ∷ seconds
-same_imports first second firsts seconds dll asks others =
-    ap (λ d. record { dll = d; asks = first.asks } ∷ firsts) dll
-    ∙ ap (λ a. record { dll = second.dll; asks = a } ∷ firsts) asks
-    ∙ ap (λ rest. second ∷ rest) others
+same_imports first second firsts seconds dll asks others = grind arith
 
 -- no walk goes on at the null descriptor, and none stops at another
 null_ends_once : (image : List Range) (width address : ℕ) (i : Imported) → BytesAt image address (zeros 20) → FindsBy image width address i → ⊥
@@ -168,10 +142,8 @@ stops_once image width address i loads (inr no_addresses) =
 -- both tables ask for the same
 same_asks : (image : List Range) (width address : ℕ) (i j : Imported) → LoadsStrictly image width address i.dll i.asks → FindsBy image width address j → i.asks ≡ j.asks
 same_asks image width address i j strict step = elim step.table_field [
-  | inl field ↦
-      table_led_to image width address strict.plain.lookups step.table i.asks j.asks strict.plain.lookups_field field strict.plain.lookup_table step.thunks
-  | inr field ↦
-      table_led_to image width (address + 16) strict.plain.addresses step.table i.asks j.asks strict.plain.addresses_field field strict.plain.address_table step.thunks
+  | inl field ↦ grind (arith, table_led_to image width address strict.plain.lookups step.table i.asks j.asks strict.plain.lookups_field field strict.plain.lookup_table step.thunks)
+  | inr field ↦ grind (arith, table_led_to image width (address + 16) strict.plain.addresses step.table i.asks j.asks strict.plain.addresses_field field strict.plain.address_table step.thunks)
 ]
 
 pub walk_once : (image : List Range) (width address : ℕ) (imports others : List Imported) →
@@ -181,11 +153,7 @@ walk_once image width address [] [] directory walk = refl
 walk_once image width address [] (j ∷ others) directory walk = absurd (null_ends_once image width address j directory walk.0)
 walk_once image width address (i ∷ imports) [] directory walk = absurd (stops_once image width address i directory.0 walk)
 walk_once image width address (i ∷ imports) (j ∷ others) directory walk =
-    same_imports i j imports others
-    (text_led_to image (address + 12) directory.0.plain.name walk.0.name i.dll j.dll directory.0.plain.name_field walk.0.name_field directory.0.plain.name_text
-    walk.0.name_text)
-    (same_asks image width address i j directory.0 walk.0)
-    (walk_once image width (address + 20) imports others directory.1 walk.1)
+    search (rules, walk_once image width (address + 20) imports others directory.1 walk.1, same_asks image width address i j directory.0 walk.0, same_imports, text_led_to)
 
 -- A loader that reads an image walks its directory once, and writes what the law of loaded programs speaks of.
 
@@ -212,12 +180,7 @@ module _ (image : List Range) (width : ℕ) (gives : List ℕ → Ask → List �
 
   pub directory_read : (n address : ℕ) (imports : List Imported) (written : List Range) → DirectoryAt image width address imports → ReadsAndWrites image width gives n address written →
       (n ≡ length imports) × Writes image width gives address imports written
-  directory_read n address imports written directory reads =
-      let found = found_by n address written reads in
-      let same : imports ≡ found.0 = walk_once image width address imports found.0 directory found.1.1.0 in (
-        sym found.1.0 ∙ sym (ap length same),
-        subst (λ (is : List Imported). Writes image width gives address is written) (sym same) found.1.1.1,
-      )
+  directory_read n address imports written directory reads = grind (arith, found_by, walk_once)
 
   pub directory_can_be_read : (address : ℕ) (imports : List Imported) → DirectoryAt image width address imports →
       (written : List Range) × ReadsAndWrites image width gives (length imports) address written
@@ -244,10 +207,7 @@ front_located : (r : Range) (rs : List Range) → BytesAt (r ∷ rs) r.start r.b
 front_located r rs = front_from r rs r.bytes [] r.start refl (omega arith)
 
 past_end : (a : ℕ) (r : Range) → range_end r ≤ a → is_in a r ≡ false
-past_end a r past =
-    false_from_ne_true (is_in a r) (λ within.
-    let below = ltb-true a (range_end r) (and_parts (nat_le r.start a) (nat_lt a (range_end r)) within).1 in
-    omega arith)
+past_end a r past = grind arith
 
 -- bytes after the end of the first range are as they are without it
 behind_front : (r : Range) (rs : List Range) (bytes : List ℕ) (a : ℕ) → range_end r ≤ a → BytesAt rs a bytes → BytesAt (r ∷ rs) a bytes
@@ -258,9 +218,7 @@ behind_front r rs (b ∷ bytes) a past located = (rw (past_end a r past) located
 -- where no written range is, the image is as it was
 pub kept_outside : (written ranges : List Range) (a : ℕ) → list_any (is_in a) written ≡ false → byte_at (written ++ ranges) a ≡ byte_at ranges a
 kept_outside [] ranges a none = refl
-kept_outside (r ∷ written) ranges a none =
-    let inputs = or_parts (is_in a r) (list_any (is_in a) written) none in
-    rw inputs.0 (kept_outside written ranges a inputs.1)
+kept_outside (r ∷ written) ranges a none = grind (arith, kept_outside written ranges a)
 
 -- The entries of one table.
 
@@ -313,10 +271,7 @@ module _ (width : ℕ) where
       AllByRecursion (λ r. (low ≤ r.start) × (range_end r ≤ high)) (entries_written width a gives asks)
   unfolding entries_written
   entries_within gives wide [] a low high above below = tt
-  entries_within gives wide (x ∷ asks) a low high above below =
-      let long : length (gives x) ≡ width = wide x in
-      let product : a + width + width * length asks ≡ a + width * length (x ∷ asks) = times_next a width (length asks) in
-      ((above, omega arith), entries_within gives wide asks (a + width) low high (omega arith) (omega arith))
+  entries_within gives wide (x ∷ asks) a low high above below = grind (arith, entries_within gives wide asks (a + width) low high (omega arith) (omega arith))
 
 -- The tables of all DLLs, one after another.
 
@@ -373,17 +328,7 @@ module _ (image memory : List Range) (keeps : Keeps image memory) where
 
   loads_kept : (width a : ℕ) (dll : List ℕ) (asks : List Ask) → LoadsStrictly image width a dll asks → LoadsStrictly memory width a dll asks
   loads_kept width a dll asks loads = record {
-    plain = record {
-      lookups = loads.plain.lookups;
-      lookups_field = number_kept 4 a loads.plain.lookups loads.plain.lookups_field;
-      lookup_table = table_kept width asks loads.plain.lookups loads.plain.lookup_table;
-      name = loads.plain.name;
-      name_field = number_kept 4 (a + 12) loads.plain.name loads.plain.name_field;
-      name_text = text_kept loads.plain.name dll loads.plain.name_text;
-      addresses = loads.plain.addresses;
-      addresses_field = number_kept 4 (a + 16) loads.plain.addresses loads.plain.addresses_field;
-      address_table = table_kept width asks loads.plain.addresses loads.plain.address_table;
-    };
+    plain = grind (arith, number_kept, table_kept, text_kept);
     time = number_kept 4 (a + 4) 0 loads.time;
     forwarder = number_kept 4 (a + 8) 0 loads.forwarder;
     has_lookups = loads.has_lookups;
@@ -410,9 +355,7 @@ module _ (image memory : List Range) (keeps : Keeps image memory) where
 
   pub memory_read : (width : ℕ) (gives : List ℕ → Ask → List ℕ) (n a : ℕ) (imports : List Imported) (written : List Range) → DirectoryAt image width a imports → ReadsAndWrites memory width gives n a written →
       (n ≡ length imports) × Writes image width gives a imports written
-  memory_read width gives n a imports written directory reads =
-      let read = directory_read memory width gives n a imports written (directory_kept width a imports directory) reads in
-      (read.0, writes_back width gives imports a written directory read.1)
+  memory_read width gives n a imports written directory reads = grind (arith, directory_read, directory_kept, writes_back)
 
   pub memory_can_be_read : (width : ℕ) (gives : List ℕ → Ask → List ℕ) (a : ℕ) (imports : List Imported) → DirectoryAt image width a imports →
       (written : List Range) × ReadsAndWrites memory width gives (length imports) a written
@@ -431,10 +374,7 @@ module _ (image memory : List Range) (keeps : Keeps image memory) where
   unfolding Writes
   writes_once width gives [] a first second one two = one ∙ sym two
   writes_once width gives (i ∷ imports) a first second (table, (field, (behind, (is, later)))) (other, (other_field, (other_behind, (other_is, other_later)))) =
-      is
-      ∙ ap (λ n. entries_written width n (gives i.dll) i.asks ++ behind) (number_once image 4 (a + 16) table other field other_field)
-      ∙ ap (λ rest. entries_written width other (gives i.dll) i.asks ++ rest) (writes_once width gives imports (a + 20) behind other_behind later other_later)
-      ∙ sym other_is
+      grind (arith, writes_once width gives imports (a + 20) behind other_behind later other_later, number_once image 4 (a + 16) table other field other_field)
 
   -- a loader that is handed the imports writes what one does that reads them in memory
   pub memory_reads : (width : ℕ) (gives : List ℕ → Ask → List ℕ) (a : ℕ) (imports : List Imported) (written : List Range) → DirectoryAt image width a imports → Writes image width gives a imports written →

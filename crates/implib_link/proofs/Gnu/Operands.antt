@@ -1,8 +1,8 @@
 -- Fields against a name lead to its entry, whatever instruction holds them.
 use Rattle.std.proofs.Common.{◌≡◌, ℕ, ◌+◌, ◌-◌, ◌*◌, ◌/◌, ◌%◌, ◌^◌, ◌<◌, ◌≤◌, ◌⊎◌, false, List, [], ◌∷◌, ◌++◌, length, take, drop, None, Some, refl, ap, sym, ◌∙◌, subst, inl, inr, arith}
-use Rattle.std.specs.Prelude.{◌==◌, nat_lt, slice_get}
+use Rattle.std.specs.Prelude.{◌==◌, slice_get}
 use Rattle.std.specs.List.{AllByRecursion, Contains, list_any}
-use Rattle.std.proofs.lemmas.Bool.{cases_Bool, false_from_ne_true, ltb-false, ltb-true, ne_eqb}
+use Rattle.std.proofs.lemmas.Bool.{false_from_ne_true, ne_eqb}
 use Rattle.std.proofs.lemmas.List.{append_assoc, drop-drop, drop_at, length-append, length-drop, take-append-drop, take_at}
 use Rattle.std.proofs.lemmas.Option.{slice_get_within}
 use Rattle.implib.specs.declared.coff.object.Relocation.{Relocation}
@@ -20,7 +20,7 @@ use Rattle.implib.proofs.Link.Ranges.{Among, all_among}
 use Rattle.implib_link.specs.Gnu.Fields.{CanBranch, amd64_addr64, field_width, DefinesIn, FieldHolds, LinkedCode, MeetsAlone, field_at, meets, AllLead, AllLeadTo, BranchArrives, HasBranch, HasInstruction, HasOffsetField, HasOperand, HasPageField, HasPointer, InstructionArrives, IsBranch, IsOperand, IsPointer, Names, OperandArrives, PairArrives, PointerArrives, branch_leads, operand_leads, BranchStays, branch_rest, StubAt, placed_code, DirectCallArrives, HasDirectCall, HasInstructions, arm64_branch26, direct_bytes, direct_leads, direct_relocations, i386_rel32, absolute_width, amd64_addr32, StubArrives}
 use Rattle.implib_link.specs.Stub.{adrp_immediate, bits_of, ldr_immediate, page, plus_signed, with_bits, jump_reads, with_adrp, word_at}
 use Rattle.implib_link.proofs.Gnu.CallReads.{CanReach}
-use Rattle.implib_link.proofs.Gnu.Fields.{alone_same, alone_within, get_drop, get_front, meeting, meets_bounds, meets_from, near_pages, page_and_offset, pages_add, sum_of_eights, whole_eights, ReadsPair, pair_read, one_met, own_any, own_code, own_met, own_names, read_word, joined, four_of, jump_field, own_inside}
+use Rattle.implib_link.proofs.Gnu.Fields.{alone_same, alone_within, get_drop, get_front, meeting, meets_bounds, meets_from, page_and_offset, sum_of_eights, ReadsPair, pair_read, one_met, own_any, own_code, own_met, own_names, read_word, joined, four_of, jump_field, own_inside}
 use Rattle.implib_link.proofs.Gnu.FieldsInMemory.{Rests, Settles, bytes_there, field_there, own_end, settled_in_tables, steady_there, part_there}
 use Rattle.implib_link.proofs.Gnu.Loaded.{Covers}
 use Rattle.implib_link.proofs.Flavors.Block.{gets_address}
@@ -29,21 +29,9 @@ use Rattle.implib.specs.Members.Gnu.{stub_bytes, stub_relocations}
 
 -- Numbers relative to the end of an instruction.
 
-relative : (n old position target after further : ℕ) → n ≡ (old + target + (2 ^ 32 - (position + 4 + further) % 2 ^ 32)) % 2 ^ 32 → (old + after) % 2 ^ 32 ≡ further → (n + (position + 4 + after)) % 2 ^ 32 ≡ target % 2 ^ 32
-relative n old position target after further is counts = omega arith
-
-signed_leads : (n base behind target : ℕ) → n < 2 ^ 32 → (n + behind) % 2 ^ 32 ≡ target % 2 ^ 32 → behind ≤ 2 ^ 31 → target < 2 ^ 31 → plus_signed 32 1 n (base + behind) ≡ base + target
-signed_leads n base behind target small same near low =
-    elim (cases_Bool (nat_lt n (2 ^ 31))) [
-      | inl is ↦ let below = ltb-true n (2 ^ 31) is in rw is (omega arith)
-      | inr is ↦ let above = ltb-false n (2 ^ 31) is in rw is (omega arith)
-    ]
-
 rel32_leads : (n old base position target after further : ℕ) → n ≡ (old + target + (2 ^ 32 - (position + 4 + further) % 2 ^ 32)) % 2 ^ 32 → (old + after) % 2 ^ 32 ≡ further →
     position + (4 + after) ≤ 2 ^ 31 → target < 2 ^ 31 → plus_signed 32 1 n (base + position + 4 + after) ≡ base + target
-rel32_leads n old base position target after further is counts near small =
-    let place : base + position + 4 + after ≡ base + (position + 4 + after) = omega arith in
-    ap (plus_signed 32 1 n) place ∙ signed_leads n base (position + 4 + after) target (omega arith) (relative n old position target after further is counts) (omega arith) small
+rel32_leads n old base position target after further is counts near small = grind arith
 
 pub dir32_is : (n old base target : ℕ) → n ≡ (old + (base + target)) % 2 ^ 32 → old ≡ 0 → base + 2 ^ 31 ≤ 2 ^ 32 → target < 2 ^ 31 → n ≡ base + target
 dir32_is n old base target is empty fits small = omega arith
@@ -87,30 +75,21 @@ pointer_width ARM64 type stores = subst (λ t. field_width ARM64 t ≡ 8) (sym s
 
 pub words_lead : (address position target : ℕ) → position % 4 ≡ 0 → target % 4 ≡ 0 → position ≤ target + 2 ^ 27 → target < position + 2 ^ 27 → (n : ℕ) → n ≡ (target + (2 ^ 28 - position % 2 ^ 28)) / 4 % 2 ^ 26 →
     plus_signed 26 4 n (address + position) ≡ address + target
-words_lead address position target first second far near n is =
-    elim (cases_Bool (nat_lt n (2 ^ 25))) [
-      | inl below ↦ let low = ltb-true n (2 ^ 25) below in rw below (omega arith)
-      | inr above ↦ let high = ltb-false n (2 ^ 25) above in rw above (omega arith)
-    ]
+words_lead address position target first second far near n is = grind arith
 
 operand_by : (machine : MachineType) (type base position target after : ℕ) (old new : ℕ → ℕ) → IsOperand machine type after (old 4) → FieldHolds machine type base position target old new →
     CanReach machine base target → position + (4 + after) ≤ 2 ^ 31 → target < 2 ^ 31 → operand_leads machine (base + position) after (new 4) ≡ Some (base + target)
 operand_by I386 type base position target after old new counts holds can near small = ap Some (dir32_is (new 4) (old 4) base target (holds.dir32 counts.0) counts.1 can small)
 operand_by ARMNT type base position target after old new counts holds can near small = absurd counts
-operand_by AMD64 type base position target after old new (further, (few, (is, ends))) holds can near small =
-    ap Some (rel32_leads (new 4) (old 4) base position target after further (holds.rel32 further few is) ends near small)
+operand_by AMD64 type base position target after old new (further, (few, (is, ends))) holds can near small = cc (rel32_leads (new 4) (old 4) base position target after further (holds.rel32 further few is) ends near small)
 operand_by ARM64 type base position target after old new counts holds can near small = absurd counts
 
 branch_by : (machine : MachineType) (type base position target after : ℕ) (old new : ℕ → ℕ) → IsBranch machine type after (old 4) → FieldHolds machine type base position target old new →
     CanBranch machine position target → position + (4 + after) ≤ 2 ^ 31 → target < 2 ^ 31 → branch_leads machine (base + position) after (new 4) ≡ Some (base + target)
-branch_by I386 type base position target after old new counts holds can near small =
-    let same : position + 4 + 0 ≡ position + 4 = omega arith in
-    ap Some (rel32_leads (new 4) (old 4) base position target after 0 (subst (λ k. new 4 ≡ (old 4 + target + (2 ^ 32 - k % 2 ^ 32)) % 2 ^ 32) (sym same) (holds.rel32 counts.0)) counts.1 near small)
+branch_by I386 type base position target after old new counts holds can near small = grind arith
 branch_by ARMNT type base position target after old new counts holds can near small = absurd counts
-branch_by AMD64 type base position target after old new (further, (few, (is, ends))) holds can near small =
-    ap Some (rel32_leads (new 4) (old 4) base position target after further (holds.rel32 further few is) ends near small)
-branch_by ARM64 type base position target after old new counts holds can near small =
-    ap Some (words_lead base position target can.0 can.1 can.2 can.3 (bits_of 0 26 (new 4)) (holds.branch counts.0 counts.1 can.2 can.3).1)
+branch_by AMD64 type base position target after old new (further, (few, (is, ends))) holds can near small = grind (arith, rel32_leads (new 4) (old 4) base position target after further (holds.rel32 further few is) ends near small)
+branch_by ARM64 type base position target after old new counts holds can near small = grind arith
 
 branch_rest_by : (machine : MachineType) (type base position target after : ℕ) (old new : ℕ → ℕ) → IsBranch machine type after (old 4) → FieldHolds machine type base position target old new → CanBranch machine position target →
     branch_rest machine (new 4) ≡ branch_rest machine (old 4)
@@ -130,23 +109,11 @@ pointer_by ARM64 type base position target old new stores empty holds can fits s
 
 pub page_leads : (new old base first target : ℕ) → adrp_immediate new ≡ (page (base + target + adrp_immediate old) + (2 ^ 21 - page (base + first) % 2 ^ 21)) % 2 ^ 21 → adrp_immediate old ≡ 0 →
     first + 16 ≤ 2 ^ 31 → target < 2 ^ 31 → plus_signed 21 4096 (adrp_immediate new) (page (base + first) * 4096) ≡ page (base + target) * 4096
-page_leads new old base first target is empty near small =
-    let pages = near_pages base first target near small in
-    let plain : base + target + 0 ≡ base + target = omega arith in
-    ap (λ n. plus_signed 21 4096 n (page (base + first) * 4096))
-    (is ∙ ap (λ n. (page (base + target + n) + (2 ^ 21 - page (base + first) % 2 ^ 21)) % 2 ^ 21) empty ∙ ap (λ n. (page n + (2 ^ 21 - page (base + first) % 2 ^ 21)) % 2 ^ 21) plain)
-    ∙ pages_add (page (base + first)) (page (base + target)) pages.0 pages.1
-
-same_size : (new old : ℕ) → with_bits 10 12 0 new ≡ with_bits 10 12 0 old → bits_of 30 2 new ≡ bits_of 30 2 old
-same_size new old same = omega arith
+page_leads new old base first target is empty near small = grind arith
 
 offset_leads : (new old base target : ℕ) → with_bits 10 12 0 new ≡ with_bits 10 12 0 old → bits_of 30 2 old ≡ 3 → bits_of 10 12 new ≡ (base + target + ldr_immediate old) % 4096 / 8 → ldr_immediate old ≡ 0 →
     (base + target) % 8 ≡ 0 → ldr_immediate new ≡ (base + target) % 4096
-offset_leads new old base target same eight is empty even =
-    let plain : base + target + 0 ≡ base + target = omega arith in
-    ap (λ k. bits_of 10 12 new * 2 ^ k) (same_size new old same ∙ eight)
-    ∙ ap (λ n. n * 8) (is ∙ ap (λ n. (base + target + n) % 4096 / 8) empty ∙ ap (λ n. n % 4096 / 8) plain)
-    ∙ whole_eights (base + target) even
+offset_leads new old base target same eight is empty even = grind arith
 
 pub pair_leads : (adrp load paged offset target : ℕ) → paged ≡ page target * 4096 → offset ≡ target % 4096 → paged + offset ≡ target
 pair_leads adrp load paged offset target first second = rw (first, second) (page_and_offset target)
@@ -184,8 +151,7 @@ module _ (machine : MachineType) (image_base : ℕ) (image : List Range) (linked
       record {
         number = found.0 4;
         there = subst (λ w. NumberAt (written ++ memory) w (c.position + offset) (found.0 w)) wide found.1.0;
-        leads = branch_by machine has.type image_base (c.position + offset) address after (field_at c.code.bytes offset) found.0 has.counts
-            (subst (λ n. FieldHolds machine has.type image_base (c.position + offset) n (field_at c.code.bytes offset) found.0) (taken has.field.symbol has.field.names) found.1.1) can (omega arith) small;
+        leads = grind (arith, branch_by);
       }
 
   -- and is, but for its distance, as it was
@@ -199,8 +165,7 @@ module _ (machine : MachineType) (image_base : ℕ) (image : List Range) (linked
       record {
         number = found.0 4;
         there = subst (λ w. NumberAt (written ++ memory) w (c.position + offset) (found.0 w)) (branch_width machine has.type after (field_at c.code.bytes offset 4) has.counts) found.1.0;
-        same = branch_rest_by machine has.type image_base (c.position + offset) (d.position + t.value) after (field_at c.code.bytes offset) found.0 has.counts
-            (subst (λ n. FieldHolds machine has.type image_base (c.position + offset) n (field_at c.code.bytes offset) found.0) target found.1.1) can;
+        same = grind (arith, branch_rest_by);
       }
 
   -- what leads to the only definition of a name, where these bytes are
@@ -399,9 +364,7 @@ all_lead machine image_base image linked codes targets memory at written covers_
 -- The stub of an export in memory jumps through the entry.
 
 amd64_jump : (address : ℕ) (field : List ℕ) → length field ≡ 4 → jump_reads AMD64 address (0xFF ∷ 0x25 ∷ (field ++ 0x90 ∷ 0x90 ∷ [])) ≡ Some (plus_signed 32 1 (number_in field) (address + 6))
-amd64_jump address field four =
-    let f = four_of field four in
-    subst (λ xs. jump_reads AMD64 address (0xFF ∷ 0x25 ∷ (xs ++ 0x90 ∷ 0x90 ∷ [])) ≡ Some (plus_signed 32 1 (number_in xs) (address + 6))) (sym f.is) refl
+amd64_jump address field four = grind (arith, four_of field four)
 
 pub arm64_jump : ReadsPair (jump_reads ARM64) 0x9000_0010 0xF940_0210 (0 ∷ 2 ∷ 0x1F ∷ 0xD6 ∷ [])
 arm64_jump address adrp load four also is_adrp is_load =
@@ -429,12 +392,10 @@ x86_jumps memory position name bytes machine image_base linked size x tail reads
     let place : position + 6 ≡ position + length (0xFF ∷ 0x25 ∷ (x.field ++ [])) = omega arith in
     let whole : length (0xFF ∷ 0x25 ∷ (x.field ++ 0x90 ∷ 0x90 ∷ [])) ≡ 8 = omega (arith, length-append x.field (0x90 ∷ 0x90 ∷ [])) in
     let f = four_of x.field x.four in
-    let same : (0xFF ∷ 0x25 ∷ (x.field ++ [])) ++ 0x90 ∷ 0x90 ∷ [] ≡ 0xFF ∷ 0x25 ∷ (x.field ++ 0x90 ∷ 0x90 ∷ []) =
-    subst (λ xs. (0xFF ∷ 0x25 ∷ (xs ++ [])) ++ 0x90 ∷ 0x90 ∷ [] ≡ 0xFF ∷ 0x25 ∷ (xs ++ 0x90 ∷ 0x90 ∷ [])) (sym f.is) refl in
+    let same : (0xFF ∷ 0x25 ∷ (x.field ++ [])) ++ 0x90 ∷ 0x90 ∷ [] ≡ 0xFF ∷ 0x25 ∷ (x.field ++ 0x90 ∷ 0x90 ∷ []) = grind arith in
     record {
       code = 0xFF ∷ 0x25 ∷ (x.field ++ 0x90 ∷ 0x90 ∷ []);
-      there = subst (BytesAt memory position) same
-          (joined memory (0xFF ∷ 0x25 ∷ (x.field ++ [])) (0x90 ∷ 0x90 ∷ []) position (subst (λ a. BytesAt memory a (0xFF ∷ 0x25 ∷ (x.field ++ []))) plain x.there) (subst (λ a. BytesAt memory a (0x90 ∷ 0x90 ∷ [])) place tail));
+      there = grind (arith, joined);
       whole = whole ∙ sym size;
       entry = x.entry;
       reads = reads;
@@ -529,13 +490,11 @@ module _ (machine : MachineType) (c : LinkedCode) (offset type : ℕ) (name : Li
   call_clear : list_any (meets machine offset 1) c.code.relocations ≡ false
   call_clear =
       let r : Relocation = record { offset = offset + 1; symbol = has.index; kind = type } in
-      let misses : meets machine offset 1 r ≡ false =
-      false_from_ne_true (meets machine offset 1 r) (λ met. let bounds = meets_bounds machine offset 1 r met in let low : offset + 1 < offset + 1 = bounds.0 in omega arith) in
+      let misses : meets machine offset 1 r ≡ false = grind (arith, false_from_ne_true, meets_bounds) in
       own_any machine c offset name code rs has offset 1 (omega arith) (omega arith) (rw misses refl)
 
 rel32_call : (address : ℕ) (field : List ℕ) → length field ≡ 4 → direct_leads AMD64 address (0xE8 ∷ field) ≡ Some (plus_signed 32 1 (number_in field) (address + 5))
-rel32_call address field four =
-    let f = four_of field four in subst (λ xs. direct_leads AMD64 address (0xE8 ∷ xs) ≡ Some (plus_signed 32 1 (number_in xs) (address + 5))) (sym f.is) refl
+rel32_call address field four = grind (arith, four_of field four)
 
 -- ARM64's.
 
@@ -582,14 +541,12 @@ direct_arrives ARM64 image_base image linked codes targets memory at written cov
     let code : List ℕ = direct_bytes ARM64 in
     let r : Relocation = record { offset = offset + 0; symbol = has.index; kind = arm64_branch26 } in
     let here : offset + 0 ≡ offset = omega arith in
-    let alone : MeetsAlone ARM64 c.code.relocations offset 4 (record { offset = offset; symbol = has.index; kind = arm64_branch26 }) =
-    own_met ARM64 c offset name code own has offset 4 (omega arith) (omega arith) ∙ one_met ARM64 offset 4 r (omega arith) (omega arith) ∙ ap (λ (k : ℕ). record { offset = k; symbol = has.index; kind = arm64_branch26 } ∷ []) here in
+    let alone : MeetsAlone ARM64 c.code.relocations offset 4 (record { offset = offset; symbol = has.index; kind = arm64_branch26 }) = grind (arith, own_met ARM64 c offset name code own has offset 4 (omega arith) (omega arith), one_met ARM64 offset 4 r (omega arith) (omega arith)) in
     let end : offset + 4 ≤ length c.code.bytes = own_inside ARM64 c offset name code own has in
     let old : field_at c.code.bytes offset 4 ≡ 0x9400_0000 = ap (λ xs. number_in (take 4 xs)) (own_code ARM64 c offset name code own has) in
     let found = steady_there ARM64 image_base image linked codes targets memory at written covers_it c (contains_among c codes held) offset arm64_branch26 has.index alone (omega arith) refl in
     let target : targets c has.index ≡ stub = taken has.index (own_names ARM64 c offset name code own has) in
-    let holds : FieldHolds ARM64 arm64_branch26 image_base (c.position + offset) stub (field_at c.code.bytes offset) found.0 =
-    subst (λ n. FieldHolds ARM64 arm64_branch26 image_base (c.position + offset) n (field_at c.code.bytes offset) found.0) target found.1.1 in
+    let holds : FieldHolds ARM64 arm64_branch26 image_base (c.position + offset) stub (field_at c.code.bytes offset) found.0 = grind arith in
     let both = holds.branch refl (ap (bits_of 0 26) old) can.2 can.3 in
     let word : word_at found.1.0.bytes 0 ≡ found.0 4 = read_word found.1.0.bytes found.1.0.count ∙ found.1.0.value in
     by_stub ARM64 image_base (written ++ memory) (c.position + offset) stub found.1.0.bytes bytes found.1.0.located found.1.0.count

@@ -1,26 +1,24 @@
 -- Relocations leave the lengths of sections as they are.
-use Rattle.std.proofs.Common.{◌≡◌, ℕ, ◌+◌, ◌-◌, ◌%◌, ◌^◌, ◌≤◌, List, [], ◌∷◌, ◌++◌, length, map, take, drop, ◌∙◌, inl, inr, arith, ◌<◌, true, false, Option, Some, None, refl, ap, sym, subst}
-use Rattle.std.specs.Prelude.{◌==◌, if◌then◌else◌, nat_le, nat_lt}
+use Rattle.std.proofs.Common.{◌≡◌, ℕ, ◌+◌, ◌-◌, ◌%◌, ◌^◌, ◌≤◌, List, [], ◌∷◌, ◌++◌, length, map, ◌∙◌, inl, inr, arith, ◌<◌, true, false, Option, Some, None, refl, ap, sym, subst}
 use Rattle.std.specs.List.{AllByRecursion, filter, list_any}
-use Rattle.std.proofs.lemmas.Bool.{cases_Bool, and_parts, leb-true, ltb-true, or_parts}
+use Rattle.std.proofs.lemmas.Bool.{cases_Bool}
 use Rattle.std.proofs.lemmas.List.{length-append, length-drop, length-take-le, append_assoc, length-replicate}
 use Rattle.implib.specs.declared.coff.object.Relocation.{Relocation}
 use Rattle.implib.specs.declared.machine.MachineType.{MachineType}
 use Rattle.implib.specs.declared.machine.MachineType.TheVariants.{I386, ARMNT, AMD64, ARM64}
 use Rattle.implib.specs.Formats.Bytes.{u32_bytes}
-use Rattle.implib.specs.Formats.Constants.{image_relative}
 use Rattle.implib.specs.Definition.{ExportView}
 use Rattle.implib.specs.Members.Gnu.{export_object, head_object, relocations_of_stub, relocations_of_thunk, stub, tail_object, thunk}
 use Rattle.implib.specs.Link.Image.{relocated, with_address, AllApart, AreApart, Contribution, IsAdmissible, IsBase, Range, contribution_at, contributions, contributions_in, contributions_of, filled, image_of, range_end, range_of}
 use Rattle.implib.specs.Members.ImportTables.{thunk_width, zeros}
-use Rattle.implib.specs.Formats.Object.{Object, u32_at, ObjectSection}
-use Rattle.implib.specs.Link.Placement.{Placed, Addresses, Bases, Descriptors, DirectoryEnds, DllNames, Group, HintNames, Lookups, alignment, base_of, end_after, ends_after, group_named, next_multiple, address_after, section_address_of, placed_from, section_addresses_of, same_group, with_base}
+use Rattle.implib.specs.Formats.Object.{Object, ObjectSection}
+use Rattle.implib.specs.Link.Placement.{Placed, Addresses, Bases, Descriptors, DirectoryEnds, DllNames, Group, HintNames, Lookups, alignment, base_of, end_after, ends_after, group_named, next_multiple, address_after, section_address_of, placed_from, section_addresses_of, same_group}
 use Rattle.implib.specs.Link.Resolution.{target_address}
 use Rattle.implib.proofs.Link.Placement.{export, head, length-thunk, tail, at_least}
 use Rattle.implib.specs.LibraryName.{NamesOfDll}
 use Rattle.implib_link.proofs.Gnu.Loaded.{by_width}
 use Rattle.implib_link.specs.Flavors.Program.{end_with, group_end, packed, packed_addresses, packed_descriptors, packed_directory_ends, packed_dll_names, packed_end, packed_hint_names, packed_lookups, sections_end, has_tables, is_table}
-use Rattle.implib_link.proofs.Gnu.Others.{contributions_kept, no_group}
+use Rattle.implib_link.proofs.Gnu.Others.{contributions_kept}
 use Rattle.std.proofs.lemmas.Grind.{flat_map-append}
 use Rattle.implib.specs.Link.Load.{BytesAt}
 use Rattle.implib.proofs.Link.Linked.{LocatedFrom}
@@ -36,22 +34,13 @@ IsSized o = AllByRecursion (λ s. AreWithin (length s.bytes) s.relocations) o.se
 
 length-with_address : (bytes : List ℕ) (offset address : ℕ) → offset + 4 ≤ length bytes → length (with_address bytes offset address) ≡ length bytes
 unfolding with_address u32_bytes
-length-with_address bytes offset address within =
-    let value : ℕ = (u32_at bytes offset + address) % 2 ^ 32 in
-    let front : length (take offset bytes) ≡ offset = length-take-le offset bytes (omega arith) in
-    let back : length (drop (offset + 4) bytes) ≡ length bytes - (offset + 4) = length-drop (offset + 4) bytes in
-    length-append (take offset bytes) (u32_bytes value ++ drop (offset + 4) bytes) ∙ omega arith
+length-with_address bytes offset address within = grind (arith, length-take-le, length-drop, length-append)
 
 pub length-relocated : (machine : MachineType) (linked : List Placed) (p : Placed) (relocations : List Relocation) (bytes : List ℕ) (size : ℕ) →
     AreWithin size relocations → length bytes ≡ size → length (relocated machine linked p relocations bytes) ≡ size
 length-relocated machine linked p [] bytes size within long = long
 length-relocated machine linked p (r ∷ relocations) bytes size within long =
-    let here : r.offset + 4 ≤ size = within.0 in
-    elim (cases_Bool (r.kind == image_relative machine)) [
-      | inl is ↦ rw is (length-relocated machine linked p relocations (with_address bytes r.offset (target_address linked p r.symbol)) size within.1
-          (length-with_address bytes r.offset (target_address linked p r.symbol) (omega arith) ∙ long))
-      | inr is ↦ rw is (length-relocated machine linked p relocations bytes size within.1 long)
-    ]
+    grind (arith, length-relocated machine linked p relocations (with_address bytes r.offset (target_address linked p r.symbol)) size within.1 (length-with_address bytes r.offset (target_address linked p r.symbol) (omega arith) ∙ long), length-relocated machine linked p relocations bytes size within.1 long)
 
 -- The members' objects are sized.
 
@@ -63,10 +52,7 @@ unfolding relocations_of_thunk
 hint_within machine e size long = elim (cases_Bool e.no_name) [ inl is ↦ rw is tt | inr is ↦ rw is (omega arith, tt) ]
 
 thunk_within : (machine : MachineType) (e : ExportView) → AreWithin (length (thunk machine e)) (relocations_of_thunk machine e)
-thunk_within machine e =
-    let long : length (thunk machine e) ≡ thunk_width machine = length-thunk machine e in
-    let size : 4 ≤ thunk_width machine = thunk_size machine in
-    hint_within machine e (length (thunk machine e)) (omega arith)
+thunk_within machine e = grind (arith, length-thunk, thunk_size, hint_within)
 
 stub_within : (machine : MachineType) (e : ExportView) → AreWithin (length (stub machine e)) (relocations_of_stub machine e)
 unfolding relocations_of_stub stub
@@ -95,15 +81,6 @@ exports_sized machine dll (e ∷ es) rest all = (export_sized machine dll e, exp
 
 -- Groups do not touch one another.
 
-base_with : (group other : Group) (n : ℕ) (b : Bases) → base_of group (with_base other n b) ≡ (if same_group group other then n else base_of group b)
-base_with Descriptors Descriptors n b = refl
-base_with DirectoryEnds Descriptors n b = refl
-base_with Lookups Descriptors n b = refl
-base_with Addresses Descriptors n b = refl
-base_with HintNames Descriptors n b = refl
-base_with DllNames Descriptors n b = refl
-base_with group other n b = refl
-
 pub same_base : (group other : Group) (b : Bases) → same_group group other ≡ true → base_of other b ≡ base_of group b
 same_base Descriptors Descriptors b is = refl
 same_base DirectoryEnds DirectoryEnds b is = refl
@@ -117,19 +94,12 @@ same_base group other b is = cc
 pub end_of_section : (group : Group) (b : Bases) (s : ObjectSection) (named : Option Group) →
     base_of group (end_after b (address_after b s.flags named) (length s.bytes)) ≡ end_with group (base_of group b) s named
 end_of_section group b s None = refl
-end_of_section group b s (Some other) =
-    base_with group other (next_multiple (alignment s.flags) (base_of other b) + length s.bytes) b
-    ∙ elim (cases_Bool (same_group group other)) [
-      | inl is ↦ rw (is, same_base group other b is) refl
-      | inr is ↦ rw is refl
-    ]
+end_of_section group b s (Some other) = grind arith
 
 pub end_of_sections : (group : Group) (b : Bases) (sections : List ObjectSection) → base_of group (ends_after b sections) ≡ sections_end group (base_of group b) sections
 unfolding sections_end
 end_of_sections group b [] = refl
-end_of_sections group b (s ∷ sections) =
-    end_of_sections group (end_after b (section_address_of b s) (length s.bytes)) sections
-    ∙ ap (λ n. sections_end group n sections) (end_of_section group b s (group_named s.name))
+end_of_sections group b (s ∷ sections) = grind (arith, end_of_sections group (end_after b (section_address_of b s) (length s.bytes)) sections)
 
 -- Where contributions end.
 
@@ -155,9 +125,7 @@ fills_one base end c low is =
     let own : length (c.bytes ++ []) ≡ length c.bytes + 0 = length-append c.bytes [] in
     record {
       ends = omega arith;
-      behind = λ rest. ap (λ n. padding ++ (c.bytes ++ filled n rest)) is
-          ∙ ap (λ bytes. padding ++ bytes) (sym (append_assoc c.bytes [] (filled end rest)))
-          ∙ sym (append_assoc padding (c.bytes ++ []) (filled end rest));
+      behind = λ rest. grind (arith, append_assoc);
     }
 
 fills_both : (base middle end : ℕ) (front back : List Contribution) → Fills base front middle → Fills middle back end → Fills base (front ++ back) end
@@ -218,41 +186,27 @@ module _ (machine : MachineType) (linked : List Placed) (group : Group) where
 end_without : (group : Group) (n : ℕ) (sections : List ObjectSection) → list_any is_table sections ≡ false → sections_end group n sections ≡ n
 unfolding sections_end
 end_without group n [] none = refl
-end_without group n (s ∷ sections) none =
-    let inputs = or_parts (is_table s) (list_any is_table sections) none in
-    rw (no_group s.name inputs.0) (end_without group n sections inputs.1)
+end_without group n (s ∷ sections) none = grind (arith, end_without group n sections)
 
 pub end_kept : (group : Group) (n : ℕ) (objects : List Object) → group_end group n objects ≡ group_end group n (filter has_tables objects)
 unfolding group_end has_tables
 end_kept group n [] = refl
-end_kept group n (o ∷ objects) =
-    elim (cases_Bool (list_any is_table o.sections)) [
-      | inl is ↦ rw is (end_kept group (sections_end group n o.sections) objects)
-      | inr none ↦ rw (none, end_without group n o.sections none) (end_kept group n objects)
-    ]
+end_kept group n (o ∷ objects) = grind (arith, end_kept group (sections_end group n o.sections) objects, end_kept group n objects, end_without)
 
 -- ends do not fall
 end_of_one : (group : Group) (n : ℕ) (s : ObjectSection) (named : Option Group) → n ≤ end_with group n s named
 end_of_one group n s None = omega arith
-end_of_one group n s (Some other) =
-    let above = at_least (alignment s.flags) n in
-    elim (cases_Bool (same_group group other)) [ inl is ↦ rw is (omega arith) | inr is ↦ rw is (omega arith) ]
+end_of_one group n s (Some other) = grind (arith, at_least)
 
 sections_rise : (group : Group) (n : ℕ) (sections : List ObjectSection) → n ≤ sections_end group n sections
 unfolding sections_end
 sections_rise group n [] = omega arith
-sections_rise group n (s ∷ sections) =
-    let first = end_of_one group n s (group_named s.name) in
-    let rest = sections_rise group (end_with group n s (group_named s.name)) sections in
-    omega arith
+sections_rise group n (s ∷ sections) = grind (arith, sections_rise group (end_with group n s (group_named s.name)) sections, end_of_one)
 
 ends_rise : (group : Group) (n : ℕ) (objects : List Object) → n ≤ group_end group n objects
 unfolding group_end
 ends_rise group n [] = omega arith
-ends_rise group n (o ∷ objects) =
-    let first = sections_rise group n o.sections in
-    let rest = ends_rise group (sections_end group n o.sections) objects in
-    omega arith
+ends_rise group n (o ∷ objects) = grind (arith, ends_rise group (sections_end group n o.sections) objects, sections_rise)
 
 -- Ranges one after another, from an address to another.
 Rising : ℕ → ℕ → List Range → Type 0
@@ -267,37 +221,22 @@ rising_from_below low above high (r ∷ rs) le rise = let first : above ≤ r.st
 rising_reaches : (low high : ℕ) (rs : List Range) → Rising low high rs → low ≤ high
 unfolding Rising
 rising_reaches low high [] rise = rise
-rising_reaches low high (r ∷ rs) rise =
-    let first : low ≤ r.start = rise.0 in
-    let rest : range_end r ≤ high = rising_reaches (range_end r) high rs rise.1 in
-    omega arith
+rising_reaches low high (r ∷ rs) rise = grind (arith, rising_reaches (range_end r) high rs rise.1)
 
 rising_ends : (low high : ℕ) (rs : List Range) → Rising low high rs → high < 2 ^ 31 → AllByRecursion (λ r. range_end r < 2 ^ 31) rs
 unfolding Rising
 rising_ends low high [] rise below = tt
-rising_ends low high (r ∷ rs) rise below =
-    let end : range_end r ≤ high = rising_reaches (range_end r) high rs rise.1 in
-    (omega arith, rising_ends (range_end r) high rs rise.1 below)
+rising_ends low high (r ∷ rs) rise below = grind (arith, rising_ends (range_end r) high rs rise.1 below, rising_reaches)
 
 rising_within : (low high : ℕ) (rs : List Range) → Rising low high rs → AllByRecursion (λ r. (low ≤ r.start) × (range_end r ≤ high)) rs
 unfolding Rising
 rising_within low high [] rise = tt
-rising_within low high (r ∷ rs) rise =
-    let first : low ≤ r.start = rise.0 in
-    let reaches : range_end r ≤ high = rising_reaches (range_end r) high rs rise.1 in
-    ((first, reaches), rising_within low high rs (rising_from_below low (range_end r) high rs (omega arith) rise.1))
+rising_within low high (r ∷ rs) rise = grind (arith, rising_within low high rs (rising_from_below low (range_end r) high rs (omega arith) rise.1), rising_reaches, rising_from_below)
 
 apart_from : (first : Range) (low high : ℕ) (rs : List Range) → range_end first ≤ low → Rising low high rs → AllByRecursion (AreApart first) rs
 unfolding Rising
 apart_from first low high [] past rise = tt
-apart_from first low high (r ∷ rs) past rise =
-    let starts : low ≤ r.start = rise.0 in (
-      λ a in_first in_other.
-          let below = ltb-true a (range_end first) (and_parts (nat_le first.start a) (nat_lt a (range_end first)) in_first).1 in
-          let above = leb-true r.start a (and_parts (nat_le r.start a) (nat_lt a (range_end r)) in_other).0 in
-          omega arith,
-      apart_from first (range_end r) high rs (omega arith) rise.1,
-    )
+apart_from first low high (r ∷ rs) past rise = grind (arith, apart_from first (range_end r) high rs (omega arith) rise.1)
 
 rising_apart : (low high : ℕ) (rs : List Range) → Rising low high rs → AllApart rs
 unfolding Rising
@@ -323,10 +262,7 @@ unfolding next_multiple
 aligned_end n above = (omega arith, omega arith)
 
 above_zero : (group : Group) (n : ℕ) (objects : List Object) → IsBase n → IsBase (next_multiple 8 (group_end group n objects))
-above_zero group n objects base =
-    let first : 0 < n = base.0 in
-    let end = ends_rise group n objects in
-    aligned_base (group_end group n objects) (omega arith)
+above_zero group n objects base = grind (arith, ends_rise, aligned_base)
 
 module _ (machine : MachineType) (first : ℕ) (objects : List Object) (sized : AllByRecursion IsSized (filter has_tables objects))
     (above : 0 < first) (below : packed_end first objects < 2 ^ 31) where
@@ -337,10 +273,7 @@ module _ (machine : MachineType) (first : ℕ) (objects : List Object) (sized : 
   linked = placed_from (packed first objects) objects
 
   group_span : (group : Group) → span (base_of group bases) (contributions machine linked group linked) ≡ group_end group (base_of group bases) objects
-  group_span group =
-      ap (span (base_of group bases)) (contributions_kept machine linked group bases objects)
-      ∙ (fills_objects machine linked group bases (filter has_tables objects) sized).ends
-      ∙ sym (end_kept group (base_of group bases) objects)
+  group_span group = grind (arith, contributions_kept machine linked group bases objects, fills_objects machine linked group bases (filter has_tables objects) sized, end_kept group (base_of group bases) objects)
 
   -- a group's range, and the others after the next base
   rising_next : (distance : ℕ) (group : Group) (rs : List Range) → Rising (next_multiple distance (group_end group (base_of group bases) objects)) (packed_end first objects) rs →
@@ -363,10 +296,7 @@ module _ (machine : MachineType) (first : ℕ) (objects : List Object) (sized : 
   descriptors_base = aligned_base first above
 
   directory_ends_base : IsBase (packed_directory_ends first objects)
-  directory_ends_base =
-      let low : 0 < packed_descriptors first = descriptors_base.0 in
-      let end = ends_rise Descriptors (packed_descriptors first) objects in
-      aligned_end (group_end Descriptors (packed_descriptors first) objects) (omega arith)
+  directory_ends_base = grind (arith, descriptors_base, ends_rise, aligned_end)
 
   lookups_base : IsBase (packed_lookups first objects)
   lookups_base = above_zero DirectoryEnds (packed_directory_ends first objects) objects directory_ends_base
@@ -403,16 +333,13 @@ ends_behind b (o ∷ objects) = ends_behind (ends_after b o.sections) objects
 pub placed_parts : (b : Bases) (front rest : List Object) → placed_from b (front ++ rest) ≡ placed_from b front ++ placed_from (ends_behind b front) rest
 unfolding ends_behind
 placed_parts b [] rest = refl
-placed_parts b (o ∷ front) rest =
-    ap (λ others. record { object = o; section_addresses = section_addresses_of b o.sections } ∷ others) (placed_parts (ends_after b o.sections) front rest)
+placed_parts b (o ∷ front) rest = grind (arith, placed_parts (ends_after b o.sections) front rest)
 
 -- the end of a group after objects
 pub end_behind : (group : Group) (b : Bases) (objects : List Object) → base_of group (ends_behind b objects) ≡ group_end group (base_of group b) objects
 unfolding ends_behind group_end
 end_behind group b [] = refl
-end_behind group b (o ∷ objects) =
-    end_behind group (ends_after b o.sections) objects
-    ∙ ap (λ n. group_end group n objects) (end_of_sections group b o.sections)
+end_behind group b (o ∷ objects) = grind (arith, end_behind group (ends_after b o.sections) objects, end_of_sections)
 
 -- what is filled in of a group, in two parts
 module _ (machine : MachineType) (linked : List Placed) (image : List Range) (b : Bases) (front rest : List Object) (sized : AllByRecursion IsSized front) where
@@ -437,15 +364,6 @@ module _ (machine : MachineType) (linked : List Placed) (image : List Range) (b 
       let found = located_parts image (filled base (own group)) (filled (base_of group (ends_behind b front)) (later group)) base (subst (BytesAt image base) split located) in
       let end : base + length (filled base (own group)) ≡ base_of group (ends_behind b front) = fills.ends ∙ sym (end_behind group b front) in
       (found.0, subst (λ n. BytesAt image n (filled (base_of group (ends_behind b front)) (later group))) end found.1)
-
-  pub located_front : LocatedFrom machine linked image b (front ++ rest) → LocatedFrom machine linked image b front
-  located_front located = record {
-    descriptors = (parts Descriptors located.descriptors).0;
-    lookups = (parts Lookups located.lookups).0;
-    addresses = (parts Addresses located.addresses).0;
-    hint_names = (parts HintNames located.hint_names).0;
-    dll_names = (parts DllNames located.dll_names).0;
-  }
 
   pub located_behind : LocatedFrom machine linked image b (front ++ rest) → LocatedFrom machine linked image (ends_behind b front) rest
   located_behind located = record {

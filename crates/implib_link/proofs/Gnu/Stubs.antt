@@ -8,7 +8,7 @@ use Rattle.implib.specs.Members.Gnu.{export_object, relocations_of_stub, section
 use Rattle.implib.specs.Members.ImportTables.{thunk_width}
 use Rattle.implib.specs.Formats.Object.{ASymbol, Object}
 use Rattle.implib.specs.Link.Placement.{Bases, Placed, placed_from}
-use Rattle.implib.specs.Link.Resolution.{SymbolDefinition, address_or_zero, first_address, target_address}
+use Rattle.implib.specs.Link.Resolution.{SymbolDefinition, target_address}
 use Rattle.implib.proofs.Link.Linked.{address_found}
 use Rattle.implib.proofs.Link.LinkedBlocks.{even}
 use Rattle.implib.proofs.Link.Placement.{AreAligned, after_head, aligned_after, ends_of_all, ends_of_export, ends_of_exports, placed-export, placed-tail, placed_export}
@@ -23,15 +23,7 @@ module _ (machine : MachineType) (dll : NamesOfDll) where
       (c : Bases) × (Among (placed_export machine dll c e) (placed_from b (after_head machine dll es rest)) × (c.addresses ≡ b.addresses + thunk_width machine * j))
   export_placed [] b rest even j e is = cc
   export_placed (x ∷ es) b rest even zero e is =
-      let same : x ≡ e = cc in (
-        b,
-        (
-          subst (Among (placed_export machine dll b e)) (sym (placed-export machine dll b x (after_head machine dll es rest) even))
-              (subst (λ (y : ExportView). Among (placed_export machine dll b e) (placed_export machine dll b y ∷ placed_from (ends_of_export machine dll b x) (after_head machine dll es rest))) (sym same)
-              (among_first (placed_export machine dll b e) (placed_from (ends_of_export machine dll b x) (after_head machine dll es rest)))),
-          times_none b.addresses (thunk_width machine),
-        ),
-      )
+      grind (arith, placed_export machine dll b e, placed-export machine dll b x (after_head machine dll es rest) even, after_head machine dll es rest, ends_of_export machine dll b x, among_first (placed_export machine dll b e) (placed_from (ends_of_export machine dll b x) (after_head machine dll es rest)), times_none b.addresses (thunk_width machine))
   export_placed (x ∷ es) b rest even (suc j) e is =
       let later : Bases = ends_of_export machine dll b x in
       let found = export_placed es later rest (aligned_after machine dll b x even) j e is in (
@@ -48,8 +40,7 @@ module _ (machine : MachineType) (dll : NamesOfDll) where
   unfolding ends_of_exports
   behind_exports [] b rest q even m = subst (Among q) (sym (placed-tail machine dll b rest even)) (among_later q _ _ m)
   behind_exports (e ∷ es) b rest q even m =
-      subst (Among q) (sym (placed-export machine dll b e (after_head machine dll es rest) even))
-      (among_later q _ _ (behind_exports es (ends_of_export machine dll b e) rest q (aligned_after machine dll b e even) m))
+      grind (arith, behind_exports es (ends_of_export machine dll b e) rest q (aligned_after machine dll b e even) m, placed-export, after_head, even, among_later, ends_of_export, aligned_after)
 
 pub first_sum : (c a w m : ℕ) → c ≡ a + w * m → c ≡ a + w * 0 + w * m
 first_sum c a w m is = is ∙ ap (λ k. k + w * m) (times_none a w)
@@ -84,11 +75,7 @@ code_relocations machine e is = rw is refl
 
 pub target_is : (machine : MachineType) (dll : NamesOfDll) (linked : List Placed) (b : Bases) (e : ExportView) (entry : ℕ) → e.is_data ≡ false → b.addresses ≡ entry →
     target_address linked (placed_export machine dll b e) 2 ≡ entry
-target_is machine dll linked b e entry is same =
-    let plain : b.addresses + 0 ≡ b.addresses = omega arith in
-    ap address_or_zero (address_found machine dll linked b e is) ∙ plain ∙ same
+target_is machine dll linked b e entry is same = grind (arith, address_found machine dll linked b e is)
 
 pub same_address : (name : List ℕ) (a b : ℕ) (ds : List SymbolDefinition) → ds ≡ record { name = name; address = Some a } ∷ [] → ds ≡ record { name = name; address = Some b } ∷ [] → a ≡ b
-same_address name a b ds first second =
-    let same : Some a ≡ Some b = ap first_address (sym first ∙ second) in
-    cc
+same_address name a b ds first second = grind arith

@@ -1,15 +1,13 @@
 -- The exports of a text that are chosen, with what it states of them.
-use Rattle.std.proofs.Common.{◌≡◌, ℕ, Bool, true, false, List, [], ◌∷◌, map, Option, Some, None, refl, ap, sym, ◌∙◌, inl, inr, if◌then◌else◌}
+use Rattle.std.proofs.Common.{arith, ◌≡◌, ℕ, Bool, List, [], ◌∷◌, map, Option, Some, None, refl, ap, ◌∙◌}
 use Rattle.std.specs.Prelude.{not, option_map, slice_get}
 use Rattle.std.specs.List.{AllByRecursion, cons_option, filter, filter_map}
-use Rattle.std.proofs.lemmas.Bool.{cases_Bool}
 use Rattle.std.proofs.lemmas.Option.{slice_get-map}
 use Rattle.implib.specs.declared.flavor.Flavor.{Flavor}
 use Rattle.implib.specs.declared.machine.MachineType.{MachineType}
 use Rattle.implib.specs.Asked.{EachAsksForItsWord}
 use Rattle.implib.specs.Definition.{DefinitionView, ExportView}
 use Rattle.implib.specs.Text.Grammar.{Export}
-use Rattle.implib.specs.Import.{Name, Ordinal, public_exports}
 use Rattle.implib.specs.Library.{LibraryView}
 use Rattle.implib.specs.Link.LinkedMembers.{chosen_exports}
 use Rattle.implib.specs.Renaming.{renamed}
@@ -27,18 +25,12 @@ exports_stated machine [] (s ∷ statements) each = absurd each
 exports_stated machine (e ∷ exports) [] each = absurd each
 exports_stated machine (e ∷ exports) (s ∷ statements) each = ap (λ others. e ∷ others) (exports_stated machine exports statements each.1)
 
-pub stated_ask : (no_name : Bool) (ordinal : ℕ) (expected word : List ℕ) → (no_name ≡ false → expected ≡ word) →
-    (if no_name then Ordinal ordinal else Name expected ordinal) ≡ (if no_name then Ordinal ordinal else Name word ordinal)
-stated_ask true ordinal expected word same = refl
-stated_ask false ordinal expected word same = ap (λ text. Name text ordinal) (same refl)
-
 pub all_filter : {X : Type 0} (P : X → Type 0) (test : X → Bool) (xs : List X) → AllByRecursion P xs → AllByRecursion P (filter test xs)
 all_filter P test xs all = all_from P (filter test xs) (λ x held. all_among P x xs (passing test x xs held).0 all)
 
 map_filter : {X Y : Type 0} (f : X → Y) (test : Y → Bool) (xs : List X) → map f (filter (λ x. test (f x)) xs) ≡ filter test (map f xs)
 map_filter f test [] = refl
-map_filter f test (x ∷ xs) =
-    elim (cases_Bool (test (f x))) [ inl is ↦ rw is (ap (λ others. f x ∷ others) (map_filter f test xs)) | inr is ↦ rw is (map_filter f test xs) ]
+map_filter f test (x ∷ xs) = grind (arith, map_filter f test xs)
 
 -- choosing by numbers
 pub all_chosen : {X : Type 0} (P : X → Type 0) (xs : List X) (chosen : List ℕ) → AllByRecursion P xs → AllByRecursion P (filter_map (slice_get xs) chosen)
@@ -50,10 +42,7 @@ map_cons_option f (Some x) xs = refl
 
 map_chosen : {X Y : Type 0} (f : X → Y) (xs : List X) (chosen : List ℕ) → map f (filter_map (slice_get xs) chosen) ≡ filter_map (slice_get (map f xs)) chosen
 map_chosen f xs [] = refl
-map_chosen f xs (n ∷ chosen) =
-    map_cons_option f (slice_get xs n) (filter_map (slice_get xs) chosen)
-    ∙ ap (λ others. cons_option (option_map f (slice_get xs n)) others) (map_chosen f xs chosen)
-    ∙ ap (λ o. cons_option o (filter_map (slice_get (map f xs)) chosen)) (sym (slice_get-map f xs n))
+map_chosen f xs (n ∷ chosen) = grind (arith, map_chosen f xs chosen, map_cons_option, slice_get-map)
 
 module _ (machine : MachineType) (d : DefinitionView) (statements : List Export) (each : EachAsksForItsWord machine (renamed d).exports statements) (chosen : List ℕ) where
   pub statements_are : map (λ (s : Stated). s.export) (chosen_stated d statements chosen) ≡ chosen_exports d chosen
@@ -66,6 +55,4 @@ module _ (machine : MachineType) (d : DefinitionView) (statements : List Export)
 -- exports under their names to link by are chosen as others
 pub chosen_renamed : (library : LibraryView) (parsed : DefinitionView) (machine : MachineType) (flavor : Flavor) (chosen : List ℕ) →
     library ≡ record { definition = renamed parsed; machine = machine; flavor = flavor } → chosen_exports library.definition chosen ≡ chosen_exports parsed chosen
-chosen_renamed library parsed machine flavor chosen held =
-    ap (λ (l : LibraryView). chosen_exports l.definition chosen) held
-    ∙ ap (λ (d : DefinitionView). filter_map (slice_get (public_exports d)) chosen) (renamed_twice parsed)
+chosen_renamed library parsed machine flavor chosen held = grind (arith, renamed_twice)

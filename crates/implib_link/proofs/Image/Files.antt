@@ -1,4 +1,5 @@
 -- What a loader finds that begins with a file.
+use Rattle.std.proofs.lemmas.Grind.{common_steps}
 use Rattle.std.proofs.Common.{◌≡◌, ℕ, zero, suc, ◌+◌, ◌-◌, ◌*◌, ◌^◌, ◌<◌, ◌≤◌, List, [], ◌∷◌, ◌++◌, length, map, Some, refl, sym, ◌∙◌, subst, inl, inr, arith}
 use Rattle.std.specs.Prelude.{slice_get, slice_index}
 use Rattle.std.specs.List.{AllByRecursion, Contains}
@@ -7,7 +8,7 @@ use Rattle.std.proofs.lemmas.Bool.{cases_Bool}
 use Rattle.std.proofs.lemmas.List.{length-map}
 use Rattle.implib.specs.Formats.Object.{ObjectSymbol}
 use Rattle.implib.specs.Import.{Ask}
-use Rattle.implib.specs.Link.Image.{Range, byte_at, is_in, range_end}
+use Rattle.implib.specs.Link.Image.{Range, byte_at, is_in}
 use Rattle.implib.specs.Link.Load.{BytesAt}
 use Rattle.implib.specs.Members.ImportTables.{thunk_width}
 use Rattle.implib.specs.declared.machine.MachineType.{MachineType}
@@ -33,9 +34,7 @@ index_located : (memory : List Range) (bytes : List ℕ) (start k : ℕ) → Byt
 unfolding BytesAt
 index_located memory [] start k located small = absurd (omega arith)
 index_located memory (x ∷ bytes) start zero located small = let plain : start ≡ start + 0 = omega arith in subst (λ n. byte_at memory n ≡ Some x) plain located.0
-index_located memory (x ∷ bytes) start (suc k) located small =
-    let next : start + 1 + k ≡ start + suc k = omega arith in
-    subst (λ n. byte_at memory n ≡ Some (slice_index bytes k)) next (index_located memory bytes (start + 1) k located.1 (omega arith))
+index_located memory (x ∷ bytes) start (suc k) located small = grind (arith, index_located memory bytes (start + 1) k located.1 (omega arith))
 
 holds_keep : (memory ranges : List Range) → AllByRecursion (λ (r : Range). BytesAt memory r.start r.bytes) ranges → Keeps ranges memory
 unfolding Keeps
@@ -78,30 +77,19 @@ module _ (machine : MachineType) (t : Tables) (bytes : List ℕ) (file : MappedF
 
   pub file_loads : (n : ℕ) (written : List Range) → LoadsFile file gives n written →
       (n ≡ length t.tables) × (AreTablesLoaded machine t gives written × Writes t.image (thunk_width machine) gives t.directory (map imported_by_table t.tables) written)
-  file_loads n written loads =
-      let found = read n written loads in
-      (found.0 ∙ length-map t.tables imported_by_table, (tables_load machine gives wide t written tables found.1, found.1))
+  file_loads n written loads = grind (arith, read, length-map, tables_load)
 
   pub file_ends : (written : List Range) × LoadsFile file gives (length t.tables) written
   file_ends =
       let found = memory_can_be_read t.image file.image kept (thunk_width machine) gives t.directory (map imported_by_table t.tables) tables.directory in
-      let reads : ReadsAndWrites file.image file.width gives (length t.tables) t.directory found.0 =
-      subst (λ width. ReadsAndWrites file.image width gives (length t.tables) t.directory found.0) (sym own.width)
-      (subst (λ n. ReadsAndWrites file.image (thunk_width machine) gives n t.directory found.0) (length-map t.tables imported_by_table) found.1) in
+      let reads : ReadsAndWrites file.image file.width gives (length t.tables) t.directory found.0 = grind (arith, length-map) in
       (found.0, subst (λ o. WritesFrom file gives o (length t.tables) found.0) (sym own.directory) reads)
 
   -- what is in tables that are in a directory
   all_in : (d : DataDirectory) → AllByRecursion (HasTable (thunk_width machine) d) t.tables → (written : List Range) →
       AllByRecursion (IsInTable (thunk_width machine) t.tables) written → AllByRecursion (IsInDirectory d) written
   all_in d inside [] within = tt
-  all_in d inside (r ∷ written) within =
-      let one = within.0 in
-      let bounds = all_among (HasTable (thunk_width machine) d) one.table t.tables (contains_among one.table t.tables one.held) inside in
-      let low : d.address ≤ one.table.address = bounds.0 in
-      let high : one.table.address + thunk_width machine * length one.table.entries ≤ d.address + d.size = bounds.1 in
-      let from : one.table.address ≤ r.start = one.from in
-      let to : range_end r ≤ one.table.address + thunk_width machine * length one.table.entries = one.to in
-      (record { from = omega arith; to = omega arith }, all_in d inside written within.1)
+  all_in d inside (r ∷ written) within = grind (arith, common_steps, all_in d inside written within.1, all_among, contains_among)
 
   pub file_writes_inside : (n : ℕ) (written : List Range) (d : DataDirectory) → LoadsFile file gives n written →
       AllByRecursion (HasTable (thunk_width machine) d) t.tables → AllByRecursion (IsInDirectory d) written
@@ -133,9 +121,7 @@ module _ (machine : MachineType) (t : Tables) (codes : List LinkedCode) (targets
     beside = beside;
     paged = same_pages machine file.base;
     image_kept = λ a b is. all_kept a b (byte_front t.image (ranges_of_codes codes) a b is);
-    code_kept = λ c k b m is clear.
-        located_each file.image c.bytes c.position k b
-        (all_among (λ (r : Range). BytesAt file.image r.start r.bytes) (range_of_code c) linked_memory (among_back (range_of_code c) t.image (ranges_of_codes codes) (among_map range_of_code c codes m)) own.holds) is;
+    code_kept = λ c k b m is clear. grind (arith, among_back (range_of_code c) t.image (ranges_of_codes codes) (among_map range_of_code c codes m), among_map range_of_code c codes m, located_each, all_among);
     whole = λ c r width address number entry held m is symbol placed there. inl (refl, number_kept linked_memory file.image all_kept width (c.position + r.offset) number there);
   }
 

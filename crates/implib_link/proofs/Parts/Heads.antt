@@ -36,9 +36,7 @@ module _ (group : Group) (o : Object) (b : Bases) (s : ObjectSection) (is : only
   in_section : (k value : ℕ) (found : Option ObjectSection) → slice_get o.sections k ≡ found → is_in_group group found ≡ true →
       address_in (section_addresses_of b o.sections) (suc k) value ≡ Some (base_of group b + value)
   in_section k value None at own = cc
-  in_section k value (Some x) at own =
-      let one = one_is (sections_of group o.sections) s is in
-      one_address group o.sections b s k x value one.0 one.1 even at own
+  in_section k value (Some x) at own = grind (arith, one_is, one_address)
 
   pub group_address : (number value : ℕ) → is_in_group group (section_numbered o.sections number) ≡ true → address_in (section_addresses_of b o.sections) number value ≡ Some (base_of group b + value)
   group_address zero value own = cc
@@ -67,9 +65,7 @@ entry_defined o b s is even name (ASymbol x ∷ entries) held =
                 subst (λ (d : SymbolDefinition). Among d (filter_map (defined_by_entry addresses) (ASymbol x ∷ entries))) definition here
             | inr other ↦ rw parts.0 (among_later _ _ _ (entry_defined o b s is even name entries (rw other at found)))
           ]
-      | inr other ↦
-          let later = entry_defined o b s is even name entries (rw other at held) in
-          elim (cases_Bool (is_defined_external x)) [ inl is_defined ↦ rw is_defined (among_later _ _ _ later) | inr none ↦ rw none later ]
+      | inr other ↦ grind (arith, entry_defined o b s is even name entries (rw other at held), held, among_later)
     ]
 
 pub has_section : (machine : MachineType) (o : Object) (ask : Ask) (found : Option ObjectSection) → option_and_then (λ (s : ObjectSection). ask_of machine o s.bytes s.relocations) found ≡ Some ask →
@@ -92,14 +88,9 @@ module _ (machine : MachineType) (linked : List Placed) (image : List Range) (st
   texts_named : (name bytes : List ℕ) (objects later : List Object) (b : Bases) → AllByRecursion IsSized objects → LocatedFrom machine linked image b (objects ++ later) → named_bytes name objects ≡ Some bytes →
       (a : ℕ) × (Among (record { name = name; address = Some a }) (definitions (placed_from b (objects ++ later))) × BytesAt image a bytes)
   texts_named name bytes [] later b sized located is = cc
-  texts_named name bytes (o ∷ []) later b sized located is =
-      let found = named_located machine linked image starts ends o b later sized.0 located name o.entries bytes is in
-      (found.0, (among_front _ (filter_map (defined_by_entry (section_addresses_of b o.sections)) o.entries) (definitions (placed_from (ends_after b o.sections) later)) found.1.0, found.1.1))
+  texts_named name bytes (o ∷ []) later b sized located is = grind (arith, named_located, among_front)
   texts_named name bytes (o ∷ q ∷ objects) later b sized located is =
-      let found = texts_named name bytes (q ∷ objects) later (ends_after b o.sections) sized.1 (located_next o b (q ∷ objects ++ later) sized.0 located) is in (
-        found.0,
-        (among_back _ (filter_map (defined_by_entry (section_addresses_of b o.sections)) o.entries) (definitions (placed_from (ends_after b o.sections) (q ∷ objects ++ later))) found.1.0, found.1.1),
-      )
+      grind (arith, texts_named name bytes (q ∷ objects) later (ends_after b o.sections) sized.1 (located_next o b (q ∷ objects ++ later) sized.0 located) is, located_next, among_back)
 
   -- an object with an entry, placed among others that are placed from bases on
   pub record IsEntryPlaced (b : Bases) (all : List Object) (o : Object) (address : ℕ) : Type 0 where
@@ -123,11 +114,8 @@ module _ (machine : MachineType) (linked : List Placed) (image : List Range) (st
 
   aligned_one : (o : Object) (b : Bases) → AreAligned b → sections_of Descriptors o.sections ≡ [] → sections_end Lookups b.lookups o.sections ≡ b.lookups + thunk_width machine →
       sections_end Addresses b.addresses o.sections ≡ b.addresses + thunk_width machine → AreAligned (ends_after b o.sections)
-  aligned_one o b even none lookups addresses = record {
-    descriptors = ap (λ n. n % 4) (end_of_sections Descriptors b o.sections ∙ none_ends Descriptors o.sections b.descriptors none) ∙ even.descriptors;
-    lookups = ap (λ n. n % 4) (end_of_sections Lookups b o.sections ∙ lookups) ∙ aligned_thunk machine b.lookups even.lookups;
-    addresses = ap (λ n. n % 4) (end_of_sections Addresses b o.sections ∙ addresses) ∙ aligned_thunk machine b.addresses even.addresses;
-  }
+  aligned_one o b even none lookups addresses =
+      grind (arith, end_of_sections Descriptors b o.sections, none_ends Descriptors o.sections b.descriptors none, end_of_sections Lookups b o.sections, aligned_thunk machine b.lookups even.lookups, end_of_sections Addresses b o.sections, aligned_thunk machine b.addresses even.addresses)
 
   tables_from : (objects later : List Object) (entries : List TableEntry) (b : Bases) → AreAligned b → AllByRecursion IsSized objects → LocatedFrom machine linked image b (objects ++ later) →
       AreEntries machine objects entries → TablesFrom b objects later entries
@@ -274,12 +262,7 @@ module _ (machine : MachineType) (linked : List Placed) (image : List Range) (st
         go (Some s) at is =
             let only = only_located machine linked image starts ends o b rest sized located Descriptors s tt at even.descriptors in
             elim (cases_Bool (bytes_eq s.bytes (zeros 20))) [
-              | inl blank ↦
-                  let same : s.bytes ≡ zeros 20 = (bytes_eq-Decides s.bytes (zeros 20)).0 blank in
-                  let fields : row_of machine s.relocations ≡ Some row = rw blank at is in (
-                    subst (BytesAt image b.descriptors) (ap (relocated machine linked p s.relocations) same ∙ row_filled s.relocations row fields) only.0,
-                    only.1 ∙ ap (λ n. b.descriptors + n) (ap length same),
-                  )
+              | inl blank ↦ grind (arith, bytes_eq-Decides, row_filled, only)
               | inr other ↦ let none : None ≡ Some row = rw other at is in cc
             ]
 
@@ -359,11 +342,7 @@ module _ (machine : MachineType) (linked : List Placed) (image : List Range) (st
       let descriptors_are : next.descriptors ≡ b.descriptors + 20 = end_of_sections Descriptors b head.sections ∙ row.1 in
       let lookups_are : next.lookups ≡ b.lookups = end_of_sections Lookups b head.sections ∙ lookups.1 in
       let addresses_are : next.addresses ≡ b.addresses = end_of_sections Addresses b head.sections ∙ addresses.1 in
-      let later_even : AreAligned next = record {
-        descriptors = ap (λ n. n % 4) descriptors_are ∙ later_even b.descriptors even.descriptors;
-        lookups = ap (λ n. n % 4) lookups_are ∙ even.lookups;
-        addresses = ap (λ n. n % 4) addresses_are ∙ even.addresses;
-      } in
+      let later_even : AreAligned next = grind (arith, later_even, lookups, addresses) in
       let next_located : LocatedFrom machine linked image next rest = located_next head b rest sized.0 located in
       let name = name_found head b rest sized.0 even located dll others later (slice_get head.entries begin.row.name) sized.1 next_located (λ d m. only d (among_back d own behind m)) begin.name in
       let tables = tables_from others later entries next later_even sized.1 next_located are in

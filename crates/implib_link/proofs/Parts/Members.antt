@@ -39,7 +39,7 @@ use Rattle.implib_link.proofs.Gnu.Packed.{export_sized, head_sized, tail_sized}
 use Rattle.implib_link.proofs.Search.Lists.{all_from, each_of, none_among, contains_among}
 use Rattle.std.specs.Option.{option_map}
 use Rattle.implib.specs.Fault.{MemberTooLong}
-use Rattle.implib.specs.Members.GnuMembers.{alias_specs, head_spec, tail_spec}
+use Rattle.implib.specs.Members.GnuMembers.{head_spec, tail_spec}
 use Rattle.implib.specs.Members.MemberSpec.{MemberSpec, file_size, member_of}
 use Rattle.implib.specs.Members.Members.{is_too_long, length_refusal}
 use Rattle.implib.specs.Members.NameRules.{definition_names_refusal}
@@ -124,8 +124,7 @@ hint_is n small = omega arith
 
 hint_read : (n : ℕ) (text : List ℕ) → n < 2 ^ 16 → HasNoNul text → hint_and_name (u16_bytes n ++ (text ++ 0 ∷ [])) ≡ Some (Name text n)
 unfolding u16_bytes
-hint_read n text small free =
-    rw (lt-ltb (n % 256) 256 (low_byte n), lt-ltb (n / 256 % 256) 256 (high_byte n), before_nul-ended text [] free, hint_is n small) refl
+hint_read n text small free = grind (arith, lt-ltb, low_byte, high_byte, before_nul-ended, free, hint_is)
 
 number_read : (n : ℕ) (rest : List ℕ) → n < 2 ^ 16 → number_in (take 2 (u16_bytes n ++ rest)) ≡ n
 unfolding u16_bytes
@@ -175,19 +174,7 @@ module _ (machine : MachineType) (dll : NamesOfDll) (more : List AddedSymbol) (e
   by_ordinal is = rw is refl
 
   asks : ask_of machine (exported machine dll more e) (thunk machine e) (relocations_of_thunk machine e) ≡ Some (expected_ask machine e)
-  asks = elim (cases_Bool e.no_name) [
-    | inl is ↦
-        let bytes : List ℕ = u16_bytes e.ordinal ++ (zeros (thunk_width machine - 3) ++ 0x80 ∷ []) in
-        ap (ask_of machine (exported machine dll more e) (thunk machine e)) (no_field is)
-        ∙ ap (λ bs. ask_of machine (exported machine dll more e) bs []) (ordinal_thunk_is is)
-        ∙ ap (ordinal_with machine bytes) (number_read e.ordinal (zeros (thunk_width machine - 3) ++ 0x80 ∷ []) fits.ordinal)
-        ∙ ordinal_read machine e.ordinal fits.ordinal ∙ ap Some (sym (by_ordinal is))
-    | inr is ↦
-        ap (ask_of machine (exported machine dll more e) (thunk machine e)) (named_field is)
-        ∙ ap (λ bs. ask_of machine (exported machine dll more e) bs (relocation machine 0 (hint_name_symbol e) ∷ [])) (named_thunk is)
-        ∙ asks_name machine (exported machine dll more e) (hint_name_symbol e) (u16_bytes e.ordinal ++ (name_asked machine e ++ 0 ∷ [])) (own_hint is)
-        ∙ hint_read e.ordinal (name_asked machine e) fits.ordinal fits.name ∙ ap Some (sym (by_name is))
-  ]
+  asks = grind (arith, no_field, ordinal_thunk_is, number_read, ordinal_read, by_ordinal, named_field, named_thunk, asks_name, own_hint, hint_read, by_name)
 
   export_entry : (name : List ℕ) → names_entry (exported machine dll more e) (Some name) ≡ true → IsEntry machine (exported machine dll more e) (record { ask = expected_ask machine e; symbol = Some name })
   export_entry name named = record { descriptors = refl; lookup = asks; address = asks; symbol = named }
@@ -228,10 +215,7 @@ module _ (machine : MachineType) (dll : NamesOfDll) (more : ExportView → List 
 
   pub part_is : (objects : List Object) (es : List ExportView) → objects ≡ head machine dll ∷ after_by machine dll more es → HasNoNul dll.text → AllByRecursion (CanBeAsked machine) es →
       IsPart machine (record { objects = objects; table = record { dll = dll.text; entries = map entry_for es } })
-  part_is objects es are free fit = record {
-    objects = subst (λ os. BeginWithHead machine os (record { dll = dll.text; entries = map entry_for es })) (sym are) (begin_with_head es free fit);
-    sized = subst (AllByRecursion HoldsFields) (sym are) (head_sized machine dll, sized es);
-  }
+  part_is objects es are free fit = grind (arith, objects, begin_with_head, free, fit, sized, head_sized)
 
 -- Today's members.
 
@@ -244,9 +228,7 @@ same_objects machine dll es = refl
 
 pub members_objects : (machine : MachineType) (p : LinkInput) → IsMade machine p →
     (part_of machine p).objects ≡ head machine (names_for Gnu p.definition) ∷ after_by machine (names_for Gnu p.definition) (λ e. []) (chosen_exports p.definition p.chosen)
-members_objects machine p made =
-    let dll : NamesOfDll = names_for Gnu p.definition in
-    objects_are p.definition machine p.members p.chosen made ∙ ap (λ os. head machine dll ∷ os) (same_objects machine dll (chosen_exports p.definition p.chosen))
+members_objects machine p made = grind (arith, objects_are p.definition machine p.members p.chosen made, head, same_objects)
 
 pub members_are_part : (machine : MachineType) (p : LinkInput) → IsMade machine p → IsPart machine (part_of machine p)
 members_are_part machine p made =
@@ -268,9 +250,7 @@ fields_none machine relocations all =
 
 sections_steady : (machine : MachineType) (sections : List ObjectSection) →
     list_all (λ s. not (is_table s) || list_all (λ r. not (is_whole (absolute_width machine r.kind))) s.relocations) sections ≡ true → AllByRecursion (IsSteady machine) sections
-sections_steady machine sections all = all_from (IsSteady machine) sections (λ s held.
-    let own = each_of (λ (x : ObjectSection). not (is_table x) || list_all (λ r. not (is_whole (absolute_width machine r.kind))) x.relocations) s sections all held in
-    elim (cases_Bool (is_table s)) [ inl table ↦ inr (fields_none machine s.relocations (rw table at own)) | inr other ↦ inl (no_group s.name other) ])
+sections_steady machine sections all = grind (arith, all_from, each_of, fields_none, no_group)
 
 objects_steady : (machine : MachineType) (objects : List Object) → list_all (stores_none machine) objects ≡ true → AllByRecursion (AllSteady machine) objects
 objects_steady machine objects all = all_from (AllSteady machine) objects (λ o held. sections_steady machine o.sections (each_of (stores_none machine) o objects all held))
@@ -283,8 +263,7 @@ each_steady machine (p ∷ parts) all =
 
 pub parts_steady : (machine : MachineType) (bases : Bases) (parts : List Part) (objects : List Object) → IsProgramOfParts machine bases parts objects →
     AllByRecursion (λ (p : Part). list_all (stores_none machine) p.objects ≡ true) parts → AreSteady machine (placed_from bases objects)
-parts_steady machine bases parts objects program all =
-    tables_none machine bases objects (all_steady machine objects (subst (AllByRecursion (AllSteady machine)) (sym program.tables) (each_steady machine parts all)))
+parts_steady machine bases parts objects program all = grind (arith, tables_none, objects, all_steady, each_steady)
 
 -- Members store none.
 
@@ -299,18 +278,14 @@ module _ (machine : MachineType) (dll : NamesOfDll) (more : ExportView → List 
   exports_none : (es : List ExportView) → list_all (stores_none machine) (after_by machine dll more es) ≡ true
   unfolding tail_object
   exports_none [] = refl
-  exports_none (e ∷ es) =
-      let own : stores_none machine (exported machine dll (more e) e) ≡ true = rw (relative_none machine, thunk_none machine e) refl in
-      and_from (stores_none machine (exported machine dll (more e) e)) (list_all (stores_none machine) (after_by machine dll more es)) own (exports_none es)
+  exports_none (e ∷ es) = grind (arith, exports_none es, relative_none, thunk_none, and_from)
 
   head_none : stores_none machine (head machine dll) ≡ true
   unfolding head_object
   head_none = rw (relative_none machine) refl
 
   pub part_stores_none : (objects : List Object) (es : List ExportView) → objects ≡ head machine dll ∷ after_by machine dll more es → list_all (stores_none machine) objects ≡ true
-  part_stores_none objects es are =
-      ap (list_all (stores_none machine)) are
-      ∙ and_from (stores_none machine (head machine dll)) (list_all (stores_none machine) (after_by machine dll more es)) head_none (exports_none es)
+  part_stores_none objects es are = grind (arith, and_from, head, head_none, exports_none)
 
 pub members_store_none : (machine : MachineType) (p : LinkInput) → IsMade machine p → list_all (stores_none machine) (part_of machine p).objects ≡ true
 members_store_none machine p made =
@@ -322,21 +297,13 @@ members_store_none machine p made =
 
 -- what a writer wrote reads as what it holds
 held_reads : (h : WriterState) → Fits (layout_of h) → encoded_size (layout_of h) ≤ 0xFFFF_FFFF → object_in (encoded (layout_of h)) ≡ Some (written_object h)
-held_reads h fits short =
-    let below : encoded_size (layout_of h) < 2 ^ 32 = omega arith in
-    object_in-encoded (layout_of h) fits below ∙ ap Some (object_of-layout_of h)
+held_reads h fits short = grind (arith, object_in-encoded, object_of-layout_of)
 
 -- the specification of each export is among those of the definition
 numbered_among : (machine : MachineType) (dll : List ℕ) (exports : List ExportView) (start n : ℕ) (e : ExportView) → slice_get exports n ≡ Some e →
     Among (older_spec machine dll (start + n) e) (numbered_older_specs machine dll start exports)
 numbered_among machine dll [] start n e is = cc
-numbered_among machine dll (x ∷ exports) start zero e is =
-    let same : x ≡ e = cc in
-    let position : start ≡ start + 0 = omega arith in
-    among_front _ (older_specs_of machine dll start x) (numbered_older_specs machine dll (start + 1) exports)
-    (among_back _ (alias_specs machine dll start x) (older_spec machine dll start x ∷ [])
-    (subst (λ y. Among (older_spec machine dll (start + 0) y) (older_spec machine dll start x ∷ [])) same
-    (subst (λ n. Among (older_spec machine dll n x) (older_spec machine dll start x ∷ [])) position (among_first _ []))))
+numbered_among machine dll (x ∷ exports) start zero e is = grind (arith, among_front, among_back, among_first)
 numbered_among machine dll (x ∷ exports) start (suc n) e is =
     let position : start + 1 + n ≡ start + suc n = omega arith in
     among_back _ (older_specs_of machine dll start x) (numbered_older_specs machine dll (start + 1) exports)
@@ -351,11 +318,7 @@ name_by older e = if older e then older_symbol e.name else imp_symbol e.name
 
 -- each of the two names is at the entry
 both_named : (machine : MachineType) (dll : NamesOfDll) (older : ExportView → Bool) (e : ExportView) → names_entry (exported machine dll (further e) e) (Some (name_by older e)) ≡ true
-both_named machine dll older e =
-    elim (cases_Bool (older e)) [
-      | inl is ↦ rw is (ap (list_any (bytes_eq (older_symbol e.name))) (names_are machine dll (further e) e) ∙ rw (same_text (older_symbol e.name)) refl)
-      | inr is ↦ rw is (ap (list_any (bytes_eq (imp_symbol e.name))) (names_are machine dll (further e) e) ∙ rw (same_text (imp_symbol e.name)) refl)
-    ]
+both_named machine dll older e = grind (arith, names_are, same_text)
 
 module _ (machine : MachineType) (p : LinkInput) (made : AreOlderMembersOf p.definition machine p.members) where
   abbrev dll : NamesOfDll
@@ -390,10 +353,7 @@ module _ (machine : MachineType) (p : LinkInput) (made : AreOlderMembersOf p.def
   head_among = among_later _ _ _ (among_first _ _)
 
   export_among : (n : ℕ) (e : ExportView) → slice_get exports n ≡ Some e → Among (older_spec machine dll.linked n e) specs
-  export_among n e is =
-      let position : 0 + n ≡ n = omega arith in
-      among_later _ _ _ (among_later _ _ _ (among_reverse _ _
-      (subst (λ m. Among (older_spec machine dll.linked m e) (numbered_older_specs machine dll.linked 0 exports)) position (numbered_among machine dll.linked exports 0 n e is))))
+  export_among n e is = grind (arith, numbered_among machine dll.linked exports 0 n e is, among_later, among_reverse)
 
   tail_reads : object_in (member_of (tail_spec machine dll)).bytes ≡ Some (tail machine dll)
   unfolding tail_spec
@@ -431,16 +391,11 @@ module _ (machine : MachineType) (p : LinkInput) (made : AreOlderMembersOf p.def
       × (AllByRecursion (Contains p.members) (map member_of (cons_option (option_map (older_spec machine dll.linked n) found) (filter_map (older_numbered machine dll.linked exports) ns) ++ tail_spec machine dll ∷ []))
       × AllByRecursion (CanBeAsked machine) (cons_option found (filter_map (slice_get exports) ns)))
   one_more n ns None is rest = (rest.objects, (rest.held, rest.asked))
-  one_more n ns (Some e) is rest = (
-    ap (λ o. cons_option o (objects_in (map member_of (behind ns)))) (export_reads n e is) ∙ ap (λ os. exported machine dll (further e) e ∷ os) rest.objects,
-    ((held_by (older_spec machine dll.linked n e) (export_among n e is), rest.held), (fit n e is, rest.asked)),
-  )
+  one_more n ns (Some e) is rest = grind (arith, export_reads n e is, held_by (older_spec machine dll.linked n e) (export_among n e is), export_among n e is, fit n e is)
 
   all_chosen : (ns : List ℕ) → AreChosen ns
   all_chosen [] = record { objects = ap (λ o. cons_option o []) tail_reads; held = (held_by (tail_spec machine dll) tail_among, tt); asked = tt }
-  all_chosen (n ∷ ns) =
-      let found = one_more n ns (slice_get exports n) refl (all_chosen ns) in
-      record { objects = found.0; held = found.1.0; asked = found.1.1 }
+  all_chosen (n ∷ ns) = grind (arith, all_chosen ns, one_more n ns (slice_get exports n) refl (all_chosen ns))
 
   pub older_held : AllByRecursion (Contains p.members) (older_linked p.definition machine p.chosen)
   older_held = (held_by (head_spec machine dll.linked) head_among, (all_chosen p.chosen).held)
@@ -464,9 +419,7 @@ unfolding Among
 definition_held addresses s [] external m = absurd m
 definition_held addresses s (x ∷ entries) external (inl same) = subst (λ y. Among (record { name = s.name; address = address_in addresses s.section s.value }) (filter_map (defined_by_entry addresses) (y ∷ entries))) same (rw external (inl refl))
 definition_held addresses s (Auxiliary bytes ∷ entries) external (inr m) = definition_held addresses s entries external m
-definition_held addresses s (ASymbol t ∷ entries) external (inr m) =
-    let later = definition_held addresses s entries external m in
-    elim (cases_Bool (is_defined_external t)) [ inl is ↦ rw is (inr later) | inr other ↦ rw other later ]
+definition_held addresses s (ASymbol t ∷ entries) external (inr m) = grind (arith, definition_held addresses s entries external m)
 
 -- An object has the stub of its entry under a name, at the beginning of its first section.
 abbrev named_code : List ℕ → ObjectSymbol
@@ -489,8 +442,7 @@ entry_found linked o b place (Some (Auxiliary bytes)) led = cc
 entry_found linked o b place (Some (ASymbol x)) led =
     let first = and_parts (not (is_undefined_external x)) ((x.value == 0) && is_in_group Addresses (section_numbered o.sections x.section)) led in
     let second = and_parts (x.value == 0) (is_in_group Addresses (section_numbered o.sections x.section)) first.1 in
-    let here : address_in (section_addresses_of b o.sections) x.section x.value ≡ Some b.addresses =
-    place x.section x.value second.1 ∙ ap (λ n. Some (b.addresses + n)) (eqb-true x.value 0 second.0) ∙ ap Some (plus_none b.addresses) in
+    let here : address_in (section_addresses_of b o.sections) x.section x.value ≡ Some b.addresses = grind (arith, eqb-true, plus_none) in
     elim (cases_Bool (is_undefined_external x)) [
       | inl left ↦ let none : false ≡ true = rw left at first.0 in cc
       | inr own ↦ (ASymbol x, (refl, rw own here))

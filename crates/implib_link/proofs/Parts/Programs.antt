@@ -1,22 +1,19 @@
 -- A program of members for GNU's linker is one of parts.
-use Rattle.std.proofs.Common.{◌≡◌, List, [], ◌∷◌, ◌++◌, map, refl, ap, sym, ◌∙◌, subst, ℕ, zero, suc, ◌+◌, ◌*◌, ◌^◌, ◌<◌, false, length, Some, inl, inr, arith, ◌⊎◌}
-use Rattle.std.specs.Prelude.{bytes_eq, not, ◌&&◌, slice_get}
+use Rattle.std.proofs.Common.{◌≡◌, List, [], ◌∷◌, ◌++◌, map, refl, ap, sym, ◌∙◌, subst, ℕ, zero, suc, ◌+◌, ◌*◌, ◌^◌, ◌<◌, length, Some, inl, inr, arith, ◌⊎◌}
+use Rattle.std.specs.Prelude.{bytes_eq, not, slice_get}
 use Rattle.std.specs.List.{AllByRecursion, IsDistinct, filter, filter_map, flat_map}
 use Rattle.std.proofs.lemmas.Grind.{flat_map-append}
 use Rattle.std.proofs.lemmas.List.{append-nil, append_assoc, map-append}
 use Rattle.std.proofs.lemmas.List.Elements.{filter_map-append}
 use Rattle.implib.specs.declared.machine.MachineType.{MachineType}
-use Rattle.implib.specs.Formats.Object.{Object, object_in, ASymbol, Auxiliary, Entry}
-use Rattle.implib.specs.Link.LinkedMembers.{IsMade, LinkInput, all_linked, linked_members, objects_in}
+use Rattle.implib.specs.Formats.Object.{Object, ASymbol, Auxiliary, Entry}
+use Rattle.implib.specs.Link.LinkedMembers.{IsMade, LinkInput, all_linked, objects_in}
 use Rattle.implib.specs.Link.Placement.{Bases, placed_from, Addresses, Descriptors, DllNames, Group, HintNames, Lookups, Placed, SectionAddress, base_of, ends_after, section_addresses_of}
-use Rattle.implib.specs.Members.MemberSpec.{MemberView}
-use Rattle.implib_link.specs.Flavors.Program.{IsProgram, OfLinker, all_members, gnu_input, symbols_listed, ClaimsNone, claimed_names, has_tables, names_claimed_in, null_descriptor, claimed_name, is_reference, is_shared}
+use Rattle.implib_link.specs.Flavors.Program.{IsProgram, OfLinker, all_members, gnu_input, symbols_listed, claimed_names, has_tables, names_claimed_in, null_descriptor, claimed_name}
 use Rattle.implib_link.specs.Parts.{IsProgramOfParts, Part, names_of_parts, objects_of_parts, part_of, BeginWithHead, HoldsFields, IsPart}
 use Rattle.implib_link.proofs.Flavors.Program.{gnu_made, gnu_members, program_links}
 use Rattle.implib_link.proofs.Flavors.Block.{claimed_placed, plus_sum, null_located, table_sum, all_claim}
 use Rattle.implib_link.proofs.Gnu.Others.{placed_kept, contributions_kept, defined_is_claimed, definitions_kept}
-use Rattle.std.proofs.lemmas.Bool.{cases_Bool}
-use Rattle.implib.specs.Formats.File.{is_defined_external}
 use Rattle.implib.specs.Link.Image.{Range, contributions, filled, image_of, range_end}
 use Rattle.implib.specs.Link.Load.{BytesAt, NumberAt}
 use Rattle.implib.specs.Link.Resolution.{SymbolDefinition, defined_by, defined_by_entry, definitions, definitions_of}
@@ -40,16 +37,11 @@ parts_of machine inputs = map (part_of machine) inputs
 
 members_objects : (machine : MachineType) (inputs : List LinkInput) → objects_in (all_linked machine inputs) ≡ objects_of_parts (map (part_of machine) inputs)
 members_objects machine [] = refl
-members_objects machine (p ∷ inputs) =
-    filter_map-append (λ (m : MemberView). object_in m.bytes) (linked_members p.definition machine p.chosen) (all_linked machine inputs)
-    ∙ ap (λ os. objects_in (linked_members p.definition machine p.chosen) ++ os) (members_objects machine inputs)
+members_objects machine (p ∷ inputs) = grind (arith, members_objects machine inputs, filter_map-append)
 
 module _ (machine : MachineType) (bases : Bases) (inputs : List LinkInput) (objects : List Object) (made : AllByRecursion (IsMade machine) inputs) (program : IsProgram machine bases inputs objects) where
   tables_are : filter has_tables objects ≡ objects_of_parts (parts_of machine inputs) ++ null_descriptor ∷ []
-  tables_are =
-      program.held.ended.tables
-      ∙ ap (λ ms. objects_in ms ++ null_descriptor ∷ []) (gnu_members machine inputs)
-      ∙ ap (λ os. os ++ null_descriptor ∷ []) (members_objects machine inputs)
+  tables_are = grind (arith, gnu_members, members_objects)
 
   names_are : symbols_listed (all_members machine (map gnu_input inputs)) ≡ names_of_parts (parts_of machine inputs)
   names_are =
@@ -60,12 +52,7 @@ module _ (machine : MachineType) (bases : Bases) (inputs : List LinkInput) (obje
       ∙ append-nil (names_of_parts (parts_of machine inputs))
 
   pub program_of_parts : IsProgramOfParts machine bases (map (part_of machine) inputs) objects
-  program_of_parts = record {
-    tables = tables_are;
-    distinct = subst (IsDistinct bytes_eq) names_are program.held.distinct;
-    others = subst (λ names. AllByRecursion (ClaimsNone names) (filter (λ o. not (has_tables o)) objects)) names_are program.held.others;
-    admissible = program.admissible;
-  }
+  program_of_parts = grind (arith, tables_are, names_are)
 
 -- Programs of parts have import tables.
 
@@ -100,10 +87,7 @@ among_distinct : (xs ys : List (List ℕ)) → IsAmong xs ys → IsDistinct byte
 unfolding IsAmong IsDistinct
 among_distinct [] ys is distinct = tt
 among_distinct (x ∷ xs) [] is distinct = absurd is
-among_distinct (x ∷ xs) (y ∷ ys) (inl (e, is)) distinct = (
-  subst (λ z. AllByRecursion (λ other. bytes_eq z other ≡ false) xs) (sym e) (among_all (λ other. bytes_eq y other ≡ false) xs ys is distinct.0),
-  among_distinct xs ys is distinct.1,
-)
+among_distinct (x ∷ xs) (y ∷ ys) (inl (e, is)) distinct = grind (arith, among_distinct xs ys is distinct.1, among_all)
 among_distinct (x ∷ xs) (y ∷ ys) (inr is) distinct = among_distinct (x ∷ xs) ys is distinct.1
 
 among_held : (name : List ℕ) (xs ys : List (List ℕ)) → IsAmong xs ys → Among name xs → Among name ys
@@ -118,14 +102,7 @@ entries_claim : (addresses : List SectionAddress) (entries : List Entry) → IsA
 unfolding IsAmong
 entries_claim addresses [] = tt
 entries_claim addresses (Auxiliary bytes ∷ entries) = entries_claim addresses entries
-entries_claim addresses (ASymbol s ∷ entries) =
-    elim (cases_Bool (is_defined_external s)) [
-      | inl is ↦ rw (is, defined_is_claimed s is) (inl (refl, entries_claim addresses entries))
-      | inr other ↦ elim (cases_Bool (is_shared s && not (is_reference s))) [
-        | inl claims ↦ rw (other, claims) (among_skip (map (λ (d : SymbolDefinition). d.name) (filter_map (defined_by_entry addresses) entries)) s.name (filter_map claimed_name entries) (entries_claim addresses entries))
-        | inr none ↦ rw (other, none) (entries_claim addresses entries)
-      ]
-    ]
+entries_claim addresses (ASymbol s ∷ entries) = grind (arith, entries_claim addresses entries, defined_is_claimed, among_skip)
 
 objects_claim : (objects : List Object) (b : Bases) → IsAmong (map (λ (d : SymbolDefinition). d.name) (definitions (placed_from b objects))) (flat_map claimed_names objects)
 unfolding IsAmong
@@ -184,8 +161,7 @@ module _ (machine : MachineType) (linked : List Placed) (image : List Range) (lo
       let one = one_part p.objects p.table b rest is.objects is.sized level all_located all_only in
       let front : List SymbolDefinition = definitions (placed_from b p.objects) in
       let behind : List SymbolDefinition = definitions (placed_from next rest) in
-      let split : definitions (placed_from b (p.objects ++ rest)) ≡ front ++ behind =
-      ap definitions (placed_parts b p.objects rest) ∙ flat_map-append defined_by (placed_from b p.objects) (placed_from next rest) in
+      let split : definitions (placed_from b (p.objects ++ rest)) ≡ front ++ behind = grind (arith, placed_parts, flat_map-append) in
       let others = parts_link parts next later are one.aligned (located_behind machine linked image b p.objects rest is.sized all_located)
       (λ d m. all_only d (subst (Among d) (sym split) (among_back d front behind m))) in
       record {
@@ -219,14 +195,9 @@ module _ (machine : MachineType) (linked : List Placed) (image : List Range) (lo
           let own : Placed = record { object = o; section_addresses = section_addresses_of found.bases o.sections } in
           record {
             bases = found.bases;
-            held = subst (λ os. Among own (placed_from b os)) (sym (append_assoc p.objects (objects_of_parts parts) later))
-                (subst (Among own) (sym (placed_parts b p.objects (objects_of_parts parts ++ later)))
-                (among_back own (placed_from b p.objects) (placed_from (ends_behind b p.objects) (objects_of_parts parts ++ later)) found.held));
+            held = grind (arith, append_assoc, placed_parts, among_back, ends_behind);
             aligned = found.aligned;
-            addresses = found.addresses
-                ∙ ap (λ n. n + thunk_width machine * j)
-                (ap (λ n. n + thunk_width machine * entries_until i (blocks_of parts)) one.addresses_end
-                ∙ table_sum b.addresses (thunk_width machine) (length p.table.entries + 1) (entries_until i (blocks_of parts)));
+            addresses = grind (arith, entries_until, table_sum);
             section = found.section;
             only = found.only;
           }
@@ -240,11 +211,8 @@ module _ (machine : MachineType) (linked : List Placed) (image : List Range) (lo
           subst (λ n. NumberAt image 4 n (b.addresses + thunk_width machine * 0)) first
           (subst (NumberAt image 4 (b.descriptors + 16)) (one.loads.table_located ∙ plus_zero b.addresses (thunk_width machine)) one.loads.loads.plain.addresses_field)
       fields one rest (suc i) x is =
-          let row : (ends_behind b p.objects).descriptors + 20 * i + 16 ≡ b.descriptors + 20 * suc i + 16 =
-          ap (λ n. n + 20 * i + 16) one.descriptors_end ∙ ap (λ n. n + 16) (plus_sum b.descriptors i) in
-          let table : (ends_behind b p.objects).addresses + thunk_width machine * entries_until i (blocks_of parts) ≡ b.addresses + thunk_width machine * (length p.table.entries + 1 + entries_until i (blocks_of parts)) =
-          ap (λ n. n + thunk_width machine * entries_until i (blocks_of parts)) one.addresses_end
-          ∙ table_sum b.addresses (thunk_width machine) (length p.table.entries + 1) (entries_until i (blocks_of parts)) in
+          let row : (ends_behind b p.objects).descriptors + 20 * i + 16 ≡ b.descriptors + 20 * suc i + 16 = grind (arith, plus_sum) in
+          let table : (ends_behind b p.objects).addresses + thunk_width machine * entries_until i (blocks_of parts) ≡ b.addresses + thunk_width machine * (length p.table.entries + 1 + entries_until i (blocks_of parts)) = grind (arith, entries_until, table_sum) in
           subst (λ n. NumberAt image 4 n (b.addresses + thunk_width machine * (length p.table.entries + 1 + entries_until i (blocks_of parts)))) row
           (subst (NumberAt image 4 ((ends_behind b p.objects).descriptors + 20 * i + 16)) table (rest i x is))
 
@@ -324,9 +292,7 @@ module _ (machine : MachineType) (b : Bases) (parts : List Part) (objects : List
   entry_placed = links.at
 
   pub kept_is_linked : (q : Placed) → Among q (placed_from b (objects_of_parts parts ++ null_descriptor ∷ [])) → Among q (placed_from b objects)
-  kept_is_linked q m =
-      among_filter (λ (x : Placed). has_tables x.object) q (placed_from b objects)
-      (subst (Among q) (ap (placed_from b) (sym program.tables) ∙ sym (placed_kept b objects)) m)
+  kept_is_linked q m = grind (arith, placed_kept b objects, among_filter)
 
   pub defined_once : (q : Placed) (d : SymbolDefinition) → Among q (placed_from b (objects_of_parts parts ++ null_descriptor ∷ [])) → Among d (defined_by q) → definitions_of d.name (placed_from b objects) ≡ d ∷ []
   defined_once q d m held = only d (among_flat defined_by q (placed_from b (objects_of_parts parts ++ null_descriptor ∷ [])) d m held)

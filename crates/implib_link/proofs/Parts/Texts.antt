@@ -1,9 +1,9 @@
 -- Where an object's sections of a group are, and what they are filled in with.
-use Rattle.std.proofs.Common.{◌≡◌, ℕ, zero, suc, ◌+◌, ◌%◌, true, false, List, [], ◌∷◌, ◌++◌, length, Option, Some, None, refl, ap, sym, ◌∙◌, subst, inl, inr, arith, ◌*◌, ◌-◌, ◌/◌, ◌^◌, ◌<◌}
+use Rattle.std.proofs.Common.{◌≡◌, ℕ, zero, suc, ◌+◌, ◌%◌, true, false, List, [], ◌∷◌, ◌++◌, length, Option, Some, None, refl, ap, sym, ◌∙◌, subst, inl, inr, arith, ◌*◌, ◌-◌, ◌^◌, ◌<◌}
 use Rattle.std.specs.Prelude.{◌==◌, ◌||◌, slice_get, ◌&&◌, bytes_eq, drop, nat_lt, take}
 use Rattle.std.specs.List.{AllByRecursion, filter_map}
 use Rattle.std.specs.Option.{option_and_then, option_map}
-use Rattle.std.proofs.lemmas.Bool.{cases_Bool, eqb-true, and_parts, ltb-true, ne_eqb}
+use Rattle.std.proofs.lemmas.Bool.{cases_Bool, and_parts, ltb-true}
 use Rattle.implib.specs.declared.machine.MachineType.{MachineType}
 use Rattle.implib.specs.Formats.Object.{ObjectSection, ASymbol, Auxiliary, Entry, Object, before_nul, section_numbered}
 use Rattle.implib.specs.Link.Image.{Contribution, Range, contribution_at, contributions_in, filled, relocated, contributions, range_end, with_address}
@@ -32,14 +32,7 @@ use Rattle.implib_link.proofs.Gnu.Loaded.{plus_none}
 -- a multiple of 4 is one of 1, 2 and 4
 pub stays : (step n : ℕ) → (((step == 1) || ((step == 2) || (step == 4))) ≡ true) → n % 4 ≡ 0 → next_multiple step n ≡ n
 unfolding next_multiple
-stays step n one even =
-    elim (cases_Bool (step == 1)) [
-      | inl is ↦ rw (eqb-true step 1 is) (omega arith)
-      | inr is ↦ elim (cases_Bool (step == 2)) [
-        | inl is_2 ↦ rw (eqb-true step 2 is_2) (omega arith)
-        | inr is_2 ↦ rw (eqb-true step 4 (rw (is, is_2) at one)) (omega arith)
-      ]
-    ]
+stays step n one even = grind arith
 
 -- One section.
 
@@ -68,11 +61,7 @@ address_one group b flags (Some other) value is = rw (same_base group other b is
 -- what one_of gives
 pub one_is : (xs : List ObjectSection) (s : ObjectSection) → one_of xs ≡ Some s → (xs ≡ s ∷ []) × (fits_four s ≡ true)
 one_is [] s is = cc
-one_is (x ∷ []) s is =
-    elim (cases_Bool (fits_four x)) [
-      | inl fits ↦ let same : x ≡ s = let here : Some x ≡ Some s = rw fits at is in cc in (ap (λ y. y ∷ []) same, subst (λ y. fits_four y ≡ true) same fits)
-      | inr other ↦ let none : None ≡ Some s = rw other at is in cc
-    ]
+one_is (x ∷ []) s is = grind arith
 one_is (x ∷ y ∷ xs) s is = cc
 
 -- Objects without sections of a group, and with one.
@@ -86,13 +75,7 @@ module _ (machine : MachineType) (linked : List Placed) (p : Placed) (group : Gr
 
   none_placed : (sections : List ObjectSection) (b : Bases) → sections_of group sections ≡ [] → filled_in b sections ≡ []
   none_placed [] b none = refl
-  none_placed (x ∷ sections) b none =
-      elim (cases_Bool (is_of group (group_named x.name))) [
-        | inl is ↦ let some : x ∷ sections_of group sections ≡ [] = rw is at none in cc
-        | inr is ↦
-            ap (λ front. front ++ filled_in (next b x) sections) (contribution_none group b x.flags (group_named x.name) (relocated machine linked p x.relocations x.bytes) is)
-            ∙ none_placed sections (next b x) (rw is at none)
-      ]
+  none_placed (x ∷ sections) b none = grind (arith, none_placed sections (next b x))
 
   same_end : (b : Bases) (x : ObjectSection) → is_of group (group_named x.name) ≡ false → base_of group (next b x) ≡ base_of group b
   same_end b x is = end_of_section group b x (group_named x.name) ∙ end_none group (base_of group b) x (group_named x.name) is
@@ -103,16 +86,7 @@ module _ (machine : MachineType) (linked : List Placed) (p : Placed) (group : Gr
   one_placed [] b s is fits even = cc
   one_placed (x ∷ sections) b s is fits even =
       elim (cases_Bool (is_of group (group_named x.name))) [
-        | inl own ↦
-            let here : x ∷ sections_of group sections ≡ s ∷ [] = rw own at is in
-            let same : x ≡ s = cc in
-            let others : sections_of group sections ≡ [] = cc in
-            let first : contribution_at group (section_address_of b x) (relocated machine linked p x.relocations x.bytes) ≡ record { address = base_of group b; bytes = relocated machine linked p x.relocations x.bytes } ∷ [] =
-            contribution_one group b x.flags (group_named x.name) (relocated machine linked p x.relocations x.bytes) own
-            ∙ ap (λ n. record { address = n; bytes = relocated machine linked p x.relocations x.bytes } ∷ []) (stays (alignment x.flags) (base_of group b) (subst (λ y. fits_four y ≡ true) (sym same) fits) even) in
-            ap (λ front. front ++ filled_in (next b x) sections) first
-            ∙ ap (λ rest. record { address = base_of group b; bytes = relocated machine linked p x.relocations x.bytes } ∷ rest) (none_placed sections (next b x) others)
-            ∙ ap (λ (y : ObjectSection). record { address = base_of group b; bytes = relocated machine linked p y.relocations y.bytes } ∷ []) same
+        | inl own ↦ grind (arith, contribution_one, stays, none_placed)
         | inr other ↦
             ap (λ front. front ++ filled_in (next b x) sections) (contribution_none group b x.flags (group_named x.name) (relocated machine linked p x.relocations x.bytes) other)
             ∙ one_placed sections (next b x) s (rw other at is) fits (ap (λ n. n % 4) (same_end b x other) ∙ even)
@@ -145,15 +119,9 @@ module _ (machine : MachineType) (linked : List Placed) (p : Placed) (group : Gr
             let parts = contribution_located image (base_of group b) (record { address = a; bytes = bytes }) others (at_least (alignment s.flags) (base_of group b))
             (subst (λ front. BytesAt image (base_of group b) (filled (base_of group b) ((front ++ filled_in (next b s) sections) ++ behind)))
             (contribution_one group b s.flags (group_named s.name) bytes here) located) in
-            let end : a + length bytes ≡ base_of group (next b s) =
-            ap (λ n. a + n) (length-relocated machine linked p s.relocations s.bytes (length s.bytes) sized.0 refl)
-            ∙ sym (end_of_section group b s (group_named s.name) ∙ end_one group (base_of group b) s (group_named s.name) here) in
+            let end : a + length bytes ≡ base_of group (next b s) = grind (arith, length-relocated, end_of_section, end_one) in
             subst (λ n. BytesAt image n (filled n others)) end parts.1
-        | inr other ↦
-            let front : BytesAt image (base_of group b) (filled (base_of group b) others) =
-            subst (λ front. BytesAt image (base_of group b) (filled (base_of group b) ((front ++ filled_in (next b s) sections) ++ behind)))
-            (contribution_none group b s.flags (group_named s.name) bytes other) located in
-            subst (λ n. BytesAt image n (filled n others)) (sym (same_end b s other)) front
+        | inr other ↦ grind (arith, contribution_none, same_end)
       ])
 
 -- Ends, and addresses of symbols.
@@ -161,49 +129,24 @@ module _ (machine : MachineType) (linked : List Placed) (p : Placed) (group : Gr
 pub none_ends : (group : Group) (sections : List ObjectSection) (n : ℕ) → sections_of group sections ≡ [] → sections_end group n sections ≡ n
 unfolding sections_end
 none_ends group [] n none = refl
-none_ends group (x ∷ sections) n none =
-    elim (cases_Bool (is_of group (group_named x.name))) [
-      | inl is ↦ let some : x ∷ sections_of group sections ≡ [] = rw is at none in cc
-      | inr is ↦ ap (λ m. sections_end group m sections) (end_none group n x (group_named x.name) is) ∙ none_ends group sections n (rw is at none)
-    ]
+none_ends group (x ∷ sections) n none = grind (arith, none_ends group sections n)
 
 pub one_ends : (group : Group) (sections : List ObjectSection) (n : ℕ) (s : ObjectSection) → sections_of group sections ≡ s ∷ [] → fits_four s ≡ true → n % 4 ≡ 0 →
     sections_end group n sections ≡ n + length s.bytes
 unfolding sections_end
 one_ends group [] n s is fits even = cc
-one_ends group (x ∷ sections) n s is fits even =
-    elim (cases_Bool (is_of group (group_named x.name))) [
-      | inl own ↦
-          let here : x ∷ sections_of group sections ≡ s ∷ [] = rw own at is in
-          let same : x ≡ s = cc in
-          let others : sections_of group sections ≡ [] = cc in
-          ap (λ m. sections_end group m sections)
-          (end_one group n x (group_named x.name) own ∙ ap (λ m. m + length x.bytes) (stays (alignment x.flags) n (subst (λ y. fits_four y ≡ true) (sym same) fits) even))
-          ∙ none_ends group sections (n + length x.bytes) others
-          ∙ ap (λ (y : ObjectSection). n + length y.bytes) same
-      | inr other ↦ ap (λ m. sections_end group m sections) (end_none group n x (group_named x.name) other) ∙ one_ends group sections n s (rw other at is) fits even
-    ]
+one_ends group (x ∷ sections) n s is fits even = grind (arith, one_ends group sections n s, end_one, stays, none_ends, end_none)
 
 pub one_address : (group : Group) (sections : List ObjectSection) (b : Bases) (s : ObjectSection) (k : ℕ) (x : ObjectSection) (value : ℕ) → sections_of group sections ≡ s ∷ [] → fits_four s ≡ true →
     base_of group b % 4 ≡ 0 → slice_get sections k ≡ Some x → is_of group (group_named x.name) ≡ true →
     option_and_then (λ (c : SectionAddress). address_at c value) (slice_get (section_addresses_of b sections) k) ≡ Some (base_of group b + value)
 one_address group [] b s k x value is fits even at own = cc
-one_address group (y ∷ sections) b s zero x value is fits even at own =
-    let same : y ≡ x = cc in
-    let here : is_of group (group_named y.name) ≡ true = subst (λ (z : ObjectSection). is_of group (group_named z.name) ≡ true) (sym same) own in
-    let first : y ∷ sections_of group sections ≡ s ∷ [] = rw here at is in
-    let only : y ≡ s = cc in
-    address_one group b y.flags (group_named y.name) value here
-    ∙ ap (λ n. Some (n + value)) (stays (alignment y.flags) (base_of group b) (subst (λ z. fits_four z ≡ true) (sym only) fits) even)
+one_address group (y ∷ sections) b s zero x value is fits even at own = grind (arith, address_one, stays)
 one_address group (y ∷ sections) b s (suc k) x value is fits even at own =
     elim (cases_Bool (is_of group (group_named y.name))) [
-      | inl here ↦
-          let first : y ∷ sections_of group sections ≡ s ∷ [] = rw here at is in
-          let others : sections_of group sections ≡ [] = cc in
-          absurd (nowhere sections k others at)
+      | inl here ↦ grind (arith, nowhere)
       | inr other ↦
-          let same : base_of group (end_after b (section_address_of b y) (length y.bytes)) ≡ base_of group b =
-          end_of_section group b y (group_named y.name) ∙ end_none group (base_of group b) y (group_named y.name) other in
+          let same : base_of group (end_after b (section_address_of b y) (length y.bytes)) ≡ base_of group b = grind (arith, end_of_section, end_none) in
           one_address group sections (end_after b (section_address_of b y) (length y.bytes)) s k x value (rw other at is) fits (ap (λ n. n % 4) same ∙ even) at own
           ∙ ap (λ n. Some (n + value)) same
     ]
@@ -260,37 +203,21 @@ drop_located image (suc n) (x ∷ bytes) a located =
     let same : a + 1 + n ≡ a + suc n = omega arith in
     subst (λ m. BytesAt image m (drop n bytes)) same (drop_located image n bytes (a + 1) located.1)
 
-free_next : (n : ℕ) (text : List ℕ) → HasNoNul text → HasNoNul (suc n ∷ text)
-free_next n text free = rw (ne_eqb (suc n) 0 (λ same. omega arith)) free
-
 pub ended_is : (bytes text : List ℕ) → before_nul bytes ≡ Some text → (rest : List ℕ) × ((bytes ≡ text ++ 0 ∷ rest) × HasNoNul text)
 unfolding before_nul
 ended_is [] text is = cc
 ended_is (zero ∷ bytes) text is = let same : [] ≡ text = cc in (bytes, (ap (λ t. t ++ 0 ∷ bytes) same, ap (holds 0) (sym same)))
-ended_is (suc n ∷ bytes) text is = go (λ t at. ended_is bytes t at) (before_nul bytes) refl is
-  where
-    go : ((t : List ℕ) → before_nul bytes ≡ Some t → (rest : List ℕ) × ((bytes ≡ t ++ 0 ∷ rest) × HasNoNul t)) → (found : Option (List ℕ)) → before_nul bytes ≡ found →
-        option_map (λ t. suc n ∷ t) found ≡ Some text → (rest : List ℕ) × ((suc n ∷ bytes ≡ text ++ 0 ∷ rest) × HasNoNul text)
-    go rest None at is = cc
-    go rest (Some t) at is =
-        let later = rest t at in
-        let same : suc n ∷ t ≡ text = cc in
-        (later.0, (ap (λ xs. suc n ∷ xs) later.1.0 ∙ ap (λ xs. xs ++ 0 ∷ later.0) same, subst HasNoNul same (free_next n t later.1.1)))
+ended_is (suc n ∷ bytes) text is = grind (arith, ended_is bytes)
 
 u16_is : (low high : ℕ) → low < 256 → high < 256 → u16_bytes (low + 256 * high) ≡ low ∷ high ∷ []
 unfolding u16_bytes
-u16_is low high small below =
-    let first : (low + 256 * high) % 256 ≡ low = omega arith in
-    let second : (low + 256 * high) / 256 % 256 ≡ high = omega arith in
-    rw (first, second) refl
+u16_is low high small below = grind arith
 
 hint_small : (low high : ℕ) → low < 256 → high < 256 → low + 256 * high < 2 ^ 16
 hint_small low high small below = omega arith
 
 pub field_is : (machine : MachineType) (offset : ℕ) (r : Relocation) → is_field machine offset r ≡ true → ((r.kind == image_relative machine) ≡ true) × (r.offset ≡ offset)
-field_is machine offset r is =
-    let parts = and_parts (r.kind == image_relative machine) (r.offset == offset) is in
-    (parts.0, eqb-true r.offset offset parts.1)
+field_is machine offset r is = grind arith
 
 -- Sections of an object that is placed first from bases on.
 module _ (machine : MachineType) (linked : List Placed) (image : List Range) (starts : AllByRecursion (λ r. 0 < r.start) image) (ends : AllByRecursion (λ r. range_end r < 2 ^ 31) image)
@@ -301,11 +228,7 @@ module _ (machine : MachineType) (linked : List Placed) (image : List Range) (st
   -- the bytes that a symbol of its own leads to
   plain_bytes : (x : ObjectSection) (relocations : List Relocation) (value : ℕ) (bytes : List ℕ) → bytes_from x relocations value ≡ Some bytes →
       (relocations ≡ []) × ((holds_texts (group_named x.name) ≡ true) × (drop value x.bytes ≡ bytes))
-  plain_bytes x [] value bytes is =
-      elim (cases_Bool (holds_texts (group_named x.name))) [
-        | inl texts ↦ let here : Some (drop value x.bytes) ≡ Some bytes = rw texts at is in (refl, (texts, cc))
-        | inr other ↦ let none : None ≡ Some bytes = rw other at is in cc
-      ]
+  plain_bytes x [] value bytes is = grind arith
   plain_bytes x (r ∷ relocations) value bytes is = cc
 
   in_section : (k value : ℕ) (bytes : List ℕ) (found : Option ObjectSection) → slice_get o.sections k ≡ found → option_and_then (λ (x : ObjectSection). bytes_from x x.relocations value) found ≡ Some bytes →
@@ -349,13 +272,10 @@ module _ (machine : MachineType) (linked : List Placed) (image : List Range) (st
             let here : bytes_at_symbol o s ≡ Some bytes = rw both at is in
             let found = in_numbered s.section s.value bytes here in
             let same : name ≡ s.name = (bytes_eq-Decides name s.name).0 parts.1 in
-            let definition : record { name = s.name; address = address_in addresses s.section s.value } ≡ record { name = name; address = Some found.0 } =
-            ap (λ n. record { name = n; address = address_in addresses s.section s.value }) (sym same) ∙ ap (λ (a : Option ℕ). record { name = name; address = a }) found.1.0 in
+            let definition : record { name = s.name; address = address_in addresses s.section s.value } ≡ record { name = name; address = Some found.0 } = grind arith in
             let first : Among (record { name = s.name; address = address_in addresses s.section s.value }) (filter_map (defined_by_entry addresses) (ASymbol s ∷ entries)) = rw parts.0 (among_first _ _) in
             (found.0, (subst (λ (d : SymbolDefinition). Among d (filter_map (defined_by_entry addresses) (ASymbol s ∷ entries))) definition first, found.1.1))
-        | inr other ↦
-            let later = named_located name entries bytes (rw other at is) in
-            (later.0, (elim (cases_Bool (is_defined_external s)) [ inl is_defined ↦ rw is_defined (among_later _ _ _ later.1.0) | inr none ↦ rw none later.1.0 ], later.1.1))
+        | inr other ↦ grind (arith, named_located name entries bytes (rw other at is), among_later)
       ]
 
   -- its only section of a group
@@ -365,9 +285,7 @@ module _ (machine : MachineType) (linked : List Placed) (image : List Range) (st
       let one = one_is (sections_of group o.sections) s is in
       let bytes : List ℕ = relocated machine linked p s.relocations s.bytes in
       let later : List Contribution = contributions machine linked group (placed_from (ends_after b o.sections) rest) in
-      let here : BytesAt image (base_of group b) (filled (base_of group b) (record { address = base_of group b; bytes = bytes } ∷ later)) =
-      subst (λ front. BytesAt image (base_of group b) (filled (base_of group b) (front ++ later))) (one_placed machine linked p group o.sections b s one.0 one.1 even)
-      (carried machine linked image b (o ∷ rest) group is_carried located) in
+      let here : BytesAt image (base_of group b) (filled (base_of group b) (record { address = base_of group b; bytes = bytes } ∷ later)) = grind (arith, one_placed machine linked p group o.sections b s one.0 one.1 even, carried machine linked image b (o ∷ rest) group is_carried located) in
       ((contribution_located image (base_of group b) (record { address = base_of group b; bytes = bytes }) later (same_order (base_of group b)) here).0, one_ends group o.sections (base_of group b) s one.0 one.1 even)
 
   -- Thunks.
@@ -378,9 +296,7 @@ module _ (machine : MachineType) (linked : List Placed) (image : List Range) (st
   hint_located (low ∷ []) ask place a is held here = cc
   hint_located (low ∷ high ∷ bytes) ask place a is held here =
       elim (cases_Bool (nat_lt low 256 && nat_lt high 256)) [
-        | inl both ↦
-            let parts = and_parts (nat_lt low 256) (nat_lt high 256) both in
-            named (ltb-true low 256 parts.0) (ltb-true high 256 parts.1) (before_nul bytes) refl (rw both at is)
+        | inl both ↦ grind (arith, and_parts, named, ltb-true)
         | inr other ↦ let none : None ≡ Some ask = rw other at is in cc
       ]
     where
@@ -389,10 +305,7 @@ module _ (machine : MachineType) (linked : List Placed) (image : List Range) (st
       named small below (Some text) at is =
           let ended = ended_is bytes text at in
           let hint : List ℕ = u16_bytes (low + 256 * high) in
-          let whole : low ∷ high ∷ bytes ≡ (hint ++ (text ++ 0 ∷ [])) ++ ended.0 =
-          ap (λ xs. low ∷ high ∷ xs) (ended.1.0 ∙ sym (append_assoc text (0 ∷ []) ended.0))
-          ∙ ap (λ xs. xs ++ ((text ++ 0 ∷ []) ++ ended.0)) (sym (u16_is low high small below))
-          ∙ sym (append_assoc hint (text ++ 0 ∷ []) ended.0) in
+          let whole : low ∷ high ∷ bytes ≡ (hint ++ (text ++ 0 ∷ [])) ++ ended.0 = grind (arith, append_assoc, u16_is) in
           let front = located_parts image (hint ++ (text ++ 0 ∷ [])) ended.0 place (subst (BytesAt image place) whole held) in
           let same : Name text (low + 256 * high) ≡ ask = cc in
           subst (StrictThunkAt image (thunk_width machine) a) same
@@ -418,13 +331,7 @@ module _ (machine : MachineType) (linked : List Placed) (image : List Range) (st
           ]
   asked a bytes (r ∷ []) ask is held =
       elim (cases_Bool (is_field machine 0 r && bytes_eq bytes (zeros (thunk_width machine)))) [
-        | inl both ↦
-            let parts = and_parts (is_field machine 0 r) (bytes_eq bytes (zeros (thunk_width machine))) both in
-            let field = field_is machine 0 r parts.0 in
-            let same : bytes ≡ zeros (thunk_width machine) = (bytes_eq-Decides bytes (zeros (thunk_width machine))).0 parts.1 in
-            let plain : relocated machine linked p (r ∷ []) bytes ≡ with_address (zeros (thunk_width machine)) 0 (target_address linked p r.symbol) =
-            ap (relocated machine linked p (r ∷ [])) same ∙ rw (field.0, field.1) refl in
-            (led (own_bytes o (slice_get o.entries r.symbol)) refl (rw both at is) (subst (BytesAt image a) plain held), ap length same ∙ length-replicate {A = ℕ} (thunk_width machine) 0)
+        | inl both ↦ grind (arith, and_parts, field_is, bytes_eq-Decides, led, length-replicate)
         | inr other ↦ let none : None ≡ Some ask = rw other at is in cc
       ]
     where

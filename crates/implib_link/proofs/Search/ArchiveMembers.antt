@@ -2,7 +2,7 @@
 use Rattle.std.proofs.Common.{◌≡◌, ℕ, zero, suc, ◌+◌, Bool, length, true, List, [], ◌∷◌, ◌++◌, Option, Some, None, refl, ap, sym, ◌∙◌, subst, inl, inr, ◌⊎◌, arith, map, ◌≤◌, false, if◌then◌else◌}
 use Rattle.std.specs.Prelude.{bytes_eq, slice_get, reverse, IsPermutation}
 use Rattle.std.specs.List.{filter, filter_map, list_any, AllByRecursion, IsDistinct, flat_map, sum_by}
-use Rattle.std.proofs.lemmas.Bool.{cases_Bool, false_from_ne_true, or_parts}
+use Rattle.std.proofs.lemmas.Bool.{cases_Bool, false_from_ne_true}
 use Rattle.std.proofs.lemmas.List.{append_assoc, length-append, append-nil, map-append, reverse-append}
 use Rattle.implib.specs.declared.machine.MachineType.{MachineType}
 use Rattle.implib.specs.Definition.{ExportView}
@@ -18,7 +18,7 @@ use Rattle.implib_link.specs.Search.Search.{is_wanted, undefined_in, numbers_pas
 use Rattle.implib_link.proofs.Search.Lists.{among_any, among_either, any_among, any_from, any_of, kept_into, kept_from, distinct_apart, distinct_later, listed_is, none_among, contains_among}
 use Rattle.implib.specs.LibraryName.{NamesOfDll, linked_name, names_for}
 use Rattle.std.proofs.lemmas.Option.{same_Some}
-use Rattle.std.proofs.lemmas.Grind.{flat_map-append}
+use Rattle.std.proofs.lemmas.Grind.{common_steps, flat_map-append}
 use Rattle.implib.specs.Members.WeakExternal.{weak_spec, weak_object}
 use Rattle.implib.specs.declared.flavor.Flavor.TheVariants.{Gnu}
 use Rattle.implib.specs.Formats.Layout.{encoded_size, object_of}
@@ -39,11 +39,7 @@ use Rattle.implib.proofs.Link.LinkedBlocks.{linked_symbols}
 pub numbered_in : (machine : MachineType) (dll : List ℕ) (exports : List ExportView) (start n : ℕ) (e : ExportView) (p : MemberSpec) → slice_get exports n ≡ Some e →
     Among p (numbered_specs_of machine dll (start + n) e) → Among p (numbered_specs machine dll start exports)
 numbered_in machine dll [] start n e p is held = cc
-numbered_in machine dll (x ∷ exports) start zero e p is held =
-    let same : e ≡ x = cc in
-    let position : start + 0 ≡ start = omega arith in
-    among_front p (numbered_specs_of machine dll start x) (numbered_specs machine dll (start + 1) exports)
-    (subst (λ n. Among p (numbered_specs_of machine dll n x)) position (subst (λ y. Among p (numbered_specs_of machine dll (start + 0) y)) same held))
+numbered_in machine dll (x ∷ exports) start zero e p is held = grind (arith, among_front)
 numbered_in machine dll (x ∷ exports) start (suc n) e p is held =
     let position : start + suc n ≡ start + 1 + n = omega arith in
     among_back p (numbered_specs_of machine dll start x) (numbered_specs machine dll (start + 1) exports)
@@ -55,15 +51,8 @@ pub number_wanted : (wanted : List (List ℕ)) (exports : List ExportView) (star
     Among (start + n) (numbers_passing (is_wanted wanted) start exports)
 unfolding Among
 number_wanted wanted [] start n e is want = cc
-number_wanted wanted (x ∷ exports) start zero e is want =
-    let same : e ≡ x = cc in
-    let position : start + 0 ≡ start = omega arith in
-    rw (subst (λ y. is_wanted wanted y ≡ true) same want) (inl position)
-number_wanted wanted (x ∷ exports) start (suc n) e is want =
-    let position : start + 1 + n ≡ start + suc n = omega arith in
-    let later : Among (start + suc n) (numbers_passing (is_wanted wanted) (start + 1) exports) =
-    subst (λ n. Among n (numbers_passing (is_wanted wanted) (start + 1) exports)) position (number_wanted wanted exports (start + 1) n e is want) in
-    elim (cases_Bool (is_wanted wanted x)) [ inl here ↦ rw here (inr later) | inr none ↦ rw none later ]
+number_wanted wanted (x ∷ exports) start zero e is want = grind arith
+number_wanted wanted (x ∷ exports) start (suc n) e is want = grind (arith, number_wanted wanted exports (start + 1))
 
 pub wanted_number : (wanted : List (List ℕ)) (exports : List ExportView) (start k : ℕ) → Among k (numbers_passing (is_wanted wanted) start exports) →
     (n : ℕ) × (e : ExportView) × (k ≡ start + n) × (slice_get exports n ≡ Some e) × (is_wanted wanted e ≡ true)
@@ -90,22 +79,11 @@ at_end (y ∷ front) x behind = at_end front x behind
 
 pub passing_chosen : (test : ExportView → Bool) (front exports : List ExportView) → filter_map (slice_get (front ++ exports)) (numbers_passing test (length front) exports) ≡ filter test exports
 passing_chosen test front [] = refl
-passing_chosen test front (e ∷ exports) =
-    let later : filter_map (slice_get (front ++ e ∷ exports)) (numbers_passing test (length front + 1) exports) ≡ filter test exports =
-    subst (λ (all : List ExportView). filter_map (slice_get all) (numbers_passing test (length front + 1) exports) ≡ filter test exports) (append_assoc front (e ∷ []) exports)
-    (subst (λ n. filter_map (slice_get ((front ++ e ∷ []) ++ exports)) (numbers_passing test n exports) ≡ filter test exports) (length-append front (e ∷ [])) (passing_chosen test (front ++ e ∷ []) exports)) in
-    elim (cases_Bool (test e)) [
-      | inl is ↦ rw (is, at_end front e exports) (ap (λ es. e ∷ es) later)
-      | inr is ↦ rw is later
-    ]
+passing_chosen test front (e ∷ exports) = grind (arith, passing_chosen test (front ++ e ∷ []) exports, append_assoc, length-append, at_end)
 
 pub some_export : (test : ExportView → Bool) (number : ℕ) (exports : List ExportView) (n : ℕ) (chosen : List ℕ) → numbers_passing test number exports ≡ n ∷ chosen → (e : ExportView) × (Among e exports × (test e ≡ true))
 some_export test number [] n chosen is = cc
-some_export test number (e ∷ exports) n chosen is =
-    elim (cases_Bool (test e)) [
-      | inl passes ↦ (e, (among_first e exports, passes))
-      | inr fails ↦ let later = some_export test (number + 1) exports n chosen (rw fails at is) in (later.0, (among_later later.0 e exports later.1.0, later.1.1))
-    ]
+some_export test number (e ∷ exports) n chosen is = grind (arith, some_export test (number + 1) exports n chosen, among_first, among_later)
 
 -- a name of some names is wanted
 pub wants : (wanted names : List (List ℕ)) (name : List ℕ) → Among name names → Among name wanted → list_any (λ n. list_any (bytes_eq n) wanted) names ≡ true
@@ -176,13 +154,8 @@ pub record AreWanted (exports : List ExportView) (wanted : List (List ℕ)) (cho
 
 pub numbers_are_wanted : (exports : List ExportView) (wanted : List (List ℕ)) → AreWanted exports wanted (numbers_passing (is_wanted wanted) 0 exports)
 numbers_are_wanted exports wanted = record {
-  only = λ k held.
-      let found = wanted_number wanted exports 0 k held in
-      let same : 0 + found.0 ≡ found.0 = omega arith in
-      (found.1, subst (λ n. slice_get exports n ≡ Some found.1) (sym (found.2 ∙ same)) found.3, found.4);
-  all = λ k e is want.
-      let same : 0 + k ≡ k = omega arith in
-      subst (λ n. Among n (numbers_passing (is_wanted wanted) 0 exports)) same (number_wanted wanted exports 0 k e is want);
+  only = λ k held. grind (arith, wanted_number);
+  all = λ k e is want. grind (arith, number_wanted wanted exports 0 k e is want);
 }
 
 abbrev member_specs_linked : MachineType → NamesOfDll → List ExportView → List ℕ → List MemberSpec
@@ -192,11 +165,7 @@ pub member_spec_linked : (machine : MachineType) (dll : NamesOfDll) (exports : L
     (p ≡ head_spec machine dll.linked) ⊎ ((p ≡ tail_spec machine dll) ⊎ Chosen machine dll.linked exports chosen p)
 unfolding Among
 member_spec_linked machine dll exports chosen p (inl e) = inl e
-member_spec_linked machine dll exports chosen p (inr held) =
-    elim (among_either p (filter_map (numbered_spec machine dll.linked exports) chosen) (tail_spec machine dll ∷ []) held) [
-      | inl own ↦ inr (inr (chosen_member_spec machine dll.linked exports chosen p own))
-      | inr last ↦ inr (inl (only_one p (tail_spec machine dll) last))
-    ]
+member_spec_linked machine dll exports chosen p (inr held) = grind (arith, among_either p (filter_map (numbered_spec machine dll.linked exports) chosen) (tail_spec machine dll ∷ []) held, chosen_member_spec, only_one)
 
 -- An archive as groups of members: the tail and the head of each library, and the members of each export. No symbol
 -- is listed in two groups, so the first member of a name is found in the name's own group.
@@ -219,19 +188,11 @@ symbols_of_groups groups = flat_map (λ (g : Group). g.symbols) groups
 -- a name that no member is listed for is looked up after
 pub first_behind : (name : List ℕ) (members rest : List MemberView) → first_listed members name ≡ None → first_listed (members ++ rest) name ≡ first_listed rest name
 first_behind name [] rest none = refl
-first_behind name (m ∷ members) rest none =
-    elim (cases_Bool (is_listed_for name m)) [
-      | inl is ↦ (let found : Some m ≡ None = rw is at none in cc)
-      | inr other ↦ rw other (first_behind name members rest (rw other at none))
-    ]
+first_behind name (m ∷ members) rest none = grind (arith, first_behind name members rest)
 
 pub first_here : (name : List ℕ) (members rest : List MemberView) (m : MemberView) → first_listed members name ≡ Some m → first_listed (members ++ rest) name ≡ Some m
 first_here name [] rest m found = cc
-first_here name (x ∷ members) rest m found =
-    elim (cases_Bool (is_listed_for name x)) [
-      | inl is ↦ rw is (rw is at found)
-      | inr other ↦ rw other (first_here name members rest m (rw other at found))
-    ]
+first_here name (x ∷ members) rest m found = grind (arith, first_here name members rest m)
 
 -- what is found among some members, or nothing
 pub found_or_not : (name : List ℕ) (members : List MemberView) → (first_listed members name ≡ None) ⊎ ((m : MemberView) × (first_listed members name ≡ Some m))
@@ -345,15 +306,8 @@ module _ (machine : MachineType) where
   pub group_is_export : (l : Library) (exports : List ExportView) (start n : ℕ) (e : ExportView) → slice_get exports n ≡ Some e → Among (export_group l (start + n) e) (export_groups l start exports)
   unfolding Among export_groups
   group_is_export l [] start n e is = cc
-  group_is_export l (x ∷ exports) start zero e is =
-      let same : e ≡ x = cc in
-      let position : start + 0 ≡ start = omega arith in
-      among_back _ (export_groups l (start + 1) exports) (export_group l start x ∷ [])
-      (inl (ap (λ n. export_group l n e) position ∙ ap (export_group l start) same))
-  group_is_export l (x ∷ exports) start (suc n) e is =
-      let position : start + 1 + n ≡ start + suc n = omega arith in
-      among_front _ (export_groups l (start + 1) exports) (export_group l start x ∷ [])
-      (subst (λ k. Among (export_group l k e) (export_groups l (start + 1) exports)) position (group_is_export l exports (start + 1) n e is))
+  group_is_export l (x ∷ exports) start zero e is = grind (arith, among_back)
+  group_is_export l (x ∷ exports) start (suc n) e is = grind (arith, group_is_export l exports (start + 1) n e is, among_front)
 
 -- The members of a library for GNU's linker: which of an export's a name finds, and what they are read as.
 
@@ -367,16 +321,7 @@ no_address name same = longer (length name) (length (imp_symbol name)) (ap lengt
 
 pub own_symbols : (e : ExportView) (name : List ℕ) → Among name (archive_symbols e) → Among name (symbols_of_export e)
 unfolding Among
-own_symbols e name held =
-    elim (cases_Bool e.is_data) [
-      | inl is ↦
-          let address : Among name (imp_symbol e.name ∷ []) = rw is at held in
-          elim (cases_Bool (is_alias e.alias_target e.name)) [
-            | inl alias ↦ rw (is, alias) (inr address)
-            | inr none ↦ rw (is, none) address
-          ]
-      | inr is ↦ let both : Among name (e.name ∷ imp_symbol e.name ∷ []) = rw is at held in rw is both
-    ]
+own_symbols e name held = grind arith
 
 imp_symbols : (e : ExportView) → Among (imp_symbol e.name) (symbols_of_export e)
 imp_symbols e = own_symbols e (imp_symbol e.name) (address_listed e)
@@ -391,9 +336,7 @@ code_listed e is = rw is (inl refl)
 
 data_not_listed : (e : ExportView) → e.is_data ≡ true → Among e.name (archive_symbols e) → ⊥
 unfolding Among
-data_not_listed e is held =
-    let address : Among e.name (imp_symbol e.name ∷ []) = rw is at held in
-    no_address e.name (only_one e.name (imp_symbol e.name) address)
+data_not_listed e is held = grind (arith, no_address, only_one)
 
 module _ (machine : MachineType) where
   -- The members of one export.
@@ -516,9 +459,7 @@ module _ (machine : MachineType) where
         let p : MemberSpec = weak_spec machine (weak_name dll.linked n) e.name e.alias_target in
         let good : Sound e = all_at Sound (exports_of l) n e (sound l.definition machine l.members [] made) is in
         let position : 0 + n ≡ n = omega arith in
-        let there : Among p (gnu_specs machine dll (exports_of l)) =
-        among_later _ _ _ (among_later _ _ _ (among_reverse p (numbered_specs machine dll.linked 0 (exports_of l))
-        (numbered_in machine dll.linked (exports_of l) 0 n e p is (subst (λ k. Among p (numbered_specs_of machine dll.linked k e)) (sym position) (weak_there n e alias))))) in
+        let there : Among p (gnu_specs machine dll (exports_of l)) = grind (arith, weak_there n e alias, among_later, among_reverse, numbered_in) in
         let short : encoded_size (weak_object machine e.name e.alias_target) ≤ 0xFFFF_FFFF =
         short_enough p (none_among is_too_long p (gnu_specs machine dll (exports_of l)) there (not_long l.definition machine l.members [] made)) in
         object_in-encoded (weak_object machine e.name e.alias_target) (Fits-weak_object machine e.name e.alias_target good.name good.alias_target) (omega arith)
@@ -551,68 +492,31 @@ none_there name (x ∷ xs) none = (let behind = none_there name xs none.1 in rw 
 there_none : (name : List ℕ) (xs : List (List ℕ)) → times name xs ≤ 0 → AllByRecursion (λ other. bytes_eq name other ≡ false) xs
 unfolding times one_if
 there_none name [] few = tt
-there_none name (x ∷ xs) few =
-    elim (cases_Bool (bytes_eq name x)) [
-      | inl is ↦ (let some : 1 + times name xs ≤ 0 = rw is at few in absurd (none_below (times name xs) some))
-      | inr other ↦ (other, there_none name xs (as_few (times name xs) (rw other at few)))
-    ]
-  where
-    as_few : (n : ℕ) → 0 + n ≤ 0 → n ≤ 0
-    as_few n few = omega arith
-
-    none_below : (n : ℕ) → 1 + n ≤ 0 → ⊥
-    none_below n less = omega arith
+there_none name (x ∷ xs) few = grind (arith, there_none name xs)
 
 pub none_times : (name : List ℕ) (names : List (List ℕ)) → list_any (bytes_eq name) names ≡ false → times name names ≡ 0
 unfolding times one_if
 none_times name [] none = refl
-none_times name (x ∷ names) none =
-    let parts = or_parts (bytes_eq name x) (list_any (bytes_eq name) names) none in
-    let behind = none_times name names parts.1 in
-    rw parts.0 (omega arith)
+none_times name (x ∷ names) none = grind (arith, none_times name names)
 
 pub few_from : (xs : List (List ℕ)) → IsDistinct bytes_eq xs → (name : List ℕ) → times name xs ≤ 1
 unfolding times one_if IsDistinct
 few_from [] distinct name = omega arith
-few_from (x ∷ xs) distinct name =
-    elim (cases_Bool (bytes_eq name x)) [
-      | inl is ↦
-          let none : times name xs ≡ 0 = subst (λ n. times n xs ≡ 0) (sym ((bytes_eq-Decides name x).0 is)) (none_there x xs distinct.0) in
-          rw (is, none) (omega arith)
-      | inr other ↦ (let behind = few_from xs distinct.1 name in rw other (omega arith))
-    ]
+few_from (x ∷ xs) distinct name = grind (arith, few_from xs distinct.1 name, bytes_eq-Decides name x, none_there x xs distinct.0)
 
 pub distinct_from : (xs : List (List ℕ)) → ((name : List ℕ) → times name xs ≤ 1) → IsDistinct bytes_eq xs
 unfolding times one_if IsDistinct
 distinct_from [] few = tt
-distinct_from (x ∷ xs) few =
-    let own : bytes_eq x x ≡ true = (bytes_eq-Decides x x).1 refl in
-    let once : 1 + times x xs ≤ 1 = (let all = few x in rw own at all) in (
-      there_none x xs (fewer (times x xs) once),
-      distinct_from xs (λ name. (let all = few name in behind (one_if (bytes_eq name x)) (times name xs) all)),
-    )
-  where
-    fewer : (n : ℕ) → 1 + n ≤ 1 → n ≤ 0
-    fewer n less = omega arith
-
-    behind : (n m : ℕ) → n + m ≤ 1 → m ≤ 1
-    behind n m less = omega arith
+distinct_from (x ∷ xs) few = grind (arith, distinct_from xs, bytes_eq-Decides, there_none, one_if)
 
 -- the names that a function gives of the elements of a list
 pub times_flat : {X : Type 0} (f : X → List (List ℕ)) (name : List ℕ) (xs : List X) → times name (flat_map f xs) ≡ sum_by (λ x. times name (f x)) xs
 unfolding times
 times_flat f name [] = refl
-times_flat f name (x ∷ xs) =
-    let both : times name (f x ++ flat_map f xs) ≡ times name (f x) + times name (flat_map f xs) = times_both name (f x) (flat_map f xs) in
-    let behind : times name (flat_map f xs) ≡ sum_by (λ y. times name (f y)) xs = times_flat f name xs in
-    let sums : sum_by (λ y. times name (f y)) (x ∷ xs) ≡ 0 + times name (f x) + sum_by (λ y. times name (f y)) xs = sum_by-append (λ y. times name (f y)) (x ∷ []) xs in
-    omega arith
+times_flat f name (x ∷ xs) = grind (arith, common_steps, times_flat f name xs, times_both, sum_by-append)
 
 pub times_moved : {X : Type 0} (f : X → List (List ℕ)) (name : List ℕ) (xs ys : List X) → IsPermutation xs ys → times name (flat_map f ys) ≡ times name (flat_map f xs)
-times_moved f name xs ys moved =
-    times_flat f name ys
-    ∙ sum_by-IsPermutation (λ y. times name (f y)) xs ys moved
-    ∙ sym (times_flat f name xs)
+times_moved f name xs ys moved = grind (arith, times_flat, sum_by-IsPermutation)
 
 -- What is linked of an archive of libraries, where the libraries may be in another order.
 
@@ -626,42 +530,16 @@ among_moved x xs ys moved held = contains_among x ys (Contains-permutation xs ys
 pub chosen_are : (l : Library) (wanted : List (List ℕ)) → chosen_exports l.definition (exports_wanted l.definition wanted) ≡ filter (is_wanted wanted) (exports_of l)
 chosen_are l wanted = passing_chosen (is_wanted wanted) [] (exports_of l)
 
--- The input of a library that is wanted, and what is chosen by an input.
-
 -- The symbols of what is linked differ, since those do that the archive lists.
-
-symbols_fewer : (name : List ℕ) (e : ExportView) → times name (archive_symbols e) ≤ times name (symbols_of_export e)
-unfolding times
-symbols_fewer name e =
-    elim (cases_Bool e.is_data) [
-      | inl is ↦ elim (cases_Bool (is_alias e.alias_target e.name)) [ inl alias ↦ rw (is, alias) (omega arith) | inr none ↦ rw (is, none) (omega arith) ]
-      | inr is ↦ rw is (omega arith)
-    ]
 
 exports_fewer : (name : List ℕ) (test : ExportView → Bool) (es : List ExportView) → times name (flat_map archive_symbols (filter test es)) ≤ times name (flat_map symbols_of_export es)
 unfolding times
 exports_fewer name test [] = omega arith
-exports_fewer name test (e ∷ es) =
-    let behind : times name (flat_map archive_symbols (filter test es)) ≤ times name (flat_map symbols_of_export es) = exports_fewer name test es in
-    let own : times name (archive_symbols e) ≤ times name (symbols_of_export e) = symbols_fewer name e in
-    let all : times name (symbols_of_export e ++ flat_map symbols_of_export es) ≡ times name (symbols_of_export e) + times name (flat_map symbols_of_export es) =
-    times_both name (symbols_of_export e) (flat_map symbols_of_export es) in
-    let some : times name (archive_symbols e ++ flat_map archive_symbols (filter test es)) ≡ times name (archive_symbols e) + times name (flat_map archive_symbols (filter test es)) =
-    times_both name (archive_symbols e) (flat_map archive_symbols (filter test es)) in
-    elim (cases_Bool (test e)) [ inl is ↦ rw is (omega arith) | inr other ↦ rw other (omega arith) ]
+exports_fewer name test (e ∷ es) = grind (arith, exports_fewer name test es)
 
 module _ (machine : MachineType) where
   pub library_fewer : (name : List ℕ) (l : Library) (wanted : List (List ℕ)) →
       times name (linked_symbols machine (names_for Gnu l.definition) (chosen_exports l.definition (exports_wanted l.definition wanted))) ≤ times name (symbols_of_library machine l)
   unfolding symbols_of_library times
   library_fewer name l wanted =
-      let dll : NamesOfDll = names_for Gnu l.definition in
-      let chosen : List ExportView = filter (is_wanted wanted) (exports_of l) in
-      let turned : times name (flat_map symbols_of_export (reverse (exports_of l))) ≡ times name (flat_map symbols_of_export (exports_of l)) =
-      times_moved symbols_of_export name (exports_of l) (reverse (exports_of l)) (IsPermutation-reverse (exports_of l)) in
-      let few : times name (flat_map archive_symbols chosen) ≤ times name (flat_map symbols_of_export (exports_of l)) = exports_fewer name (is_wanted wanted) (exports_of l) in
-      let both : times name (flat_map archive_symbols chosen ++ iname_symbol machine dll.linked ∷ []) ≡ times name (flat_map archive_symbols chosen) + times name (iname_symbol machine dll.linked ∷ []) =
-      times_both name (flat_map archive_symbols chosen) (iname_symbol machine dll.linked ∷ []) in
-      subst (λ (es : List ExportView). times name (linked_symbols machine dll es)
-      ≤ times name (iname_symbol machine dll.linked ∷ head_symbol machine dll.linked ∷ flat_map symbols_of_export (reverse (exports_of l)))) (sym (chosen_are l wanted))
-      (omega arith)
+      grind (arith, times_moved symbols_of_export name (exports_of l) (reverse (exports_of l)) (IsPermutation-reverse (exports_of l)), exports_fewer name (is_wanted wanted) (exports_of l), chosen_are l wanted, times_both, linked_symbols)

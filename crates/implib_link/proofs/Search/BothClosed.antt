@@ -1,8 +1,8 @@
 -- A closed program of an archive of both flavours links, however a linker reads members.
-use Rattle.std.proofs.Common.{◌≡◌, ℕ, ◌+◌, ◌*◌, ◌⊎◌, Bool, true, false, List, [], ◌∷◌, ◌++◌, Option, Some, refl, ap, sym, ◌∙◌, subst, inl, inr}
+use Rattle.std.proofs.Common.{arith, ◌≡◌, ℕ, ◌+◌, ◌*◌, ◌⊎◌, Bool, true, false, List, [], ◌∷◌, ◌++◌, Option, Some, refl, ap, sym, ◌∙◌, subst, inl, inr}
 use Rattle.std.specs.Prelude.{◌<◌, ◌^◌, IsPermutation, not, slice_get}
-use Rattle.std.specs.List.{AllByRecursion, Contains, cons_option, filter}
-use Rattle.std.proofs.lemmas.Bool.{cases_Bool, true≢false, not_from_false}
+use Rattle.std.specs.List.{AllByRecursion, Contains, filter}
+use Rattle.std.proofs.lemmas.Bool.{true≢false, not_from_false}
 use Rattle.std.proofs.lemmas.List.Sorted.{IsPermutation-sym}
 use Rattle.implib.specs.declared.flavor.Flavor.{Flavor}
 use Rattle.implib.specs.declared.flavor.Flavor.TheVariants.{Gnu, Msvc}
@@ -22,7 +22,7 @@ use Rattle.implib.proofs.Link.LinkedMembers.{among_contains}
 use Rattle.implib.proofs.Link.Ranges.{Among, all_among, among_back, among_first, among_flat, among_front, among_later}
 use Rattle.implib_link.specs.Flavors.Expansion.{expanded_in}
 use Rattle.implib_link.specs.Flavors.Program.{AreEnded, AreEndedByLinker, AreEndedByMember, AreProgramObjects, Ending, FlavorInput, IsMadeFor, IsProgramOf, OfLinker, OfMember, ProgramLinks, all_members, null_member, objects_taken, exports_chosen, symbol_in, symbols_listed, thunks_of, ClaimsNone, HaveSame, has_tables, null_descriptor, packed, packed_end}
-use Rattle.implib_link.specs.Search.Search.{Library, exports_of, TakesIntoAs, listed_in, unresolved, first_listed, left_as, objects_as}
+use Rattle.implib_link.specs.Search.Search.{Library, TakesIntoAs, listed_in, unresolved, first_listed, left_as, objects_as}
 use Rattle.implib_link.specs.Search.Libraries.{AreClosed, FlavorLibrary, IsClosed, IsFlavorArchive, IsImported, IsUsedIn, LinksClosed, NamesNoMembers, archive_of_both, flavor_inputs, inputs_in, msvc_among, symbols_in, first_null, is_weak_in, wanted_for}
 use Rattle.implib_link.proofs.Tables.{entry_of}
 use Rattle.implib_link.proofs.Flavors.Program.{packed_objects, program_links}
@@ -39,17 +39,7 @@ use Rattle.implib_link.proofs.Search.Taken.{Why, as_other, both_taken, each_firs
 of_symbol : (flavor : Flavor) (e : ExportView) (name : List ℕ) → Among name (symbols_in flavor e) → (name ≡ imp_symbol (symbol_in flavor e)) ⊎ ((name ≡ symbol_in flavor e) × (e.is_data ≡ false))
 unfolding Among
 of_symbol Msvc e name listed = by_symbol e name listed
-of_symbol Gnu e name listed =
-    elim (cases_Bool e.is_data) [
-      | inl is ↦ (let one : Among name (imp_symbol e.name ∷ []) = rw is at listed in inl (only_one name (imp_symbol e.name) one))
-      | inr is ↦ (
-          let both : Among name (e.name ∷ imp_symbol e.name ∷ []) = rw is at listed in
-          elim (among_either name (e.name ∷ []) (imp_symbol e.name ∷ []) both) [
-            | inl bare ↦ inr (only_one name e.name bare, is)
-            | inr address ↦ inl (only_one name (imp_symbol e.name) address)
-          ]
-          )
-    ]
+of_symbol Gnu e name listed = grind arith
 
 -- What is taken for given objects, and what is linked with them, wherever it is placed.
 pub record AreClosedAs (machine : MachineType) (reads : List ℕ → Option Object) (weak : MemberView → Bool) (libraries : List FlavorLibrary) (own : List Object) (taken : List MemberView) (arranged : List FlavorLibrary)
@@ -151,12 +141,7 @@ module _ (machine : MachineType) (libraries : List FlavorLibrary) (archive : IsF
 
     -- each import is used
     pub used : (i j : ℕ) (p : FlavorInput) (e : ExportView) → slice_get (flavor_inputs arranged wanted) i ≡ Some p → slice_get (exports_chosen p) j ≡ Some e → IsUsedIn p.flavor wanted e
-    used i j p e at there =
-        let l = input_is wanted arranged p (among_at p inputs i at) in
-        let chosen : exports_chosen p ≡ filter (is_chosen l.0.flavor wanted) (exports_of l.0.library) = ap exports_chosen l.2 ∙ chosen_are l.0.flavor wanted l.0.library in
-        let kept = passing (is_chosen l.0.flavor wanted) e (exports_of l.0.library) (subst (Among e) chosen (among_at e (exports_chosen p) j there)) in
-        let name = chosen_name l.0.flavor wanted e kept.1 in
-        subst (λ (q : FlavorInput). IsUsedIn q.flavor wanted e) (sym l.2) (name.0, among_contains name.0 (symbols_in l.0.flavor e) name.1, among_contains name.0 wanted name.2)
+    used i j p e at there = grind (arith, input_is wanted arranged p (among_at p inputs i at), among_at p inputs i, among_at e (exports_chosen p) j there, is_chosen, chosen_are, passing, there, chosen_name, among_contains)
 
     abbrev AtEntry : ℕ → ℕ → List ℕ → Type 0
     AtEntry i j name =
@@ -221,9 +206,7 @@ module _ (machine : MachineType) (libraries : List FlavorLibrary) (archive : IsF
 -- members that a linker takes for the objects that their bytes are
 objects_same : (machine : MachineType) (members : List MemberView) → ((m : MemberView) → Among m members → expanded_in machine m.bytes ≡ object_in m.bytes) → objects_taken machine members ≡ objects_in members
 objects_same machine [] all = refl
-objects_same machine (m ∷ members) all =
-    ap (λ o. cons_option o (objects_taken machine members)) (all m (among_first m members))
-    ∙ ap (cons_option (object_in m.bytes)) (objects_same machine members (λ x held. all x (among_later x m members held)))
+objects_same machine (m ∷ members) all = grind (arith, objects_same machine members, among_first, among_later)
 
 -- the members of libraries for GNU's linker are such
 module _ (machine : MachineType) (libraries : List FlavorLibrary) (archive : IsFlavorArchive machine libraries) (arranged : List FlavorLibrary) (order : IsPermutation libraries arranged) (names : List (List ℕ))
@@ -292,10 +275,7 @@ module _ (machine : MachineType) (libraries : List FlavorLibrary) (archive : IsF
       ];
       into = λ o held. subst (Among o) (sym e.tables) (among_front o (objects_in all_here) (null_descriptor ∷ []) (subst (Among o) same held));
       are_taken = member_other machine libraries archive reads weak (expands machine libraries archive) own taken arranged objects closed_as;
-      are_linked = λ m held. elim (other_from machine libraries archive reads weak (expands machine libraries archive) own taken arranged objects closed_as m held) [
-        | inl null ↦ absurd (no_null null.0.0 null.0.1 null.0.2)
-        | inr all ↦ all
-      ];
+      are_linked = λ m held. grind (arith, other_from machine libraries archive reads weak (expands machine libraries archive) own taken arranged objects closed_as m held, expands machine libraries archive, held, no_null);
       held = record {
         distinct = members_distinct machine libraries archive arranged closed_as.order wanted_here;
         ended = e;
@@ -342,24 +322,11 @@ module _ (machine : MachineType) (libraries : List FlavorLibrary) (archive : IsF
     member_there m held = member_other machine libraries archive reads weak (expands machine libraries archive) own taken arranged objects closed_as m (subst (Among m) e.members held)
 
     linked_taken : (m : MemberView) → Among m linked → Among m (filter (λ y. not (weak y)) taken)
-    linked_taken m held =
-        elim (among_either m e.before (null ++ e.behind) held) [
-          | inl front ↦ member_there m (among_front m e.before e.behind front)
-          | inr rest ↦ elim (among_either m null e.behind rest) [
-            | inl own_null ↦ null_there m own_null
-            | inr last ↦ member_there m (among_back m e.before e.behind last)
-          ]
-        ]
+    linked_taken m held = grind (arith, among_either, held, member_there, among_front, null_there, among_back)
 
     taken_linked : (m : MemberView) → Among m (filter (λ y. not (weak y)) taken) → Among m linked
     taken_linked m held =
-        elim (other_from machine libraries archive reads weak (expands machine libraries archive) own taken arranged objects closed_as m held) [
-          | inl own_null ↦ among_back m e.before (null ++ e.behind) (among_front m null e.behind own_null.1)
-          | inr all ↦ elim (among_either m e.before e.behind (subst (Among m) (sym e.members) all)) [
-            | inl front ↦ among_front m e.before (null ++ e.behind) front
-            | inr last ↦ among_back m e.before (null ++ e.behind) (among_back m null e.behind last)
-          ]
-        ]
+        grind (arith, other_from machine libraries archive reads weak (expands machine libraries archive) own taken arranged objects closed_as m held, expands machine libraries archive, held, among_back, among_front, among_either)
 
     abbrev IsListedHere : List ℕ → Type 0
     IsListedHere = Listed machine libraries archive reads weak (expands machine libraries archive) own taken arranged objects closed_as

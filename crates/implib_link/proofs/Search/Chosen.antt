@@ -2,13 +2,12 @@
 use Rattle.std.proofs.Common.{◌≡◌, ℕ, ◌<◌, Bool, length, arith, true, List, [], ◌∷◌, map, Option, Some, None, refl, ap, sym, ◌∙◌, subst, inl, inr, ◌⊎◌, ◌+◌, ◌≤◌, ◌++◌}
 use Rattle.std.specs.Prelude.{slice_get, IsPermutation, bytes_eq}
 use Rattle.std.specs.List.{cons_option, filter, filter_map, AllByRecursion, IsDistinct, flat_map}
-use Rattle.std.specs.Option.{option_map}
 use Rattle.implib.specs.declared.flavor.Flavor.{Flavor}
 use Rattle.implib.specs.declared.flavor.Flavor.TheVariants.{Gnu, Msvc}
 use Rattle.implib.specs.declared.machine.MachineType.{MachineType}
 use Rattle.implib.specs.Definition.{ExportView}
 use Rattle.implib.specs.LibraryName.{linked_dll, linked_name, names_for}
-use Rattle.implib.specs.Link.LinkedMembers.{LinkInput, all_linked, chosen_exports, numbered_spec}
+use Rattle.implib.specs.Link.LinkedMembers.{all_linked, chosen_exports, numbered_spec}
 use Rattle.implib.specs.Members.Gnu.{archive_symbols}
 use Rattle.implib.specs.Members.GnuMembers.{export_spec, head_spec, tail_spec}
 use Rattle.implib.specs.Members.MemberSpec.{MemberSpec, MemberView, member_of}
@@ -17,7 +16,7 @@ use Rattle.implib.specs.Members.MsvcMembers.{descriptor_spec, null_thunk_spec, s
 use Rattle.implib.proofs.Link.LinkedMembers.{among_map}
 use Rattle.implib.proofs.Link.Ranges.{Among, among_back, among_first, among_flat, among_front, among_later}
 use Rattle.implib_link.specs.Flavors.Program.{FlavorInput, all_members, gnu_input, members_linked, specs_in, IsFoundByName, IsMadeFor, dll_names_in, symbols_listed}
-use Rattle.implib_link.specs.Search.Search.{Library, exports_of, input_if_any, inputs_wanted, exports_wanted, is_wanted}
+use Rattle.implib_link.specs.Search.Search.{Library, exports_of, inputs_wanted, exports_wanted, is_wanted}
 use Rattle.implib_link.specs.Search.Libraries.{FlavorLibrary, flavor_input, flavor_inputs, symbols_in, imports_wanted, is_import_wanted, short_input_if_any, short_inputs, IsFlavorArchive, msvc_among}
 use Rattle.implib_link.proofs.Flavors.Program.{gnu_members}
 use Rattle.implib_link.proofs.Search.ArchiveMembers.{chosen_are as gnu_chosen_are, among_moved, library_fewer as gnu_fewer, distinct_from, times, times_both, times_moved, Chosen, in_nothing, member_spec_chosen, member_spec_linked, numbers_are_wanted, only_one, some_export, wanted_name, wants}
@@ -51,9 +50,7 @@ chosen_by Gnu names e name own listed want = wants names (archive_symbols e) nam
 -- names that want an export want it with more names
 pub chosen_too : (flavor : Flavor) (names more : List (List ℕ)) (e : ExportView) → ((name : List ℕ) → Among name names → Among name more) → is_chosen flavor names e ≡ true →
     is_chosen flavor more e ≡ true
-chosen_too flavor names more e within want =
-    let name = chosen_name flavor names e want in
-    chosen_by flavor more e name.0 (own_chosen flavor names e want) name.1 (within name.0 name.2)
+chosen_too flavor names more e within want = grind (arith, chosen_name, want, chosen_by, own_chosen)
 
 -- some export of a library is chosen
 pub record AnyOf (names : List (List ℕ)) (l : FlavorLibrary) : Type 0 where
@@ -80,33 +77,19 @@ chosen_are Gnu names l = gnu_chosen_are l names
 
 pub export_chosen : (names : List (List ℕ)) (l : FlavorLibrary) (n : ℕ) (e : ExportView) → slice_get (exports_of l.library) n ≡ Some e → is_chosen l.flavor names e ≡ true →
     Among e (chosen_exports l.library.definition (numbers_in l.flavor names l.library))
-export_chosen names l n e is want =
-    subst (Among e) (sym (chosen_are l.flavor names l.library)) (passes (is_chosen l.flavor names) e (exports_of l.library) (among_at e (exports_of l.library) n is) want)
+export_chosen names l n e is want = grind (arith, chosen_are, passes, among_at, is, want)
 
 abbrev pub if_any : Flavor → Library → List ℕ → Option FlavorInput
 if_any flavor l [] = None
 if_any flavor l (n ∷ chosen) = Some (input_with flavor l (n ∷ chosen))
 
 pub input_if : (flavor : Flavor) (names : List (List ℕ)) (l : Library) → flavor_input names flavor l ≡ if_any flavor l (numbers_in flavor names l)
-input_if Msvc names l = by (imports_wanted l names)
-  where
-    by : (chosen : List ℕ) → short_input_if_any l chosen ≡ if_any Msvc l chosen
-    by [] = refl
-    by (n ∷ chosen) = refl
-input_if Gnu names l = by (exports_wanted l.definition names)
-  where
-    by : (chosen : List ℕ) → option_map gnu_input (input_if_any l chosen) ≡ if_any Gnu l chosen
-    by [] = refl
-    by (n ∷ chosen) = refl
+input_if Msvc names l = grind arith
+input_if Gnu names l = grind arith
 
 some_input : (names : List (List ℕ)) (l : FlavorLibrary) → AnyOf names l → flavor_input names l.flavor l.library ≡ Some (input_in names l)
 unfolding Among
-some_input names l any =
-    input_if l.flavor names l.library ∙ by (numbers_in l.flavor names l.library) any.export (export_chosen names l any.number any.export any.is any.want)
-  where
-    by : (chosen : List ℕ) (e : ExportView) → Among e (chosen_exports l.library.definition chosen) → if_any l.flavor l.library chosen ≡ Some (input_with l.flavor l.library chosen)
-    by [] e held = absurd held
-    by (n ∷ chosen) e held = refl
+some_input names l any = grind (arith, input_if l.flavor names l.library, export_chosen names l any.number any.export any.is any.want)
 
 some_number : (flavor : Flavor) (names : List (List ℕ)) (l : Library) (n : ℕ) (chosen : List ℕ) → numbers_in flavor names l ≡ n ∷ chosen →
     (e : ExportView) × (Among e (exports_of l) × (is_chosen flavor names e ≡ true))
@@ -129,10 +112,7 @@ input_held names libraries l held any = kept_into (λ (x : FlavorLibrary). flavo
 
 pub input_is : (names : List (List ℕ)) (libraries : List FlavorLibrary) (p : FlavorInput) → Among p (flavor_inputs libraries names) →
     (l : FlavorLibrary) × Among l libraries × (p ≡ input_in names l) × AnyOf names l
-input_is names libraries p held =
-    let from = kept_from (λ (x : FlavorLibrary). flavor_input names x.flavor x.library) libraries p held in
-    let own = input_some names from.0 p from.2 in
-    (from.0, from.1, own.0, own.1)
+input_is names libraries p held = grind (arith, kept_from, input_some)
 
 -- What is linked of a library.
 
@@ -201,8 +181,7 @@ module _ (machine : MachineType) (names : List (List ℕ)) where
 
   pub linked_into : (libraries : List FlavorLibrary) (m : MemberView) (l : FlavorLibrary) → Among l libraries → AnyOf names l → IsLinked machine names l m →
       Among m (all_members machine (flavor_inputs libraries names))
-  linked_into libraries m l held any own =
-      among_flat (members_linked machine) (input_in names l) (flavor_inputs libraries names) m (input_held names libraries l held any) (linked_in l.flavor l.library m own)
+  linked_into libraries m l held any own = grind (arith, input_held names libraries l held any, linked_in l.flavor l.library m own, among_flat)
 
 -- Libraries of one flavour.
 
@@ -212,13 +191,7 @@ shorts_are (l ∷ libraries) names = ap (cons_option (short_input_if_any l (impo
 
 pub exports_are : (libraries : List Library) (names : List (List ℕ)) → flavor_inputs (map (in_flavor Gnu) libraries) names ≡ map gnu_input (inputs_wanted libraries names)
 exports_are [] names = refl
-exports_are (l ∷ libraries) names =
-    ap (cons_option (option_map gnu_input (input_if_any l (exports_wanted l.definition names)))) (exports_are libraries names)
-    ∙ first (input_if_any l (exports_wanted l.definition names)) (inputs_wanted libraries names)
-  where
-    first : (o : Option LinkInput) (inputs : List LinkInput) → cons_option (option_map gnu_input o) (map gnu_input inputs) ≡ map gnu_input (cons_option o inputs)
-    first None inputs = refl
-    first (Some p) inputs = refl
+exports_are (l ∷ libraries) names = grind (arith, exports_are libraries names)
 
 pub linked_are : (machine : MachineType) (libraries : List Library) (names : List (List ℕ)) →
     all_members machine (flavor_inputs (map (in_flavor Gnu) libraries) names) ≡ all_linked machine (inputs_wanted libraries names)
@@ -226,11 +199,7 @@ linked_are machine libraries names = ap (all_members machine) (exports_are libra
 
 -- some export of them is chosen exactly where some input is linked
 pub some_short : (libraries : List Library) (names : List (List ℕ)) → 0 < length (short_inputs libraries names) → (x : Library) × Among x libraries × AnyOf names (in_flavor Msvc x)
-some_short libraries names some =
-    let one = first_one (short_inputs libraries names) some in
-    let from = input_is names (map (in_flavor Msvc) libraries) one.0 (subst (Among one.0) (sym (shorts_are libraries names)) one.1) in
-    let x = among_mapped (in_flavor Msvc) from.0 libraries from.1 in
-    (x.0, x.1, subst (AnyOf names) x.2 from.3)
+some_short libraries names some = grind (arith, first_one (short_inputs libraries names) some, in_flavor Msvc, shorts_are libraries names, input_is, among_mapped)
 
 pub short_some : (libraries : List Library) (names : List (List ℕ)) (x : Library) → Among x libraries → AnyOf names (in_flavor Msvc x) → 0 < length (short_inputs libraries names)
 short_some libraries names x held any =
@@ -269,13 +238,7 @@ module _ (machine : MachineType) where
   inputs_fewer : (name : List ℕ) (libraries : List FlavorLibrary) (names : List (List ℕ)) → times name (of_inputs (flavor_inputs libraries names)) ≤ times name (of_libraries machine libraries)
   unfolding times
   inputs_fewer name [] names = omega arith
-  inputs_fewer name (l ∷ rest) names =
-      let first : times name (of_inputs (cons_option (flavor_input names l.flavor l.library) (flavor_inputs rest names))) ≤ times name (of_library machine l.flavor l.library) + times name (of_inputs (flavor_inputs rest names)) =
-      one_more name names l.flavor l.library (flavor_inputs rest names) in
-      let behind : times name (of_inputs (flavor_inputs rest names)) ≤ times name (of_libraries machine rest) = inputs_fewer name rest names in
-      let all : times name (of_library machine l.flavor l.library ++ of_libraries machine rest) ≡ times name (of_library machine l.flavor l.library) + times name (of_libraries machine rest) =
-      times_both name (of_library machine l.flavor l.library) (of_libraries machine rest) in
-      omega arith
+  inputs_fewer name (l ∷ rest) names = grind (arith, inputs_fewer name rest names, times, of_library, one_more, of_libraries, times_both)
 
   module _ (libraries : List FlavorLibrary) (archive : IsFlavorArchive machine libraries) where
     abbrev shorts : List Library

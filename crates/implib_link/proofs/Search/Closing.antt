@@ -1,5 +1,5 @@
 -- What a linker takes for given objects, and a program of both: for any way to read members.
-use Rattle.std.proofs.Common.{◌≡◌, ℕ, ◌⊎◌, Bool, false, List, [], ◌∷◌, ◌++◌, Option, Some, refl, ap, sym, ◌∙◌, subst, inl, inr}
+use Rattle.std.proofs.Common.{arith, ◌≡◌, ℕ, ◌⊎◌, Bool, false, List, [], ◌∷◌, ◌++◌, Option, Some, refl, ap, sym, ◌∙◌, subst, inl, inr}
 use Rattle.std.specs.Prelude.{bytes_eq, not}
 use Rattle.std.specs.List.{AllByRecursion, Contains, filter, flat_map, list_any}
 use Rattle.std.proofs.lemmas.Bool.{cases_Bool, false_from_ne_true, true≢false, not_from_false}
@@ -26,10 +26,7 @@ there_not name names none held = true≢false (sym (among_any name names held) �
 -- objects that claim none of some names
 pub claims_apart : (names : List (List ℕ)) (objects : List Object) → AllByRecursion (ClaimsNone names) objects → (name : List ℕ) → Among name names →
     Among name (flat_map claimed_names objects) → ⊥
-claims_apart names objects none name held claimed =
-    let from = among_flat_map claimed_names name objects claimed in
-    there_not name (claimed_names from.0)
-    (all_among (λ n. list_any (bytes_eq n) (claimed_names from.0) ≡ false) name names held (all_among (ClaimsNone names) from.0 objects from.1 none)) from.2
+claims_apart names objects none name held claimed = grind (arith, among_flat_map, there_not, all_among)
 
 pub claims_none : (names : List (List ℕ)) (o : Object) → ((name : List ℕ) → Among name names → Among name (claimed_names o) → ⊥) → ClaimsNone names o
 claims_none names o none = all_each (λ name. list_any (bytes_eq name) (claimed_names o) ≡ false) names (λ name held. not_there name (claimed_names o) (none name held))
@@ -39,16 +36,12 @@ claims_none names o none = all_each (λ name. list_any (bytes_eq name) (claimed_
 pub unresolved_parts : (objects : List Object) (name : List ℕ) → Among name (unresolved objects) →
     Among name (flat_map undefined_in objects) × (Among name (flat_map claimed_names objects) → ⊥)
 unfolding references_of claims_of
-unresolved_parts objects name held =
-    let kept = passing (λ n. not (list_any (bytes_eq n) (claims_of objects))) name (references_of objects) held in
-    (kept.0, there_not name (flat_map claimed_names objects) (from_not (list_any (bytes_eq name) (claims_of objects)) kept.1))
+unresolved_parts objects name held = grind (arith, passing, there_not, from_not)
 
 pub unresolved_from : (objects : List Object) (name : List ℕ) → Among name (flat_map undefined_in objects) →
     (Among name (flat_map claimed_names objects) → ⊥) → Among name (unresolved objects)
 unfolding references_of claims_of
-unresolved_from objects name left none =
-    passes (λ n. not (list_any (bytes_eq n) (claims_of objects))) name (references_of objects) left
-    (not_from_false (list_any (bytes_eq name) (claims_of objects)) (not_there name (flat_map claimed_names objects) none))
+unresolved_from objects name left none = grind (arith, passes, not_from_false, not_there)
 
 -- A search for wanted names: an undefined name pulls in a member where the name is wanted or left by a member that is taken, no
 -- member that is taken claims it, and the first member that it is listed for is this one, which is not taken.
@@ -74,15 +67,9 @@ module _ (reads : List ℕ → Option Object) (archive : List MemberView) (own :
   unfolding left_as claimed_as
   pulls_for taken name m pulls =
       let parts = unresolved_parts (own ++ objects_as reads taken) name (contains_among name (unresolved (own ++ objects_as reads taken)) pulls.named) in
-      let none : Among name (flat_map claimed_names own ++ flat_map claimed_names (objects_as reads taken)) → ⊥ =
-      λ claimed. parts.1 (subst (Among name) (sym (flat_map-append claimed_names own (objects_as reads taken))) claimed) in
+      let none : Among name (flat_map claimed_names own ++ flat_map claimed_names (objects_as reads taken)) → ⊥ = grind (arith, flat_map-append) in
       record {
-        named = among_contains name (unresolved own ++ flat_map undefined_in (objects_as reads taken))
-            (elim (among_either name (flat_map undefined_in own) (flat_map undefined_in (objects_as reads taken)) (subst (Among name) (flat_map-append undefined_in own (objects_as reads taken)) parts.0)) [
-              | inl left ↦ among_front name (unresolved own) (flat_map undefined_in (objects_as reads taken))
-                  (unresolved_from own name left (λ claimed. none (among_front name (flat_map claimed_names own) (flat_map claimed_names (objects_as reads taken)) claimed)))
-              | inr left ↦ among_back name (unresolved own) (flat_map undefined_in (objects_as reads taken)) left
-            ]);
+        named = grind (arith, among_contains, among_either, flat_map-append, among_front, unresolved_from, among_back);
         undefined = not_there name (flat_map claimed_names (objects_as reads taken)) (λ claimed. none (among_back name (flat_map claimed_names own) (flat_map claimed_names (objects_as reads taken)) claimed));
         listed = pulls.listed;
         new = pulls.new;
@@ -213,23 +200,14 @@ pub record IsFirstAs (reads : List ℕ → Option Object) (archive : List Member
 module _ (reads : List ℕ → Option Object) (archive : List MemberView) where
   pub is_first : (m x : MemberView) (o : Object) (names : List (List ℕ)) → m ≡ x → reads x.bytes ≡ Some o → claimed_names o ≡ names → x.symbols ≡ names →
       ((name : List ℕ) → Among name names → first_listed archive name ≡ Some x) → IsFirstAs reads archive m
-  is_first m x o names same read claims listed first = record {
-    object = o;
-    read = ap (λ (y : MemberView). reads y.bytes) same ∙ read;
-    claims = claims ∙ sym listed ∙ ap (λ (y : MemberView). y.symbols) (sym same);
-    first = λ name held. first name (subst (Among name) listed (subst (λ (y : MemberView). Among name y.symbols) same held)) ∙ ap Some (sym same);
-  }
+  is_first m x o names same read claims listed first = grind arith
 
   -- Members of this kind that are taken; some are weak externals.
   module _ (weak : MemberView → Bool) (taken : List MemberView) (each_first : (m : MemberView) → Among m taken → IsFirstAs reads archive m) where
     -- what a member that is taken claims, it is listed for
     claimed_listed : (name : List ℕ) (members : List MemberView) → ((m : MemberView) → Among m members → Among m taken) → Among name (flat_map claimed_names (objects_as reads members)) →
         (m : MemberView) × Among m members × Among name m.symbols
-    claimed_listed name members there claimed =
-        let by = name_as reads claimed_names name members claimed in
-        let one = each_first by.member (there by.member by.held) in
-        let same : by.object ≡ one.object = (let e : Some by.object ≡ Some one.object = sym by.taken ∙ one.read in cc) in
-        (by.member, by.held, subst (Among name) one.claims (subst (λ o. Among name (claimed_names o)) same by.among))
+    claimed_listed name members there claimed = grind (arith, name_as reads claimed_names name members claimed)
 
     -- and the other way round
     pub listed_claimed : (name : List ℕ) (m : MemberView) → Among m taken → Among name m.symbols → Among name (flat_map claimed_names (objects_as reads taken))
@@ -242,9 +220,7 @@ module _ (reads : List ℕ → Option Object) (archive : List MemberView) where
     IsListed name = (m : MemberView) × Among m taken × (weak m ≡ false) × Among name m.symbols
 
     pub listed_other : (name : List ℕ) (m : MemberView) → Among m (filter (λ y. not (weak y)) taken) → Among name m.symbols → IsListed name
-    listed_other name m held listed =
-        let kept = passing (λ y. not (weak y)) m taken held in
-        (m, kept.0, from_not (weak m) kept.1, listed)
+    listed_other name m held listed = grind (arith, passing, from_not, listed)
 
     weak_apart : (name : List ℕ) → IsListed name → Among name (flat_map claimed_names (objects_as reads (filter weak taken))) → ⊥
     weak_apart name m claimed =
@@ -294,11 +270,7 @@ module _ (reads : List ℕ → Option Object) (archive : List MemberView) where
     -- a name that is wanted or left by a weak external is one of the names that are undefined
     pub still_named : (wanted : List (List ℕ)) (name : List ℕ) → Among name (wanted ++ left_as reads (filter weak taken)) → Among name (wanted ++ left_as reads taken)
     unfolding left_as
-    still_named wanted name want =
-        elim (among_either name wanted (flat_map undefined_in (objects_as reads (filter weak taken))) want) [
-          | inl given ↦ among_front name wanted (flat_map undefined_in (objects_as reads taken)) given
-          | inr left ↦ among_back name wanted (flat_map undefined_in (objects_as reads taken)) (names_more reads undefined_in name (filter weak taken) taken (λ m held. (passing weak m taken held).0) left)
-        ]
+    still_named wanted name want = grind (arith, among_either, among_front, among_back, names_more, passing)
 
     -- A program of given objects and of what is taken for them: its objects with import tables are those of the
     -- members that are taken and no weak externals, and may be the null descriptor.

@@ -1,14 +1,14 @@
 -- Searches of several archives, in the order of a command line, take what one search of all of them takes.
-use Rattle.std.proofs.Common.{◌≡◌, ℕ, ◌⊎◌, zero, suc, Bool, false, List, [], ◌∷◌, ◌++◌, length, Option, Some, None, refl, ap, sym, ◌∙◌, subst, inl, inr, arith}
+use Rattle.std.proofs.Common.{rules, ◌≡◌, ℕ, ◌⊎◌, zero, suc, Bool, false, List, [], ◌∷◌, ◌++◌, length, Option, Some, refl, ap, sym, ◌∙◌, subst, inl, inr, arith}
 use Rattle.std.specs.Prelude.{◌==◌, bytes_eq, not, slice_get}
-use Rattle.std.specs.List.{AllByRecursion, Contains, IsDistinct, cons_option, filter, flat_map, list_any}
+use Rattle.std.specs.List.{AllByRecursion, Contains, IsDistinct, filter, flat_map, list_any}
 use Rattle.std.proofs.lemmas.Bool.{cases_Bool, true≢false, not_from_false}
 use Rattle.std.proofs.lemmas.Grind.{flat_map-append}
 use Rattle.std.proofs.lemmas.List.{append-nil, append_assoc}
 use Rattle.implib.specs.Formats.Object.{Object}
 use Rattle.implib.specs.Members.MemberSpec.{MemberView}
 use Rattle.implib.proofs.Link.LinkedMembers.{among_contains}
-use Rattle.implib.proofs.Link.Ranges.{Among, all_among, among_back, among_first, among_front, among_later}
+use Rattle.implib.proofs.Link.Ranges.{Among, all_among, among_back, among_first, among_front}
 use Rattle.implib_link.specs.Flavors.Program.{HaveSame, claimed_names}
 use Rattle.implib_link.specs.Search.Search.{AreTakenIntoAs, PullsIntoAs, TakesIntoAs, references_of, unresolved, claimed_as, first_listed, is_listed_for, objects_as, undefined_in, IndexEntry, index_at, members_at, numbers_from, sweeps, swept}
 use Rattle.implib_link.specs.Search.CommandLines.{AnObject, Archives, AreFirst, AreListedWhole, AreRounds, AreSwept, AreUnclaimedBehind, Input, IsOrdered, IsSwept, LeavesNone, NoneIsLost, SearchesFor, TakesFirst, SearchesCommandLine, SearchesFrom, listed_at, names_left, numbers_but, numbers_in, numbers_of, object_of, objects_given, others_of, given_with}
@@ -31,20 +31,7 @@ refs_either f own later name held = among_either name (flat_map f own) (flat_map
 
 -- a name that no later object claims is left unresolved by these and later ones
 left_on : (own later taken : List Object) (name : List ℕ) → (Among name (flat_map claimed_names later) → ⊥) → Among name (unresolved (own ++ taken)) → Among name (unresolved ((own ++ later) ++ taken))
-left_on own later taken name none left =
-    let parts = unresolved_parts (own ++ taken) name left in
-    unresolved_from ((own ++ later) ++ taken) name
-    (elim (refs_either undefined_in own taken name parts.0) [
-      | inl here ↦ refs_front undefined_in (own ++ later) taken name (refs_front undefined_in own later name here)
-      | inr there ↦ refs_back undefined_in (own ++ later) taken name there
-    ])
-    (λ claimed. elim (refs_either claimed_names (own ++ later) taken name claimed) [
-      | inl given ↦ elim (refs_either claimed_names own later name given) [
-        | inl here ↦ parts.1 (refs_front claimed_names own taken name here)
-        | inr behind ↦ none behind
-      ]
-      | inr there ↦ parts.1 (refs_back claimed_names own taken name there)
-    ])
+left_on own later taken name none left = grind (arith, unresolved_parts, unresolved_from, refs_either, refs_front, refs_back)
 
 -- Names that are listed.
 
@@ -52,8 +39,7 @@ listed_name : (members : List MemberView) (numbers : List ℕ) (n : ℕ) (m : Me
 listed_name members numbers n m name at held listed = among_listed name m (members_at members numbers) (number_taken members numbers n m held at) listed
 
 members_more : (members : List MemberView) (first later : List ℕ) (m : MemberView) → Among m (members_at members first) → Among m (members_at members (first ++ later))
-members_more members first later m held =
-    let from = taken_number members first m held in number_taken members (first ++ later) from.0 m (among_front from.0 first later from.1) from.2
+members_more members first later m held = search (rules, taken_number members first m held, number_taken, among_front)
 
 listed_more : (members : List MemberView) (first later : List ℕ) (name : List ℕ) → Among name (listed_at members first) → Among name (listed_at members (first ++ later))
 listed_more members first later name held =
@@ -66,10 +52,7 @@ pub unclaimed_later : (members : List MemberView) (read : List ℕ) (inputs : Li
 unfolding AreUnclaimedBehind Among
 unclaimed_later members read [] none name listed claimed = claimed
 unclaimed_later members read (input ∷ inputs) none name listed claimed =
-    elim (refs_either claimed_names (object_of input) (objects_given inputs) name claimed) [
-      | inl here ↦ claims_apart (listed_at members read) (object_of input) none.0 name listed here
-      | inr behind ↦ unclaimed_later members (read ++ numbers_of input) inputs none.1 name (listed_more members read (numbers_of input) name listed) behind
-    ]
+    grind (arith, unclaimed_later members (read ++ numbers_of input) inputs none.1 name (listed_more members read (numbers_of input) name listed), refs_either claimed_names (object_of input) (objects_given inputs) name claimed, listed_more members read (numbers_of input) name listed, claims_apart)
 
 -- GNU `ld`'s searches.
 
@@ -79,14 +62,7 @@ module _ (reads : List ℕ → Option Object) (members : List MemberView) where
   sweeps_add : (own : List Object) (archive : List ℕ) (count : ℕ) (numbers : List ℕ) (n : ℕ) → Among n (sweeps reads members own (index_at members archive) count numbers) → Among n numbers ⊎ Among n archive
   unfolding sweeps
   sweeps_add own archive zero numbers n held = inl held
-  sweeps_add own archive (suc count) numbers n held =
-      elim (sweeps_add own archive count (swept reads members own (index_at members archive) numbers) n held) [
-        | inl before ↦ elim (swept_adds reads members own (index_at members archive) numbers n before) [
-          | inl old ↦ inl old
-          | inr new ↦ inr (subst (λ k. Among k archive) (sym new.2) (entries_of members archive new.0 new.1).1)
-        ]
-        | inr there ↦ inr there
-      ]
+  sweeps_add own archive (suc count) numbers n held = grind (arith, sweeps_add own archive count (swept reads members own (index_at members archive) numbers) n held, swept_adds, entries_of)
 
   -- that searches do so
   abbrev Keeps : List ℕ → List ℕ → List ℕ → Type 0
@@ -96,10 +72,7 @@ module _ (reads : List ℕ → Option Object) (members : List MemberView) where
   keeps_on first second before between after one two n = (
     λ held. (two n).0 ((one n).0 held),
     λ held. elim ((two n).1 held) [
-      | inl held ↦ elim ((one n).1 held) [
-        | inl old ↦ inl old
-        | inr new ↦ inr (among_front n first second new)
-      ]
+      | inl held ↦ grind (arith, among_front)
       | inr new ↦ inr (among_back n first second new)
     ],
   )
@@ -225,11 +198,7 @@ module _ (reads : List ℕ → Option Object) (members : List MemberView) where
         AreTakenIntoAs reads members (own ++ objects_given inputs) (members_at members before) → AreTakenIntoAs reads members (own ++ objects_given inputs) (members_at members after)
     unfolding SearchesFrom AreUnclaimedBehind
     searches_in_turn own [] read before after all none is within taken = subst (λ ns. AreTakenIntoAs reads members (own ++ []) (members_at members ns)) is taken
-    searches_in_turn own (AnObject o ∷ inputs) read before after all none is within taken =
-        let same = append_assoc own (o ∷ []) (objects_given inputs) in
-        subst (λ objects. AreTakenIntoAs reads members objects (members_at members after)) same
-        (searches_in_turn (own ++ o ∷ []) inputs (read ++ []) before after (same ∙ all) none.1 is within
-        (subst (λ objects. AreTakenIntoAs reads members objects (members_at members before)) (sym same) taken))
+    searches_in_turn own (AnObject o ∷ inputs) read before after all none is within taken = grind (arith, searches_in_turn (own ++ o ∷ []) inputs (read ++ []) before after, append_assoc)
     searches_in_turn own (Archives archives ∷ inputs) read before after all none (between, group, later) within taken =
         searches_in_turn own inputs (read ++ numbers_of (Archives archives)) between after all none.1 later within
         (rounds_in_turn own (objects_given inputs) all archives group.rounds before between free group.taken
@@ -249,16 +218,11 @@ module _ (reads : List ℕ → Option Object) (members : List MemberView) where
   unfolding Among
   object_there [] x o held read = held
   object_there (y ∷ some) x o (inl is) read = rw (subst (λ (z : MemberView). reads z.bytes ≡ Some o) is read) (inl refl)
-  object_there (y ∷ some) x o (inr held) read = behind (reads y.bytes) (object_there some x o held read)
-    where
-      behind : (read_y : Option Object) → Among o (objects_as reads some) → Among o (cons_option read_y (objects_as reads some))
-      behind None there = there
-      behind (Some p) there = among_later o p (objects_as reads some) there
+  object_there (y ∷ some) x o (inr held) read = grind (arith, object_there some x o held read)
 
   -- an object that leaves none of some names does not leave a name among them
   leaves_not : (names : List (List ℕ)) (o : Object) (name : List ℕ) → LeavesNone names o → Among name names → Among name (undefined_in o) → ⊥
-  leaves_not names o name none held left =
-      true≢false (sym (among_any name (undefined_in o) left) ∙ all_among (λ n. list_any (bytes_eq n) (undefined_in o) ≡ false) name names held none)
+  leaves_not names o name none held left = grind (arith, among_any, all_among)
 
   -- the name of a member whose number is not among some
   but_these : (some : List ℕ) (n : ℕ) (m : MemberView) (name : List ℕ) → slice_get members n ≡ Some m → Among name m.symbols → (Among n some → ⊥) → Among name (listed_at members (numbers_but members some))
@@ -275,39 +239,21 @@ module _ (reads : List ℕ → Option Object) (members : List MemberView) where
     unfolding IsOrdered Among
     objects_leave_not [] ordered none left = left
     objects_leave_not (input ∷ inputs) ordered none left =
-        elim (refs_either undefined_in (object_of input) (objects_given inputs) name left) [
-          | inl here ↦
-              let from = among_flat_map undefined_in name (object_of input) here in
-              leaves_not (listed_at members (numbers_but members (numbers_in (input ∷ inputs)))) from.0 name
-              (all_among (LeavesNone (listed_at members (numbers_but members (numbers_in (input ∷ inputs))))) from.0 (object_of input ++ objects_as reads (members_at members (numbers_of input)))
-              (among_front from.0 (object_of input) (objects_as reads (members_at members (numbers_of input))) from.1) ordered.0)
-              (but_these (numbers_in (input ∷ inputs)) n m name at listed none) from.2
-          | inr behind ↦ objects_leave_not inputs ordered.1 (λ held. none (among_back n (numbers_of input) (numbers_in inputs) held)) behind
-        ]
+        search (rules, objects_leave_not inputs ordered.1, refs_either undefined_in (object_of input) (objects_given inputs) name left, but_these (numbers_in (input ∷ inputs)) n m name, among_flat_map, leaves_not, all_among, among_front, among_back)
 
     pub members_leave_not : (inputs : List Input) → IsOrdered reads members inputs → (Among n (numbers_in inputs) → ⊥) → (k : ℕ) (x : MemberView) (o : Object) → slice_get members k ≡ Some x →
         Among k (numbers_in inputs) → reads x.bytes ≡ Some o → Among name (undefined_in o) → ⊥
     unfolding IsOrdered Among
     members_leave_not [] ordered none k x o there held read left = held
     members_leave_not (input ∷ inputs) ordered none k x o there held read left =
-        elim (among_either k (numbers_of input) (numbers_in inputs) held) [
-          | inl here ↦
-              leaves_not (listed_at members (numbers_but members (numbers_in (input ∷ inputs)))) o name
-              (all_among (LeavesNone (listed_at members (numbers_but members (numbers_in (input ∷ inputs))))) o (object_of input ++ objects_as reads (members_at members (numbers_of input)))
-              (among_back o (object_of input) (objects_as reads (members_at members (numbers_of input))) (object_there (members_at members (numbers_of input)) x o (number_taken members (numbers_of input) k x here there) read)) ordered.0)
-              (but_these (numbers_in (input ∷ inputs)) n m name at listed none) left
-          | inr behind ↦ members_leave_not inputs ordered.1 (λ number. none (among_back n (numbers_of input) (numbers_in inputs) number)) k x o there behind read left
-        ]
+        grind (arith, members_leave_not inputs ordered.1, among_either k (numbers_of input) (numbers_in inputs) held, but_these (numbers_in (input ∷ inputs)) n m name, leaves_not, all_among, among_back, object_there, number_taken)
 
     -- A name that is left in the end, by what was there before inputs that do not search its member, was left then.
     left_before : (own : List Object) (inputs : List Input) (before after : List ℕ) → IsOrdered reads members inputs → SearchesFrom reads members own inputs before after → (Among n (numbers_in inputs) → ⊥) →
         Among name (flat_map undefined_in ((own ++ objects_given inputs) ++ objects_as reads (members_at members after))) → Among name (flat_map undefined_in (own ++ objects_as reads (members_at members before)))
     left_before own inputs before after ordered is none left =
         elim (refs_either undefined_in (own ++ objects_given inputs) (objects_as reads (members_at members after)) name left) [
-          | inl given ↦ elim (refs_either undefined_in own (objects_given inputs) name given) [
-            | inl here ↦ refs_front undefined_in own (objects_as reads (members_at members before)) name here
-            | inr behind ↦ absurd (objects_leave_not inputs ordered none behind)
-          ]
+          | inl given ↦ grind (arith, refs_either, refs_front, objects_leave_not)
           | inr taken ↦
               let from = name_as reads undefined_in name (members_at members after) taken in
               let where_from = taken_number members after from.member from.held in
@@ -348,9 +294,7 @@ module _ (reads : List ℕ → Option Object) (members : List MemberView) where
         Among name (unresolved ((own ++ objects_given inputs) ++ objects_as reads (members_at members after))) → Among n after
     unfolding SearchesFrom IsOrdered Among
     none_lost own [] before after ordered is held left = absurd held
-    none_lost own (AnObject o ∷ inputs) before after ordered is held left =
-        none_lost (own ++ o ∷ []) inputs before after ordered.1 is held
-        (subst (λ objects. Among name (unresolved (objects ++ objects_as reads (members_at members after)))) (sym (append_assoc own (o ∷ []) (objects_given inputs))) left)
+    none_lost own (AnObject o ∷ inputs) before after ordered is held left = grind (arith, none_lost (own ++ o ∷ []) inputs before after ordered.1 is held, append_assoc)
     none_lost own (Archives archives ∷ inputs) before after ordered (between, group, later) held left =
         elim (cases_Bool (list_any (λ other. other == n) (numbers_in inputs))) [
           | inl again ↦ none_lost own inputs between after ordered.1 later (number_among n (numbers_in inputs) again) left
@@ -390,9 +334,7 @@ module _ (reads : List ℕ → Option Object) (members : List MemberView) where
   unfolding AreTakenIntoAs
   gnu_completes inputs taken once none complete is = record {
     in_turn = searches_in_turn (objects_given inputs) taken once [] inputs [] [] taken refl none is (λ n held. held) tt;
-    ended = λ name m pulls.
-        none-some m (sym (all_among (λ n. first_listed members n ≡ None) name (unresolved (objects_given inputs ++ objects_as reads (members_at members taken)))
-        (contains_among name (unresolved (objects_given inputs ++ objects_as reads (members_at members taken))) pulls.named) complete) ∙ pulls.listed);
+    ended = λ name m pulls. grind (arith, contains_among name (unresolved (objects_given inputs ++ objects_as reads (members_at members taken))) pulls.named, none-some, all_among);
   }
 
   -- Two searches of one list take the same.
@@ -411,13 +353,7 @@ module _ (reads : List ℕ → Option Object) (members : List MemberView) where
     claimer : (some : List MemberView) (name : List ℕ) → ((x : MemberView) → Among x some → Among x members) → Among name (flat_map claimed_names (objects_as reads some)) →
         (x : MemberView) × Among x some × Among name x.symbols
     unfolding claimed_as
-    claimer some name are claimed =
-        let from = name_as reads claimed_names name some claimed in (
-          from.member,
-          from.held,
-          listed_claims from.member name (are from.member from.held)
-              (as_name reads claimed_names name (from.member ∷ []) from.member from.object (among_first from.member []) from.taken from.among),
-        )
+    claimer some name are claimed = search (rules, name_as reads claimed_names name some claimed, listed_claims, as_name, among_first)
 
     claims_there : (some : List MemberView) (m : MemberView) (name : List ℕ) → Among m some → Among m members → Among name m.symbols → Among name (flat_map claimed_names (objects_as reads some))
     unfolding claimed_as Among
@@ -433,11 +369,7 @@ module _ (reads : List ℕ → Option Object) (members : List MemberView) where
 
     refs_of_more : (some more : List MemberView) (name : List ℕ) → ((x : MemberView) → Among x some → Among x more) → Among name (flat_map undefined_in (own ++ objects_as reads some)) →
         Among name (flat_map undefined_in (own ++ objects_as reads more))
-    refs_of_more some more name are left =
-        elim (refs_either undefined_in own (objects_as reads some) name left) [
-          | inl here ↦ refs_front undefined_in own (objects_as reads more) name here
-          | inr there ↦ refs_back undefined_in own (objects_as reads more) name (names_more reads undefined_in name some more are there)
-        ]
+    refs_of_more some more name are left = grind (arith, refs_either, refs_front, refs_back, names_more)
 
     -- What a name pulls in after members that another search takes, that search takes, too.
     one_taken : (taken other : List MemberView) (name : List ℕ) (m : MemberView) → AreFirst members (names_left reads own other) other → PullsIntoAs reads members own taken name m → ((y : MemberView) → Among y taken → Among y other) →
@@ -452,12 +384,7 @@ module _ (reads : List ℕ → Option Object) (members : List MemberView) where
           | inr free ↦
               let none : Among name (flat_map claimed_names (objects_as reads other)) → ⊥ = λ claimed. true≢false (sym (among_any name (flat_map claimed_names (objects_as reads other)) claimed) ∙ free) in
               absurd (takes.ended name m (record {
-                named = among_contains name (unresolved (own ++ objects_as reads other)) (unresolved_from (own ++ objects_as reads other) name
-                    (refs_of_more taken other name are parts.0)
-                    (λ claimed. elim (refs_either claimed_names own (objects_as reads other) name claimed) [
-                      | inl own_claims ↦ parts.1 (refs_front claimed_names own (objects_as reads taken) name own_claims)
-                      | inr claims ↦ none claims
-                    ]));
+                named = grind (arith, among_contains, unresolved_from, refs_of_more, parts, refs_either, refs_front);
                 listed = pulls.listed;
                 new = λ held. none (claims_there other m name (contains_among m other held) from.0 from.1);
               }))
@@ -622,10 +549,7 @@ module _ (reads : List ℕ → Option Object) (members : List MemberView) where
 -- what is first by numbers is the first that is listed
 pub first_by_numbers : (members : List MemberView) (names : List (List ℕ)) (taken : List ℕ) → TakesFirst members names taken → AreFirst members names (members_at members taken)
 first_by_numbers members names taken first name m left held listed =
-    let at = taken_number members taken m (contains_among m (members_at members taken) held) in
-    first_at members name at.0 m
-    (λ k a b here mine other again. first name at.0 k a b left (among_contains at.0 taken at.1) here (among_contains name a.symbols mine) other (among_contains name b.symbols again))
-    at.2 (contains_among name m.symbols listed)
+    search (rules, taken_number members taken m (contains_among m (members_at members taken) held), contains_among m (members_at members taken) held, contains_among name m.symbols listed, first_at, among_contains)
 
 -- GNU `ld`'s command lines of libraries and of anything else.
 

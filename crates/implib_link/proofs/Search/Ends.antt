@@ -27,11 +27,7 @@ unfolding same_names
 names_same [] [] is = refl
 names_same [] (y ∷ ys) is = absurd (true≢false (sym is))
 names_same (x ∷ xs) [] is = absurd (true≢false (sym is))
-names_same (x ∷ xs) (y ∷ ys) is =
-    let parts = and_parts (bytes_eq x y) (same_names xs ys) is in
-    let first : x ≡ y = (bytes_eq-Decides x y).0 parts.0 in
-    let others : xs ≡ ys = names_same xs ys parts.1 in
-    ap (λ z. z ∷ xs) first ∙ ap (λ zs. y ∷ zs) others
+names_same (x ∷ xs) (y ∷ ys) is = grind (arith, names_same xs ys, and_parts, same_names, bytes_eq-Decides)
 
 own_names : (xs : List (List ℕ)) → same_names xs xs ≡ true
 unfolding same_names
@@ -64,21 +60,13 @@ is_taken (t ∷ taken) m = is_same m t || is_taken taken m
 pub taken_among : (taken : List MemberView) (m : MemberView) → is_taken taken m ≡ true → Among m taken
 unfolding is_taken Among
 taken_among [] m is = absurd (true≢false (sym is))
-taken_among (t ∷ taken) m is =
-    elim (cases_Bool (is_same m t)) [
-      | inl same ↦ inl (member_same m t same)
-      | inr other ↦ inr (taken_among taken m (rw other at is))
-    ]
+taken_among (t ∷ taken) m is = grind (arith, taken_among taken m, member_same)
 
 pub among_taken : (taken : List MemberView) (m : MemberView) → Among m taken → is_taken taken m ≡ true
 unfolding is_taken Among
 among_taken [] m held = absurd held
 among_taken (t ∷ taken) m (inl e) = rw (subst (λ y. is_same m y ≡ true) e (own_member m)) refl
-among_taken (t ∷ taken) m (inr held) =
-    elim (cases_Bool (is_same m t)) [
-      | inl same ↦ rw same refl
-      | inr other ↦ rw (other, among_taken taken m held) refl
-    ]
+among_taken (t ∷ taken) m (inr held) = grind (arith, among_taken taken m held)
 
 -- How many of an archive's members are not taken.
 
@@ -86,31 +74,16 @@ pub not_taken : List MemberView → List MemberView → ℕ
 not_taken [] taken = 0
 not_taken (m ∷ archive) taken = (if is_taken taken m then 0 else 1) + not_taken archive taken
 
-count_more : (same is : Bool) → (if same || is then 0 else 1) ≤ (if is then 0 else 1)
-count_more true true = omega arith
-count_more true false = omega arith
-count_more false is = omega arith
-
 not_more : (archive taken : List MemberView) (t : MemberView) → not_taken archive (t ∷ taken) ≤ not_taken archive taken
 unfolding not_taken is_taken
 not_more [] taken t = omega arith
-not_more (m ∷ archive) taken t =
-    let own = count_more (is_same m t) (is_taken taken m) in
-    let behind : not_taken archive (t ∷ taken) ≤ not_taken archive taken = not_more archive taken t in
-    omega arith
+not_more (m ∷ archive) taken t = grind (arith, not_more archive taken t)
 
 pub fewer : (archive taken : List MemberView) (t : MemberView) → Among t archive → is_taken taken t ≡ false → not_taken archive (t ∷ taken) < not_taken archive taken
 unfolding not_taken is_taken Among
 fewer [] taken t held new = absurd held
-fewer (m ∷ archive) taken t (inl e) new =
-    let behind : not_taken archive (t ∷ taken) ≤ not_taken archive taken = not_more archive taken t in
-    let same : is_same m t ≡ true = subst (λ y. is_same y t ≡ true) e (own_member t) in
-    let first : is_taken taken m ≡ false = subst (λ y. is_taken taken y ≡ false) e new in
-    rw (same, first) (omega arith)
-fewer (m ∷ archive) taken t (inr held) new =
-    let own = count_more (is_same m t) (is_taken taken m) in
-    let behind : not_taken archive (t ∷ taken) < not_taken archive taken = fewer archive taken t held new in
-    omega arith
+fewer (m ∷ archive) taken t (inl e) new = grind (arith, not_taken, not_more, own_member, is_taken)
+fewer (m ∷ archive) taken t (inr held) new = grind (arith, fewer archive taken t held new)
 
 -- whether a name finds a member that is not taken
 pub first_new : (archive taken : List MemberView) (name : List ℕ) → ((m : MemberView) × (first_listed archive name ≡ Some m) × (Contains taken m → ⊥)) ⊎
@@ -119,9 +92,7 @@ first_new archive taken name =
     elim (found_or_not name archive) [
       | inl none ↦ inr (λ m listed new. (let found : None ≡ Some m = sym none ∙ listed in cc))
       | inr found ↦ elim (cases_Bool (is_taken taken found.0)) [
-        | inl is ↦ inr (λ m listed new.
-            let same : m ≡ found.0 = same_Some m found.0 (sym listed ∙ found.1) in
-            new (among_contains m taken (subst (λ x. Among x taken) (sym same) (taken_among taken found.0 is))))
+        | inl is ↦ grind (arith, taken_among taken found.0 is, same_Some, among_contains)
         | inr none ↦ inl (found.0, found.1, λ has. true≢false (sym (among_taken taken found.0 (contains_among found.0 taken has)) ∙ none))
       ]
     ]
@@ -148,11 +119,7 @@ module _ (reads : List ℕ → Option Object) (archive : List MemberView) (own :
   NonePullsIn taken some = (name : List ℕ) (m : MemberView) → Among name some → Pulls taken name m → ⊥
 
   one_pulls : (taken : List MemberView) (name : List ℕ) → Among name (left_by taken) → ((m : MemberView) × Pulls taken name m) ⊎ ((m : MemberView) → Pulls taken name m → ⊥)
-  one_pulls taken name named =
-      elim (first_new archive taken name) [
-        | inr none ↦ inr (λ m pulls. none m pulls.listed pulls.new)
-        | inl found ↦ inl (found.0, record { named = among_contains name (left_by taken) named; listed = found.1; new = found.2 })
-      ]
+  one_pulls taken name named = grind (arith, first_new archive taken name, among_contains name (left_by taken) named)
 
   pulls_or_not : (taken : List MemberView) (some : List (List ℕ)) → ((name : List ℕ) → Among name some → Among name (left_by taken)) → PulledIn taken some ⊎ NonePullsIn taken some
   unfolding PulledIn NonePullsIn Among
@@ -200,22 +167,12 @@ module _ (reads : List ℕ → Option Object) (archive : List MemberView) (own :
   taken_and_left : (taken : List MemberView) → AreTakenIntoAs reads archive own taken → length taken + not_taken archive taken ≤ not_taken archive []
   unfolding AreTakenIntoAs
   taken_and_left [] turn = omega arith
-  taken_and_left (m ∷ earlier) turn =
-      let less : not_taken archive (m ∷ earlier) < not_taken archive earlier = fewer_left earlier turn.0.0 m turn.0.1 in
-      let before : length earlier + not_taken archive earlier ≤ not_taken archive [] = taken_and_left earlier turn.1 in
-      let counted : length (m ∷ earlier) ≡ suc (length earlier) = refl in
-      omega arith
+  taken_and_left (m ∷ earlier) turn = grind (arith, taken_and_left earlier turn.1, not_taken, fewer_left)
 
 none_taken : (archive : List MemberView) → not_taken archive [] ≤ length archive
 unfolding not_taken is_taken
 none_taken [] = omega arith
-none_taken (m ∷ archive) =
-    let behind : not_taken archive [] ≤ length archive = none_taken archive in
-    let counted : length (m ∷ archive) ≡ suc (length archive) = refl in
-    omega arith
+none_taken (m ∷ archive) = grind (arith, none_taken archive)
 
 pub search_bounded : (reads : List ℕ → Option Object) (archive : List MemberView) (own : List Object) (taken : List MemberView) → AreTakenIntoAs reads archive own taken → length taken ≤ length archive
-search_bounded reads archive own taken turn =
-    let most : length taken + not_taken archive taken ≤ not_taken archive [] = taken_and_left reads archive own taken turn in
-    let first : not_taken archive [] ≤ length archive = none_taken archive in
-    omega arith
+search_bounded reads archive own taken turn = grind (arith, not_taken, taken_and_left, none_taken)

@@ -1,9 +1,9 @@
 -- How far packed import tables of libraries reach, by the definitions alone.
+use Rattle.std.proofs.lemmas.Grind.{common_steps}
 use Rattle.std.proofs.Common.{◌≡◌, ℕ, ◌+◌, ◌-◌, ◌%◌, ◌<◌, ◌≤◌, List, [], ◌∷◌, ◌++◌, length, map, Option, Some, None, refl, ap, sym, ◌∙◌, subst, inl, inr, arith, if◌then◌else◌, Bool, true, false, ◌^◌}
-use Rattle.std.specs.Prelude.{not, unwrap_or, ◌==◌, IsPermutation}
+use Rattle.std.specs.Prelude.{not, unwrap_or, IsPermutation}
 use Rattle.std.specs.List.{filter, sum_by, before_first, position_or_len, AllByRecursion, cons_option, Contains}
 use Rattle.std.proofs.Math.Nat.{mod-lt}
-use Rattle.std.proofs.lemmas.Bool.{cases_Bool}
 use Rattle.std.proofs.lemmas.List.{length-append, length-replicate, append-nil, append_assoc}
 use Rattle.std.proofs.lemmas.List.Filters.{sum_by-filter_both}
 use Rattle.std.proofs.lemmas.List.Sums.{sum_by-cons}
@@ -16,11 +16,10 @@ use Rattle.implib.specs.Link.LinkedMembers.{chosen_exports}
 use Rattle.implib.specs.Link.Placement.{Addresses, Descriptors, DirectoryEnds, DllNames, Group, HintNames, Lookups, alignment, group_named, next_multiple, same_group, placed_from}
 use Rattle.implib.specs.Members.Gnu.{export_object, head_object, hint_name, tail_object}
 use Rattle.implib.specs.Members.ImportTables.{thunk_width}
-use Rattle.implib.specs.Ascii.{without_first, at_sign, begins_with, question_mark, underscore}
-use Rattle.implib.specs.Import.{name_asked, Ask, Name, Ordinal}
-use Rattle.implib.specs.Underscore.{asked_name, has_underscore}
+use Rattle.implib.specs.Import.{Ask, Name, Ordinal}
+use Rattle.implib.specs.Underscore.{asked_name}
 use Rattle.implib.proofs.Link.Placement.{after_head, export, head, length-thunk, tail, at_least}
-use Rattle.implib_link.specs.Flavors.Program.{end_with, group_end, packed_addresses, packed_descriptors, packed_directory_ends, packed_dll_names, packed_end, packed_hint_names, packed_lookups, sections_end, packed, has_tables, null_descriptor, ask_in, AreEnded, Ending, FlavorInput, IsMadeFor, OfLinker, OfMember, gnu_input, objects_taken, all_members, HaveSame}
+use Rattle.implib_link.specs.Flavors.Program.{end_with, group_end, packed_descriptors, packed_end, sections_end, packed, has_tables, null_descriptor, ask_in, AreEnded, Ending, FlavorInput, IsMadeFor, OfLinker, OfMember, gnu_input, objects_taken, all_members, HaveSame}
 use Rattle.implib_link.specs.Search.Search.{Library, exports_of, exports_wanted, is_wanted, input_if_any, TakesIntoAs, unresolved, objects_as}
 use Rattle.implib_link.specs.Search.Libraries.{export_room, library_room, imports_wanted, is_import_wanted, msvc_library_room, short_room, room_in, room_of, tables_end_by, FlavorLibrary, flavor_input, flavor_inputs, short_input_if_any, HasClosed, objects_closed, tables_closed, AreClosed, AreGiven, IsClosed, IsFlavorArchive, archive_of_both, inputs_in, msvc_among, LieWithin, first_null, is_weak_in, short_inputs, weak_in, TakesIntoFor, wanted_for}
 use Rattle.implib_link.proofs.Gnu.Packed.{end_kept, lies_within}
@@ -30,8 +29,8 @@ use Rattle.implib_link.proofs.Gnu.Loaded.{by_width}
 use Rattle.implib.specs.declared.flavor.Flavor.TheVariants.{Msvc, Gnu}
 use Rattle.implib.specs.declared.machine.MachineType.TheVariants.{I386, ARMNT, AMD64, ARM64}
 use Rattle.implib.specs.Formats.Layout.{entries_of, name_text, object_of}
-use Rattle.implib.specs.Formats.ShortImport.{asked_by_name_type, import_name, import_name_noprefix, without_prefix}
-use Rattle.implib.specs.Members.Msvc.{name_type_of, short_import_symbol}
+use Rattle.implib.specs.Formats.ShortImport.{asked_by_name_type, without_prefix}
+use Rattle.implib.specs.Members.Msvc.{short_import_symbol}
 use Rattle.implib.specs.Members.MsvcObjects.{descriptor, null_thunk}
 use Rattle.implib_link.specs.Flavors.Expansion.{Use, import_object, expanded_in, with_section_symbols}
 use Rattle.implib_link.proofs.Flavors.Block.{behind_descriptor, use_for, all_objects, rest_of}
@@ -83,25 +82,17 @@ objects_room group (o ∷ objects) = sections_room group o.sections + objects_ro
 
 end_near : (group : Group) (end : ℕ) (s : ObjectSection) (named : Option Group) → end_with group end s named ≤ end + room_with group (alignment s.flags + length s.bytes) named
 end_near group end s None = omega arith
-end_near group end s (Some other) =
-    let near : next_multiple (alignment s.flags) end ≤ end + alignment s.flags = next_near (alignment s.flags) end (pow_pos _) in
-    elim (cases_Bool (same_group group other)) [ inl is ↦ rw is (omega arith) | inr is ↦ rw is (omega arith) ]
+end_near group end s (Some other) = grind (arith, next_near, pow_pos)
 
 sections_near : (group : Group) (end : ℕ) (sections : List ObjectSection) → sections_end group end sections ≤ end + sections_room group sections
 unfolding sections_end sections_room
 sections_near group end [] = omega arith
-sections_near group end (s ∷ sections) =
-    let first = end_near group end s (group_named s.name) in
-    let rest = sections_near group (end_with group end s (group_named s.name)) sections in
-    omega arith
+sections_near group end (s ∷ sections) = grind (arith, sections_near group (end_with group end s (group_named s.name)) sections, end_near)
 
 objects_near : (group : Group) (end : ℕ) (objects : List Object) → group_end group end objects ≤ end + objects_room group objects
 unfolding group_end objects_room
 objects_near group end [] = omega arith
-objects_near group end (o ∷ objects) =
-    let first = sections_near group end o.sections in
-    let rest = objects_near group (sections_end group end o.sections) objects in
-    omega arith
+objects_near group end (o ∷ objects) = grind (arith, objects_near group (sections_end group end o.sections) objects, sections_near)
 
 -- the room of all groups
 unfoldable pub own_rooms : Object → ℕ
@@ -121,36 +112,11 @@ rooms_are [] = refl
 rooms_are (o ∷ objects) = (let rest = rooms_are objects in omega arith)
 
 pub packed_near : (first : ℕ) (objects : List Object) → packed_end first objects ≤ first + 38 + all_rooms objects
-packed_near first objects =
-    let descriptors : packed_descriptors first < first + 8 = next_within 8 first (omega arith) in
-    let end_2 = objects_near Descriptors (packed_descriptors first) objects in
-    let ends : packed_directory_ends first objects < group_end Descriptors (packed_descriptors first) objects + 4 = next_within 4 (group_end Descriptors (packed_descriptors first) objects) (omega arith) in
-    let end_3 = objects_near DirectoryEnds (packed_directory_ends first objects) objects in
-    let lookups : packed_lookups first objects < group_end DirectoryEnds (packed_directory_ends first objects) objects + 8 = next_within 8 (group_end DirectoryEnds (packed_directory_ends first objects) objects) (omega arith) in
-    let end_4 = objects_near Lookups (packed_lookups first objects) objects in
-    let addresses : packed_addresses first objects < group_end Lookups (packed_lookups first objects) objects + 8 = next_within 8 (group_end Lookups (packed_lookups first objects) objects) (omega arith) in
-    let end_5 = objects_near Addresses (packed_addresses first objects) objects in
-    let hints : packed_hint_names first objects < group_end Addresses (packed_addresses first objects) objects + 8 = next_within 8 (group_end Addresses (packed_addresses first objects) objects) (omega arith) in
-    let end_6 = objects_near HintNames (packed_hint_names first objects) objects in
-    let names : packed_dll_names first objects < group_end HintNames (packed_hint_names first objects) objects + 8 = next_within 8 (group_end HintNames (packed_hint_names first objects) objects) (omega arith) in
-    let end_7 = objects_near DllNames (packed_dll_names first objects) objects in
-    let all = rooms_are objects in
-    omega arith
+packed_near first objects = grind (arith, next_within, objects_near, rooms_are)
 
 -- Where packed tables end does not depend on objects without tables.
 pub packed_end_kept : (first : ℕ) (objects : List Object) → packed_end first objects ≡ packed_end first (filter has_tables objects)
-packed_end_kept first objects =
-    let with : List Object = filter has_tables objects in
-    let ends : packed_directory_ends first objects ≡ packed_directory_ends first with = ap (next_multiple 4) (end_kept Descriptors (packed_descriptors first) objects) in
-    let lookups : packed_lookups first objects ≡ packed_lookups first with =
-    ap (next_multiple 8) (end_kept DirectoryEnds (packed_directory_ends first objects) objects ∙ ap (λ n. group_end DirectoryEnds n with) ends) in
-    let addresses : packed_addresses first objects ≡ packed_addresses first with =
-    ap (next_multiple 8) (end_kept Lookups (packed_lookups first objects) objects ∙ ap (λ n. group_end Lookups n with) lookups) in
-    let hints : packed_hint_names first objects ≡ packed_hint_names first with =
-    ap (next_multiple 8) (end_kept Addresses (packed_addresses first objects) objects ∙ ap (λ n. group_end Addresses n with) addresses) in
-    let names : packed_dll_names first objects ≡ packed_dll_names first with =
-    ap (next_multiple 8) (end_kept HintNames (packed_hint_names first objects) objects ∙ ap (λ n. group_end HintNames n with) hints) in
-    end_kept DllNames (packed_dll_names first objects) objects ∙ ap (λ n. group_end DllNames n with) names
+packed_end_kept first objects = grind (arith, end_kept)
 
 -- The rooms of members.
 
@@ -161,13 +127,8 @@ head_near : (machine : MachineType) (dll : NamesOfDll) → own_rooms (head machi
 unfolding own_rooms sections_room head_object
 head_near machine dll = refl
 
-pub without_near : (name : List ℕ) → length (without_first name) ≤ length name
-without_near [] = omega arith
-without_near (x ∷ name) = omega arith
-
 asked_near : (machine : MachineType) (name : List ℕ) → length (asked_name machine name) ≤ length name
-asked_near machine name =
-    elim (cases_Bool (has_underscore machine name)) [ inl is ↦ rw is (without_near name) | inr is ↦ rw is (omega arith) ]
+asked_near machine name = grind arith
 
 -- the same of a name that is given
 given_near : (machine : MachineType) (name : List ℕ) (given : Option (List ℕ)) → length (unwrap_or given (asked_name machine name)) ≤ length (unwrap_or given name)
@@ -176,25 +137,15 @@ given_near machine name (Some text) = omega arith
 
 hint_near : (machine : MachineType) (e : ExportView) → length (hint_name machine e) ≤ 3 + length (unwrap_or e.asked_name e.name)
 unfolding hint_name u16_bytes
-hint_near machine e =
-    let asked = given_near machine e.name e.asked_name in
-    let all : length (name_asked machine e ++ 0 ∷ []) ≡ length (name_asked machine e) + 1 = length-append (name_asked machine e) (0 ∷ []) in
-    elim (cases_Bool e.no_name) [ inl is ↦ rw is (omega arith) | inr is ↦ rw is (omega arith) ]
+hint_near machine e = grind (arith, given_near, length-append)
 
 export_near : (machine : MachineType) (dll : NamesOfDll) (e : ExportView) → own_rooms (export machine dll e) ≤ export_room e
 unfolding own_rooms sections_room export_object
-export_near machine dll e =
-    let width = width_near machine in
-    let hint = hint_near machine e in
-    rw (length-thunk machine e) (omega arith)
+export_near machine dll e = grind (arith, width_near, hint_near, length-thunk)
 
 tail_near : (machine : MachineType) (dll : NamesOfDll) → own_rooms (tail machine dll) ≤ 29 + length dll.text
 unfolding own_rooms sections_room tail_object
-tail_near machine dll =
-    let width = width_near machine in
-    let name : length (dll.text ++ 0 ∷ []) ≡ length dll.text + 1 = length-append dll.text (0 ∷ []) in
-    let thunk = length-replicate {A = ℕ} (thunk_width machine) 0 in
-    rw thunk (omega arith)
+tail_near machine dll = grind (arith, width_near, length-append, length-replicate)
 
 pub linker_null_near : own_rooms null_descriptor ≡ 24
 unfolding own_rooms sections_room
@@ -203,20 +154,12 @@ linker_null_near = refl
 exports_near : (machine : MachineType) (dll : NamesOfDll) (es : List ExportView) (rest : List Object) → all_rooms (map (export machine dll) es ++ rest) ≤ sum_by export_room es + all_rooms rest
 unfolding all_rooms
 exports_near machine dll [] rest = omega arith
-exports_near machine dll (e ∷ es) rest =
-    let first = export_near machine dll e in
-    let next : sum_by export_room (e ∷ es) ≡ export_room e + sum_by export_room es = sum_by-cons export_room e es in
-    let behind = exports_near machine dll es rest in
-    omega arith
+exports_near machine dll (e ∷ es) rest = grind (arith, exports_near machine dll es rest, export_near machine dll e, sum_by-cons export_room e es)
 
 -- one DLL's objects, and others after them
 pub block_near : (machine : MachineType) (dll : NamesOfDll) (es : List ExportView) (rest : List Object) → all_rooms (head machine dll ∷ after_head machine dll es rest) ≤ 61 + length dll.text + sum_by export_room es + all_rooms rest
 unfolding all_rooms
-block_near machine dll es rest =
-    let first = head_near machine dll in
-    let last = tail_near machine dll in
-    let between = exports_near machine dll es (tail machine dll ∷ rest) in
-    omega arith
+block_near machine dll es rest = grind (arith, head_near, tail_near, exports_near, tail)
 
 -- the exports of a library that are wanted: some exports need no more room than all
 pub wanted_near : (l : Library) (wanted : List (List ℕ)) → 61 + length l.definition.import_name + sum_by export_room (chosen_exports l.definition (exports_wanted l.definition wanted)) ≤ library_room l
@@ -232,24 +175,10 @@ before_near : (p : ℕ → Bool) (name : List ℕ) → length (before_first p na
 before_near p name = take_shorter (position_or_len p name) name
 
 prefix_near : (symbol : List ℕ) → length (without_prefix symbol) ≤ length symbol
-prefix_near symbol =
-    let shorter = without_near symbol in
-    elim (cases_Bool (begins_with question_mark symbol)) [
-      | inl is ↦ rw is shorter
-      | inr none ↦ elim (cases_Bool (begins_with at_sign symbol)) [
-        | inl is ↦ rw (none, is) shorter
-        | inr other ↦ elim (cases_Bool (begins_with underscore symbol)) [ inl is ↦ rw (none, other, is) shorter | inr last ↦ rw (none, other, last) (omega arith) ]
-      ]
-    ]
+prefix_near symbol = grind arith
 
 name_near : (name_type : ℕ) (symbol : List ℕ) → length (asked_by_name_type name_type symbol) ≤ length symbol
-name_near name_type symbol =
-    let first = prefix_near symbol in
-    let second = before_near (λ byte. byte == at_sign) (without_prefix symbol) in
-    elim (cases_Bool (name_type == import_name)) [
-      | inl is ↦ rw is (omega arith)
-      | inr none ↦ elim (cases_Bool (name_type == import_name_noprefix)) [ inl is ↦ rw (none, is) first | inr other ↦ rw (none, other) (omega arith) ]
-    ]
+name_near name_type symbol = grind (arith, prefix_near, before_near)
 
 -- The rooms of what members are taken for.
 
@@ -262,8 +191,7 @@ either_near true n text most near = omega arith
 either_near false n text most near = near
 
 ask_near : (machine : MachineType) (e : ExportView) → ask_length (ask_in Msvc machine e) ≤ length (short_import_symbol e)
-ask_near machine e =
-    either_near e.no_name e.ordinal (asked_by_name_type (name_type_of machine e) (short_import_symbol e)) (length (short_import_symbol e)) (name_near (name_type_of machine e) (short_import_symbol e))
+ask_near machine e = grind (arith, either_near, name_near)
 
 asking_near : (machine : MachineType) (dll : NamesOfDll) (symbol : List ℕ) (ask : Ask) (use_kind : Use) → own_rooms (import_object machine dll.text symbol ask use_kind) ≤ 40 + ask_length ask
 unfolding own_rooms sections_room import_object u16_bytes
@@ -294,12 +222,7 @@ null_near machine = omega arith
 askings_near : (machine : MachineType) (dll : NamesOfDll) (es : List ExportView) (rest : List Object) → all_rooms (behind_descriptor machine dll es rest) ≤ 32 + sum_by short_room es + all_rooms rest
 unfolding all_rooms
 askings_near machine dll [] rest = (let thunk = thunk_near machine dll in omega arith)
-askings_near machine dll (e ∷ es) rest =
-    let first = asking_near machine dll (short_import_symbol e) (ask_in Msvc machine e) (use_for e) in
-    let name = ask_near machine e in
-    let next : sum_by short_room (e ∷ es) ≡ short_room e + sum_by short_room es = sum_by-cons short_room e es in
-    let behind = askings_near machine dll es rest in
-    omega arith
+askings_near machine dll (e ∷ es) rest = grind (arith, common_steps, askings_near machine dll es rest, asking_near, use_for, ask_near, sum_by-cons)
 
 -- the imports of a library that are wanted
 pub imports_near : (l : Library) (names : List (List ℕ)) → 67 + length l.definition.import_name + sum_by short_room (chosen_exports l.definition (imports_wanted l names)) ≤ msvc_library_room l
@@ -310,10 +233,7 @@ imports_near l names =
 -- what is linked of one DLL, and others after it
 pub shorts_near : (machine : MachineType) (dll : NamesOfDll) (es : List ExportView) (rest : List Object) → all_rooms (taken_descriptor machine dll ∷ behind_descriptor machine dll es rest) ≤ 67 + length dll.text + sum_by short_room es + all_rooms rest
 unfolding all_rooms
-shorts_near machine dll es rest =
-    let first = descriptor_near machine dll in
-    let behind = askings_near machine dll es rest in
-    omega arith
+shorts_near machine dll es rest = grind (arith, descriptor_near, askings_near)
 
 -- How far packed import tables of libraries of both flavours reach, by the definitions alone.
 
@@ -339,10 +259,7 @@ one_near machine names Gnu l others rest n behind = by (exports_wanted l.definit
 
 libraries_near : (machine : MachineType) (libraries : List FlavorLibrary) (names : List (List ℕ)) (rest : List Object) → linked_rooms machine (flavor_inputs libraries names) rest ≤ sum_by room_of libraries + all_rooms rest
 libraries_near machine [] names rest = omega arith
-libraries_near machine (l ∷ libraries) names rest =
-    let all = sum_by-cons room_of l libraries in
-    let near = one_near machine names l.flavor l.library (flavor_inputs libraries names) rest (sum_by room_of libraries + all_rooms rest) (libraries_near machine libraries names rest) in
-    omega arith
+libraries_near machine (l ∷ libraries) names rest = grind (arith, libraries_near machine libraries names rest, sum_by-cons room_of l libraries, one_near)
 
 -- an object put in among others
 rooms_put : (front back : List Object) (o : Object) → all_rooms (front ++ o ∷ back) ≡ own_rooms o + all_rooms (front ++ back)
@@ -354,9 +271,7 @@ rooms_put (x ∷ front) back o = (let behind = rooms_put front back o in omega a
 kept_near : (machine : MachineType) (ending : Ending) (inputs : List FlavorInput) (objects : List Object) (room : ℕ) → AllByRecursion (IsMadeFor machine) inputs → AreEnded ending machine inputs objects →
     linked_rooms machine inputs (rest_of ending) ≤ room + all_rooms (rest_of ending) → all_rooms (filter has_tables objects) ≤ room + 24
 unfolding all_rooms
-kept_near machine OfLinker inputs objects room made ended rooms =
-    let null = linker_null_near in
-    subst (λ os. all_rooms os ≤ room + 24) (sym (linker_kept machine inputs objects made ended)) (omega arith)
+kept_near machine OfLinker inputs objects room made ended rooms = grind (arith, linker_null_near, linker_kept, made)
 kept_near machine OfMember inputs objects room made ended rooms =
     let front : List Object = objects_taken machine ended.before in
     let back : List Object = objects_taken machine ended.behind in
@@ -394,21 +309,12 @@ none_kept (o ∷ objects) none = rw none.0 (none_kept objects none.1)
 -- Objects without tables, and behind them those with tables.
 
 pub tables_last : (own weak tables : List Object) → NoneHave own → NoneHave weak → AllByRecursion (λ o. has_tables o ≡ true) tables → filter has_tables (own ++ (weak ++ tables)) ≡ tables
-tables_last own weak tables plain none all =
-    ap (filter has_tables) (sym (append_assoc own weak tables))
-    ∙ filter-append has_tables (own ++ weak) tables
-    ∙ ap (λ front. front ++ filter has_tables tables) (none_kept (own ++ weak) (all_append (λ o. has_tables o ≡ false) own weak plain none))
-    ∙ all_kept tables all
+tables_last own weak tables plain none all = grind (arith, append_assoc, filter-append, none_kept, all_append, all_kept)
 
 pub others_first : (own weak tables : List Object) → NoneHave own → NoneHave weak → AllByRecursion (λ o. has_tables o ≡ true) tables →
     HaveSame (filter (λ o. not (has_tables o)) (own ++ (weak ++ tables))) (own ++ weak)
 others_first own weak tables plain none all =
-    let are : filter (λ o. not (has_tables o)) (own ++ (weak ++ tables)) ≡ own ++ weak =
-    ap (filter (λ o. not (has_tables o))) (sym (append_assoc own weak tables))
-    ∙ filter-append (λ o. not (has_tables o)) (own ++ weak) tables
-    ∙ ap (λ behind. filter (λ o. not (has_tables o)) (own ++ weak) ++ behind) (none_left tables all)
-    ∙ append-nil (filter (λ o. not (has_tables o)) (own ++ weak))
-    ∙ plain_left (own ++ weak) (all_append (λ o. has_tables o ≡ false) own weak plain none) in
+    let are : filter (λ o. not (has_tables o)) (own ++ (weak ++ tables)) ≡ own ++ weak = grind (arith, append_assoc, filter-append, none_left, append-nil, plain_left, all_append) in
     λ o. (λ held. subst (λ zs. Contains zs o) are held, λ held. subst (λ zs. Contains zs o) (sym are) held)
 
 -- The objects of a program, packed where there is room for the libraries' tables.

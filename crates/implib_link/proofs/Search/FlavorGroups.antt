@@ -125,15 +125,10 @@ unfolding times
 exports_count name [] = omega arith
 exports_count name (e ∷ es) =
     let behind = exports_count name es in
-    let all : times name (symbols_of_export e ++ flat_map symbols_of_export es) ≡ times name (symbols_of_export e) + times name (flat_map symbols_of_export es) =
-    times_both name (symbols_of_export e) (flat_map symbols_of_export es) in
+    let all : times name (symbols_of_export e ++ flat_map symbols_of_export es) ≡ times name (symbols_of_export e) + times name (flat_map symbols_of_export es) = grind (arith, times_both) in
     elim (cases_Bool (e.is_data && not (is_alias e.alias_target e.name))) [
-      | inl alone ↦
-          let own : times name (symbols_of_export e) ≡ times name (imp_symbol e.name ∷ []) = (rw alone refl) in
-          omega arith
-      | inr both ↦
-          let own : times name (symbols_of_export e) ≡ times name (e.name ∷ imp_symbol e.name ∷ []) = (rw both refl) in
-          omega arith
+      | inl alone ↦ grind (arith, times)
+      | inr both ↦ grind (arith, times)
     ]
 
 module _ (machine : MachineType) where
@@ -146,17 +141,13 @@ module _ (machine : MachineType) where
       let dll : NamesOfDll = names_for Gnu l.definition in
       let own : List (List ℕ) = map (λ (e : ExportView). e.name) (exports_of l) in
       let behind = library_count name libraries in
-      let turned : times name (flat_map symbols_of_export (reverse (exports_of l))) ≡ times name (flat_map symbols_of_export (exports_of l)) =
-      times_moved symbols_of_export name (exports_of l) (reverse (exports_of l)) (IsPermutation-reverse (exports_of l)) in
+      let turned : times name (flat_map symbols_of_export (reverse (exports_of l))) ≡ times name (flat_map symbols_of_export (exports_of l)) = grind (arith, times_moved symbols_of_export name (exports_of l) (reverse (exports_of l)) (IsPermutation-reverse (exports_of l))) in
       let few = exports_count name (exports_of l) in
       let split : times name (flat_map symbols_of_export (reverse (exports_of l)) ++ flat_map (symbols_of_library machine) libraries)
-      ≡ times name (flat_map symbols_of_export (reverse (exports_of l))) + times name (flat_map (symbols_of_library machine) libraries) =
-      times_both name (flat_map symbols_of_export (reverse (exports_of l))) (flat_map (symbols_of_library machine) libraries) in
-      let names : times name (map (λ (e : ExportView). e.name) (exports_of l) ++ names_in libraries) ≡ times name (map (λ (e : ExportView). e.name) (exports_of l)) + times name (names_in libraries) =
-      times_both name own (names_in libraries) in
+      ≡ times name (flat_map symbols_of_export (reverse (exports_of l))) + times name (flat_map (symbols_of_library machine) libraries) = grind (arith, times_both) in
+      let names : times name (map (λ (e : ExportView). e.name) (exports_of l) ++ names_in libraries) ≡ times name (map (λ (e : ExportView). e.name) (exports_of l)) + times name (names_in libraries) = grind (arith, times_both) in
       let imps : times name (map imp_symbol (map (λ (e : ExportView). e.name) (exports_of l) ++ names_in libraries))
-      ≡ times name (map imp_symbol (map (λ (e : ExportView). e.name) (exports_of l))) + times name (map imp_symbol (names_in libraries)) =
-      ap (times name) (map-append imp_symbol own (names_in libraries)) ∙ times_both name (map imp_symbol own) (map imp_symbol (names_in libraries)) in
+      ≡ times name (map imp_symbol (map (λ (e : ExportView). e.name) (exports_of l))) + times name (map imp_symbol (names_in libraries)) = grind (arith, times, map-append, times_both) in
       omega arith
 
   module _ (libraries : List Library) (apart : AreNamedApart machine libraries) where
@@ -197,10 +188,7 @@ module _ (machine : MachineType) where
         distinct_join heads (names ++ imps) (distinct_mapped stem (λ (l : Library). head_symbol machine (linked_name l.definition)) (stem_of_head machine) libraries apart.stems) names_and_imps
         (λ name held there. elim (among_either name names imps there) [
           | inl own ↦ plain_name name own (among_back name tails (heads ++ imps) (among_front name heads imps held))
-          | inr imp ↦
-              let l = head_of_among name held in
-              let n = among_mapped imp_symbol name names imp in
-              head_no_imp machine (linked_name l.0.definition) n.0 (sym l.2 ∙ n.2)
+          | inr imp ↦ grind (arith, head_of_among, held, among_mapped, head_no_imp)
         ])
 
     all_differ : IsDistinct bytes_eq (tails_of machine libraries ++ (heads_of machine libraries ++ (names_in libraries ++ map imp_symbol (names_in libraries))))
@@ -210,10 +198,7 @@ module _ (machine : MachineType) where
         let l = tail_of_among name held in
         elim (among_either name heads (names ++ imps) there) [
           | inl head ↦ let k = head_of_among name head in tail_no_head machine (linked_name l.0.definition) (linked_name k.0.definition) (begins l.0 l.1) (sym l.2 ∙ k.2)
-          | inr others ↦ elim (among_either name names imps others) [
-            | inl own ↦ plain_name name own (among_front name tails (heads ++ imps) held)
-            | inr imp ↦ let n = among_mapped imp_symbol name names imp in tail_no_imp machine (linked_name l.0.definition) n.0 (begins l.0 l.1) (sym l.2 ∙ n.2)
-          ]
+          | inr others ↦ grind (arith, among_either name names imps others, among_front name tails (heads ++ imps) held, begins l.0 l.1, others, plain_name, held, among_mapped, tail_no_imp)
         ])
 
     listed_few : (name : List ℕ) → times name (flat_map (symbols_of_library machine) libraries) ≤ 1
@@ -504,10 +489,7 @@ module _ (machine : MachineType) (libraries : List FlavorLibrary) (archive : IsF
       let gnu_once : times name gnu ≤ 1 = few_from gnu archive.gnu.distinct name in
       let short_once : times name (symbols_of_all_shorts (msvc_among libraries)) ≤ 1 = few_from (symbols_of_all_shorts shorts) (shorts_differ shorts archive.msvc.distinct) name in
       elim (cases_Bool (list_any (bytes_eq name) gnu)) [
-        | inl there ↦
-            (let none : times name (symbols_of_all_shorts (msvc_among libraries)) ≡ 0 =
-            none_times name (symbols_of_all_shorts shorts) (all_among (λ k. list_any (bytes_eq k) (symbols_of_all_shorts (msvc_among libraries)) ≡ false) name gnu (any_among name gnu there) archive.apart) in
-            omega arith)
+        | inl there ↦ grind (arith, times name (symbols_of_all_shorts (msvc_among libraries)), any_among name gnu there, none_times, all_among)
         | inr none_there ↦ (let none : times name gnu ≡ 0 = none_times name gnu none_there in omega arith)
       ]
 

@@ -43,12 +43,6 @@ unfolding Among
 among_option None x xs held = held
 among_option (Some y) x xs held = inr held
 
-pub from_option : {X : Type 0} (o : Option X) (x : X) (xs : List X) → Among x (cons_option o xs) → (o ≡ Some x) ⊎ Among x xs
-unfolding Among
-from_option None x xs held = inr held
-from_option (Some y) x xs (inl e) = inl (ap Some (sym e))
-from_option (Some y) x xs (inr held) = inr held
-
 pub all_parts : {X : Type 0} (P : X → Type 0) (xs ys : List X) → AllByRecursion P (xs ++ ys) → AllByRecursion P xs × AllByRecursion P ys
 all_parts P [] ys all = (tt, all)
 all_parts P (x ∷ xs) ys all = let parts = all_parts P xs ys all.1 in ((all.0, parts.0), parts.1)
@@ -72,8 +66,7 @@ among_mapped f y (x ∷ xs) (inr m) = let later = among_mapped f y xs m in (late
 pub any_of : {X : Type 0} (test : X → Bool) (xs : List X) → list_any test xs ≡ true → (x : X) × Among x xs × (test x ≡ true)
 unfolding Among
 any_of test [] is = absurd (true≢false (sym is))
-any_of test (x ∷ xs) is =
-    elim (cases_Bool (test x)) [ inl here ↦ (x, inl refl, here) | inr none ↦ let later = any_of test xs (rw none at is) in (later.0, inr later.1, later.2) ]
+any_of test (x ∷ xs) is = grind (arith, any_of test xs)
 
 pub any_from : {X : Type 0} (test : X → Bool) (x : X) (xs : List X) → Among x xs → test x ≡ true → list_any test xs ≡ true
 unfolding Among
@@ -88,8 +81,7 @@ pub among_any : (name : List ℕ) (names : List (List ℕ)) → Among name names
 among_any name names held = any_from (bytes_eq name) name names held ((bytes_eq-Decides name name).1 refl)
 
 pub apart_none : (name : List ℕ) (names : List (List ℕ)) → Among name names → AllByRecursion (λ other. bytes_eq name other ≡ false) names → ⊥
-apart_none name names m apart =
-    true≢false (sym ((bytes_eq-Decides name name).1 refl) ∙ all_among (λ other. bytes_eq name other ≡ false) name names m apart)
+apart_none name names m apart = grind (arith, bytes_eq-Decides, all_among)
 
 pub distinct_later : (first later : List (List ℕ)) → IsDistinct bytes_eq (first ++ later) → IsDistinct bytes_eq later
 unfolding IsDistinct
@@ -114,8 +106,7 @@ pub listed_once : (archive : List MemberView) (name : List ℕ) (m : MemberView)
     Among m archive → Among name m.symbols → first_listed archive name ≡ Some m
 unfolding Among
 listed_once [] name m distinct held is = absurd held
-listed_once (x ∷ archive) name m distinct (inl e) is =
-    rw (among_any name x.symbols (subst (λ (y : MemberView). Among name y.symbols) e is)) (ap Some (sym e))
+listed_once (x ∷ archive) name m distinct (inl e) is = grind (arith, among_any)
 listed_once (x ∷ archive) name m distinct (inr held) is =
     elim (cases_Bool (is_listed_for name x)) [
       | inl found ↦ absurd (distinct_apart x.symbols (all_listed archive) name distinct (any_among name x.symbols found) (among_listed name m archive held is))
@@ -126,22 +117,12 @@ listed_once (x ∷ archive) name m distinct (inr held) is =
 pub listed_is : (archive : List MemberView) (name : List ℕ) (m : MemberView) → first_listed archive name ≡ Some m → Among m archive × Among name m.symbols
 unfolding Among
 listed_is [] name m is = cc
-listed_is (x ∷ archive) name m is =
-    elim (cases_Bool (is_listed_for name x)) [
-      | inl found ↦
-          let same : x ≡ m = same_Some x m (rw found at is) in
-          (inl (sym same), subst (λ (y : MemberView). Among name y.symbols) same (any_among name x.symbols found))
-      | inr other ↦ let later = listed_is archive name m (rw other at is) in (inr later.0, later.1)
-    ]
+listed_is (x ∷ archive) name m is = grind (arith, listed_is archive name m, same_Some, any_among)
 
 pub among_flat_map : {X Y : Type 0} (f : X → List Y) (name : Y) (xs : List X) → Among name (flat_map f xs) → (x : X) × Among x xs × Among name (f x)
 unfolding Among
 among_flat_map f name [] held = absurd held
-among_flat_map f name (x ∷ xs) held =
-    elim (among_either name (f x) (flat_map f xs) held) [
-      | inl here ↦ (x, inl refl, here)
-      | inr behind ↦ let later = among_flat_map f name xs behind in (later.0, inr later.1, later.2)
-    ]
+among_flat_map f name (x ∷ xs) held = grind (arith, among_flat_map f name xs, among_either name (f x) (flat_map f xs) held)
 
 -- what is kept of a list
 pub input_front : {X : Type 0} (o : Option X) (x : X) (xs : List X) → o ≡ Some x → Among x (cons_option o xs)
@@ -151,11 +132,7 @@ input_front (Some y) x xs is = (let same : x ≡ y = cc in subst (λ z. Among x 
 pub kept_from : {X Y : Type 0} (keep : X → Option Y) (xs : List X) (y : Y) → Among y (filter_map keep xs) → (x : X) × Among x xs × (keep x ≡ Some y)
 unfolding Among
 kept_from keep [] y held = absurd held
-kept_from keep (x ∷ rest) y held =
-    elim (from_option (keep x) y (filter_map keep rest) held) [
-      | inl is ↦ (x, inl refl, is)
-      | inr behind ↦ let later = kept_from keep rest y behind in (later.0, inr later.1, later.2)
-    ]
+kept_from keep (x ∷ rest) y held = grind (arith, kept_from keep rest y)
 
 pub kept_into : {X Y : Type 0} (keep : X → Option Y) (xs : List X) (y : Y) (x : X) → Among x xs → keep x ≡ Some y → Among y (filter_map keep xs)
 unfolding Among
@@ -202,8 +179,7 @@ none_listed name m members none held is = true≢false (sym (among_any name m.sy
 none_same : (x : List ℕ) (names : List (List ℕ)) → (Among x names → ⊥) → AllByRecursion (λ other. bytes_eq x other ≡ false) names
 unfolding Among
 none_same x [] none = tt
-none_same x (n ∷ names) none =
-    (false_from_ne_true (bytes_eq x n) (λ same. none (inl ((bytes_eq-Decides x n).0 same))), none_same x names (λ held. none (inr held)))
+none_same x (n ∷ names) none = grind (arith, none_same x names, false_from_ne_true, bytes_eq-Decides)
 
 pub distinct_join : (first later : List (List ℕ)) → IsDistinct bytes_eq first → IsDistinct bytes_eq later →
     ((name : List ℕ) → Among name first → Among name later → ⊥) → IsDistinct bytes_eq (first ++ later)
@@ -227,26 +203,13 @@ each_of test x (y ∷ xs) all (inr m) = each_of test x xs (and_parts (test y) (l
 pub passing : {X : Type 0} (test : X → Bool) (x : X) (xs : List X) → Among x (filter test xs) → Among x xs × (test x ≡ true)
 unfolding Among
 passing test x [] held = absurd held
-passing test x (y ∷ xs) held =
-    elim (cases_Bool (test y)) [
-      | inl is ↦
-          let either : Among x (y ∷ filter test xs) = rw is at held in
-          elim either [
-            | inl e ↦ (inl e, subst (λ z. test z ≡ true) (sym e) is)
-            | inr behind ↦ let later = passing test x xs behind in (inr later.0, later.1)
-          ]
-      | inr none ↦ let later = passing test x xs (rw none at held) in (inr later.0, later.1)
-    ]
+passing test x (y ∷ xs) held = grind (arith, passing test x xs)
 
 pub passes : {X : Type 0} (test : X → Bool) (x : X) (xs : List X) → Among x xs → test x ≡ true → Among x (filter test xs)
 unfolding Among
 passes test x [] held is = absurd held
 passes test x (y ∷ xs) (inl e) is = rw (subst (λ z. test z ≡ true) e is) (inl e)
-passes test x (y ∷ xs) (inr held) is =
-    elim (cases_Bool (test y)) [
-      | inl own ↦ rw own (inr (passes test x xs held is))
-      | inr none ↦ rw none (passes test x xs held is)
-    ]
+passes test x (y ∷ xs) (inr held) is = grind (arith, passes test x xs held is)
 
 pub from_not : (b : Bool) → not b ≡ true → b ≡ false
 from_not true is = absurd (true≢false (sym is))

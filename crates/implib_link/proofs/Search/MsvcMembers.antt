@@ -1,14 +1,14 @@
 -- The members of a library for Microsoft's linker: which of an export's a name finds, and what they are taken for.
-use Rattle.std.proofs.Common.{◌≡◌, ℕ, true, false, List, [], ◌∷◌, ◌++◌, map, Some, refl, ap, sym, ◌∙◌, subst, inl, inr, ◌⊎◌, ◌<◌, length, arith, ◌+◌, ◌≤◌}
+use Rattle.std.proofs.Common.{rules, ◌≡◌, ℕ, true, false, List, [], ◌∷◌, ◌++◌, map, Some, refl, ap, sym, ◌∙◌, subst, inl, inr, ◌⊎◌, ◌<◌, length, arith, ◌≤◌}
 use Rattle.std.specs.List.{flat_map, filter}
-use Rattle.std.proofs.lemmas.Bool.{cases_Bool, false_from_ne_true, and_parts}
+use Rattle.std.proofs.lemmas.Bool.{cases_Bool, false_from_ne_true}
 use Rattle.std.proofs.lemmas.List.{map-append}
 use Rattle.implib.specs.declared.machine.MachineType.{MachineType}
 use Rattle.implib.specs.Definition.{ExportView}
 use Rattle.implib.specs.Formats.Layout.{entries_of, name_text, object_of}
 use Rattle.implib.specs.Formats.Object.{Object}
 use Rattle.implib.specs.Import.{imp_symbol, Ask, Name, Ordinal}
-use Rattle.implib.specs.Members.MemberSpec.{MemberSpec, MemberView, member_of}
+use Rattle.implib.specs.Members.MemberSpec.{MemberView, member_of}
 use Rattle.implib.specs.Members.Msvc.{short_import_symbol, short_import_symbols}
 use Rattle.implib.specs.Members.MsvcMembers.{descriptor_spec, export_specs, header_specs, null_descriptor_spec, null_thunk_spec, short_import_spec, weak_specs}
 use Rattle.implib.specs.Members.WeakExternal.{weak_object, weak_spec}
@@ -21,12 +21,11 @@ use Rattle.implib_link.proofs.Flavors.Block.{asking, symbols_of}
 use Rattle.implib_link.proofs.Flavors.Expanded.{taken_descriptor, taken_null, taken_null_thunk}
 use Rattle.implib_link.proofs.Flavors.Inputs.{descriptor_taken, null_taken, short_taken, taken_of, thunk_taken, objects_with_null}
 use Rattle.implib_link.proofs.Search.ArchiveMembers.{Group, IsWithin, members_of_groups, symbols_of_groups, in_nothing, only_one, passing_chosen, no_address, times, times_both}
-use Rattle.implib_link.proofs.Search.Lists.{listed_is, among_any, any_among, among_either, from_not}
+use Rattle.implib_link.proofs.Search.Lists.{listed_is, among_any, any_among, among_either}
 use Rattle.implib.specs.LibraryName.{NamesOfDll, linked_dll, names_for}
 use Rattle.implib.specs.declared.flavor.Flavor.TheVariants.{Msvc}
 use Rattle.std.proofs.lemmas.Option.{same_Some}
-use Rattle.implib.specs.Members.MsvcObjects.{descriptor, null_descriptor, null_descriptor_symbol, null_thunk, null_thunk_symbol, descriptor_symbol}
-use Rattle.std.specs.Prelude.{not}
+use Rattle.implib.specs.Members.MsvcObjects.{descriptor, null_descriptor, null_descriptor_symbol, null_thunk, null_thunk_symbol}
 use Rattle.implib.specs.Link.LinkedMembers.{chosen_exports}
 
 -- The members.
@@ -69,11 +68,7 @@ left_weak machine weak target = refl
 one_of_two : (e : ExportView) (name : List ℕ) → Among name (short_import_symbols e) → (name ≡ short_import_symbol e) ⊎ (name ≡ imp_symbol (short_import_symbol e))
 unfolding Among
 one_of_two e name (inl is) = inr is
-one_of_two e name (inr behind) =
-    elim (cases_Bool e.is_data) [
-      | inl is ↦ (let none : Among name [] = rw is at behind in absurd (in_nothing name none))
-      | inr is ↦ (let one : Among name (short_import_symbol e ∷ []) = rw is at behind in inl (only_one name (short_import_symbol e) one))
-    ]
+one_of_two e name (inr behind) = grind arith
 
 pub pair_symbol : (e : ExportView) (weak target : List ℕ) → is_short_alias e ≡ true → IsPair e weak target → Among weak (symbols_of_short e)
 unfolding Among
@@ -90,9 +85,7 @@ module _ (machine : MachineType) where
 
   members_of_shorts : (l : Library) (es : List ExportView) → map member_of (flat_map (export_specs machine (names_for Msvc l.definition)) es) ≡ members_of_groups (map (short_group l) es)
   members_of_shorts l [] = refl
-  members_of_shorts l (e ∷ es) =
-      map-append member_of (export_specs machine (names_for Msvc l.definition) e) (flat_map (export_specs machine (names_for Msvc l.definition)) es)
-      ∙ ap (λ ms. map member_of (export_specs machine (names_for Msvc l.definition) e) ++ ms) (members_of_shorts l es)
+  members_of_shorts l (e ∷ es) = grind (arith, members_of_shorts l es, map-append)
 
   pub symbols_of_groups_of : (l : Library) (es : List ExportView) → symbols_of_groups (map (short_group l) es) ≡ flat_map symbols_of_short es
   symbols_of_groups_of l [] = refl
@@ -102,9 +95,7 @@ module _ (machine : MachineType) where
   pub members_are : (l : Library) → IsMsvcLibrary machine l →
       l.members ≡ descriptor_of machine l ∷ null_of machine l ∷ thunk_of machine l ∷ members_of_groups (map (short_group l) (exports_of l))
   unfolding header_specs
-  members_are l made =
-      made.made
-      ∙ ap (λ ms. descriptor_of machine l ∷ null_of machine l ∷ thunk_of machine l ∷ ms) (members_of_shorts l (exports_of l))
+  members_are l made = grind (arith, members_of_shorts)
 
   -- The members of one export.
 
@@ -127,9 +118,7 @@ module _ (machine : MachineType) where
   -- the symbol and the address of an alias find its weak externals
   symbol_first : (l : Library) (e : ExportView) → is_short_alias e ≡ true →
       first_listed (short_group l e).members (short_import_symbol e) ≡ Some (weak_of machine l (short_import_symbol e) e.alias_target)
-  symbol_first l e alias =
-      let is : is_listed_for (short_import_symbol e) (weak_of machine l (short_import_symbol e) e.alias_target) ≡ true = among_any (short_import_symbol e) (short_import_symbol e ∷ []) (among_first _ _) in
-      rw (alias_members l e alias, is) refl
+  symbol_first l e alias = grind (arith, among_any (short_import_symbol e) (short_import_symbol e ∷ []) (among_first _ _), alias_members l e alias)
 
   address_first : (l : Library) (e : ExportView) → is_short_alias e ≡ true →
       first_listed (short_group l e).members (imp_symbol (short_import_symbol e)) ≡ Some (weak_of machine l (imp_symbol (short_import_symbol e)) (imp_symbol e.alias_target))
@@ -142,12 +131,8 @@ module _ (machine : MachineType) where
 
   pub pair_first : (l : Library) (e : ExportView) (weak target : List ℕ) → is_short_alias e ≡ true → IsPair e weak target →
       first_listed (short_group l e).members weak ≡ Some (weak_of machine l weak target)
-  pair_first l e weak target alias (inl is) =
-      subst (λ w. first_listed (short_group l e).members w ≡ Some (weak_of machine l w target)) (sym is.0)
-      (subst (λ t. first_listed (short_group l e).members (short_import_symbol e) ≡ Some (weak_of machine l (short_import_symbol e) t)) (sym is.1) (symbol_first l e alias))
-  pair_first l e weak target alias (inr is) =
-      subst (λ w. first_listed (short_group l e).members w ≡ Some (weak_of machine l w target)) (sym is.0)
-      (subst (λ t. first_listed (short_group l e).members (imp_symbol (short_import_symbol e)) ≡ Some (weak_of machine l (imp_symbol (short_import_symbol e)) t)) (sym is.1) (address_first l e alias))
+  pair_first l e weak target alias (inl is) = grind (arith, symbol_first)
+  pair_first l e weak target alias (inr is) = grind (arith, address_first)
 
   -- what a name finds in an export's group
   pub data InExport (l : Library) (e : ExportView) (name : List ℕ) (m : MemberView) : Type 0 where
@@ -169,9 +154,7 @@ module _ (machine : MachineType) where
       let there = listed_is (short_group l e).members name m found in
       elim (cases_Bool (is_short_alias e)) [
         | inl alias ↦ finds_pair l e name m alias found (of_alias (subst (Among m) (alias_members l e alias) there.0) there.1)
-        | inr none ↦
-            let same : m ≡ short_of machine l e = only_one m (short_of machine l e) (subst (Among m) (plain_members l e none) there.0) in
-            FindsShort none same (subst (λ (y : MemberView). Among name y.symbols) same there.1)
+        | inr none ↦ grind (arith, only_one, plain_members)
       ]
     where
       of_alias : Among m (weak_of machine l (short_import_symbol e) e.alias_target ∷ weak_of machine l (imp_symbol (short_import_symbol e)) (imp_symbol e.alias_target) ∷ short_of machine l e ∷ []) →
@@ -187,8 +170,7 @@ module _ (machine : MachineType) where
   within_export l e m name held listed =
       elim (cases_Bool (is_short_alias e)) [
         | inl alias ↦ of_alias alias (subst (Among m) (alias_members l e alias) held)
-        | inr none ↦
-            short_symbol e name none (subst (λ (y : MemberView). Among name y.symbols) (only_one m (short_of machine l e) (subst (Among m) (plain_members l e none) held)) listed)
+        | inr none ↦ grind (arith, short_symbol, only_one, plain_members)
       ]
     where
       either : is_short_alias e ≡ true → (name ≡ short_import_symbol e) ⊎ (name ≡ imp_symbol (short_import_symbol e)) → Among name (symbols_of_short e)
@@ -218,21 +200,12 @@ module _ (machine : MachineType) where
 
     pub pair_there : (e : ExportView) (weak target : List ℕ) → is_short_alias e ≡ true → IsPair e weak target → Among (weak_spec machine (linked_dll l.definition) weak target) (weak_specs machine (linked_dll l.definition) e)
     unfolding weak_specs Among
-    pair_there e weak target alias (inl is) = rw alias (inl (pair_same e weak target (short_import_symbol e) e.alias_target is.0 is.1))
-      where
-        pair_same : (e : ExportView) (weak target w t : List ℕ) → weak ≡ w → target ≡ t → weak_spec machine (linked_dll l.definition) weak target ≡ weak_spec machine (linked_dll l.definition) w t
-        pair_same e weak target w t same other = ap (λ x. weak_spec machine (linked_dll l.definition) x target) same ∙ ap (weak_spec machine (linked_dll l.definition) w) other
-    pair_there e weak target alias (inr is) =
-        rw alias (inr (inl (ap (λ x. weak_spec machine (linked_dll l.definition) x target) is.0 ∙ ap (weak_spec machine (linked_dll l.definition) (imp_symbol (short_import_symbol e))) is.1)))
+    pair_there e weak target alias (inl is) = grind arith
+    pair_there e weak target alias (inr is) = grind arith
 
     pub weak_is : (e : ExportView) (weak target : List ℕ) → Among e (exports_of l) → is_short_alias e ≡ true → IsPair e weak target →
         expanded_in machine (weak_of machine l weak target).bytes ≡ Some (taken_weak machine weak target)
-    weak_is e weak target there alias pair =
-        let dll : NamesOfDll = names_for Msvc l.definition in
-        let p : MemberSpec = weak_spec machine dll.linked weak target in
-        taken_of l.definition machine l.members [] made p
-        (among_back p (header_specs machine dll) (flat_map (export_specs machine dll) (exports_of l))
-        (among_flat (export_specs machine dll) e (exports_of l) p there (among_front p (weak_specs machine dll.linked e) (short_import_spec machine dll e ∷ []) (pair_there e weak target alias pair))))
+    weak_is e weak target there alias pair = search (rules, pair_there e weak target alias pair, taken_of, among_back, among_flat, among_front)
 
 -- What the members for Microsoft's linker leave to others, and which are weak externals and hold import tables.
 
@@ -312,9 +285,7 @@ weak_has_none machine weak target = refl
 -- Archives of libraries for Microsoft's linker: which exports are wanted, what is linked of them, and the null descriptor that they share.
 
 pub import_parts : (names : List (List ℕ)) (e : ExportView) → is_import_wanted names e ≡ true → (is_short_wanted names e ≡ true) × (is_short_alias e ≡ false)
-import_parts names e want =
-    let parts = and_parts (is_short_wanted names e) (not (is_short_alias e)) want in
-    (parts.0, from_not (is_short_alias e) parts.1)
+import_parts names e want = grind arith
 
 pub both_parts : (names : List (List ℕ)) (e : ExportView) → is_short_wanted names e ≡ true → is_short_alias e ≡ false → is_import_wanted names e ≡ true
 both_parts names e want none = rw (want, none) refl
@@ -323,11 +294,7 @@ both_parts names e want none = rw (want, none) refl
 pub by_symbol : (e : ExportView) (name : List ℕ) → Among name (short_import_symbols e) → (name ≡ imp_symbol (short_import_symbol e)) ⊎ ((name ≡ short_import_symbol e) × (e.is_data ≡ false))
 unfolding Among
 by_symbol e name (inl is) = inl is
-by_symbol e name (inr behind) =
-    elim (cases_Bool e.is_data) [
-      | inl is ↦ (let nothing : Among name [] = rw is at behind in absurd (in_nothing name nothing))
-      | inr is ↦ (let one : Among name (short_import_symbol e ∷ []) = rw is at behind in inr (only_one name (short_import_symbol e) one, is))
-    ]
+by_symbol e name (inr behind) = grind arith
 
 none_below : (n : ℕ) → n < 0 → ⊥
 none_below n less = omega arith
@@ -374,43 +341,17 @@ module _ (machine : MachineType) (libraries : List Library) (archive : IsMsvcArc
   -- the null descriptor of any library is taken for the same object
   pub null_tables : (before behind : List MemberView) (dll : NamesOfDll) (l : Library) → Among l libraries → expanded_in machine (null_member machine dll.linked).bytes ≡ Some (taken_null machine) →
       objects_taken machine (before ++ (first_null machine libraries ++ behind)) ≡ objects_taken machine (before ++ null_member machine dll.linked ∷ behind)
-  null_tables before behind dll l held is = by libraries refl held
-    where
-      by : (ls : List Library) → libraries ≡ ls → Among l ls → objects_taken machine (before ++ (first_null machine ls ++ behind)) ≡ objects_taken machine (before ++ null_member machine dll.linked ∷ behind)
-      by [] same there = absurd (in_nothing l there)
-      by (x ∷ rest) same there =
-          objects_with_null machine before behind (null_member machine (linked_dll x.definition)) (null_is machine x (made_of x (first_held x rest same)))
-          ∙ sym (objects_with_null machine before behind (null_member machine dll.linked) is)
+  null_tables before behind dll l held is = grind (arith, in_nothing, objects_with_null, null_is, made_of, first_held)
 
 -- What is linked of a library has no more symbols than the archive lists.
 
 shorts_fewer : (name : List ℕ) (names : List (List ℕ)) (es : List ExportView) → times name (flat_map short_import_symbols (filter (is_import_wanted names) es)) ≤ times name (flat_map symbols_of_short es)
 unfolding times
 shorts_fewer name names [] = omega arith
-shorts_fewer name names (e ∷ es) =
-    let behind : times name (flat_map short_import_symbols (filter (is_import_wanted names) es)) ≤ times name (flat_map symbols_of_short es) = shorts_fewer name names es in
-    let all : times name (symbols_of_short e ++ flat_map symbols_of_short es) ≡ times name (symbols_of_short e) + times name (flat_map symbols_of_short es) =
-    times_both name (symbols_of_short e) (flat_map symbols_of_short es) in
-    let some : times name (short_import_symbols e ++ flat_map short_import_symbols (filter (is_import_wanted names) es))
-    ≡ times name (short_import_symbols e) + times name (flat_map short_import_symbols (filter (is_import_wanted names) es)) =
-    times_both name (short_import_symbols e) (flat_map short_import_symbols (filter (is_import_wanted names) es)) in
-    elim (cases_Bool (is_import_wanted names e)) [
-      | inl is ↦
-          let same : symbols_of_short e ≡ short_import_symbols e = (let none = (import_parts names e is).1 in rw none refl) in
-          let counts : times name (symbols_of_short e) ≡ times name (short_import_symbols e) = ap (times name) same in
-          rw is (omega arith)
-      | inr other ↦ rw other (omega arith)
-    ]
+shorts_fewer name names (e ∷ es) = grind (arith, shorts_fewer name names es)
 
 module _ (machine : MachineType) where
   pub library_fewer : (name : List ℕ) (l : Library) (names : List (List ℕ)) →
       times name (symbols_of machine Msvc (names_for Msvc l.definition) (chosen_exports l.definition (imports_wanted l names))) ≤ times name (symbols_of_shorts l)
   unfolding symbols_of_shorts times
-  library_fewer name l names =
-      let dll : NamesOfDll = names_for Msvc l.definition in
-      let chosen : List ExportView = filter (is_import_wanted names) (exports_of l) in
-      let few : times name (flat_map short_import_symbols chosen) ≤ times name (flat_map symbols_of_short (exports_of l)) = shorts_fewer name names (exports_of l) in
-      let both : times name (flat_map short_import_symbols chosen ++ null_thunk_symbol dll.linked ∷ []) ≡ times name (flat_map short_import_symbols chosen) + times name (null_thunk_symbol dll.linked ∷ []) =
-      times_both name (flat_map short_import_symbols chosen) (null_thunk_symbol dll.linked ∷ []) in
-      subst (λ (es : List ExportView). times name (symbols_of machine Msvc dll es) ≤ times name (descriptor_symbol dll.linked ∷ null_thunk_symbol dll.linked ∷ flat_map symbols_of_short (exports_of l))) (sym (imports_are l names))
-      (omega arith)
+  library_fewer name l names = grind (arith, times, shorts_fewer, times_both, symbols_of, imports_are)

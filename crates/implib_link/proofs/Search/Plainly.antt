@@ -1,11 +1,9 @@
 -- GNU `ld`'s search, which resolves nothing by weak externals, and one that does.
-use Rattle.std.proofs.Common.{◌≡◌, ℕ, ◌⊎◌, true, false, List, [], ◌∷◌, ◌++◌, Option, Some, None, map, refl, ap, sym, ◌∙◌, subst, inl, inr, arith}
-use Rattle.std.specs.Prelude.{bytes_eq, not, ◌==◌, if◌then◌else◌}
+use Rattle.std.proofs.Common.{rules, ◌≡◌, ℕ, ◌⊎◌, false, List, [], ◌∷◌, ◌++◌, Option, Some, None, map, refl, ap, sym, ◌∙◌, subst, inl, inr, arith}
+use Rattle.std.specs.Prelude.{bytes_eq, not}
 use Rattle.std.specs.List.{Contains, cons_option, filter, flat_map, list_any}
 use Rattle.std.specs.Option.{option_map}
-use Rattle.std.proofs.lemmas.Bool.{and_parts, cases_Bool, not_from_false, true≢false}
-use Rattle.implib.specs.Formats.Constants.{class_external, class_weak_external, section_undefined}
-use Rattle.implib.specs.Link.Resolution.{is_undefined_external}
+use Rattle.std.proofs.lemmas.Bool.{cases_Bool, not_from_false, true≢false}
 use Rattle.std.proofs.lemmas.List.{map-append}
 use Rattle.implib.specs.declared.machine.MachineType.{MachineType}
 use Rattle.implib.specs.Formats.Object.{ASymbol, Auxiliary, Entry, Object}
@@ -26,36 +24,19 @@ use Rattle.std.proofs.lemmas.Option.{same_Some}
 
 not_weak : (e : Entry) (name : List ℕ) → undefined_name e ≡ Some name → is_weak_entry e ≡ false
 not_weak (Auxiliary bytes) name is = refl
-not_weak (ASymbol s) name is =
-    elim (cases_Bool (is_undefined_external s)) [
-      | inl there ↦ other (s.class) (and_parts (s.class == class_external) (s.section == section_undefined) there).0
-      | inr not ↦ absurd (none_some s.name name (subst (λ b. (if b then Some s.name else None) ≡ Some name) not is))
-    ]
-  where
-    other : (class : ℕ) → (class == class_external) ≡ true → (class == class_weak_external) ≡ false
-    other class is = grind arith
-
-    none_some : (x y : List ℕ) → (if false then Some x else None) ≡ Some y → ⊥
-    none_some x y is = grind arith
+not_weak (ASymbol s) name is = grind arith
 
 pub left_plain : (o : Object) (name : List ℕ) → Among name (undefined_in o) → Among name (undefined_in (without_weak o))
 unfolding undefined_in without_weak
-left_plain o name held =
-    let from = kept_from undefined_name o.entries name held in
-    kept_into undefined_name (filter (λ e. not (is_weak_entry e)) o.entries) name from.0
-    (passes (λ e. not (is_weak_entry e)) from.0 o.entries from.1 (not_from_false (is_weak_entry from.0) (not_weak from.0 name from.2))) from.2
+left_plain o name held = search (rules, kept_from undefined_name o.entries name held, kept_into, passes, not_from_false, not_weak)
 
 pub left_weak : (o : Object) (name : List ℕ) → Among name (undefined_in (without_weak o)) → Among name (undefined_in o)
 unfolding undefined_in without_weak
-left_weak o name held =
-    let from = kept_from undefined_name (filter (λ e. not (is_weak_entry e)) o.entries) name held in
-    kept_into undefined_name o.entries name from.0 (among_filter (λ e. not (is_weak_entry e)) from.0 o.entries from.1) from.2
+left_weak o name held = grind (arith, kept_from, kept_into, among_filter)
 
 pub claimed_weak : (o : Object) (name : List ℕ) → Among name (claimed_names (without_weak o)) → Among name (claimed_names o)
 unfolding without_weak
-claimed_weak o name held =
-    let from = kept_from claimed_name (filter (λ e. not (is_weak_entry e)) o.entries) name held in
-    kept_into claimed_name o.entries name from.0 (among_filter (λ e. not (is_weak_entry e)) from.0 o.entries from.1) from.2
+claimed_weak o name held = grind (arith, kept_from, kept_into, among_filter)
 
 pub claimed_either : (o : Object) (name : List ℕ) → Among name (claimed_names o) → Among name (claimed_names (without_weak o)) ⊎ Among name (weak_names o)
 unfolding without_weak weak_names
@@ -69,9 +50,7 @@ claimed_either o name held =
 
 pub weak_claimed : (o : Object) (name : List ℕ) → Among name (weak_names o) → Among name (claimed_names o)
 unfolding weak_names
-weak_claimed o name held =
-    let from = kept_from claimed_name (filter is_weak_entry o.entries) name held in
-    kept_into claimed_name o.entries name from.0 (among_filter is_weak_entry from.0 o.entries from.1) from.2
+weak_claimed o name held = grind (arith, kept_from, kept_into, among_filter)
 
 -- Of objects, whatever reads them: what they leave and claim with their weak externals, and without.
 
@@ -82,24 +61,15 @@ module _ (os : List Object) (name : List ℕ) where
       among_flat undefined_in (without_weak from.0) (map without_weak os) name (among_map without_weak from.0 os from.1) (left_plain from.0 name from.2)
 
   left_with : Among name (flat_map undefined_in (map without_weak os)) → Among name (flat_map undefined_in os)
-  left_with held =
-      let from = among_flat_map undefined_in name (map without_weak os) held in
-      let of = among_mapped without_weak from.0 os from.1 in
-      among_flat undefined_in of.0 os name of.1 (left_weak of.0 name (subst (λ o. Among name (undefined_in o)) of.2 from.2))
+  left_with held = grind (arith, among_flat_map, among_mapped, among_flat, left_weak)
 
   -- a name that an object claims by what is no weak external
   claims_plain : Among name (flat_map claimed_names (map without_weak os)) → (o : Object) × Among o os × Among name (claimed_names (without_weak o))
-  claims_plain held =
-      let from = among_flat_map claimed_names name (map without_weak os) held in
-      let of = among_mapped without_weak from.0 os from.1 in
-      (of.0, of.1, subst (λ o. Among name (claimed_names o)) of.2 from.2)
+  claims_plain held = grind (arith, among_flat_map, among_mapped)
 
   -- a name that is unresolved with weak externals is so without
   still_left : Among name (unresolved os) → Among name (unresolved (map without_weak os))
-  still_left held =
-      let parts = unresolved_parts os name held in
-      unresolved_from (map without_weak os) name (left_without parts.0)
-      (λ claimed. let from = claims_plain claimed in parts.1 (among_flat claimed_names from.0 os name from.1 (claimed_weak from.0 name from.2)))
+  still_left held = grind (arith, unresolved_parts, unresolved_from, left_without, claims_plain, among_flat, claimed_weak)
 
   -- and one that is so without is so with them, or is that of one
   left_or_weak : Among name (unresolved (map without_weak os)) → Among name (unresolved os) ⊎ (o : Object) × Among o os × Among name (weak_names o)
@@ -145,17 +115,11 @@ module _ (reads : List ℕ → Option Object) where
     plain_objects taken = ap (λ os. map without_weak own ++ os) (plain_members taken) ∙ sym (map-append without_weak own (objects_as reads taken))
 
     pub still : (taken : List MemberView) (name : List ℕ) → Contains (unresolved (own ++ objects_as reads taken)) name → Contains (left_plainly reads own taken) name
-    still taken name held =
-        subst (λ os. Contains (unresolved os) name) (sym (plain_objects taken))
-        (among_contains name (unresolved (map without_weak (own ++ objects_as reads taken)))
-        (still_left (own ++ objects_as reads taken) name (contains_among name (unresolved (own ++ objects_as reads taken)) held)))
+    still taken name held = grind (arith, plain_objects, among_contains, still_left, contains_among)
 
     pub leaves : (taken : List MemberView) (name : List ℕ) → Contains (flat_map undefined_in (own ++ objects_as reads taken)) name → AreOnlyWeak (own ++ objects_as reads taken) name →
         Contains (left_plainly reads own taken) name
-    leaves taken name held only =
-        subst (λ os. Contains (unresolved os) name) (sym (plain_objects taken))
-        (among_contains name (unresolved (map without_weak (own ++ objects_as reads taken)))
-        (left_by_weak (own ++ objects_as reads taken) name (contains_among name (flat_map undefined_in (own ++ objects_as reads taken)) held) only))
+    leaves taken name held only = grind (arith, plain_objects, among_contains, left_by_weak, contains_among)
 
     module _ (none : HaveNoWeak own) where
       own_none : (o : Object) (name : List ℕ) → Among o own → Among name (weak_names o) → ⊥

@@ -1,5 +1,5 @@
 -- The members of a library in either flavour, by their roles: what each is listed for, and what a linker takes it for.
-use Rattle.std.proofs.Common.{◌≡◌, ℕ, Bool, true, false, List, [], ◌∷◌, Some, refl, ap, sym, ◌∙◌, inl, inr}
+use Rattle.std.proofs.Common.{arith, ◌≡◌, ℕ, Bool, true, false, List, [], ◌∷◌, Some, refl, ap, sym, ◌∙◌, inl, inr}
 use Rattle.std.specs.Prelude.{not, slice_get}
 use Rattle.implib.specs.declared.flavor.Flavor.{Flavor}
 use Rattle.implib.specs.declared.flavor.Flavor.TheVariants.{Gnu, Msvc}
@@ -185,8 +185,7 @@ left_as_role machine Gnu l Top found = left_head machine (names_for Gnu l.defini
 left_as_role machine Msvc l Last found = left_thunk machine (names_for Msvc l.definition)
 left_as_role machine Gnu l Last found = left_tail machine (names_for Gnu l.definition)
 left_as_role machine flavor l Null found = left_null machine
-left_as_role machine Msvc l (Own n e) found =
-    left_asking machine (names_for Msvc l.definition) (short_import_symbol e) (ask_in Msvc machine e) (use_for e) ∙ ap (λ name. name ∷ []) found
+left_as_role machine Msvc l (Own n e) found = grind (arith, left_asking machine (names_for Msvc l.definition) (short_import_symbol e) (ask_in Msvc machine e) (use_for e), use_for e)
 left_as_role machine Gnu l (Own n e) found = left_export machine (names_for Gnu l.definition) e
 left_as_role machine flavor l (Weak n e b) found = left_weak machine (weak_symbol flavor e b) (weak_target e b)
 

@@ -1,7 +1,7 @@
 -- GNU `ld`'s sweeps of an archive take what a search takes that goes by the first member, where no two members list one
 -- name.
-use Rattle.std.proofs.Common.{◌≡◌, ℕ, ◌⊎◌, zero, suc, ◌+◌, ◌<◌, ◌≤◌, Bool, true, false, List, [], ◌∷◌, ◌++◌, length, Option, Some, None, refl, ap, sym, ◌∙◌, subst, inl, inr, arith}
-use Rattle.std.specs.Prelude.{◌&&◌, ◌==◌, bytes_eq, not, slice_get}
+use Rattle.std.proofs.Common.{◌≡◌, ℕ, ◌⊎◌, zero, suc, ◌+◌, ◌<◌, ◌≤◌, true, false, List, [], ◌∷◌, ◌++◌, length, Option, Some, None, refl, ap, sym, ◌∙◌, subst, inl, inr, arith}
+use Rattle.std.specs.Prelude.{◌==◌, bytes_eq, not, slice_get}
 use Rattle.std.specs.List.{IsDistinct, cons_option, list_any}
 use Rattle.std.proofs.lemmas.Bool.{and_parts, cases_Bool, eq-eqb, eqb-true, true≢false}
 use Rattle.implib.specs.Formats.Object.{Object}
@@ -19,29 +19,14 @@ pub one_number : (archive : List MemberView) (name : List ℕ) (n k : ℕ) (m x 
     Among name m.symbols → Among name x.symbols → n ≡ k
 one_number [] name n k m x distinct at other listed again = cc
 one_number (y ∷ archive) name zero zero m x distinct at other listed again = refl
-one_number (y ∷ archive) name zero (suc k) m x distinct at other listed again =
-    let same : y ≡ m = cc in
-    absurd (distinct_apart y.symbols (all_listed archive) name distinct (subst (λ (z : MemberView). Among name z.symbols) (sym same) listed) (among_listed name x archive (among_at x archive k other) again))
-one_number (y ∷ archive) name (suc n) zero m x distinct at other listed again =
-    let same : y ≡ x = cc in
-    absurd (distinct_apart y.symbols (all_listed archive) name distinct (subst (λ (z : MemberView). Among name z.symbols) (sym same) again) (among_listed name m archive (among_at m archive n at) listed))
-one_number (y ∷ archive) name (suc n) (suc k) m x distinct at other listed again =
-    ap suc (one_number archive name n k m x (distinct_later y.symbols (all_listed archive) distinct) at other listed again)
+one_number (y ∷ archive) name zero (suc k) m x distinct at other listed again = grind (arith, all_listed archive, among_listed name x archive (among_at x archive k other) again, among_at x archive k other, distinct_apart)
+one_number (y ∷ archive) name (suc n) zero m x distinct at other listed again = grind (arith, all_listed archive, among_listed name m archive (among_at m archive n at) listed, among_at m archive n, distinct_apart)
+one_number (y ∷ archive) name (suc n) (suc k) m x distinct at other listed again = grind (arith, one_number archive name n k m x (distinct_later y.symbols (all_listed archive) distinct))
 
 pub none_first : (name : List ℕ) (some : List MemberView) (m : MemberView) → first_listed some name ≡ None → Among m some → Among name m.symbols → ⊥
 unfolding Among
 none_first name [] m none held listed = held
-none_first name (x ∷ some) m none held listed =
-    elim (cases_Bool (is_listed_for name x)) [
-      | inl here ↦ found x (rw here at none)
-      | inr not_here ↦ elim held [
-        | inl is ↦ true≢false (sym (among_any name x.symbols (subst (λ (y : MemberView). Among name y.symbols) is listed)) ∙ not_here)
-        | inr behind ↦ none_first name some m (rw not_here at none) behind listed
-      ]
-    ]
-  where
-    found : (y : MemberView) → Some y ≡ None → ⊥
-    found y is = cc
+none_first name (x ∷ some) m none held listed = grind (arith, none_first name some m, among_any)
 
 -- no two numbers' members are listed for a name
 abbrev pub IsOnce : List MemberView → List ℕ → Type 0
@@ -59,9 +44,7 @@ IsFirstAt archive name n = (k : ℕ) (m x : MemberView) → slice_get archive n 
 
 pub first_at : (archive : List MemberView) (name : List ℕ) (n : ℕ) (m : MemberView) → IsFirstAt archive name n → slice_get archive n ≡ Some m → Among name m.symbols → first_listed archive name ≡ Some m
 first_at [] name n m first at listed = absurd (cc)
-first_at (y ∷ archive) name zero m first at listed =
-    let same : y ≡ m = same_Some y m at in
-    rw (among_any name y.symbols (subst (λ (z : MemberView). Among name z.symbols) (sym same) listed)) (ap Some same)
+first_at (y ∷ archive) name zero m first at listed = grind (arith, same_Some, among_any)
 first_at (y ∷ archive) name (suc n) m first at listed =
     elim (cases_Bool (is_listed_for name y)) [
       | inl here ↦ absurd (below n (first 0 m y at listed refl (any_among name y.symbols here)))
@@ -150,20 +133,12 @@ module _ (reads : List ℕ → Option Object) (archive : List MemberView) (own :
   grows : (index : List IndexEntry) (numbers : List ℕ) → length numbers ≤ length (swept reads archive own index numbers)
   unfolding swept
   grows [] numbers = omega arith
-  grows (e ∷ index) numbers =
-      elim (cases_Bool (is_due reads archive own numbers e)) [
-        | inl due ↦ let later = grows index (e.number ∷ numbers) in rw due (omega arith)
-        | inr not_due ↦ rw not_due (grows index numbers)
-      ]
+  grows (e ∷ index) numbers = grind (arith, grows index (e.number ∷ numbers), grows index numbers)
 
   pub swept_keeps : (index : List IndexEntry) (numbers : List ℕ) (n : ℕ) → Among n numbers → Among n (swept reads archive own index numbers)
   unfolding swept
   swept_keeps [] numbers n held = held
-  swept_keeps (e ∷ index) numbers n held =
-      elim (cases_Bool (is_due reads archive own numbers e)) [
-        | inl due ↦ rw due (swept_keeps index (e.number ∷ numbers) n (among_later n e.number numbers held))
-        | inr not_due ↦ rw not_due (swept_keeps index numbers n held)
-      ]
+  swept_keeps (e ∷ index) numbers n held = grind (arith, swept_keeps index (e.number ∷ numbers) n (among_later n e.number numbers held), swept_keeps index numbers n held)
 
   pub sweeps_keep : (index : List IndexEntry) (count : ℕ) (numbers : List ℕ) (n : ℕ) → Among n numbers → Among n (sweeps reads archive own index count numbers)
   unfolding sweeps
@@ -174,51 +149,18 @@ module _ (reads : List ℕ → Option Object) (archive : List MemberView) (own :
   pub swept_adds : (index : List IndexEntry) (numbers : List ℕ) (n : ℕ) → Among n (swept reads archive own index numbers) → Among n numbers ⊎ ((e : IndexEntry) × Among e index × (n ≡ e.number))
   unfolding swept Among
   swept_adds [] numbers n held = inl held
-  swept_adds (e ∷ index) numbers n held =
-      elim (cases_Bool (is_due reads archive own numbers e)) [
-        | inl due ↦ elim (swept_adds index (e.number ∷ numbers) n (rw due at held)) [
-          | inl before ↦ first before
-          | inr behind ↦ inr (behind.0, among_later behind.0 e index behind.1, behind.2)
-        ]
-        | inr not_due ↦ elim (swept_adds index numbers n (rw not_due at held)) [
-          | inl before ↦ inl before
-          | inr behind ↦ inr (behind.0, among_later behind.0 e index behind.1, behind.2)
-        ]
-      ]
-    where
-      first : Among n (e.number ∷ numbers) → Among n numbers ⊎ ((x : IndexEntry) × Among x (e ∷ index) × (n ≡ x.number))
-      first (inl is) = inr (e, inl refl, is)
-      first (inr before) = inl before
+  swept_adds (e ∷ index) numbers n held = grind (arith, swept_adds index (e.number ∷ numbers) n, swept_adds index numbers n)
 
   -- a sweep that takes nothing finds no entry whose member is to be taken
   pub none_due : (index : List IndexEntry) (numbers : List ℕ) → swept reads archive own index numbers ≡ numbers → (e : IndexEntry) → Among e index → is_due reads archive own numbers e ≡ false
   unfolding swept Among
   none_due [] numbers ended e held = absurd held
-  none_due (x ∷ index) numbers ended e held =
-      elim (cases_Bool (is_due reads archive own numbers x)) [
-        | inl due ↦
-            let more = grows index (x.number ∷ numbers) in
-            let same : swept reads archive own index (x.number ∷ numbers) ≡ numbers = rw due at ended in
-            let long : length (swept reads archive own index (x.number ∷ numbers)) ≡ length numbers = ap length same in
-            absurd (omega arith)
-        | inr not_due ↦ elim held [
-          | inl here ↦ subst (λ (y : IndexEntry). is_due reads archive own numbers y ≡ false) (sym here) not_due
-          | inr behind ↦ none_due index numbers (rw not_due at ended) e behind
-        ]
-      ]
+  none_due (x ∷ index) numbers ended e held = grind (arith, none_due index numbers, grows index (x.number ∷ numbers))
 
   -- so a name that is left unresolved, and that an entry has, is that of a member that is taken
   pub none_left : (index : List IndexEntry) (numbers : List ℕ) → swept reads archive own index numbers ≡ numbers → (e : IndexEntry) → Among e index →
       Among e.name (unresolved (own ++ objects_as reads (members_at archive numbers))) → Among e.number numbers
-  none_left index numbers ended e held left =
-      let named : is_left reads archive own numbers e.name ≡ true = among_any e.name (unresolved (own ++ objects_as reads (members_at archive numbers))) left in
-      elim (cases_Bool (list_any (λ number. number == e.number) numbers)) [
-        | inl there ↦ number_among e.number numbers there
-        | inr free ↦ absurd (true≢false (sym (both named free) ∙ none_due index numbers ended e held))
-      ]
-    where
-      both : {left there : Bool} → left ≡ true → there ≡ false → (left && not there) ≡ true
-      both one other = rw (one, other) refl
+  none_left index numbers ended e held left = grind (arith, among_any e.name (unresolved (own ++ objects_as reads (members_at archive numbers))) left, none_due index numbers ended e held, number_among)
 
   -- an entry whose member is to be taken pulls it in, where it and those that are taken are the first that are listed for its name
   due_pulls : (numbers : List ℕ) (e : IndexEntry) → (from : IsEntry archive e) → ((n : ℕ) → Among n (e.number ∷ numbers) → IsFirstAt archive e.name n) → is_due reads archive own numbers e ≡ true →
@@ -227,8 +169,7 @@ module _ (reads : List ℕ → Option Object) (archive : List MemberView) (own :
       let parts = and_parts (is_left reads archive own numbers e.name) (not (list_any (λ number. number == e.number) numbers)) due in
       let own_first = first e.number (among_first e.number numbers) in
       record {
-        named = among_contains e.name (unresolved (own ++ objects_as reads (members_at archive numbers)))
-            (any_among e.name (unresolved (own ++ objects_as reads (members_at archive numbers))) parts.0);
+        named = grind (arith, among_contains, any_among);
         listed = first_at archive e.name e.number from.0 own_first from.1 from.2;
         new = λ held.
             let other = taken_number archive numbers from.0 (contains_among from.0 (members_at archive numbers) held) in
@@ -263,22 +204,13 @@ module _ (reads : List ℕ → Option Object) (archive : List MemberView) (own :
         AreTakenIntoAs reads archive whole (members_at archive (swept reads archive own index numbers))
     unfolding swept
     swept_in_turn [] are numbers within before = before
-    swept_in_turn (e ∷ index) are numbers within before =
-        elim (cases_Bool (is_due reads archive own numbers e)) [
-          | inl due ↦
-              let kept : Within (swept reads archive own index (e.number ∷ numbers)) = rw due at within in
-              rw due (swept_in_turn index (λ x held. are x (among_later x e index held)) (e.number ∷ numbers) kept
-              (one_more numbers e (are e (among_first e index)) (λ n held. kept n (swept_keeps index (e.number ∷ numbers) n held)) due before))
-          | inr not_due ↦ rw not_due (swept_in_turn index (λ x held. are x (among_later x e index held)) numbers (rw not_due at within) before)
-        ]
+    swept_in_turn (e ∷ index) are numbers within before = grind (arith, swept_in_turn index, among_later, one_more, among_first, swept_keeps)
 
     pub sweeps_in_turn : (index : List IndexEntry) → ((e : IndexEntry) → Among e index → Lifts e) → (count : ℕ) (numbers : List ℕ) → Within (sweeps reads archive own index count numbers) → AreTakenIntoAs reads archive whole (members_at archive numbers) →
         AreTakenIntoAs reads archive whole (members_at archive (sweeps reads archive own index count numbers))
     unfolding sweeps
     sweeps_in_turn index are zero numbers within before = before
-    sweeps_in_turn index are (suc count) numbers within before =
-        sweeps_in_turn index are count (swept reads archive own index numbers) within
-        (swept_in_turn index are numbers (λ n held. within n (sweeps_keep index count (swept reads archive own index numbers) n held)) before)
+    sweeps_in_turn index are (suc count) numbers within before = grind (arith, sweeps_in_turn index are count (swept reads archive own index numbers) within, swept_in_turn, sweeps_keep)
 
   module _ (distinct : IsDistinct bytes_eq (all_listed archive)) where
     pub sweeps_take : (count : ℕ) (numbers : List ℕ) → SweepsTake reads archive own count numbers → TakesIntoAs reads archive own (members_at archive numbers)

@@ -1,5 +1,5 @@
 -- What a linker takes of an archive of libraries, however it reads members: what is wanted, and what that leaves.
-use Rattle.std.proofs.Common.{◌≡◌, ℕ, ◌⊎◌, Bool, true, false, List, [], ◌∷◌, ◌++◌, map, Option, Some, refl, ap, sym, ◌∙◌, subst, inl, inr}
+use Rattle.std.proofs.Common.{arith, rules, ◌≡◌, ℕ, ◌⊎◌, Bool, true, false, List, [], ◌∷◌, ◌++◌, map, Option, Some, refl, ap, sym, ◌∙◌, subst, inl, inr}
 use Rattle.std.specs.Prelude.{not, IsPermutation, bytes_eq, slice_get}
 use Rattle.std.specs.List.{AllByRecursion, filter, flat_map, list_any}
 use Rattle.std.proofs.lemmas.Bool.{cases_Bool, true≢false, not_from_false}
@@ -16,8 +16,8 @@ use Rattle.implib.specs.Members.Msvc.{short_import_symbol, short_import_symbols}
 use Rattle.implib.proofs.Link.LinkedMembers.{among_contains, among_map}
 use Rattle.implib.proofs.Link.Ranges.{Among, all_among, among_back, among_first, among_front, among_later, among_flat}
 use Rattle.implib_link.specs.Flavors.Program.{all_members, HaveSame, AreEnded, Ending, objects_taken, ClaimsNone, has_tables}
-use Rattle.implib_link.specs.Search.Search.{Library, exports_of, inputs_wanted, NamesNoHeadOrTail, first_listed, left_as, objects_as, undefined_in, listed_in, unresolved, is_wanted}
-use Rattle.implib_link.specs.Search.Libraries.{FlavorLibrary, IsFlavorArchive, IsWeakOfLibraries, NamesNoMembers, TakesOfLibraries, archive_of_both, gnu_among, msvc_among, first_null, is_weak_in, short_inputs, shorts_linked, wanted_with_weak, AreClosed, AreGiven, headers_of_both, inputs_in, symbols_kept, symbols_in, targets_of_both, wanted_at_most, alias_targets, heads_of, is_data_alias, symbols_wanted, tails_of, is_import_wanted, is_short_alias, weak_in, TakesIntoFor, headers_of, import_symbols_wanted, short_targets, NamesNoHeader}
+use Rattle.implib_link.specs.Search.Search.{Library, exports_of, inputs_wanted, first_listed, left_as, objects_as, undefined_in, listed_in, unresolved, is_wanted}
+use Rattle.implib_link.specs.Search.Libraries.{FlavorLibrary, IsFlavorArchive, IsWeakOfLibraries, NamesNoMembers, TakesOfLibraries, archive_of_both, gnu_among, msvc_among, first_null, is_weak_in, short_inputs, shorts_linked, wanted_with_weak, AreClosed, AreGiven, headers_of_both, inputs_in, symbols_kept, symbols_in, targets_of_both, wanted_at_most, alias_targets, heads_of, is_data_alias, symbols_wanted, tails_of, is_import_wanted, is_short_alias, weak_in, TakesIntoFor, headers_of, import_symbols_wanted}
 use Rattle.implib_link.specs.Flavors.Expansion.{expanded_in}
 use Rattle.implib_link.proofs.Search.Chosen.{AnOwn, AnyOf, IsLinked, TheLast, TheTop, chosen_by, chosen_name, is_chosen, linked_are, linked_from, linked_into, own_chosen, shorts_are, chosen_too}
 use Rattle.implib_link.proofs.Search.Closing.{AreTakenInTurnAs, IsFirstAs, TakesAs, left_by as left_as_by, pulled, reached as reached_as, still_named as still_as, there_not, in_turn_for, none_claimed, not_there}
@@ -58,26 +58,7 @@ module _ (machine : MachineType) (libraries : List FlavorLibrary) (archive : IsF
 
   pub not_wanted : (names : List (List ℕ)) → NamesNoMembers machine libraries names → (flavor : Flavor) (l : Library) (r : Role) (name : List ℕ) → Among (in_flavor flavor l) libraries →
       IsRole libraries (in_flavor flavor l) r → IsFixed r → Among name (symbols machine flavor l r) → Among name names → ⊥
-  not_wanted names plain flavor l r name held is fixed listed want = by flavor r held is fixed listed
-    where
-      gnu : Among (in_flavor Gnu l) libraries → NamesNoHeadOrTail machine (linked_name l.definition) names
-      gnu there = all_among (λ (x : Library). NamesNoHeadOrTail machine (linked_name x.definition) names) l (gnu_among libraries) (gnu_there libraries l there) plain.gnu
-
-      msvc : Among (in_flavor Msvc l) libraries → NamesNoHeader (linked_dll l.definition) names
-      msvc there = all_among (λ (x : Library). NamesNoHeader (linked_dll x.definition) names) l (msvc_among libraries) (msvc_there libraries l there) plain.msvc
-
-      one : (own : List ℕ) → Among name (own ∷ []) → Among own names
-      one own held = subst (λ n. Among n names) (only_one name own held) want
-
-      by : (flavor : Flavor) (r : Role) → Among (in_flavor flavor l) libraries → IsRole libraries (in_flavor flavor l) r → IsFixed r → Among name (symbols machine flavor l r) → ⊥
-      by Gnu Top there is fixed listed = there_not _ names (gnu there).head (one _ listed)
-      by Gnu Last there is fixed listed = there_not _ names (gnu there).name (one _ listed)
-      by Gnu Null there is fixed listed = is
-      by Msvc Top there is fixed listed = there_not _ names (msvc there).descriptor (one _ listed)
-      by Msvc Last there is fixed listed = there_not _ names (msvc there).null_thunk (one _ listed)
-      by Msvc Null there is fixed listed = there_not _ names (msvc there).null_descriptor (one _ listed)
-      by flavor (Own n e) there is fixed listed = fixed
-      by flavor (Weak n e b) there is fixed listed = fixed
+  not_wanted names plain flavor l r name held is fixed listed want = grind (arith, in_flavor, all_among, gnu_there, msvc_there, only_one, symbols, there_not)
 
   -- a member that a wanted name finds
   pub needed_by_wanted : (names : List (List ℕ)) → NamesNoMembers machine libraries names → (name : List ℕ) (m : MemberView) → Found machine libraries archive name m → Among name names → Needed names m
@@ -377,9 +358,6 @@ module _ (machine : MachineType) (libraries : List FlavorLibrary) (archive : IsF
       by [] none is = absurd none
       by (x ∷ ls) some is = is
 
-  abbrev own_header : Library → List (List ℕ)
-  own_header l = descriptor_symbol (linked_dll l.definition) ∷ null_thunk_symbol (linked_dll l.definition) ∷ []
-
   null_kept : (l : Library) → Among (in_flavor Msvc l) libraries → Among null_descriptor_symbol kept
   null_kept l held = short_header_kept l null_descriptor_symbol (msvc_there libraries l held) (among_first _ _)
 
@@ -387,18 +365,14 @@ module _ (machine : MachineType) (libraries : List FlavorLibrary) (archive : IsF
   top_kept Gnu l held =
       header_kept _ (among_front _ (heads_of machine (gnu_among libraries)) (tails_of machine (gnu_among libraries) ++ headers_of (msvc_among libraries))
       (among_map (λ (x : Library). head_symbol machine (linked_name x.definition)) l (gnu_among libraries) (gnu_there libraries l held)))
-  top_kept Msvc l held =
-      let there = msvc_there libraries l held in
-      short_header_kept l _ there (among_later _ _ _ (among_flat own_header l (msvc_among libraries) _ there (among_first _ _)))
+  top_kept Msvc l held = grind (arith, msvc_there libraries l held, short_header_kept, among_later, among_flat, among_first)
 
   last_kept : (flavor : Flavor) (l : Library) → Among (in_flavor flavor l) libraries → Among (last_symbol machine flavor l) kept
   last_kept Gnu l held =
       header_kept _ (among_back _ (heads_of machine (gnu_among libraries)) (tails_of machine (gnu_among libraries) ++ headers_of (msvc_among libraries))
       (among_front _ (tails_of machine (gnu_among libraries)) (headers_of (msvc_among libraries))
       (among_map (λ (x : Library). iname_symbol machine (linked_name x.definition)) l (gnu_among libraries) (gnu_there libraries l held))))
-  last_kept Msvc l held =
-      let there = msvc_there libraries l held in
-      short_header_kept l _ there (among_later _ _ _ (among_flat own_header l (msvc_among libraries) _ there (among_later _ _ _ (among_first _ _))))
+  last_kept Msvc l held = grind (arith, msvc_there libraries l held, short_header_kept, among_later, among_flat, among_first)
 
   pub own_kept : (flavor : Flavor) (l : Library) (e : ExportView) (name : List ℕ) → Among (in_flavor flavor l) libraries → Among e (exports_of l) → is_chosen flavor most e ≡ true → Among name (symbols_in flavor e) →
       Among name kept
@@ -420,12 +394,9 @@ module _ (machine : MachineType) (libraries : List FlavorLibrary) (archive : IsF
 
   target_in : (flavor : Flavor) (l : Library) (n : ℕ) (e : ExportView) (b : Bool) → Among (in_flavor flavor l) libraries → IsRole libraries (in_flavor flavor l) (Weak n e b) → Among (weak_target e b) (targets_of_both libraries)
   target_in Gnu l n e true held is = absurd is.1
-  target_in Gnu l n e false held is =
-      among_front _ (alias_targets (gnu_among libraries)) (short_targets (msvc_among libraries)) (data_target (gnu_among libraries) l n e (gnu_there libraries l held) is.0 is.1.0 is.1.1)
+  target_in Gnu l n e false held is = grind (arith, data_target (gnu_among libraries) l n e (gnu_there libraries l held) is.0 is.1.0 is.1.1, gnu_there libraries l held, among_front)
   target_in Msvc l n e b held is =
-      among_back _ (alias_targets (gnu_among libraries)) (short_targets (msvc_among libraries))
-      (among_flat (λ (x : Library). flat_map own_targets (filter is_short_alias (exports_of x))) l (msvc_among libraries) (weak_target e b) (msvc_there libraries l held)
-      (among_flat own_targets e (filter is_short_alias (exports_of l)) (weak_target e b) (passes is_short_alias e (exports_of l) (among_at e (exports_of l) n is.0) is.1) (of_two e b)))
+      grind (arith, weak_target e b, msvc_there libraries l held, passes is_short_alias e (exports_of l) (among_at e (exports_of l) n is.0) is.1, among_at e (exports_of l) n is.0, of_two e b, among_back, among_flat)
 
   -- a weak external leaves the target of an alias
   weak_left : (l : FlavorLibrary) (r : Role) (name : List ℕ) → Among l libraries → IsRole libraries l r → is_weak_role r ≡ true → Among name (left machine l.flavor l.library r) →
@@ -462,18 +433,8 @@ module _ (machine : MachineType) (libraries : List FlavorLibrary) (archive : IsF
 
     pub names_none : NamesNoMembers machine libraries (unresolved own ++ left_as reads (filter weak taken))
     names_none = record {
-      gnu = all_each (λ (l : Library). NamesNoHeadOrTail machine (linked_name l.definition) wanted) (gnu_among libraries) (λ l held.
-          let none : NamesNoHeadOrTail machine (linked_name l.definition) most =
-          all_among (λ (x : Library). NamesNoHeadOrTail machine (linked_name x.definition) (wanted_at_most libraries own)) l (gnu_among libraries) held given.names.gnu in
-          record { head = fewer (head_symbol machine (linked_name l.definition)) none.head; name = fewer (iname_symbol machine (linked_name l.definition)) none.name });
-      msvc = all_each (λ (l : Library). NamesNoHeader (linked_dll l.definition) wanted) (msvc_among libraries) (λ l held.
-          let none : NamesNoHeader (linked_dll l.definition) most =
-          all_among (λ (x : Library). NamesNoHeader (linked_dll x.definition) (wanted_at_most libraries own)) l (msvc_among libraries) held given.names.msvc in
-          record {
-            descriptor = fewer (descriptor_symbol (linked_dll l.definition)) none.descriptor;
-            null_descriptor = fewer null_descriptor_symbol none.null_descriptor;
-            null_thunk = fewer (null_thunk_symbol (linked_dll l.definition)) none.null_thunk;
-          });
+      gnu = grind (arith, all_each, all_among, fewer);
+      msvc = grind (arith, all_each, all_among, fewer);
     }
 
     needed_here : (m : MemberView) → Among m taken → Needed machine libraries archive wanted m
@@ -528,12 +489,4 @@ pub both_given_closes : (machine : MachineType) (ending : Ending) (libraries : L
     HaveSame (filter (λ o. not (has_tables o)) objects) (own ++ objects_taken machine (weak_in machine taken)) → AreEnded ending machine (inputs_in machine arranged own taken) objects →
     AreClosed machine ending libraries own taken arranged objects
 both_given_closes machine ending libraries own taken arranged objects archive given takes order others ended =
-    let turn = in_turn_for (expanded_in machine) (archive_of_both libraries) own taken takes.in_turn in
-    record {
-      takes = takes;
-      order = order;
-      others = others;
-      ended = ended;
-      claims = claims_none machine libraries archive own given (expanded_in machine) (is_weak_in machine) (expands machine libraries archive) taken turn;
-      names = names_none machine libraries archive own given (expanded_in machine) (is_weak_in machine) (expands machine libraries archive) taken turn;
-    }
+    search (rules, in_turn_for (expanded_in machine) (archive_of_both libraries) own taken takes.in_turn, expands machine libraries archive, claims_none, names_none)

@@ -1,5 +1,5 @@
 -- The archives that were read by hand, by computing.
-use Rattle.std.proofs.Common.{List, [], ap, codes, inl, inr, refl, subst, sym, ◌++◌, ◌∙◌, ◌∷◌, ◌≡◌, ℕ}
+use Rattle.std.proofs.Common.{arith, List, [], ap, codes, refl, subst, sym, ◌++◌, ◌∙◌, ◌∷◌, ◌≡◌, ℕ}
 use Rattle.implib_archive.specs.Leads.{headers_among, headers_in, with_header}
 use Rattle.implib_archive.specs.Reader.{data_at, first_in, linker_data, linker_in, long_name, long_name_at, long_names_in, long_names_or, member_at, name_in, number_in, numbers_in, paired, read_as, stored_at, stored_from, stored_in, texts_in, trimmed}
 use Rattle.implib_link.specs.Archives.Files.{ArchiveFile, HasMembersAs, entries_by, entries_in, member_after, members_in_files, members_read, members_read_as, symbols_at}
@@ -16,13 +16,11 @@ use Rattle.implib.specs.declared.machine.MachineType.TheVariants.{AMD64, ARM64, 
 use Rattle.implib.specs.Machine.{is_32bit}
 use Rattle.implib.specs.Definition.{empty_definition}
 use Rattle.implib.specs.Members.MsvcObjects.{null_descriptor_symbol}
-use Rattle.implib.proofs.Link.Ranges.{Among}
 use Rattle.implib_link.specs.Archives.Ways.{SearchesByLld, AreCalledAlike, read_by_lld}
 use Rattle.implib_link.proofs.Archives.Ways.{files_lead_to_lld}
 use Rattle.implib_link.specs.Search.Search.{Library, AreTakenIntoAs, TakesIntoAs, listed_in}
 use Rattle.implib_link.specs.Search.CommandLines.{AreListedWhole, SearchesFlavors, names_left}
 use Rattle.implib_link.proofs.Search.CommandLines.{are_first_of_distinct, taken_are}
-use Rattle.implib_link.proofs.Search.Lists.{contains_among}
 use Rattle.implib_link_instances.proofs.Worked.CommandLines.{ended_by, exit, member_or_none, object_at, own, pulls_by, whole_by}
 use Rattle.implib_link_instances.proofs.Worked.FlavorLines.{kernels, line, shorts, worked}
 use Rattle.implib_link_instances.proofs.Worked.Lemmas.{IsX86}
@@ -50,15 +48,8 @@ worked_files = record {
   i386_coff = i386_kernel;
 }
 
--- one library alone is called like itself
-alone : (l k : Library) → Among l (k ∷ []) → l ≡ k
-unfolding Among
-alone l k (inl is) = is
-alone l k (inr none) = absurd none
-
 one_alike : (l : Library) → AreCalledAlike (l ∷ [])
-one_alike l first second held also same =
-    ap (λ (k : Library). k.definition.import_name) (alone first l (contains_among first (l ∷ []) held) ∙ sym (alone second l (contains_among second (l ∷ []) also)))
+one_alike l first second held also same = grind arith
 
 -- the library of kernel32.dll
 abbrev kernel_of : List FlavorLibrary → Library

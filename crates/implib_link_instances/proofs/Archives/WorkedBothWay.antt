@@ -1,21 +1,19 @@
 -- The whole way for libraries of both flavours by hand, by computing and by the laws.
-use Rattle.std.proofs.Common.{List, [], arith, codes, map, refl, ℕ, ◌++◌, ◌<◌, ◌^◌, ◌∷◌, ◌≡◌}
+use Rattle.std.proofs.Common.{List, [], arith, codes, map, refl, ℕ, ◌++◌, ◌<◌, ◌∷◌, ◌≡◌}
 use Rattle.std.specs.List.{AllByRecursion}
 use Rattle.implib.specs.declared.flavor.Flavor.TheVariants.{Gnu, Msvc}
 use Rattle.implib.specs.declared.machine.MachineType.TheVariants.{AMD64}
-use Rattle.implib.specs.Link.Image.{image_of}
 use Rattle.implib.specs.Worked.Statements.{plain_export}
-use Rattle.implib.proofs.Link.Ranges.{apart_as_they_rise}
 use Rattle.implib_archive.specs.declared.kind.Kind.TheVariants.{Coff}
 use Rattle.implib_link.specs.Archives.Ways.{AreLinkedFor, CallsArrive}
 use Rattle.implib_link.specs.Archives.InBytes.{Second, HaveArchive}
 use Rattle.implib_link_instances.specs.Archives.WorkedWays.{WorkedBothWay, bar_for_gnu, bases, before_null, both, calls_bar, calls_queue, code, linked, objects, own, placed, queue_for_msvc, taken}
 use Rattle.implib_link.proofs.Archives.Ways.{both_arrive}
 use Rattle.implib_link.proofs.Archives.InBytes.{search_of}
-use Rattle.implib_link.specs.Flavors.Program.{AreEnded, FlavorInput, OfMember, ClaimsNone, group_end, packed_end, sections_end}
-use Rattle.implib_link.specs.Gnu.Choices.{AreSections, DefineOnce, plain_range}
+use Rattle.implib_link.specs.Flavors.Program.{AreEnded, FlavorInput, OfMember, ClaimsNone, group_end, sections_end}
+use Rattle.implib_link.specs.Gnu.Choices.{AreSections, DefineOnce}
 use Rattle.implib_link.specs.Gnu.Fields.{AreBeside, LinkedCode, placed_code}
-use Rattle.implib_link.specs.Search.Libraries.{AreGiven, IsClosed, IsFlavorArchive, archive_of_both, inputs_in, symbols_kept, left_in, TakesIntoFor}
+use Rattle.implib_link.specs.Search.Libraries.{AreGiven, IsClosed, IsFlavorArchive, archive_of_both, inputs_in, left_in, TakesIntoFor}
 use Rattle.implib_link.specs.Search.Search.{listed_in}
 use Rattle.implib_link_instances.specs.Worked.Operands.{given_on}
 use Rattle.implib_link_instances.specs.Worked.Search.{thunk_named}
@@ -39,10 +37,7 @@ ready = record { accepted = refl; has = tt }
 
 given : AreGiven AMD64 both own
 unfolding searched
-given = record {
-  claims = (claims_none_by (symbols_kept AMD64 both own) calls_bar refl, (claims_none_by (symbols_kept AMD64 both own) calls_queue refl, tt));
-  names = record { gnu = (record { head = refl; name = refl }, tt); msvc = (record { descriptor = refl; null_descriptor = refl; null_thunk = refl }, tt) };
-}
+given = grind arith
 
 claims : AllByRecursion (ClaimsNone (listed_in taken ++ left_in AMD64 taken)) own
 unfolding searched
@@ -64,31 +59,15 @@ ended = record { null_from = queue_input; null_held = (1, omega arith, refl); nu
 
 closed : IsClosed AMD64 OfMember both own taken both bases objects
 unfolding searched group_end sections_end
-closed =
-    packed_both AMD64 OfMember both own taken both 0x2000 objects archive
-    (both_given_closes AMD64 OfMember both own taken both objects archive given takes (record { moves = []; below = tt; is = refl }) (λ o. (λ held. held, λ held. held)) ended)
-    (omega arith) (below_limit (packed_end 0x2000 objects) refl)
+closed = grind (arith, packed_both, archive, both_given_closes, given, takes, ended, below_limit)
 
 linked_for : AreLinkedFor AMD64 OfMember both own taken both bases objects
 unfolding searched
-linked_for = record {
-  order = record { moves = []; below = tt; is = refl };
-  others = λ o. (λ held. held, λ held. held);
-  ended = ended;
-  admissible = closed.admissible;
-  lookups = closed.lookups;
-  addresses = closed.addresses;
-  follows = closed.follows;
-}
+linked_for = grind (arith, ended, closed)
 
 sections : AreSections AMD64 bases objects placed
 unfolding searched group_end sections_end
-sections = record {
-  held = ((0, omega arith, refl), ((1, omega arith, refl), tt));
-  sections = (refl, (refl, tt));
-  ends = (omega arith, (omega arith, tt));
-  apart = apart_as_they_rise (2 ^ 31) (image_of AMD64 bases linked ++ map plain_range placed) refl;
-}
+sections = grind arith
 
 once : DefineOnce linked placed
 unfolding searched group_end sections_end found found_in

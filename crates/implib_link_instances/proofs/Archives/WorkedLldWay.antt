@@ -1,5 +1,5 @@
 -- The way for lld by hand, by computing and by the law.
-use Rattle.std.proofs.Common.{ℕ, List, ◌≡◌, [], ◌∷◌, codes, refl, ap, sym, ◌∙◌, inl, inr, arith}
+use Rattle.std.proofs.Common.{ℕ, List, ◌≡◌, [], ◌∷◌, codes, refl, ap, inl, inr, arith}
 use Rattle.implib.specs.declared.machine.MachineType.TheVariants.{AMD64}
 use Rattle.implib.specs.Formats.Constants.{amd64_rel32, class_external}
 use Rattle.implib.specs.Formats.Layout.{encoded_size}
@@ -17,19 +17,18 @@ use Rattle.implib_link.proofs.Archives.InBytes.{search_of}
 use Rattle.implib_link.proofs.Archives.Ways.{lld_arrives}
 use Rattle.implib_link.specs.Flavors.Expansion.{descriptor_symbol_by_name, expanded_in, import_object, with_section_symbols}
 use Rattle.implib_link.specs.Flavors.LldImports.{imports_of_lld, ArePiecesAt, built, built_bytes, placed_thunk, thunk_section}
-use Rattle.implib_link.specs.Gnu.Fields.{AreLinkedBeside, range_of_code, HasBranch, HasInstruction, table_places}
+use Rattle.implib_link.specs.Gnu.Fields.{AreLinkedBeside, range_of_code, HasBranch, HasInstruction}
 use Rattle.implib_link.specs.Gnu.Moves.{AreInMemory, AreMoved}
-use Rattle.implib_link.specs.Search.Search.{Library, archive_of, AreTakenIntoAs, TakesIntoAs, claims_of, references_of, undefined_in}
+use Rattle.implib_link.specs.Search.Search.{archive_of, AreTakenIntoAs, TakesIntoAs, claims_of, references_of, undefined_in}
 use Rattle.implib_link.specs.Search.Libraries.{IsMsvcArchive, symbols_of_shorts}
 use Rattle.implib_link.specs.Tables.{AreSteady}
 use Rattle.implib_link_instances.specs.Worked.Operands.{given_on}
 use Rattle.implib_link_instances.specs.Worked.Search.{short_named}
 use Rattle.implib_link_instances.specs.Worked.Programs.{symbol_of_class}
 use Rattle.implib_link.proofs.Flavors.LldImports.{built_pieces}
-use Rattle.implib_link.proofs.Search.Lists.{contains_among}
 use Rattle.implib_link_instances.proofs.Worked.Calls.{wide}
 use Rattle.implib_link_instances.proofs.Worked.CommandLines.{ended_by, pulls_by}
-use Rattle.implib_link_instances.proofs.Worked.Programs.{all_needed, only_absolute, rebased_by, relocated_by, relocated_test, lld_opened, disjoint, meet_test, takes_outside, distinct_by, opened, instruction_by}
+use Rattle.implib_link_instances.proofs.Worked.Programs.{all_needed, only_absolute, rebased_by, relocated_by, relocated_test, lld_opened, disjoint, meet_test, distinct_by, opened, instruction_by}
 use Rattle.implib_link_instances.proofs.Worked.Search.{archived}
 use Rattle.implib_link.specs.Gnu.Writing.{ReadsAndWrites}
 use Rattle.implib.specs.Members.ImportTables.{thunk_width}
@@ -42,20 +41,11 @@ way_opened = tt
 
 archive : IsMsvcArchive AMD64 lld_libraries
 unfolding way_opened
-archive = record {
-  made = (record { accepted = refl; made = refl; ordinals = refl }, tt);
-  distinct = distinct_by _ refl;
-  found = (refl, tt);
-}
+archive = grind (arith, distinct_by)
 
 alike : AreCalledAlike lld_libraries
 unfolding Among
-alike l k first second same =
-    only_library l (contains_among l lld_libraries first) ∙ sym (only_library k (contains_among k lld_libraries second))
-  where
-    only_library : (x : Library) → Among x lld_libraries → x.definition.import_name ≡ codes "foo.dll"
-    only_library x (inl is) = ap (λ (y : Library). y.definition.import_name) is
-    only_library x (inr none) = absurd none
+alike l k first second same = grind arith
 
 ready : HaveArchive Coff Second (archive_of lld_libraries)
 unfolding way_opened archived
@@ -108,33 +98,15 @@ steady = refl
 
 beside : AreLinkedBeside AMD64 0x1_4000_0000 lld_image lld_linked lld_codes lld_targets
 unfolding way_opened relocated_test meet_test
-beside = record {
-  held = ((0, omega arith, refl), ((2, omega arith, refl), tt));
-  sections = (refl, (refl, tt));
-  ends = (omega arith, (omega arith, tt));
-  apart = (
-    (disjoint (record { start = 0x2000; bytes = lld_tables }) (range_of_code calls_linked) (inr (omega arith)), (disjoint (record { start = 0x2000; bytes = lld_tables }) (range_of_code thunk_linked) (inr (omega arith)), tt)),
-    ((disjoint (range_of_code calls_linked) (range_of_code thunk_linked) (inl (omega arith)), tt), (tt, tt)),
-  );
-  relocated = (
-    relocated_by AMD64 0x1_4000_0000 (lld_targets calls_linked) 0x1000 two_calls calls_linked.bytes refl,
-    (relocated_by AMD64 0x1_4000_0000 (lld_targets thunk_linked) 0x1010 (thunk_section AMD64) thunk_linked.bytes refl, tt),
-  );
-  resolved = takes_outside (λ name. 0x1010) lld_linked lld_codes refl;
-}
+beside =
+    grind (arith, disjoint (record { start = 0x2000; bytes = lld_tables }) (range_of_code calls_linked) (inr (omega arith)), disjoint (record { start = 0x2000; bytes = lld_tables }) (range_of_code thunk_linked) (inr (omega arith)), disjoint (range_of_code calls_linked) (range_of_code thunk_linked) (inl (omega arith)), relocated_by AMD64 0x1_4000_0000 (lld_targets calls_linked) 0x1000 two_calls calls_linked.bytes refl, relocated_by AMD64 0x1_4000_0000 (lld_targets thunk_linked) 0x1010 (thunk_section AMD64) thunk_linked.bytes refl)
 
 at : AreInMemory AMD64 0x1_4000_0000 lld_image lld_linked lld_codes lld_targets lld_memory
 at = inl (beside, refl)
 
 moves : AreMoved AMD64 0x1_4000_0000 0x7FF6_1234_0000 lld_image lld_linked lld_codes lld_targets [] lld_memory
 unfolding way_opened
-moves = record {
-  beside = beside;
-  within = (tt, (tt, tt));
-  needed = λ c r width address entry held m is symbol placed. all_needed AMD64 lld_codes c r width held m is;
-  only = λ a byte is covered. only_absolute a (table_places AMD64 lld_linked) [] covered;
-  rebased = rebased_by 0x1_4000_0000 0x7FF6_1234_0000 [] lld_memory tt tt;
-}
+moves = grind (arith, beside, all_needed, only_absolute, rebased_by)
 
 moved : AreInMemory AMD64 0x7FF6_1234_0000 lld_image lld_linked lld_codes lld_targets lld_memory
 moved = inr (0x1_4000_0000, ([], (tt, moves)))

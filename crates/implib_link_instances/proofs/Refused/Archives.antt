@@ -13,11 +13,11 @@ use Rattle.implib.specs.Members.Msvc.{short_import_of, short_import_symbols}
 use Rattle.implib.specs.Worked.Statements.{plain_export}
 use Rattle.implib.proofs.Link.LinkedMembers.{among_contains}
 use Rattle.implib_archive.specs.Archive.{archive_of, end_from, entries_from, entries_of, first_linker, first_linker_size, first_place, front, front_of, front_size, is_long, linker_label, linkers, long_names, member_label, member_part, name_end, name_field, names_bytes, names_label, names_part, names_size, offset_of, place_of, places_from, second_linker, second_linker_size, sorted_entries, strings_of, with_first, with_name}
-use Rattle.implib_archive.specs.Leads.{headers_among, headers_in, with_header}
+use Rattle.implib_archive.specs.Leads.{headers_among, headers_in, with_header, header_for, numbered, second_header_for}
 use Rattle.implib_archive.specs.Parts.{field, header_bytes, padded_part_bytes, padding, part_bytes, signature, u16_le, u32_be, u32_le}
 use Rattle.implib_archive.specs.ReadBack.{read_view}
-use Rattle.implib_archive.specs.Reader.{Read}
-use Rattle.implib_archive.specs.Worked.{worked_gnu, worked_members}
+use Rattle.implib_archive.specs.Reader.{Read, data_at, first_in, linker_data, linker_in, long_name, long_name_at, long_names_in, long_names_or, member_at, name_in, number_in, numbers_in, paired, read_as, second_in, stored_at, stored_from, stored_in, texts_in, trimmed}
+use Rattle.implib_archive.specs.Worked.{worked_gnu, worked_members, worked_coff}
 use Rattle.implib_archive.specs.declared.kind.Kind.TheVariants.{Gnu}
 use Rattle.implib_archive.proofs.WorkedBytes.{worked_archives}
 use Rattle.implib_link.specs.Archives.Files.{entries_by}
@@ -28,7 +28,6 @@ use Rattle.implib_link.proofs.Flavors.LldImports.{built_pieces}
 use Rattle.implib_link.specs.Search.CommandLines.{names_left}
 use Rattle.implib_link.proofs.Search.Lists.{among_any, any_among, contains_among}
 use Rattle.implib_link_instances.proofs.Archives.Files.{opened_files}
-use Rattle.implib_link_instances.proofs.Archives.Worked.{opened_bytes}
 use Rattle.implib_link_instances.proofs.Archives.WorkedBothWay.{worked_both_way}
 use Rattle.implib_link_instances.proofs.Archives.WorkedLldWay.{worked_lld_way}
 use Rattle.implib_link_instances.proofs.Refused.Links.{first_letter, refused_links_closed}
@@ -40,10 +39,15 @@ use Rattle.implib_link_instances.specs.Refused.Archives.{RefusedAreMembersAt, Re
 use Rattle.implib_link_instances.specs.Archives.WorkedWays.{bar_short, lld_taken}
 use Rattle.implib_link_instances.specs.Refused.Links.{f_library, listing, own, f_export}
 use Rattle.implib_link_instances.specs.Worked.Operands.{given_on}
-use Rattle.implib.specs.Formats.Object.{object_in}
+use Rattle.implib.specs.Formats.Object.{object_in, bytes_at}
 use Rattle.implib_link.specs.Search.Search.{claims_of, references_of, undefined_in}
+use Rattle.implib.specs.Worked.Digits.{bytes_of_digits}
 
 -- what the computing of archives has to open
+unfoldable opened_bytes : Unit {0}
+unfolding bytes_of_digits worked_coff worked_gnu header_for header_by numbered second_header_for data_at first_in linker_data linker_in long_name long_name_at long_names_in long_names_or member_at name_in number_in numbers_in paired read_as second_in stored_at stored_from stored_in texts_in trimmed bytes_at object_in claims_of references_of undefined_in
+opened_bytes = tt
+
 unfoldable opened_archive : Unit {0}
 unfolding opened_bytes headers_among headers_in with_header archive_of end_from entries_from entries_of first_linker first_linker_size first_place front front_of front_size is_long linker_label linkers long_names member_label member_part name_end name_field names_bytes names_label names_part names_size offset_of place_of places_from second_linker second_linker_size sorted_entries strings_of with_first with_name field header_bytes padded_part_bytes padding part_bytes signature u16_le u32_be u32_le digits
 opened_archive = tt

@@ -14,18 +14,17 @@ use Rattle.implib.specs.Members.WeakExternal.{weak_object}
 use Rattle.implib.specs.Text.Parses.{Parses}
 use Rattle.implib.proofs.Worked.Statements.{opened as text_opened, parses}
 use Rattle.implib_link.specs.Flavors.Expansion.{import_object, descriptor_symbol_by_name, expanded_in, with_section_symbols}
-use Rattle.implib_link.specs.Flavors.Program.{OfMember, all_members, IsProgramOf, AreProgramObjects, IsProgram, OfLinker, has_tables, linked_symbols, symbols_listed, group_end, packed, packed_end, sections_end}
-use Rattle.implib_link.specs.Flavors.Texts.{FlavorSource, IsFlavorSource, input_of, link_input_of}
-use Rattle.implib_link_instances.specs.Worked.Flavors.{WorkedSource, WorkedSources, both_sources, both_text_objects, foo_meant, foo_text, gnu_sources, gnu_text_objects, source_in, zed_meant, zed_text, both_inputs as flavor_inputs, flavor_bases_8, foo_input as msvc_input}
+use Rattle.implib_link.specs.Flavors.Program.{OfMember, all_members, IsProgramOf, AreProgramObjects, IsProgram, has_tables, group_end, packed, packed_end, sections_end}
+use Rattle.implib_link.specs.Flavors.Texts.{IsFlavorSource, input_of}
+use Rattle.implib_link_instances.specs.Worked.Flavors.{WorkedSource, WorkedSources, both_sources, both_text_objects, foo_meant, foo_text, source_in, zed_meant, zed_text}
 use Rattle.implib_link.proofs.Flavors.Program.{packed_objects, gnu_objects}
 use Rattle.implib_link.proofs.Flavors.Texts.{texts_link}
-use Rattle.implib_link_instances.proofs.Worked.GnuPacked.{packed_is_program}
 use Rattle.implib_link_instances.proofs.Worked.Flavors.{opened, flavor_objects_by}
 use Rattle.implib_link_instances.proofs.Worked.Programs.{distinct_by, claims_none_by, admissible_by, relocated_test}
 use Rattle.implib_link_instances.proofs.Worked.Search.{below_limit}
 use Rattle.implib_link_instances.proofs.Worked.Lemmas.{IsX86}
 use Rattle.implib_link.specs.Gnu.Fields.{LinkedCode, PlacedCode, Resolves}
-use Rattle.std.specs.Prelude.{drop, take, ◌==◌, if◌then◌else◌}
+use Rattle.std.specs.Prelude.{◌==◌, if◌then◌else◌}
 use Rattle.std.specs.Option.{option_and_then}
 use Rattle.std.proofs.lemmas.Bool.{eqb-true}
 use Rattle.implib.specs.Formats.Bytes.{u32_bytes}
@@ -36,7 +35,7 @@ use Rattle.implib.specs.Link.Placement.{Placed}
 use Rattle.implib.specs.Link.Resolution.{definitions_of, first_address, is_undefined_external, symbol_address}
 use Rattle.implib.proofs.Link.Ranges.{apart_as_they_rise}
 use Rattle.implib_link.specs.Gnu.Aliases.{ResolvesAliases, weak_target}
-use Rattle.implib_link_instances.specs.Worked.OtherNames.{WorkedAlias, WorkedFlavorAlias, alias_calling, alias_codes, alias_loading, alias_objects, alias_placed, all_at, opened_flavors, opened_name, opened_placed}
+use Rattle.implib_link_instances.specs.Worked.OtherNames.{WorkedAlias, alias_codes, alias_objects, alias_placed, all_at, opened_name}
 use Rattle.implib_link_instances.specs.Worked.Operands.{CodesBeside, code_ranges, linked_codes, as_placed}
 use Rattle.implib_link_instances.specs.Worked.Programs.{both_inputs, touching_8}
 use Rattle.implib_link.proofs.Tables.{weak_is_weak}
@@ -60,25 +59,11 @@ unfolding opened refusal renamed_refusal alias_specs encoded_size weak_object ha
 worked ARMNT none = absurd none
 worked ARM64 none = absurd none
 worked machine is = record {
-  gnu = gnu;
-  gnu_program = gnu_program;
-  gnu_links = texts_link machine OfLinker (packed 1 (gnu_text_objects machine)) (gnu_sources machine) (gnu_text_objects machine) gnu gnu_program;
   both = both;
   both_program = both_program;
   both_link = texts_link machine OfMember (packed 1 (both_text_objects machine)) (both_sources machine) (both_text_objects machine) both both_program;
 }
   where
-    gnu : AllByRecursion (IsFlavorSource machine) (gnu_sources machine)
-    gnu = (
-      record { of_text = record { parsed = foo_meant machine; parses = foo machine is; held = refl }; made = record { accepted = refl; made = refl; ordinals = refl } },
-      (record { of_text = record { parsed = zed_meant machine; parses = zed machine is; held = refl }; made = record { accepted = refl; made = refl; ordinals = refl } }, tt),
-    )
-
-    gnu_program : IsProgram machine (packed 1 (gnu_text_objects machine)) (map (λ (s : FlavorSource). link_input_of s.source) (gnu_sources machine)) (gnu_text_objects machine)
-    gnu_program =
-        packed_is_program machine 1 (map (λ (s : FlavorSource). link_input_of s.source) (gnu_sources machine)) (record { accepted = refl; made = refl; ordinals = refl }, (record { accepted = refl; made = refl; ordinals = refl }, tt))
-        (distinct_by (linked_symbols machine (map (λ (s : FlavorSource). link_input_of s.source) (gnu_sources machine))) refl) (omega arith) (below_limit (packed_end 1 (gnu_text_objects machine)) refl)
-
     both : AllByRecursion (IsFlavorSource machine) (both_sources machine)
     both = (
       record { of_text = record { parsed = foo_meant machine; parses = foo machine is; held = refl }; made = record { accepted = refl; made = refl; ordinals = refl } },
@@ -99,19 +84,7 @@ worked_sources = record { amd64 = worked AMD64 tt; i386 = worked I386 tt }
 
 program : IsProgram AMD64 touching_8 (both_inputs AMD64) alias_objects
 unfolding opened alias_specs encoded_size weak_object has_tables object_of entries_of name_text u32_bytes
-program = record {
-  held = gnu_objects AMD64 (both_inputs AMD64) alias_objects (distinct_by (linked_symbols AMD64 (both_inputs AMD64)) refl) refl (
-    claims_none_by (linked_symbols AMD64 (both_inputs AMD64)) alias_calling refl,
-    (
-      claims_none_by (linked_symbols AMD64 (both_inputs AMD64)) alias_loading refl,
-      (claims_none_by (linked_symbols AMD64 (both_inputs AMD64)) (object_of (weak_object AMD64 opened_name (imp_symbol (codes "open")))) refl, tt),
-    ),
-  );
-  admissible = admissible_by refl refl;
-  lookups = tt;
-  addresses = tt;
-  follows = tt;
-}
+program = grind (arith, gnu_objects, distinct_by, claims_none_by, admissible_by)
 
 -- Code of which no entry is in the tables, and whose symbols no placed code defines: its symbols may be taken to be anywhere.
 
@@ -123,8 +96,7 @@ resolves_anywhere : (linked : List Placed) (codes : List PlacedCode) (targets : 
 resolves_anywhere linked codes targets outside unwanted = record {
   tables = λ c index address entry held at is.
       let all : in_no_table linked c ≡ true = each_of (in_no_table linked) c codes outside (contains_among c codes held) in
-      let none : is_none (symbol_address linked c.from entry) ≡ true =
-      each_of (λ x. is_none (symbol_address linked c.from x)) entry c.from.object.entries all (among_at entry c.from.object.entries index at) in
+      let none : is_none (symbol_address linked c.from entry) ≡ true = grind (arith, among_at entry c.from.object.entries index, each_of, is_none) in
       absurd (true≢false (sym none ∙ ap is_none is));
   code = λ c d index s t c_held d_held at undefined defines named. absurd (none_wanted codes unwanted c d index s t c_held d_held at undefined defines named);
 }
@@ -146,8 +118,7 @@ leads_to address linked (ASymbol s) =
 aliases_at : (linked : List Placed) (codes : List LinkedCode) (n : ℕ) → list_all (λ (c : LinkedCode). list_all (leads_to n linked) c.from.object.entries) codes ≡ true →
     ResolvesAliases linked codes (λ c index. n)
 aliases_at linked codes n all c index address s target held at undefined none weak there =
-    let own : list_all (leads_to n linked) c.from.object.entries ≡ true =
-    each_of (λ (x : LinkedCode). list_all (leads_to n linked) x.from.object.entries) c codes all (contains_among c codes held) in
+    let own : list_all (leads_to n linked) c.from.object.entries ≡ true = grind (arith, contains_among c codes held, each_of) in
     let one : leads_to n linked (ASymbol s) ≡ true = each_of (leads_to n linked) (ASymbol s) c.from.object.entries own (among_at (ASymbol s) c.from.object.entries index at) in
     let two : is_at n (option_and_then (address_of linked) (weak_target s.name linked)) ≡ true = rw undefined at one in
     let three : is_at n (address_of linked target) ≡ true = subst (λ o. is_at n (option_and_then (address_of linked) o) ≡ true) weak two in
@@ -189,55 +160,4 @@ worked_alias = record {
   call_is = refl;
   load_is = refl;
   member = weak_is_weak AMD64 (codes "__imp_bar") (codes "__imp_baz") [] alias_placed;
-}
-
--- The program of both flavours.
-
-flavors_program : IsProgramOf AMD64 OfMember flavor_bases_8 (flavor_inputs AMD64) opened_flavors
-unfolding opened refusal renamed_refusal alias_specs encoded_size weak_object has_tables expanded_in short_import_in import_object descriptor_symbol_by_name with_section_symbols descriptor null_descriptor null_thunk descriptor_symbol null_descriptor_symbol null_thunk_symbol base_name descriptor_spec null_descriptor_spec null_thunk_spec header_specs weak_specs group_end sections_end object_of entries_of name_text u32_bytes u32_at
-flavors_program =
-    let symbols : List (List ℕ) = null_descriptor_symbol ∷ symbols_listed (all_members AMD64 (flavor_inputs AMD64)) in
-    record {
-      held = flavor_objects_by (msvc_input AMD64) (take 0 (all_members AMD64 (flavor_inputs AMD64))) (drop 0 (all_members AMD64 (flavor_inputs AMD64))) (0, omega arith, refl) (refl, (tt, tt)) refl refl refl refl refl;
-      admissible = admissible_by refl refl;
-      lookups = refl;
-      addresses = refl;
-      follows = refl;
-    }
-
-flavors_beside : CodesBeside AMD64 0x1_4000_0000 flavor_bases_8 opened_flavors alias_codes (all_at 0x88)
-unfolding opened refusal renamed_refusal alias_specs encoded_size weak_object has_tables expanded_in short_import_in import_object descriptor_symbol_by_name with_section_symbols descriptor null_descriptor null_thunk descriptor_symbol null_descriptor_symbol null_thunk_symbol base_name descriptor_spec null_descriptor_spec null_thunk_spec header_specs weak_specs group_end sections_end object_of entries_of name_text u32_bytes u32_at relocated_test codes_tested
-flavors_beside =
-    beside_by AMD64 0x1_4000_0000 flavor_bases_8 opened_flavors alias_codes (all_at 0x88)
-    (record {
-      held = ((0, omega arith, refl), ((1, omega arith, refl), tt));
-      sections = (refl, (refl, tt));
-      ends = (omega arith, (omega arith, tt));
-      apart = apart_as_they_rise (2 ^ 31) (image_of AMD64 flavor_bases_8 opened_placed ++ code_ranges AMD64 0x1_4000_0000 (all_at 0x88) alias_codes) refl;
-      resolved = resolves_anywhere opened_placed alias_codes (all_at 0x88) refl refl;
-    })
-    refl
-
-flavors_resolves : ResolvesAliases opened_placed (linked_codes AMD64 0x1_4000_0000 (all_at 0x88) alias_codes) (as_placed (all_at 0x88))
-unfolding opened refusal renamed_refusal alias_specs encoded_size weak_object has_tables expanded_in short_import_in import_object descriptor_symbol_by_name with_section_symbols descriptor null_descriptor null_thunk descriptor_symbol null_descriptor_symbol null_thunk_symbol base_name descriptor_spec null_descriptor_spec null_thunk_spec header_specs weak_specs group_end sections_end object_of entries_of name_text u32_bytes u32_at
-flavors_resolves = aliases_at opened_placed (linked_codes AMD64 0x1_4000_0000 (all_at 0x88) alias_codes) 0x88 refl
-
-flavors_undefined : definitions_of opened_name opened_placed ≡ []
-unfolding opened refusal renamed_refusal alias_specs encoded_size weak_object has_tables expanded_in short_import_in import_object descriptor_symbol_by_name with_section_symbols descriptor null_descriptor null_thunk descriptor_symbol null_descriptor_symbol null_thunk_symbol base_name descriptor_spec null_descriptor_spec null_thunk_spec header_specs weak_specs group_end sections_end object_of entries_of name_text u32_bytes u32_at
-flavors_undefined = refl
-
-flavors_weak : weak_target opened_name opened_placed ≡ Some (imp_symbol (codes "open"))
-unfolding opened refusal renamed_refusal alias_specs encoded_size weak_object has_tables expanded_in short_import_in import_object descriptor_symbol_by_name with_section_symbols descriptor null_descriptor null_thunk descriptor_symbol null_descriptor_symbol null_thunk_symbol base_name descriptor_spec null_descriptor_spec null_thunk_spec header_specs weak_specs group_end sections_end object_of entries_of name_text u32_bytes u32_at
-flavors_weak = refl
-
-pub worked_flavor_alias : WorkedFlavorAlias
-unfolding opened refusal renamed_refusal alias_specs encoded_size weak_object has_tables expanded_in short_import_in import_object descriptor_symbol_by_name with_section_symbols descriptor null_descriptor null_thunk descriptor_symbol null_descriptor_symbol null_thunk_symbol base_name descriptor_spec null_descriptor_spec null_thunk_spec header_specs weak_specs group_end sections_end object_of entries_of name_text u32_bytes u32_at
-worked_flavor_alias = record {
-  program = flavors_program;
-  beside = flavors_beside;
-  resolves = flavors_resolves;
-  undefined = flavors_undefined;
-  weak = flavors_weak;
-  call_is = refl;
-  load_is = refl;
 }

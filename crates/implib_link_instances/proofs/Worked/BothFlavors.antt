@@ -1,25 +1,22 @@
 -- The closed program of both flavours that was linked by hand, by computing and by the laws.
-use Rattle.std.proofs.Common.{List, [], arith, codes, false, map, refl, subst, sym, true, ℕ, ◌++◌, ◌<◌, ◌^◌, ◌∙◌, ◌∷◌, ◌≡◌}
+use Rattle.std.proofs.Common.{List, [], arith, codes, false, map, refl, sym, true, ℕ, ◌++◌, ◌<◌, ◌^◌, ◌∙◌, ◌∷◌, ◌≡◌}
 use Rattle.std.specs.Prelude.{IsPermutation, bytes_eq, not}
 use Rattle.std.specs.List.{AllByRecursion, Contains, filter, flat_map, list_all, list_any}
-use Rattle.std.proofs.lemmas.Bool.{and_parts, not-true, true≢false}
-use Rattle.std.proofs.lemmas.Grind.{flat_map-append}
+use Rattle.std.proofs.lemmas.Bool.{true≢false}
 use Rattle.implib.specs.declared.flavor.Flavor.TheVariants.{Msvc}
 use Rattle.implib.specs.declared.machine.MachineType.TheVariants.{AMD64}
 use Rattle.implib.specs.Formats.Object.{Object}
 use Rattle.implib.specs.Members.MemberSpec.{MemberView}
 use Rattle.implib.specs.Members.MsvcObjects.{descriptor_symbol, null_descriptor_symbol}
-use Rattle.implib.proofs.Link.LinkedMembers.{among_contains, among_map}
-use Rattle.implib.proofs.Link.Ranges.{Among, all_among, among_front}
-use Rattle.implib_link.specs.Flavors.Program.{AreEnded, Ending, FlavorInput, OfMember, objects_taken, ClaimsNone, HaveSame, claimed_names, has_tables, group_end, packed, packed_end, sections_end}
-use Rattle.implib_link.specs.Search.Search.{IsArchive, IsLibrary, symbols_of_library, listed_in, unresolved, PullsIntoAs}
-use Rattle.implib_link.specs.Search.Libraries.{AreClosed, AreGiven, FlavorLibrary, IsClosed, IsFlavorArchive, NamesNoMembers, archive_of_both, gnu_among, inputs_in, symbols_kept, msvc_among, LinksClosed, left_in, IsMsvcArchive, IsMsvcLibrary, TakesIntoFor, symbols_of_all_shorts, symbols_of_shorts, wanted_for, weak_in, HasClosed, objects_closed, tables_end_by}
-use Rattle.implib_link_instances.specs.Worked.BothFlavors.{WorkedBoth, WorkedBothExists, WorkedGiven, foo_and_zed, mixed_bases, mixed_objects, mixed_taken, mixed_without_last, zed_and_foo, choosing, clashing, foo_linked}
-use Rattle.implib_link_instances.specs.Worked.Search.{msvc_zed, thunk_named, zed_members}
+use Rattle.implib.proofs.Link.LinkedMembers.{among_map}
+use Rattle.implib_link.specs.Flavors.Program.{AreEnded, Ending, FlavorInput, OfMember, objects_taken, ClaimsNone, has_tables, group_end, packed_end, sections_end, packed}
+use Rattle.implib_link.specs.Search.Search.{IsArchive, IsLibrary, symbols_of_library, listed_in}
+use Rattle.implib_link.specs.Search.Libraries.{AreClosed, AreGiven, FlavorLibrary, IsClosed, IsFlavorArchive, NamesNoMembers, archive_of_both, gnu_among, inputs_in, msvc_among, LinksClosed, left_in, IsMsvcArchive, IsMsvcLibrary, TakesIntoFor, symbols_of_all_shorts, symbols_of_shorts, wanted_for, weak_in, tables_end_by, objects_closed, HasClosed}
+use Rattle.implib_link_instances.specs.Worked.BothFlavors.{WorkedBoth, WorkedBothExists, WorkedGiven, foo_and_zed, mixed_bases, mixed_objects, mixed_taken, zed_and_foo, choosing, foo_linked}
+use Rattle.implib_link_instances.specs.Worked.Search.{msvc_zed, zed_members}
 use Rattle.implib_link.proofs.Search.BothClosed.{closed_links_of_both, packed_both}
 use Rattle.implib_link.proofs.Search.Ends.{into_ends, search_bounded}
-use Rattle.implib_link.proofs.Search.Closing.{unresolved_parts}
-use Rattle.implib_link.proofs.Search.Lists.{among_any, any_among, contains_among}
+use Rattle.implib_link.proofs.Search.Lists.{among_any, contains_among}
 use Rattle.implib_link_instances.proofs.Worked.Search.{searched, below_limit, into_by}
 use Rattle.implib_link_instances.proofs.Worked.Programs.{all_differ, claims_none_by, distinct_by, opened}
 use Rattle.implib_link.specs.Flavors.Expansion.{descriptor_symbol_by_name, expanded_in}
@@ -34,9 +31,7 @@ own = choosing ∷ []
 -- no name of the ones is one of the others
 pub apart_by : (others texts : List (List ℕ)) → list_all (λ name. not (list_any (bytes_eq name) others)) texts ≡ true → AllByRecursion (λ name. list_any (bytes_eq name) others ≡ false) texts
 apart_by others [] all = tt
-apart_by others (name ∷ texts) all =
-    let parts = and_parts (not (list_any (bytes_eq name) others)) (list_all (λ n. not (list_any (bytes_eq n) others)) texts) all in
-    (not-true (list_any (bytes_eq name) others) parts.0, apart_by others texts parts.1)
+apart_by others (name ∷ texts) all = grind (arith, apart_by others texts)
 
 -- Libraries are an archive of both flavours, by computing.
 pub archive_by : {machine : MachineType} {libraries : List FlavorLibrary} → AllByRecursion (IsLibrary machine) (gnu_among libraries) → AllByRecursion (IsMsvcLibrary machine) (msvc_among libraries) →
@@ -44,51 +39,26 @@ pub archive_by : {machine : MachineType} {libraries : List FlavorLibrary} → Al
     all_differ (flat_map (symbols_of_library machine) (gnu_among libraries)) ≡ true → all_differ (null_descriptor_symbol ∷ flat_map symbols_of_shorts (msvc_among libraries)) ≡ true →
     list_all (λ name. not (list_any (bytes_eq name) (symbols_of_all_shorts (msvc_among libraries)))) (flat_map (symbols_of_library machine) (gnu_among libraries)) ≡ true →
     IsFlavorArchive machine libraries
-archive_by {machine} {libraries} gnu_made msvc_made found gnu_differ msvc_differ apart = record {
-  gnu = record { made = gnu_made; distinct = distinct_by (flat_map (symbols_of_library machine) (gnu_among libraries)) gnu_differ };
-  msvc = record { made = msvc_made; distinct = distinct_by (null_descriptor_symbol ∷ flat_map symbols_of_shorts (msvc_among libraries)) msvc_differ; found = found };
-  apart = apart_by (symbols_of_all_shorts (msvc_among libraries)) (flat_map (symbols_of_library machine) (gnu_among libraries)) apart;
-}
-
-same_elements : {X : Type 0} (first second : List X) → first ≡ second → HaveSame first second
-same_elements first second is = subst (λ xs. HaveSame first xs) is (λ o. (λ held. held, λ held. held))
+archive_by {machine} {libraries} gnu_made msvc_made found gnu_differ msvc_differ apart = grind (arith, distinct_by, apart_by)
 
 -- Objects that close a program, which are linked in the order of what is given and taken, by computing.
 pub closed_by : {machine : MachineType} {ending : Ending} {libraries : List FlavorLibrary} {own : List Object} {taken : List MemberView} {arranged : List FlavorLibrary} {objects : List Object} →
     TakesIntoFor machine (archive_of_both libraries) own taken → IsPermutation libraries arranged → filter (λ o. not (has_tables o)) objects ≡ own ++ objects_taken machine (weak_in machine taken) →
     AreEnded ending machine (inputs_in machine arranged own taken) objects → AllByRecursion (ClaimsNone (listed_in taken ++ left_in machine taken)) own → NamesNoMembers machine libraries (wanted_for machine own taken) →
     AreClosed machine ending libraries own taken arranged objects
-closed_by {machine} {ending} {libraries} {own} {taken} {arranged} {objects} takes order others ended claims names = record {
-  takes = takes;
-  order = order;
-  others = same_elements (filter (λ o. not (has_tables o)) objects) (own ++ objects_taken machine (weak_in machine taken)) others;
-  ended = ended;
-  claims = claims;
-  names = names;
-}
+closed_by {machine} {ending} {libraries} {own} {taken} {arranged} {objects} takes order others ended claims names = grind arith
 
 pub gnu_archive : IsArchive AMD64 (gnu_among foo_and_zed)
 unfolding searched
-gnu_archive = record {
-  made = (record { accepted = refl; made = refl; ordinals = refl }, tt);
-  distinct = distinct_by (flat_map (symbols_of_library AMD64) (gnu_among foo_and_zed)) refl;
-}
+gnu_archive = grind (arith, distinct_by)
 
 pub msvc_archive : IsMsvcArchive AMD64 (msvc_among foo_and_zed)
 unfolding searched
-msvc_archive = record {
-  made = (record { accepted = refl; made = refl; ordinals = refl }, tt);
-  distinct = distinct_by (null_descriptor_symbol ∷ flat_map symbols_of_shorts (msvc_among foo_and_zed)) refl;
-  found = (refl, tt);
-}
+msvc_archive = grind (arith, distinct_by)
 
 archive : IsFlavorArchive AMD64 foo_and_zed
 unfolding searched
-archive = record {
-  gnu = gnu_archive;
-  msvc = msvc_archive;
-  apart = apart_by (null_descriptor_symbol ∷ flat_map symbols_of_shorts (msvc_among foo_and_zed)) (flat_map (symbols_of_library AMD64) (gnu_among foo_and_zed)) refl;
-}
+archive = grind (arith, gnu_archive, msvc_archive, apart_by)
 
 pub claims : AllByRecursion (ClaimsNone (listed_in mixed_taken ++ left_in AMD64 mixed_taken)) (choosing ∷ [])
 unfolding searched
@@ -128,32 +98,6 @@ first_symbol m = first_of m.symbols
 pub new_by : (taken : List MemberView) (m : MemberView) → list_any (bytes_eq (first_symbol m)) (map first_symbol taken) ≡ false → Contains taken m → ⊥
 new_by taken m new has = true≢false (sym (among_any (first_symbol m) (map first_symbol taken) (among_map first_symbol m taken (contains_among m taken has))) ∙ new)
 
-stopped : TakesIntoFor AMD64 (archive_of_both foo_and_zed) (choosing ∷ []) mixed_without_last → ⊥
-unfolding searched
-stopped taken_so_far =
-    let name : List ℕ = 0x7F ∷ codes "zed_NULL_THUNK_DATA" in
-    taken_so_far.ended (0x7F ∷ codes "zed_NULL_THUNK_DATA") (thunk_named (codes "zed.dll")) (record {
-      named = among_contains name (unresolved (own ++ objects_taken AMD64 mixed_without_last)) (any_among name (unresolved (own ++ objects_taken AMD64 mixed_without_last)) refl);
-      listed = refl;
-      new = new_by mixed_without_last (thunk_named (codes "zed.dll")) refl;
-    })
-
-claimed : (taken : List MemberView) (m : MemberView) → PullsIntoAs (expanded_in AMD64) (archive_of_both foo_and_zed) (choosing ∷ []) taken (codes "stack") m → ⊥
-claimed taken m pulls =
-    let name : List ℕ = codes "stack" in
-    let objects : List Object = objects_taken AMD64 taken in
-    (unresolved_parts (own ++ objects_taken AMD64 taken) name (contains_among name (unresolved (own ++ objects_taken AMD64 taken)) pulls.named)).1
-    (subst (Among name) (sym (flat_map-append claimed_names own objects))
-    (among_front name (flat_map claimed_names own) (flat_map claimed_names objects) (any_among name (flat_map claimed_names own) refl)))
-
-clashes : (arranged : List FlavorLibrary) (objects : List Object) → AreClosed AMD64 OfMember foo_and_zed (clashing ∷ []) mixed_taken arranged objects → ⊥
-unfolding searched
-clashes arranged objects is =
-    let none : list_any (bytes_eq (codes "queue")) (claimed_names clashing) ≡ false =
-    all_among (λ name. list_any (bytes_eq name) (claimed_names clashing) ≡ false) (codes "queue") (listed_in mixed_taken ++ left_in AMD64 mixed_taken)
-    (any_among (codes "queue") (listed_in mixed_taken ++ left_in AMD64 mixed_taken) refl) is.claims.0 in
-    true≢false none
-
 worked_links : LinksClosed AMD64 OfMember foo_and_zed (choosing ∷ []) mixed_taken zed_and_foo mixed_bases mixed_objects
 worked_links = closed_links_of_both AMD64 OfMember foo_and_zed own mixed_taken zed_and_foo mixed_bases mixed_objects archive closed
 
@@ -170,17 +114,11 @@ worked_both = record {
   left = refl;
   queue = refl;
   baz = refl;
-  stopped = stopped;
-  claimed = claimed;
-  clashes = clashes;
 }
 
 given : AreGiven AMD64 foo_and_zed (choosing ∷ [])
 unfolding searched
-given = record {
-  claims = (claims_none_by (symbols_kept AMD64 foo_and_zed own) choosing refl, tt);
-  names = record { gnu = (record { head = refl; name = refl }, tt); msvc = (record { descriptor = refl; null_descriptor = refl; null_thunk = refl }, tt) };
-}
+given = grind arith
 
 pub worked_given : WorkedGiven
 unfolding searched
@@ -188,9 +126,6 @@ worked_given = record { given = given; kept = refl; ends = into_ends (expanded_i
 
 above_zero : 0 < 0x2000
 above_zero = omega arith
-
-none_below : (n : ℕ) → n ≡ 0 → 0 < n → ⊥
-none_below n is over = omega arith
 
 room : tables_end_by 0x2000 foo_and_zed ≡ 0x218E
 unfolding opened
@@ -202,6 +137,9 @@ room_below = (let is = room in omega arith)
 end : packed_end 0x2000 mixed_objects ≡ 0x20A4
 unfolding searched group_end sections_end
 end = refl
+
+none_below : (n : ℕ) → n ≡ 0 → 0 < n → ⊥
+none_below n is over = omega arith
 
 at_zero : HasClosed AMD64 foo_and_zed (choosing ∷ []) 0 → ⊥
 unfolding next_multiple

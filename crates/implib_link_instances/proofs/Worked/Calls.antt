@@ -61,10 +61,7 @@ module _ (machine : MachineType) (image_base : ℕ) (targets : PlacedCode → �
       AllByRecursion (λ (x : LinkedCode). IsRelocated machine image_base (as_placed targets x) x.position x.code x.bytes) (linked_codes machine image_base targets codes)
   unfolding codes_tested
   all_relocated [] test = tt
-  all_relocated (c ∷ codes) test =
-      let bytes : List ℕ = code_relocated_by machine image_base (targets c) c.position c.code.relocations c.code.bytes in
-      let parts = and_parts (relocated_test machine image_base (targets c) c.position c.code (code_relocated_by machine image_base (targets c) c.position c.code.relocations c.code.bytes)) (codes_tested machine image_base targets codes) test in
-      (relocated_by machine image_base (targets c) c.position c.code bytes parts.0, all_relocated codes parts.1)
+  all_relocated (c ∷ codes) test = grind (arith, all_relocated codes, image_base, and_parts, relocated_test, relocated_by)
 
   all_linked : (P : LinkedCode → Type 0) (codes : List PlacedCode) → AllByRecursion (λ (c : PlacedCode). P (linked_by machine image_base targets c)) codes → AllByRecursion P (linked_codes machine image_base targets codes)
   all_linked P [] all = tt
@@ -152,8 +149,6 @@ worked_reading = record {
       (program_tables AMD64 OfLinker touching_8 (map gnu_input (both_inputs AMD64)) (program_objects AMD64) worked_programs.amd64.made worked_programs.amd64.program);
 }
 
--- The direct call, its symbols and the stub's.
-
 abbrev pub is_none : Option ℕ → Bool
 is_none None = true
 is_none (Some n) = false
@@ -179,8 +174,7 @@ pub none_wanted : (codes : List PlacedCode) → list_all (λ (c : PlacedCode). a
 none_wanted codes all c d index s t c_held d_held at undefined defines named =
     let wanted : List Entry = c.from.object.entries in
     let one : all_unwanted codes wanted ≡ true = each_of (λ (x : PlacedCode). all_unwanted codes x.from.object.entries) c codes all (contains_among c codes c_held) in
-    let two : list_all (unwanted wanted d) d.from.object.entries ≡ true =
-    each_of (λ (x : PlacedCode). list_all (unwanted wanted x) x.from.object.entries) d codes one (contains_among d codes d_held) in
+    let two : list_all (unwanted wanted d) d.from.object.entries ≡ true = grind (arith, contains_among d codes d_held, each_of) in
     let three : unwanted wanted d (ASymbol t) ≡ true = each_of (unwanted wanted d) (ASymbol t) d.from.object.entries two (contains_among (ASymbol t) d.from.object.entries defines.held) in
     let external : is_defined_external t ≡ true = defines.external in
     let here : (t.section == d.number) ≡ true = eq-eqb t.section d.number defines.here in
@@ -214,16 +208,14 @@ pub once_by : (linked : List Placed) (codes : List PlacedCode) → list_all (λ 
     list_all (λ (c : PlacedCode). list_all (in_no_table linked codes c) c.from.object.entries) codes ≡ true → DefineOnce linked codes
 once_by linked codes one two = record {
   once = λ c d s t c_held d_held c_defines d_defines named.
-      let all : list_all (own_once codes c) c.from.object.entries ≡ true =
-      each_of (λ (x : PlacedCode). list_all (own_once codes x) x.from.object.entries) c codes one (contains_among c codes c_held) in
+      let all : list_all (own_once codes c) c.from.object.entries ≡ true = grind (arith, contains_among c codes c_held, each_of) in
       let own : own_once codes c (ASymbol s) ≡ true = each_of (own_once codes c) (ASymbol s) c.from.object.entries all (contains_among (ASymbol s) c.from.object.entries c_defines.held) in
       let here : is_here s.name c s ≡ true = here_from s.name c s c_defines refl in
       let only : list_all (nat_eq (c.position + s.value)) (found s.name codes) ≡ true = rw here at own in
       eqb-true (c.position + s.value) (d.position + t.value)
       (each_of (nat_eq (c.position + s.value)) (d.position + t.value) (found s.name codes) only (defined_found s.name codes d t (contains_among d codes d_held) d_defines (sym named)));
   tables = λ c d s t address c_held d_held held undefined is defines named.
-      let all : list_all (in_no_table linked codes c) c.from.object.entries ≡ true =
-      each_of (λ (x : PlacedCode). list_all (in_no_table linked codes x) x.from.object.entries) c codes two (contains_among c codes c_held) in
+      let all : list_all (in_no_table linked codes c) c.from.object.entries ≡ true = grind (arith, contains_among c codes c_held, each_of) in
       let own : in_no_table linked codes c (ASymbol s) ≡ true = each_of (in_no_table linked codes c) (ASymbol s) c.from.object.entries all (contains_among (ASymbol s) c.from.object.entries held) in
       not_none address (d.position + t.value) (found s.name codes) (defined_found s.name codes d t (contains_among d codes d_held) defines named)
       (subst (λ o. none_where o (found s.name codes) ≡ true) is own);
@@ -241,8 +233,6 @@ sections = record {
 once : DefineOnce branching_placed branch_codes
 unfolding opened_of_programs alias_specs encoded_size weak_object has_tables found found_in
 once = once_by branching_placed branch_codes refl refl
-
--- Of four bytes that are the number 1 the first is 1 and the third 0.
 
 pub worked_choices : WorkedChoices
 worked_choices = record {

@@ -6,7 +6,7 @@ use Rattle.implib.specs.Formats.Object.{Object}
 use Rattle.implib.proofs.Link.LinkedMembers.{among_contains}
 use Rattle.implib.proofs.Link.Ranges.{Among}
 use Rattle.implib_link.specs.Flavors.Program.{AreEnded, OfLinker, gnu_input, ClaimsNone, HaveSame, group_end, sections_end}
-use Rattle.implib_link.specs.Search.Libraries.{tables_end_by, AreClosed, AreGiven, IsClosed, IsFlavorArchive, NamesNoMembers, archive_of_both, inputs_in, symbols_kept, left_in, TakesIntoFor, wanted_for}
+use Rattle.implib_link.specs.Search.Libraries.{tables_end_by, AreClosed, AreGiven, IsClosed, IsFlavorArchive, NamesNoMembers, archive_of_both, inputs_in, left_in, TakesIntoFor, wanted_for}
 use Rattle.implib_link.specs.Search.Search.{claims_of, listed_in, references_of, undefined_in, wanting}
 use Rattle.implib_link_instances.specs.Worked.BothFlavors.{WorkedByLinker, with_far, zed_first, choosing, closed_bases, closed_objects, closed_taken}
 use Rattle.implib_link_instances.specs.Worked.Programs.{both_inputs, program_objects, touching_4, touching_8}
@@ -67,10 +67,7 @@ closed = placed_closed AMD64 OfLinker with_far own closed_taken zed_first 0x2000
 
 given : AreGiven AMD64 with_far own
 unfolding searched
-given = record {
-  claims = (claims_none_by (symbols_kept AMD64 with_far own) choosing refl, tt);
-  names = record { gnu = (record { head = refl; name = refl }, (record { head = refl; name = refl }, tt)); msvc = (record { descriptor = refl; null_descriptor = refl; null_thunk = refl }, tt) };
-}
+given = grind arith
 
 pub worked_by_linker : WorkedByLinker
 unfolding searched group_end sections_end

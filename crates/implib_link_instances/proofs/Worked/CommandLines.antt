@@ -2,7 +2,7 @@
 use Rattle.std.proofs.Common.{arith, ◌≡◌, ℕ, zero, suc, true, false, List, [], ◌∷◌, ◌++◌, map, Option, None, Some, refl, sym, ◌∙◌, subst, inl, inr, codes}
 use Rattle.std.specs.Prelude.{bytes_eq, if◌then◌else◌, is_none}
 use Rattle.std.specs.List.{AllByRecursion, Contains, IsDistinct, list_all, list_any}
-use Rattle.std.proofs.lemmas.Bool.{and_parts, true≢false}
+use Rattle.std.proofs.lemmas.Bool.{true≢false}
 use Rattle.implib.specs.declared.machine.MachineType.{MachineType}
 use Rattle.implib.specs.Machine.{is_32bit}
 use Rattle.implib.specs.declared.machine.MachineType.TheVariants.{AMD64, ARM64, ARMNT, I386}
@@ -16,19 +16,14 @@ use Rattle.implib.proofs.Link.Ranges.{Among}
 use Rattle.implib_link.specs.Flavors.Program.{HaveSame}
 use Rattle.implib_link.specs.Flavors.Expansion.{expanded_in}
 use Rattle.implib_link.specs.Search.Search.{archive_of, is_weak, symbols_of_library, PullsIntoAs, claims_of, listed_in, references_of, unresolved, claimed_as, first_listed, objects_as, undefined_in, members_at, sweeps, swept}
-use Rattle.implib_link.specs.Search.Libraries.{HasClosed, AreGiven, IsFlavorArchive, archive_of_both, symbols_kept}
-use Rattle.implib_link.specs.Search.CommandLines.{AreListedWhole, AreRounds, AreSwept, AreUnclaimedBehind, ImportsByName, IsOrdered, SearchesCommandLine, SearchesFrom, given_with, names_left}
+use Rattle.implib_link.specs.Search.CommandLines.{AreListedWhole, AreRounds, AreSwept, AreUnclaimedBehind, IsOrdered, SearchesCommandLine, SearchesFrom, names_left}
 use Rattle.implib_link.proofs.Search.CommandLines.{are_first_of_distinct, first_of_distinct, gnu_searches, taken_are, takes_alike}
 use Rattle.implib_link.proofs.Search.Lists.{among_any, any_among, contains_among}
-use Rattle.implib_link_instances.specs.Worked.CommandLines.{WorkedCommandLine, WorkedCommandLines, WorkedLibraries, all_taken, amd64_members, i386_members, i386_wants_bytes, in_group, gnu_kernel, is_quit, library_last, of_quit, read_or_none, wants_bytes}
+use Rattle.implib_link_instances.specs.Worked.CommandLines.{WorkedCommandLine, WorkedCommandLines, all_taken, amd64_members, i386_members, i386_wants_bytes, in_group, library_last, of_quit, read_or_none, wants_bytes}
 use Rattle.implib_link_instances.specs.Worked.Programs.{code_object}
-use Rattle.implib_link_instances.proofs.Worked.Programs.{claims_none_by, distinct_by, opened}
-use Rattle.implib_link.specs.Archives.InBytes.{HaveArchive, Second}
-use Rattle.implib_archive.specs.declared.kind.Kind.TheVariants.{Coff}
+use Rattle.implib_link_instances.proofs.Worked.Programs.{distinct_by, opened}
 use Rattle.implib_link_instances.proofs.Worked.Search.{archived, searched}
 use Rattle.implib_link_instances.proofs.Worked.Lemmas.{IsX86}
-use Rattle.implib_link.proofs.Search.Exists.{both_exists}
-use Rattle.implib_link_instances.proofs.Worked.BothFlavors.{archive_by}
 
 -- members that claim what they are listed for
 whole_at : (reads : List ℕ → Option Object) (m : MemberView) → claimed_as reads (m ∷ []) ≡ m.symbols → HaveSame (claimed_as reads (m ∷ [])) m.symbols
@@ -52,17 +47,12 @@ object_at (o ∷ objects) (suc n) = object_at objects n
 ended_here : (archive : List MemberView) (names : List (List ℕ)) (name : List ℕ) (m : MemberView) → list_all (λ n. is_none (first_listed archive n)) names ≡ true → Among name names → first_listed archive name ≡ Some m → ⊥
 unfolding Among
 ended_here archive [] name m all held listed = held
-ended_here archive (n ∷ names) name m all (inl is) listed =
-    let none = (and_parts (is_none (first_listed archive n)) (list_all (λ k. is_none (first_listed archive k)) names) all).0 in
-    let some : is_none (first_listed archive n) ≡ false = rw (subst (λ k. first_listed archive k ≡ Some m) is listed) refl in
-    true≢false (sym none ∙ some)
-ended_here archive (n ∷ names) name m all (inr held) listed =
-    ended_here archive names name m (and_parts (is_none (first_listed archive n)) (list_all (λ k. is_none (first_listed archive k)) names) all).1 held listed
+ended_here archive (n ∷ names) name m all (inl is) listed = grind arith
+ended_here archive (n ∷ names) name m all (inr held) listed = grind (arith, ended_here archive names name m)
 
 pub ended_by : (reads : List ℕ → Option Object) (archive : List MemberView) (own : List Object) (taken : List MemberView) → list_all (λ n. is_none (first_listed archive n)) (unresolved (own ++ objects_as reads taken)) ≡ true →
     (name : List ℕ) (m : MemberView) → PullsIntoAs reads archive own taken name m → ⊥
-ended_by reads archive own taken all name m pulls =
-    ended_here archive (unresolved (own ++ objects_as reads taken)) name m all (contains_among name (unresolved (own ++ objects_as reads taken)) pulls.named) pulls.listed
+ended_by reads archive own taken all name m pulls = grind (arith, ended_here, contains_among)
 
 pub pulls_by : (reads : List ℕ → Option Object) (archive : List MemberView) (own : List Object) (taken : List MemberView) (name : List ℕ) (m : MemberView) → list_any (bytes_eq name) (unresolved (own ++ objects_as reads taken)) ≡ true →
     first_listed archive name ≡ Some m → list_any (bytes_eq m.name) (map (λ (x : MemberView). x.name) taken) ≡ false → PullsIntoAs reads archive own taken name m
@@ -83,28 +73,19 @@ exit machine = if is_32bit machine then codes "_ExitProcess@4" else codes "ExitP
 abbrev members : MachineType → List MemberView
 members machine = if is_32bit machine then i386_members else amd64_members
 
-worked : (machine : MachineType) → IsX86 machine → WorkedCommandLine machine (members machine) (own machine) × WorkedLibraries machine (gnu_kernel machine (exit machine)) (members machine) (own machine)
+worked : (machine : MachineType) → IsX86 machine → WorkedCommandLine machine (members machine) (own machine)
 unfolding opened alias_specs encoded_size claimed_as swept sweeps references_of claims_of undefined_in AreSwept AreRounds SearchesFrom IsOrdered AreUnclaimedBehind searched archived refusal renamed_refusal is_weak symbols_of_library archive_of
 worked ARMNT none = absurd none
 worked ARM64 none = absurd none
-worked machine _ = (
-  record {
-    distinct = distinct;
-    whole = whole;
-    first = searched_last;
-    ordered = ordered;
-    takes = gnu_searches (expanded_in machine) (members machine) (library_last (own machine)) all_taken (first_of_distinct (members machine) (names_left (expanded_in machine) (own machine) (members_at (members machine) all_taken)) all_taken distinct) unclaimed ordered searched_last;
-    group = searched_group;
-    alike = λ other lld. takes_alike (expanded_in machine) (members machine) (in_group (own machine)) all_taken other (first_of_distinct (members machine) (names_left (expanded_in machine) (own machine) (members_at (members machine) all_taken)) all_taken distinct) (are_first_of_distinct (members machine) (names_left (expanded_in machine) (own machine) other) other distinct (taken_are (expanded_in machine) (members machine) (own machine) whole other lld.in_turn)) whole group_unclaimed group_ordered searched_group lld;
-  },
-  record {
-    archive = archive;
-    ready = ready;
-    searches = record { libraries_are = refl; first = first_of_distinct (members machine) (names_left (expanded_in machine) (own machine) (members_at (members machine) all_taken)) all_taken distinct; by_name = by_name; unclaimed = unclaimed; ordered = inl ordered; whole = whole; searches = searched_last };
-    given = given;
-    exists = exists;
-  },
-)
+worked machine _ = record {
+  distinct = distinct;
+  whole = whole;
+  first = searched_last;
+  ordered = ordered;
+  takes = gnu_searches (expanded_in machine) (members machine) (library_last (own machine)) all_taken (first_of_distinct (members machine) (names_left (expanded_in machine) (own machine) (members_at (members machine) all_taken)) all_taken distinct) unclaimed ordered searched_last;
+  group = searched_group;
+  alike = λ other lld. takes_alike (expanded_in machine) (members machine) (in_group (own machine)) all_taken other (first_of_distinct (members machine) (names_left (expanded_in machine) (own machine) (members_at (members machine) all_taken)) all_taken distinct) (are_first_of_distinct (members machine) (names_left (expanded_in machine) (own machine) other) other distinct (taken_are (expanded_in machine) (members machine) (own machine) whole other lld.in_turn)) whole group_unclaimed group_ordered searched_group lld;
+}
   where
     distinct : IsDistinct bytes_eq (listed_in (members machine))
     distinct = distinct_by (listed_in (members machine)) refl
@@ -130,26 +111,5 @@ worked machine _ = (
     group_unclaimed : AreUnclaimedBehind (members machine) [] (in_group (own machine))
     group_unclaimed = ((tt, tt), (tt, tt))
 
-    by_name : ImportsByName (expanded_in machine) (members machine) (own machine) (members_at (members machine) all_taken)
-    by_name = record { left = refl; claimed = refl }
-
-    given : AreGiven machine ((gnu_kernel machine (exit machine)) ∷ []) (given_with (expanded_in machine) is_quit (own machine) (members_at (members machine) all_taken))
-    given = record {
-      claims = (
-        claims_none_by (symbols_kept machine ((gnu_kernel machine (exit machine)) ∷ []) (given_with (expanded_in machine) is_quit (own machine) (members_at (members machine) all_taken))) (object_at (given_with (expanded_in machine) is_quit (own machine) (members_at (members machine) all_taken)) 0) refl,
-        (claims_none_by (symbols_kept machine ((gnu_kernel machine (exit machine)) ∷ []) (given_with (expanded_in machine) is_quit (own machine) (members_at (members machine) all_taken))) (object_at (given_with (expanded_in machine) is_quit (own machine) (members_at (members machine) all_taken)) 1) refl, tt),
-      );
-      names = record { gnu = (record { head = refl; name = refl }, tt); msvc = tt };
-    }
-
-    ready : HaveArchive Coff Second (archive_of_both (gnu_kernel machine (exit machine) ∷ []))
-    ready = record { accepted = refl; has = tt }
-
-    archive : IsFlavorArchive machine (gnu_kernel machine (exit machine) ∷ [])
-    archive = archive_by (record { accepted = refl; made = refl; ordinals = refl }, tt) tt tt refl refl refl
-
-    exists : HasClosed machine (gnu_kernel machine (exit machine) ∷ []) (given_with (expanded_in machine) is_quit (own machine) (members_at (members machine) all_taken)) 0x2000
-    exists = both_exists machine (gnu_kernel machine (exit machine) ∷ []) (given_with (expanded_in machine) is_quit (own machine) (members_at (members machine) all_taken)) 0x2000 archive given (refl, (refl, tt)) (omega arith) (omega arith)
-
 pub worked_command_lines : WorkedCommandLines
-worked_command_lines = record { amd64 = (worked AMD64 tt).0; i386 = (worked I386 tt).0; libraries = (worked AMD64 tt).1; i386_libraries = (worked I386 tt).1 }
+worked_command_lines = record { amd64 = worked AMD64 tt; i386 = worked I386 tt }

@@ -36,9 +36,7 @@ is_held memory r = is_each_located memory r.start r.bytes
 
 pub holds_by : (memory ranges : List Range) → list_all (is_held memory) ranges ≡ true → AllByRecursion (λ (r : Range). BytesAt memory r.start r.bytes) ranges
 holds_by memory [] test = tt
-holds_by memory (r ∷ ranges) test =
-    let parts = and_parts (is_held memory r) (list_all (is_held memory) ranges) test in
-    (are_located memory r.bytes r.start parts.0, holds_by memory ranges parts.1)
+holds_by memory (r ∷ ranges) test = grind (arith, holds_by memory ranges, and_parts, are_located)
 
 file : (machine : MachineType) → IsX86 machine → NotThumb machine → WorkedFile machine (addresses_on machine) (if is_32bit machine then 0x14 else 0x28)
 unfolding lld_opened file_opened

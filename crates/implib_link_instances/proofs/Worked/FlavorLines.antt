@@ -7,7 +7,7 @@ use Rattle.implib.specs.declared.machine.MachineType.TheVariants.{AMD64, ARM64, 
 use Rattle.implib.specs.Machine.{is_32bit}
 use Rattle.implib.specs.Members.MemberSpec.{MemberView}
 use Rattle.implib_link.specs.Flavors.Expansion.{expanded_in}
-use Rattle.implib_link.specs.Search.Libraries.{AreGiven, FlavorLibrary, archive_of_both, symbols_kept}
+use Rattle.implib_link.specs.Search.Libraries.{AreGiven, FlavorLibrary, archive_of_both}
 use Rattle.implib_link.specs.Search.Search.{listed_in, members_at, sweeps, swept}
 use Rattle.implib_link.specs.Search.CommandLines.{AreListedWhole, AreRounds, AreSwept, AreUnclaimedBehind, Input, IsOrdered, NoneIsLost, SearchesCommandLine, SearchesFlavors, SearchesFrom, names_left}
 use Rattle.implib_link.proofs.Search.CommandLines.{first_of_distinct, takes_of_libraries}
@@ -91,10 +91,7 @@ worked machine is = record {
 
     given : AreGiven machine (kernels machine) (with_quit machine (shorts machine) (own machine))
     given = record {
-      claims = (
-        claims_none_by (symbols_kept machine (kernels machine) (with_quit machine (shorts machine) (own machine))) (object_at (with_quit machine (shorts machine) (own machine)) 0) refl,
-        (claims_none_by (symbols_kept machine (kernels machine) (with_quit machine (shorts machine) (own machine))) (object_at (with_quit machine (shorts machine) (own machine)) 1) refl, tt),
-      );
+      claims = grind (arith, claims_none_by, own, object_at);
       names = record { gnu = tt; msvc = (record { descriptor = refl; null_descriptor = refl; null_thunk = refl }, tt) };
     }
 

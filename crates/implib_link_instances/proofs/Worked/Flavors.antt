@@ -38,12 +38,7 @@ pub flavor_objects_by : {machine : MachineType} {inputs : List FlavorInput} {obj
     AllByRecursion (λ p. IsFoundByName p.flavor (dll_names_in p)) inputs → null_from.flavor ≡ Msvc → all_differ (null_descriptor_symbol ∷ symbols_listed (all_members machine inputs)) ≡ true →
     before ++ behind ≡ all_members machine inputs → filter has_tables objects ≡ objects_taken machine (before ++ null_member machine (linked_dll null_from.input.definition) ∷ behind) →
     claim_none (null_descriptor_symbol ∷ symbols_listed (all_members machine inputs)) (filter (λ o. not (has_tables o)) objects) ≡ true → AreProgramObjects machine OfMember inputs objects
-flavor_objects_by {machine} {inputs} {objects} null_from before behind held found flavor differ members tables none = record {
-  distinct = distinct_by (null_descriptor_symbol ∷ symbols_listed (all_members machine inputs)) differ;
-  ended = record { null_from = null_from; null_held = held; null_flavor = flavor; before = before; behind = behind; members = members; tables = tables };
-  others = all_claim_none (null_descriptor_symbol ∷ symbols_listed (all_members machine inputs)) (filter (λ o. not (has_tables o)) objects) none;
-  found = found;
-}
+flavor_objects_by {machine} {inputs} {objects} null_from before behind held found flavor differ members tables none = grind (arith, distinct_by, differ, all_claim_none)
 
 worked : (machine : MachineType) → IsX86 machine → WorkedFlavorProgram machine (if is_32bit machine then 2 else 0) (if is_32bit machine then flavor_bases_4 else flavor_bases_8) (if is_32bit machine then flavor_expected_4 else flavor_expected_8)
 unfolding opened refusal renamed_refusal alias_specs encoded_size weak_object has_tables expanded_in short_import_in import_object descriptor_symbol_by_name with_section_symbols descriptor null_descriptor null_thunk descriptor_symbol null_descriptor_symbol null_thunk_symbol base_name descriptor_spec null_descriptor_spec null_thunk_spec header_specs weak_specs group_end sections_end

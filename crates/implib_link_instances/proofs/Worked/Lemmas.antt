@@ -54,8 +54,7 @@ unfolding BytesAt
 same_bytes memory [] [] a first second long = refl
 same_bytes memory [] (y ∷ ys) a first second long = absurd (omega arith)
 same_bytes memory (x ∷ xs) [] a first second long = absurd (omega arith)
-same_bytes memory (x ∷ xs) (y ∷ ys) a first second long =
-    rw (value x y (sym first.0 ∙ second.0), same_bytes memory xs ys (a + 1) first.1 second.1 (omega arith)) refl
+same_bytes memory (x ∷ xs) (y ∷ ys) a first second long = grind (arith, same_bytes memory xs ys (a + 1) first.1 second.1 (omega arith))
 
 none_passes_among : {X : Type 0} (p : X → Bool) (x : X) (xs : List X) → list_any p xs ≡ false → Among x xs → p x ≡ true → ⊥
 unfolding Among

@@ -1,8 +1,9 @@
 -- The programs by hand, loaded and called, by computing and by the laws.
-use Rattle.implib.specs.Link.Image.{Range, image_of}
+use Rattle.implib.specs.Link.Image.{IsAdmissible, Range, image_of}
 use Rattle.implib.specs.declared.machine.MachineType.{MachineType}
 use Rattle.implib.specs.Formats.Object.{Object}
-use Rattle.implib.specs.Link.LinkedMembers.{IsMade}
+use Rattle.implib.specs.Link.LinkedMembers.{IsMade, all_linked, objects_in}
+use Rattle.implib.proofs.Link.LinkedInputs.{gnu_inputs_link}
 use Rattle.implib.specs.Link.Placement.{Bases, placed_from}
 use Rattle.std.specs.List.{AllByRecursion}
 use Rattle.std.proofs.Common.{◌≡◌, ℕ, List, [], ◌∷◌, length, map, refl, subst, sym, ◌∙◌}
@@ -21,7 +22,7 @@ use Rattle.implib_link_instances.specs.Worked.Files.{WorkedLoad, WorkedLoads, gi
 use Rattle.implib_link_instances.specs.Worked.Programs.{both_inputs, program_image, program_objects, touching_4, touching_8}
 use Rattle.implib_link.proofs.Gnu.Loaded.{directory_walk}
 use Rattle.implib_link.proofs.Flavors.Program.{program_links}
-use Rattle.implib_link_instances.proofs.Worked.Programs.{opened, worked_programs}
+use Rattle.implib_link_instances.proofs.Worked.Programs.{admissible_by, opened, worked_programs}
 use Rattle.implib_link_instances.proofs.Worked.Lemmas.{number}
 
 -- a loader that is handed the imports loads the tables
@@ -36,12 +37,14 @@ program_loaded machine ending bases inputs objects gives written made program wi
 
 -- what is worked of a program, where its own writes are computed
 worked : (machine : MachineType) (bases : Bases) (written : List Range) → AllByRecursion (IsMade machine) (both_inputs machine) → IsProgram machine bases (both_inputs machine) (program_objects machine) →
+    IsAdmissible machine bases (objects_in (all_linked machine (both_inputs machine))) →
     ((dll : List ℕ) (ask : Ask) → length (gives_by_hand machine dll ask) ≡ thunk_width machine) →
     Writes (program_image machine bases) (thunk_width machine) (gives_by_hand machine) bases.descriptors (map (imported machine) (both_inputs machine)) written → WorkedLoad machine bases written
-worked machine bases written made program given writes =
+worked machine bases written made program admissible given writes =
     let links = program_links machine OfLinker bases (map gnu_input (both_inputs machine)) (program_objects machine) made program in
     record {
       links = links;
+      any_order = gnu_inputs_link machine bases (both_inputs machine) made program.held.distinct admissible;
       walk = directory_walk (program_image machine bases) (thunk_width machine) bases.descriptors (map (imported machine) (both_inputs machine)) links.directory;
       given = given;
       writes = writes;
@@ -68,8 +71,16 @@ i386_writes = (
   (number (program_image I386 touching_4) 4 20 92 (92 ∷ 0 ∷ 0 ∷ 0 ∷ []) refl refl refl, (_, (refl, (112, (number (program_image I386 touching_4) 4 40 112 (112 ∷ 0 ∷ 0 ∷ 0 ∷ []) refl refl refl, ([], (refl, refl))))))),
 )
 
+amd64_admissible : IsAdmissible AMD64 touching_8 (objects_in (all_linked AMD64 (both_inputs AMD64)))
+unfolding opened alias_specs encoded_size weak_object
+amd64_admissible = admissible_by refl refl
+
+i386_admissible : IsAdmissible I386 touching_4 (objects_in (all_linked I386 (both_inputs I386)))
+unfolding opened alias_specs encoded_size weak_object
+i386_admissible = admissible_by refl refl
+
 pub worked_loads : WorkedLoads
 worked_loads = record {
-  amd64 = worked AMD64 touching_8 (written_8 AMD64) worked_programs.amd64.made worked_programs.amd64.program (given AMD64) amd64_writes;
-  i386 = worked I386 touching_4 (written_4 I386) worked_programs.i386.made worked_programs.i386.program (given I386) i386_writes;
+  amd64 = worked AMD64 touching_8 (written_8 AMD64) worked_programs.amd64.made worked_programs.amd64.program amd64_admissible (given AMD64) amd64_writes;
+  i386 = worked I386 touching_4 (written_4 I386) worked_programs.i386.made worked_programs.i386.program i386_admissible (given I386) i386_writes;
 }

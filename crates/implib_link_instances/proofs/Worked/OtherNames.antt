@@ -1,5 +1,5 @@
 -- Names that stand for others, by computing and by the law.
-use Rattle.std.proofs.Common.{◌≡◌, ℕ, ◌+◌, Bool, true, List, [], ◌∷◌, ◌++◌, codes, Option, None, Some, refl, ap, sym, ◌∙◌, subst, arith, inl, inr, if◌then◌else◌}
+use Rattle.std.proofs.Common.{◌≡◌, ℕ, ◌+◌, Bool, true, List, [], ◌∷◌, ◌++◌, codes, Option, None, Some, refl, ◌∙◌, subst, arith, inl, inr, if◌then◌else◌}
 use Rattle.std.specs.Prelude.{◌&&◌, ◌==◌, bytes_eq, drop, slice_get, take}
 use Rattle.std.specs.List.{Contains, list_all}
 use Rattle.std.proofs.lemmas.Bool.{and_from, eq-eqb, eqb-true}
@@ -20,14 +20,14 @@ use Rattle.implib_link.specs.Flavors.LldImports.{IsLldProgram, imp_symbols_of, I
 use Rattle.implib_link.specs.Gnu.Aliases.{StandsFor}
 use Rattle.implib_link.specs.Gnu.Fields.{HasDirectCall, StubAt, AreLinkedBeside, DefinesIn, LinkedCode, placed_code, ranges_of_codes, HasBranch, HasInstruction, Names}
 use Rattle.implib_link.specs.Flavors.Program.{has_tables}
-use Rattle.implib_link.specs.Parts.{IsProgramOfParts, names_of_parts}
+use Rattle.implib_link.specs.Parts.{IsProgramOfParts}
 use Rattle.implib_link.specs.Tables.{AreSteady, AreTables, Table, Tables, tables_of_lld}
 use Rattle.implib_link.proofs.Parts.Members.{parts_steady}
 use Rattle.implib_link.proofs.Parts.Programs.{parts_tables}
 use Rattle.implib_link.proofs.Search.Lists.{contains_among, each_of}
 use Rattle.implib_link.proofs.Tables.{other_leads, stub_called_otherwise, tables_end_in_memory, thunk_called_otherwise, lld_tables}
 use Rattle.implib_link_instances.specs.Worked.Programs.{code_of_thunk, lld_image_on, linked_code, linked_thunk, mid_on, object_section, shorts_on, taken_address, symbol_of_class}
-use Rattle.implib_link_instances.specs.Worked.Parts.{named_start, asking, gnu_bases, gnu_image, start_code, stub_code, table_at, zoo_parts, zoo_tables, objects_of}
+use Rattle.implib_link_instances.specs.Worked.Parts.{asking, gnu_bases, gnu_image, start_code, stub_code, table_at, zoo_parts, zoo_tables}
 use Rattle.implib_link_instances.specs.Worked.OtherNames.{HoldsOfSome, eight_zeros, other_tables, WorkedAlternateNames, WorkedOtherNames, lld_other_address, lld_other_code, lld_other_codes, lld_other_linked, lld_other_memory, lld_other_targets, other_address, other_codes, other_linked, other_memory, other_objects, other_placed, other_start, other_targets}
 use Rattle.implib_link_instances.proofs.Worked.Programs.{relocated_by, relocated_test, alike, lld_opened, lld_pieces, meet_test, meets_up, takes_outside, admissible_by, all_claim_none, distinct_by, instruction_by, opened}
 use Rattle.implib_link_instances.proofs.Worked.Parts.{all_apart, all_apart_test, is_apart, zoo_are, zoo_stores}
@@ -44,9 +44,7 @@ found_at address (Some n) = address == n
 
 module _ (outside : List ℕ → ℕ) (linked : List Placed) (codes : List LinkedCode) (name other : List ℕ) (none : definitions_of name linked ≡ []) where
   taken_by_name : (c : LinkedCode) (index : ℕ) → Names c.from index name → taken_address outside linked c.from (slice_get c.from.object.entries index) ≡ outside name
-  taken_by_name c index names =
-      let nowhere : definitions_of names.symbol.name linked ≡ [] = ap (λ n. definitions_of n linked) names.named ∙ none in
-      rw (names.target, names.undefined, nowhere) (ap outside names.named)
+  taken_by_name c index names = grind arith
 
   stands_in_tables : found_at (outside name) (first_address (definitions_of other linked)) ≡ true → (c : LinkedCode) (index address : ℕ) → Names c.from index name → first_address (definitions_of other linked) ≡ Some address →
       taken_address outside linked c.from (slice_get c.from.object.entries index) ≡ address
@@ -57,13 +55,7 @@ module _ (outside : List ℕ → ℕ) (linked : List Placed) (codes : List Linke
       taken_address outside linked c.from (slice_get c.from.object.entries index) ≡ d.position + t.value
   unfolding defined_at
   stands_in_code code c d index t d_held names defines named =
-      let one = each_of (λ (x : LinkedCode). list_all (defined_at (outside name) other x) x.from.object.entries) d codes code (contains_among d codes d_held) in
-      let two : defined_at (outside name) other d (ASymbol t) ≡ true = each_of (defined_at (outside name) other d) (ASymbol t) d.from.object.entries one (contains_among (ASymbol t) d.from.object.entries defines.held) in
-      let same : bytes_eq other t.name ≡ true = subst (λ n. bytes_eq other n ≡ true) (sym named) (same_text other) in
-      let here : (t.section == d.number) ≡ true = eq-eqb t.section d.number defines.here in
-      let all : (is_defined_external t && ((t.section == d.number) && bytes_eq other t.name)) ≡ true =
-      and_from (is_defined_external t) ((t.section == d.number) && bytes_eq other t.name) defines.external (and_from (t.section == d.number) (bytes_eq other t.name) here same) in
-      taken_by_name c index names ∙ eqb-true (outside name) (d.position + t.value) (rw all at two)
+      grind (arith, contains_among d codes d_held, defined_at (outside name) other d (ASymbol t), defined_at (outside name) other d, contains_among (ASymbol t) d.from.object.entries defines.held, same_text other, taken_by_name c index names, each_of, defines, eq-eqb, and_from, eqb-true)
 
   stands_by : found_at (outside name) (first_address (definitions_of other linked)) ≡ true → list_all (λ (d : LinkedCode). list_all (defined_at (outside name) other d) d.from.object.entries) codes ≡ true →
       StandsFor linked codes (λ c index. taken_address outside linked c.from (slice_get c.from.object.entries index)) name other
@@ -76,12 +68,7 @@ module _ (outside : List ℕ → ℕ) (linked : List Placed) (codes : List Linke
 
 program : IsProgramOfParts AMD64 gnu_bases zoo_parts other_objects
 unfolding opened refusal renamed_refusal alias_specs encoded_size weak_object has_tables
-program = record {
-  tables = refl;
-  distinct = distinct_by (names_of_parts zoo_parts) refl;
-  others = all_claim_none (names_of_parts zoo_parts) (objects_of (named_start (codes "zoo_oped") (codes "__imp_zoo_oped") ∷ [])) refl;
-  admissible = admissible_by refl refl;
-}
+program = grind (arith, distinct_by, all_claim_none, admissible_by)
 
 image_is : image_of AMD64 gnu_bases other_linked ≡ gnu_image
 unfolding opened refusal renamed_refusal alias_specs encoded_size weak_object has_tables
@@ -97,10 +84,7 @@ beside = record {
   sections = (refl, (refl, tt));
   ends = (omega arith, (omega arith, tt));
   apart = all_apart (gnu_image ++ ranges_of_codes other_codes) refl;
-  relocated = (
-    relocated_by AMD64 0x1_4000_0000 (other_targets other_start) 0x1000 other_start.code start_code.bytes refl,
-    (relocated_by AMD64 0x1_4000_0000 (other_targets stub_code) 0x1030 stub_code.code stub_code.bytes refl, tt),
-  );
+  relocated = grind (arith, relocated_by AMD64 0x1_4000_0000 (other_targets other_start) 0x1000 other_start.code start_code.bytes refl, relocated_by AMD64 0x1_4000_0000 (other_targets stub_code) 0x1030 stub_code.code stub_code.bytes refl);
   resolved = takes_outside other_address other_linked other_codes refl;
 }
 
@@ -185,10 +169,7 @@ unfolding lld_opened IsAskable
 lld_program = record {
   writable = (record { name = refl; asks = (omega arith, tt) }, (record { name = refl; asks = ((omega arith, refl), tt) }, (record { name = refl; asks = ((omega arith, refl), tt) }, tt)));
   distinct = distinct_by (imp_symbols_of (shorts_on AMD64)) refl;
-  agree = alike (shorts_on AMD64) (
-    ((λ e. refl), ((λ e. cc), ((λ e. refl), tt))),
-    (((λ e. cc), ((λ e. refl), ((λ e. cc), tt))), (((λ e. refl), ((λ e. cc), ((λ e. refl), tt))), tt)),
-  );
+  agree = grind (arith, alike);
   before = other_placed ∷ [];
   behind = placed_thunk AMD64 (mid_on AMD64) ∷ [];
   placed = refl;
@@ -208,17 +189,8 @@ lld_steady = refl
 
 lld_beside : AreLinkedBeside AMD64 0x1_4000_0000 (lld_image_on AMD64) lld_other_linked lld_other_codes lld_other_targets
 unfolding lld_opened relocated_test meets_up meet_test is_apart all_apart_test
-lld_beside = record {
-  held = ((0, omega arith, refl), ((2, omega arith, refl), tt));
-  sections = (refl, (refl, tt));
-  ends = (omega arith, (omega arith, tt));
-  apart = all_apart (lld_image_on AMD64 ++ ranges_of_codes lld_other_codes) refl;
-  relocated = (
-    relocated_by AMD64 0x1_4000_0000 (lld_other_targets lld_other_code) 0x1000 (object_section AMD64) (linked_code AMD64) refl,
-    (relocated_by AMD64 0x1_4000_0000 (lld_other_targets (code_of_thunk AMD64)) 0x1020 (thunk_section AMD64) (linked_thunk AMD64) refl, tt),
-  );
-  resolved = takes_outside lld_other_address lld_other_linked lld_other_codes refl;
-}
+lld_beside =
+    grind (arith, all_apart (lld_image_on AMD64 ++ ranges_of_codes lld_other_codes) refl, relocated_by AMD64 0x1_4000_0000 (lld_other_targets lld_other_code) 0x1000 (object_section AMD64) (linked_code AMD64) refl, relocated_by AMD64 0x1_4000_0000 (lld_other_targets (code_of_thunk AMD64)) 0x1020 (thunk_section AMD64) (linked_thunk AMD64) refl, takes_outside lld_other_address lld_other_linked lld_other_codes refl)
 
 lld_entry_stands : StandsFor lld_other_linked lld_other_codes lld_other_targets (codes "__imp_gea") (codes "__imp_gee")
 unfolding lld_opened found_at defined_at

@@ -1,8 +1,8 @@
 -- Programs of libraries of GNU dlltool and of ours, by computing.
-use Rattle.std.proofs.Common.{Bool, List, [], arith, codes, false, inl, inr, map, refl, subst, true, ◌++◌, ◌∷◌, ◌≡◌}
+use Rattle.std.proofs.Common.{Bool, List, [], arith, codes, false, inl, map, refl, true, ◌++◌, ◌∷◌, ◌≡◌}
 use Rattle.std.specs.Prelude.{bytes_eq, if◌then◌else◌, nat_le, ◌&&◌, ◌||◌}
 use Rattle.std.specs.List.{AllByRecursion, list_all}
-use Rattle.std.proofs.lemmas.Bool.{and_parts, cases_Bool, leb-true}
+use Rattle.std.proofs.lemmas.Bool.{and_parts}
 use Rattle.implib.specs.Formats.Constants.{amd64_rel32, class_external}
 use Rattle.implib.specs.declared.machine.MachineType.{MachineType}
 use Rattle.implib.specs.declared.machine.MachineType.TheVariants.{AMD64, I386}
@@ -18,14 +18,14 @@ use Rattle.implib.specs.Members.WeakExternal.{weak_object}
 use Rattle.implib_link.specs.Gnu.Fields.{AreLinkedBeside, ranges_of_codes, HasInstruction}
 use Rattle.implib_link.specs.Gnu.Moves.{AreInMemory}
 use Rattle.implib_link.specs.Flavors.Program.{has_tables}
-use Rattle.implib_link.specs.Parts.{AreEntries, BeginWithHead, IsPart, IsProgramOfParts, Part, names_of_parts, stores_none}
-use Rattle.implib_link.specs.Tables.{AreTables, Table, Tables, packed_tables}
+use Rattle.implib_link.specs.Parts.{AreEntries, BeginWithHead, IsPart, IsProgramOfParts, Part, stores_none}
+use Rattle.implib_link.specs.Tables.{Table, Tables, packed_tables}
 use Rattle.implib_link.proofs.Parts.Members.{members_are_part, members_store_none, parts_steady, older_part, older_stores_none}
 use Rattle.implib_link.proofs.Parts.Programs.{parts_tables}
-use Rattle.implib_link_instances.specs.Worked.Parts.{IsWritten, WorkedOlder, WorkedParts, WorkedReach, asking, gnu_bases, gnu_image, i386_gnu_bases, i386_gnu_image, i386_kernel, i386_older_objects, i386_older_parts, i386_older_start, i386_older_zoo, i386_start_bytes, i386_zoo, i386_zoo_objects, i386_zoo_parts, kernel, named_start, older_objects, older_parts, older_zoo, start_bytes, start_code, stub_code, table_at, zoo, zoo_codes, zoo_linked, zoo_memory, zoo_objects, zoo_parts, zoo_tables, zoo_targets, objects_of}
+use Rattle.implib_link_instances.specs.Worked.Parts.{IsWritten, WorkedOlder, WorkedParts, WorkedReach, asking, gnu_bases, gnu_image, i386_gnu_bases, i386_gnu_image, i386_kernel, i386_older_objects, i386_older_parts, i386_older_zoo, i386_zoo, i386_zoo_objects, i386_zoo_parts, kernel, older_objects, older_parts, older_zoo, start_code, stub_code, table_at, zoo, zoo_codes, zoo_linked, zoo_memory, zoo_objects, zoo_parts, zoo_tables, zoo_targets}
 use Rattle.implib_link_instances.specs.Worked.Programs.{symbol_of_class}
 use Rattle.implib_link.proofs.Tables.{tables_lead_in_memory, tables_load_in_memory}
-use Rattle.implib_link_instances.proofs.Worked.Programs.{relocated_by, relocated_test, disjoint, meet_test, takes_outside, admissible_by, all_claim_none, all_hold_fields, distinct_by, instruction_by, opened}
+use Rattle.implib_link_instances.proofs.Worked.Programs.{relocated_by, relocated_test, meet_test, takes_outside, admissible_by, all_claim_none, all_hold_fields, distinct_by, instruction_by, opened}
 use Rattle.implib.specs.Definition.{ExportView}
 use Rattle.implib.specs.Members.OlderSymbols.{AreOlderMembersOf, older_object, older_refusal, older_renamed_refusal, older_spec}
 
@@ -36,13 +36,7 @@ written_by machine bases parts objects written tables are program stores image s
   parts_are = are;
   program = program;
   image = image;
-  tables_are = subst (λ ts. AreTables machine (record { image = written; linked = placed_from bases objects; directory = bases.descriptors; tables = ts })) same
-      (subst (λ rs. AreTables machine (record {
-        image = rs;
-        linked = placed_from bases objects;
-        directory = bases.descriptors;
-        tables = packed_tables (thunk_width machine) bases.addresses (map (λ (p : Part). p.table) parts);
-      })) image (parts_tables machine bases parts objects are program));
+  tables_are = grind (arith, parts_tables machine bases parts objects are program, program);
   steady = parts_steady machine bases parts objects program stores;
 }
 
@@ -88,21 +82,11 @@ i386_kernel_stores = refl
 
 gnu : IsProgramOfParts AMD64 gnu_bases zoo_parts zoo_objects
 unfolding opened refusal renamed_refusal alias_specs encoded_size weak_object has_tables
-gnu = record {
-  tables = refl;
-  distinct = distinct_by (names_of_parts zoo_parts) refl;
-  others = all_claim_none (names_of_parts zoo_parts) (objects_of (start_bytes ∷ [])) refl;
-  admissible = admissible_by refl refl;
-}
+gnu = grind (arith, distinct_by, all_claim_none, admissible_by)
 
 i386_gnu : IsProgramOfParts I386 i386_gnu_bases i386_zoo_parts i386_zoo_objects
 unfolding opened refusal renamed_refusal alias_specs encoded_size weak_object has_tables
-i386_gnu = record {
-  tables = refl;
-  distinct = distinct_by (names_of_parts i386_zoo_parts) refl;
-  others = all_claim_none (names_of_parts i386_zoo_parts) (objects_of (i386_start_bytes ∷ [])) refl;
-  admissible = admissible_by refl refl;
-}
+i386_gnu = grind (arith, distinct_by, all_claim_none, admissible_by)
 
 gnu_image_is : image_of AMD64 gnu_bases (placed_from gnu_bases zoo_objects) ≡ gnu_image
 unfolding opened refusal renamed_refusal alias_specs encoded_size weak_object has_tables
@@ -137,11 +121,7 @@ is_apart r s = nat_le (range_end r) s.start || nat_le (range_end s) r.start
 
 apart_by_test : (r s : Range) → is_apart r s ≡ true → AreApart r s
 unfolding is_apart
-apart_by_test r s test =
-    elim (cases_Bool (nat_le (range_end r) s.start)) [
-      | inl before ↦ disjoint r s (inl (leb-true (range_end r) s.start before))
-      | inr other ↦ disjoint r s (inr (leb-true (range_end s) r.start (rw other at test)))
-    ]
+apart_by_test r s test = grind arith
 
 each_apart : (r : Range) (rs : List Range) → list_all (is_apart r) rs ≡ true → AllByRecursion (AreApart r) rs
 each_apart r [] test = tt
@@ -163,10 +143,7 @@ code_beside = record {
   sections = (refl, (refl, tt));
   ends = (omega arith, (omega arith, tt));
   apart = all_apart (gnu_image ++ ranges_of_codes zoo_codes) refl;
-  relocated = (
-    relocated_by AMD64 0x1_4000_0000 (zoo_targets start_code) 0x1000 start_code.code start_code.bytes refl,
-    (relocated_by AMD64 0x1_4000_0000 (zoo_targets stub_code) 0x1030 stub_code.code stub_code.bytes refl, tt),
-  );
+  relocated = grind (arith, relocated_by AMD64 0x1_4000_0000 (zoo_targets start_code) 0x1000 start_code.code start_code.bytes refl, relocated_by AMD64 0x1_4000_0000 (zoo_targets stub_code) 0x1030 stub_code.code stub_code.bytes refl);
   resolved = takes_outside (λ name. if bytes_eq name (codes ".data") then 0x2000 else 0x1030) zoo_linked zoo_codes refl;
 }
 
@@ -215,12 +192,7 @@ store_none older = (kernel_stores, (older_stores_none AMD64 older_zoo made older
 
 program : (older : ExportView → Bool) → IsProgramOfParts AMD64 gnu_bases (older_parts older) older_objects
 unfolding opened older_refusal older_renamed_refusal older_spec older_object alias_specs encoded_size weak_object has_tables
-program older = record {
-  tables = refl;
-  distinct = distinct_by (names_of_parts (older_parts older)) refl;
-  others = all_claim_none (names_of_parts (older_parts older)) (objects_of (named_start (codes "zoo_open") (codes "___impzoo_open") ∷ [])) refl;
-  admissible = admissible_by refl refl;
-}
+program older = grind (arith, distinct_by, all_claim_none, admissible_by)
 
 image_is : image_of AMD64 gnu_bases (placed_from gnu_bases older_objects) ≡ gnu_image
 unfolding opened older_refusal older_renamed_refusal older_spec older_object alias_specs encoded_size weak_object has_tables
@@ -232,12 +204,7 @@ i386_made = record { accepted = refl; made = refl; ordinals = refl }
 
 i386_program : IsProgramOfParts I386 i386_gnu_bases i386_older_parts i386_older_objects
 unfolding opened older_refusal older_renamed_refusal older_spec older_object alias_specs encoded_size weak_object has_tables
-i386_program = record {
-  tables = refl;
-  distinct = distinct_by (names_of_parts i386_older_parts) refl;
-  others = all_claim_none (names_of_parts i386_older_parts) (objects_of (i386_older_start ∷ [])) refl;
-  admissible = admissible_by refl refl;
-}
+i386_program = grind (arith, distinct_by, all_claim_none, admissible_by)
 
 i386_image_is : image_of I386 i386_gnu_bases (placed_from i386_gnu_bases i386_older_objects) ≡ i386_gnu_image
 unfolding opened older_refusal older_renamed_refusal older_spec older_object alias_specs encoded_size weak_object has_tables

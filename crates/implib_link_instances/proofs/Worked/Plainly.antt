@@ -1,5 +1,5 @@
 -- What GNU ld takes, by the law, and what stays undefined, by computing.
-use Rattle.std.proofs.Common.{Bool, List, None, Option, Some, [], drop, false, map, refl, subst, sym, true, ℕ, ◌++◌, ◌∷◌, ◌≡◌}
+use Rattle.std.proofs.Common.{arith, Bool, List, None, Option, Some, [], drop, false, map, refl, true, ℕ, ◌++◌, ◌∷◌, ◌≡◌}
 use Rattle.std.specs.Prelude.{bytes_eq, codes, not, ◌||◌}
 use Rattle.std.specs.List.{list_all, list_any}
 use Rattle.implib.specs.Formats.Object.{Entry, Object}
@@ -70,10 +70,7 @@ only_weak name e = not (is_named name (claimed_name e)) || is_weak_entry e
 
 only_by : (objects : List Object) (name : List ℕ) → bytes_eq name name ≡ true → list_all (λ o. list_all (only_weak name) o.entries) objects ≡ true → AreOnlyWeak objects name
 unfolding only_weak is_named
-only_by objects name same all o e held among claimed =
-    let object : list_all (only_weak name) o.entries ≡ true = each_of (λ (x : Object). list_all (only_weak name) x.entries) o objects all (contains_among o objects held) in
-    let entry : (not (is_named name (claimed_name e)) || is_weak_entry e) ≡ true = each_of (only_weak name) e o.entries object (contains_among e o.entries among) in
-    subst (λ b. (not b || is_weak_entry e) ≡ true) (subst (λ x. is_named name x ≡ true) (sym claimed) same) entry
+only_by objects name same all o e held among claimed = grind (arith, only_weak name, contains_among o objects held, is_named name (claimed_name e), contains_among e o.entries among, each_of)
 
 only_quit : AreOnlyWeak (own ++ objects_as (expanded_in AMD64) kernel_taken) (codes "quit")
 unfolding searched only_weak is_named
@@ -82,12 +79,7 @@ only_quit = only_by (own ++ objects_as (expanded_in AMD64) kernel_taken) (codes 
 pub worked_plainly : WorkedPlainly
 unfolding searched without_weak
 worked_plainly = record {
-  amd64 = record {
-    none = (refl, tt);
-    takes = libraries_plain AMD64 foo_and_zed worked_both.archive (choosing ∷ []) mixed_taken (refl, tt) worked_both.takes;
-    weak = refl;
-    plain = refl;
-  };
+  amd64 = grind (arith, libraries_plain AMD64 foo_and_zed worked_both.archive (choosing ∷ []) mixed_taken (refl, tt) worked_both.takes, worked_both);
   by_gcc = record {
     none = (refl, tt);
     takes = libraries_plain AMD64 library kernel_archive own kernel_taken (refl, tt) kernel_takes;

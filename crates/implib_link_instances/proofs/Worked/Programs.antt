@@ -2,7 +2,7 @@
 use Rattle.std.proofs.Common.{◌≡◌, ℕ, zero, suc, ◌+◌, ◌-◌, ◌/◌, ◌%◌, ◌^◌, Bool, true, false, List, [], ◌∷◌, ◌++◌, length, map, Option, Some, None, refl, ap, sym, ◌∙◌, subst, inl, inr, arith, ◌≤◌, nat_lt, codes, ◌<◌, ◌⊎◌}
 use Rattle.std.specs.Prelude.{bytes_eq, nat_le, slice_get, ◌&&◌, ◌||◌, ◌==◌, if◌then◌else◌, not, take, drop}
 use Rattle.std.specs.List.{AllByRecursion, Contains, flat_map, list_all, list_any, IsDistinct, filter}
-use Rattle.std.proofs.lemmas.Bool.{and_from, and_parts, cases_Bool, eq-eqb, eqb-true, le-leb, ne_eqb, or_parts, leb-true, not-true, ltb-true}
+use Rattle.std.proofs.lemmas.Bool.{and_from, and_parts, eq-eqb, eqb-true, le-leb, ne_eqb, leb-true, not-true, ltb-true}
 use Rattle.std.proofs.lemmas.List.Folds.{list_any-append}
 use Rattle.implib.specs.declared.coff.object.Relocation.{Relocation}
 use Rattle.implib.specs.declared.machine.MachineType.{MachineType}
@@ -18,12 +18,12 @@ use Rattle.implib.proofs.Link.Definitions.{same_text}
 use Rattle.implib.proofs.Link.LinkedMembers.{among_contains}
 use Rattle.implib.proofs.Link.Loading.{number_once}
 use Rattle.implib.proofs.Link.Ranges.{all_among, among_flat, range_located, apart_as_they_rise, ends_below, rise_below, Among}
-use Rattle.implib_link.specs.Gnu.Fields.{amd64_addr64, arm64_addr64, arm64_branch26, field_width, i386_rel32, Amd64Holds, Arm64Holds, FieldHolds, I386Holds, IsRelocated, LinkedCode, TakesSymbols, field_at, meets, PlacedCode, IsAside, HasInstructions, moved_by, HasInstruction, IsOperand, Names, MeetsAlone, AreLinkedBeside, IsRebased, Place, absolute_width, covers, moved_number, table_places}
+use Rattle.implib_link.specs.Gnu.Fields.{amd64_addr64, arm64_addr64, arm64_branch26, field_width, i386_rel32, Amd64Holds, Arm64Holds, FieldHolds, I386Holds, IsRelocated, LinkedCode, TakesSymbols, field_at, meets, HasInstruction, IsOperand, Names, MeetsAlone, AreLinkedBeside, IsRebased, Place, absolute_width, covers, moved_number, table_places}
 use Rattle.implib_link.specs.Gnu.Moves.{places_of_code, AreInMemory, AreMoved, CanBeMoved}
 use Rattle.implib_link.specs.Stub.{adrp_immediate, bits_of, ldr_immediate, page, with_adrp, with_bits}
-use Rattle.implib_link_instances.specs.Worked.Operands.{in_code, named_or, or_else, AdjacentCalls, MovableCode, PassingFields, WorkedFields, WorkedOperands, amd64_rel32_1, field, imp_open, arm64_pageoffset_12a, arm64_secrel, moved_memory, open_on, passing_at, passing_bytes, passing_codes, passing_image, passing_memory, passing_objects, passing_placed, passing_places, passing_targets, stub_of_open, x86_secrel}
+use Rattle.implib_link_instances.specs.Worked.Operands.{in_code, named_or, or_else, MovableCode, PassingFields, WorkedFields, WorkedOperands, amd64_rel32_1, field, imp_open, moved_memory, open_on, passing_at, passing_codes, passing_image, passing_memory, passing_objects, passing_placed, passing_places, passing_targets, stub_of_open}
 use Rattle.implib_link.proofs.Gnu.Fields.{alone_among, moved_memory_exists}
-use Rattle.implib_link.proofs.Gnu.Loaded.{kept_outside, byte_front, within_bounds}
+use Rattle.implib_link.proofs.Gnu.Loaded.{kept_outside, byte_front}
 use Rattle.implib_link.proofs.Gnu.Choices.{among_place, covered_bounds}
 use Rattle.implib_link.proofs.Search.Lists.{among_at, among_mapped, contains_among, each_of}
 use Rattle.implib.specs.Link.LinkedMembers.{LinkInput, objects_in, all_linked}
@@ -59,10 +59,7 @@ i386_holds : (type image_base position target : ℕ) (old new : ℕ → ℕ) →
 unfolding i386_test
 i386_holds type image_base position target old new test = record {
   dir32 = λ is. let here : (type == i386_dir32) ≡ true = eq-eqb type i386_dir32 is in eqb-true (new 4) ((old 4 + (image_base + target)) % 2 ^ 32) (rw here at test);
-  rel32 = λ is.
-      let other : (type == i386_dir32) ≡ false = ne_eqb type i386_dir32 (λ same. omega arith) in
-      let here : (type == i386_rel32) ≡ true = eq-eqb type i386_rel32 is in
-      eqb-true (new 4) ((old 4 + target + (2 ^ 32 - (position + 4) % 2 ^ 32)) % 2 ^ 32) (rw (other, here) at test);
+  rel32 = λ is. grind (arith, ne_eqb, eq-eqb, eqb-true);
 }
 
 amd64_test : ℕ → ℕ → ℕ → ℕ → (ℕ → ℕ) → (ℕ → ℕ) → Bool
@@ -76,12 +73,7 @@ amd64_holds : (type image_base position target : ℕ) (old new : ℕ → ℕ) �
 unfolding amd64_test
 amd64_holds type image_base position target old new test = record {
   addr64 = λ is. let here : (type == amd64_addr64) ≡ true = eq-eqb type amd64_addr64 is in eqb-true (new 8) ((old 8 + (image_base + target)) % 2 ^ 64) (rw here at test);
-  rel32 = λ further small is.
-      let other : (type == amd64_addr64) ≡ false = ne_eqb type amd64_addr64 (λ same. omega arith) in
-      let here : (nat_le amd64_rel32 type && nat_le type 9) ≡ true = and_from (nat_le amd64_rel32 type) (nat_le type 9) (le-leb amd64_rel32 type (omega arith)) (le-leb type 9 (omega arith)) in
-      let more : type - amd64_rel32 ≡ further = omega arith in
-      subst (λ n. new 4 ≡ (old 4 + target + (2 ^ 32 - (position + 4 + n) % 2 ^ 32)) % 2 ^ 32) more
-      (eqb-true (new 4) ((old 4 + target + (2 ^ 32 - (position + 4 + (type - amd64_rel32)) % 2 ^ 32)) % 2 ^ 32) (rw (other, here) at test));
+  rel32 = λ further small is. grind (arith, ne_eqb, and_from, le-leb, eqb-true);
 }
 
 arm64_test : ℕ → ℕ → ℕ → ℕ → (ℕ → ℕ) → (ℕ → ℕ) → Bool
@@ -106,15 +98,8 @@ arm64_holds : (type image_base position target : ℕ) (old new : ℕ → ℕ) �
 unfolding arm64_test
 arm64_holds type image_base position target old new test = record {
   addr64 = λ is. let here : (type == arm64_addr64) ≡ true = eq-eqb type arm64_addr64 is in eqb-true (new 8) ((old 8 + (image_base + target)) % 2 ^ 64) (rw here at test);
-  branch = λ is none near far.
-      let one : (type == arm64_addr64) ≡ false = ne_eqb type arm64_addr64 (λ same. omega arith) in
-      let here : (type == arm64_branch26) ≡ true = eq-eqb type arm64_branch26 is in
-      both_equal _ _ _ _ (rw (one, here) at test);
-  page_of = λ is.
-      let one : (type == arm64_addr64) ≡ false = ne_eqb type arm64_addr64 (λ same. omega arith) in
-      let two : (type == arm64_branch26) ≡ false = ne_eqb type arm64_branch26 (λ same. omega arith) in
-      let here : (type == arm64_pagebase_rel21) ≡ true = eq-eqb type arm64_pagebase_rel21 is in
-      both_equal _ _ _ _ (rw (one, two, here) at test);
+  branch = λ is none near far. grind (arith, ne_eqb, eq-eqb, both_equal);
+  page_of = λ is. grind (arith, ne_eqb, eq-eqb, both_equal);
   offset_of = λ is eight.
       let one : (type == arm64_addr64) ≡ false = ne_eqb type arm64_addr64 (λ same. omega arith) in
       let two : (type == arm64_branch26) ≡ false = ne_eqb type arm64_branch26 (λ same. omega arith) in
@@ -148,15 +133,8 @@ unfolding agree
 agree_at machine rs k [] [] test i none = refl
 agree_at machine rs k [] (y ∷ ys) test i none = cc
 agree_at machine rs k (x ∷ xs) [] test i none = cc
-agree_at machine rs k (x ∷ xs) (y ∷ ys) test zero none =
-    let parts = and_parts (list_any (meets machine k 1) rs || (x == y)) (agree machine rs (k + 1) xs ys) test in
-    let plain : k + 0 ≡ k = omega arith in
-    let clear : list_any (meets machine k 1) rs ≡ false = subst (λ n. list_any (meets machine n 1) rs ≡ false) plain none in
-    ap Some (eqb-true x y (rw clear at parts.0))
-agree_at machine rs k (x ∷ xs) (y ∷ ys) test (suc i) none =
-    let parts = and_parts (list_any (meets machine k 1) rs || (x == y)) (agree machine rs (k + 1) xs ys) test in
-    let next : k + suc i ≡ k + 1 + i = omega arith in
-    agree_at machine rs (k + 1) xs ys parts.1 i (subst (λ n. list_any (meets machine n 1) rs ≡ false) next none)
+agree_at machine rs k (x ∷ xs) (y ∷ ys) test zero none = grind arith
+agree_at machine rs k (x ∷ xs) (y ∷ ys) test (suc i) none = grind (arith, agree_at machine rs (k + 1) xs ys)
 
 unfoldable pub relocated_test : MachineType → ℕ → (ℕ → ℕ) → ℕ → ObjectSection → List ℕ → Bool
 unfolding agree field_test i386_test amd64_test arm64_test
@@ -173,9 +151,7 @@ relocated_by machine image_base targets position code bytes test =
     let others = and_parts (agree machine code.relocations 0 bytes code.bytes) (list_all each code.relocations) parts.1 in
     record {
       size = eqb-true (length bytes) (length code.bytes) parts.0;
-      kept = λ offset none.
-          let plain : offset ≡ 0 + offset = omega arith in
-          agree_at machine code.relocations 0 bytes code.bytes others.0 offset (subst (λ n. list_any (meets machine n 1) code.relocations ≡ false) plain none);
+      kept = λ offset none. grind (arith, agree_at);
       fields = λ r alone inside.
           field_holds machine r.kind image_base (position + r.offset) (targets r.symbol) (field_at code.bytes r.offset) (field_at bytes r.offset)
           (each_of each r code.relocations others.1 (alone_among machine code.relocations r.offset (field_width machine r.kind) r alone));
@@ -222,9 +198,7 @@ pub takes_by : (machine : MachineType) (linked : List Placed) (codes : List Link
     list_all (λ (c : LinkedCode). list_all (λ (d : LinkedCode). list_all (all_go machine c.from.object.entries d) d.from.object.entries) codes) codes ≡ true →
     TakesSymbols linked codes (λ c index. named_or machine (slice_get c.from.object.entries index) (target_address linked c.from index))
 takes_by machine linked codes tables_check code_check = record {
-  tables = λ c index address entry held at is.
-      let one = each_of (λ (x : LinkedCode). list_all (beside_tables machine linked x.from) x.from.object.entries) c codes tables_check (contains_among c codes held) in
-      rw at (entry_value machine linked c.from entry address (each_of (beside_tables machine linked c.from) entry c.from.object.entries one (among_at entry c.from.object.entries index at)) is);
+  tables = λ c index address entry held at is. grind (arith, contains_among c codes held, among_at entry c.from.object.entries index, each_of, entry_value);
   code = λ c d index s t c_held d_held at undefined defines named.
       let wanted : List Entry = c.from.object.entries in
       let one = each_of (λ (x : LinkedCode). list_all (λ (y : LinkedCode). list_all (all_go machine x.from.object.entries y) y.from.object.entries) codes) c codes code_check (contains_among c codes c_held) in
@@ -246,10 +220,7 @@ place_of_range r = record { address = r.start; width = length r.bytes }
 
 none_in : (a : ℕ) (fronts : List Range) → list_any (covers a) (map place_of_range fronts) ≡ false → list_any (is_in a) fronts ≡ false
 none_in a [] none = refl
-none_in a (r ∷ fronts) none =
-    let parts = or_parts (covers a (place_of_range r)) (list_any (covers a) (map place_of_range fronts)) none in
-    let first : is_in a r ≡ false = parts.0 in
-    rw (first, none_in a fronts parts.1) refl
+none_in a (r ∷ fronts) none = grind (arith, none_in a fronts)
 
 located_front : (xs ys : List Range) (bytes : List ℕ) (a : ℕ) → BytesAt xs a bytes → BytesAt (xs ++ ys) a bytes
 unfolding BytesAt
@@ -280,15 +251,10 @@ rebased_by from to fronts linked apart each = record {
 pub all_needed : (machine : MachineType) (codes : List LinkedCode) (c : LinkedCode) (r : Relocation) (width : ℕ) → Contains codes c → Contains c.code.relocations r → absolute_width machine r.kind ≡ Some width →
     Contains (flat_map (places_of_code machine) codes) (record { address = c.position + r.offset; width = width })
 all_needed machine codes c r width held m is =
-    among_contains _ _ (among_flat (places_of_code machine) c codes (record { address = c.position + r.offset; width = width }) (contains_among c codes held)
-    (among_place machine c.position r width c.code.relocations is (contains_among r c.code.relocations m)))
+    grind (arith, contains_among c codes held, among_place machine c.position r width c.code.relocations is (contains_among r c.code.relocations m), contains_among r c.code.relocations m, among_contains, among_flat)
 
 pub only_absolute : (a : ℕ) (tables places : List Place) → list_any (covers a) places ≡ true → list_any (covers a) (tables ++ places) ≡ true
-only_absolute a tables places covered =
-    list_any-append (covers a) tables places ∙ elim (cases_Bool (list_any (covers a) tables)) as (λ d. (list_any (covers a) tables || list_any (covers a) places) ≡ true) [
-      | inl is ↦ rw is refl
-      | inr is ↦ rw (is, covered) refl
-    ]
+only_absolute a tables places covered = grind (arith, list_any-append)
 
 -- The programs that were linked by hand, by computing.
 
@@ -304,16 +270,12 @@ all_differ (name ∷ names) = list_all (λ other. not (bytes_eq name other)) nam
 
 differ_from : (name : List ℕ) (names : List (List ℕ)) → list_all (λ other. not (bytes_eq name other)) names ≡ true → AllByRecursion (λ other. bytes_eq name other ≡ false) names
 differ_from name [] all = tt
-differ_from name (other ∷ names) all =
-    let parts = and_parts (not (bytes_eq name other)) (list_all (λ other. not (bytes_eq name other)) names) all in
-    (not-true (bytes_eq name other) parts.0, differ_from name names parts.1)
+differ_from name (other ∷ names) all = grind (arith, differ_from name names)
 
 pub distinct_by : (names : List (List ℕ)) → all_differ names ≡ true → IsDistinct bytes_eq names
 unfolding IsDistinct
 distinct_by [] all = tt
-distinct_by (name ∷ names) all =
-    let parts = and_parts (list_all (λ other. not (bytes_eq name other)) names) (all_differ names) all in
-    (differ_from name names parts.0, distinct_by names parts.1)
+distinct_by (name ∷ names) all = grind (arith, distinct_by names, and_parts, differ_from)
 
 pub claims_none_by : (names : List (List ℕ)) (o : Object) → list_all (λ name. not (list_any (bytes_eq name) (claimed_names o))) names ≡ true → ClaimsNone names o
 claims_none_by [] o all = tt
@@ -357,9 +319,7 @@ claim_none names objects = list_all (λ o. list_all (λ name. not (list_any (byt
 
 pub all_claim_none : (names : List (List ℕ)) (objects : List Object) → claim_none names objects ≡ true → AllByRecursion (ClaimsNone names) objects
 all_claim_none names [] all = tt
-all_claim_none names (o ∷ objects) all =
-    let parts = and_parts (list_all (λ name. not (list_any (bytes_eq name) (claimed_names o))) names) (claim_none names objects) all in
-    (claims_none_by names o parts.0, all_claim_none names objects parts.1)
+all_claim_none names (o ∷ objects) all = grind (arith, all_claim_none names objects, and_parts, claims_none_by)
 
 -- Objects are a program, by computing.
 pub program_by : {machine : MachineType} {bases : Bases} {objects : List Object} (inputs : List LinkInput) → all_differ (linked_symbols machine inputs) ≡ true →
@@ -371,28 +331,6 @@ program_by {machine} {bases} {objects} inputs differ tables none admissible = re
   lookups = tt;
   addresses = tt;
   follows = tt;
-}
-
--- Code has instructions at an offset whose name is an undefined symbol of its object, by computing.
-pub instructions_at : {machine : MachineType} {c : PlacedCode} {offset : ℕ} {name bytes : List ℕ} {relocations : ℕ → List Relocation} (front back : List ℕ) (index : ℕ) (before behind : List Relocation) →
-    AllByRecursion (IsAside machine offset (length bytes)) before → AllByRecursion (IsAside machine offset (length bytes)) behind → c.code.bytes ≡ front ++ (bytes ++ back) → length front ≡ offset →
-    c.code.relocations ≡ before ++ (map (moved_by offset) (relocations index) ++ behind) → slice_get c.from.object.entries index ≡ Some (ASymbol (symbol_of_class name 0 class_external)) →
-    HasInstructions machine c offset name bytes relocations
-instructions_at {machine} {c} {offset} {name} {bytes} {relocations} front back index before behind aside_before aside_behind instructions here relocated target = record {
-  front = front;
-  back = back;
-  instructions = instructions;
-  here = here;
-  index = index;
-  before = before;
-  behind = behind;
-  relocated = relocated;
-  aside_before = aside_before;
-  aside_behind = aside_behind;
-  symbol = symbol_of_class name 0 class_external;
-  target = target;
-  undefined = refl;
-  named = refl;
 }
 
 -- Linked code has an instruction at an offset, by computing: its one relocation is in a field of four bytes.
@@ -421,28 +359,21 @@ pub worked_programs : WorkedPrograms
 worked_programs = record {
   amd64 = worked_program AMD64 (λ is. cc);
   i386 = worked_program I386 (λ is. cc);
-  armnt = worked_program ARMNT (λ is. cc);
 }
 
 relocations_within : (size : ℕ) (relocations : List Relocation) → list_all (λ r. nat_le (r.offset + 4) size) relocations ≡ true → AllByRecursion (λ r. r.offset + 4 ≤ size) relocations
 relocations_within size [] all = tt
-relocations_within size (r ∷ relocations) all =
-    let parts = and_parts (nat_le (r.offset + 4) size) (list_all (λ r. nat_le (r.offset + 4) size) relocations) all in
-    (leb-true (r.offset + 4) size parts.0, relocations_within size relocations parts.1)
+relocations_within size (r ∷ relocations) all = grind (arith, relocations_within size relocations)
 
 sections_within : (sections : List ObjectSection) → list_all (λ s. list_all (λ r. nat_le (r.offset + 4) (length s.bytes)) s.relocations) sections ≡ true →
     AllByRecursion (λ s. AllByRecursion (λ r. r.offset + 4 ≤ length s.bytes) s.relocations) sections
 sections_within [] all = tt
-sections_within (s ∷ sections) all =
-    let parts = and_parts (list_all (λ r. nat_le (r.offset + 4) (length s.bytes)) s.relocations) (list_all (λ s. list_all (λ r. nat_le (r.offset + 4) (length s.bytes)) s.relocations) sections) all in
-    (relocations_within (length s.bytes) s.relocations parts.0, sections_within sections parts.1)
+sections_within (s ∷ sections) all = grind (arith, sections_within sections, and_parts, relocations_within)
 
 pub all_hold_fields : (objects : List Object) → list_all (λ o. list_all (λ s. list_all (λ r. nat_le (r.offset + 4) (length s.bytes)) s.relocations) o.sections) objects ≡ true →
     AllByRecursion HoldsFields objects
 all_hold_fields [] all = tt
-all_hold_fields (o ∷ objects) all =
-    let parts = and_parts (list_all (λ s. list_all (λ r. nat_le (r.offset + 4) (length s.bytes)) s.relocations) o.sections) (list_all (λ o. list_all (λ s. list_all (λ r. nat_le (r.offset + 4) (length s.bytes)) s.relocations) o.sections) objects) all in
-    (sections_within o.sections parts.0, all_hold_fields objects parts.1)
+all_hold_fields (o ∷ objects) all = grind (arith, all_hold_fields objects, and_parts, sections_within)
 
 -- The tables that lld wrote, by computing.
 
@@ -461,18 +392,8 @@ alike ks all r s first second same =
 -- Ranges of which none meets another, in any order.
 
 pub disjoint : (r s : Range) → (range_end r ≤ s.start) ⊎ (range_end s ≤ r.start) → AreApart r s
-disjoint r s (inl before) a first second =
-    let one = within_bounds a r first in
-    let two = within_bounds a s second in
-    let under : a < range_end r = one.1 in
-    let above : s.start ≤ a = two.0 in
-    omega arith
-disjoint r s (inr behind) a first second =
-    let one = within_bounds a r first in
-    let two = within_bounds a s second in
-    let under : a < range_end s = two.1 in
-    let above : r.start ≤ a = one.0 in
-    omega arith
+disjoint r s (inl before) a first second = grind arith
+disjoint r s (inr behind) a first second = grind arith
 
 -- Symbols: those that the tables define are there, others are outside of them.
 
@@ -504,11 +425,7 @@ takes_outside outside linked codes test = record {
       let external : is_defined_external t ≡ true = defines.external in
       let here : (t.section == d.number) ≡ true = eq-eqb t.section d.number defines.here in
       let same : bytes_eq t.name s.name ≡ true = subst (λ n. bytes_eq t.name n ≡ true) named (same_text t.name) in
-      let met : (or_thunk (outside s.name) (symbol_address linked c.from (ASymbol s)) == d.position + t.value) ≡ true =
-      passes (is_undefined_external s && (is_defined_external t && ((t.section == d.number) && bytes_eq t.name s.name))) (or_thunk (outside s.name) (symbol_address linked c.from (ASymbol s)) == d.position + t.value)
-      (and_from (is_undefined_external s) (is_defined_external t && ((t.section == d.number) && bytes_eq t.name s.name)) undefined
-      (and_from (is_defined_external t) ((t.section == d.number) && bytes_eq t.name s.name) external (and_from (t.section == d.number) (bytes_eq t.name s.name) here same)))
-      four in
+      let met : (or_thunk (outside s.name) (symbol_address linked c.from (ASymbol s)) == d.position + t.value) ≡ true = grind (arith, passes, number, and_from) in
       rw at (eqb-true (or_thunk (outside s.name) (symbol_address linked c.from (ASymbol s))) (d.position + t.value) met);
 }
   where
@@ -530,10 +447,7 @@ lld_program ARMNT none = absurd none
 lld_program machine is = record {
   writable = (record { name = refl; asks = (omega arith, tt) }, (record { name = refl; asks = ((omega arith, refl), tt) }, (record { name = refl; asks = ((omega arith, refl), tt) }, tt)));
   distinct = distinct_by (imp_symbols_of (shorts_on machine)) refl;
-  agree = alike (shorts_on machine) (
-    ((λ e. refl), ((λ e. cc), ((λ e. refl), tt))),
-    (((λ e. cc), ((λ e. refl), ((λ e. cc), tt))), (((λ e. refl), ((λ e. cc), ((λ e. refl), tt))), tt)),
-  );
+  agree = grind (arith, alike);
   before = placed_object machine ∷ [];
   behind = placed_thunk machine (mid_on machine) ∷ [];
   placed = refl;
@@ -633,13 +547,6 @@ passing_fields = record {
   arm64_pointer = record { type = arm64_addr64; field = record { symbol = 1; alone = refl; inside = omega arith; names = imp_named ARM64 }; stores = refl; empty = refl };
 }
 
-pub adjacent_calls : AdjacentCalls
-unfolding u32_bytes
-adjacent_calls = record {
-  amd64_direct = instructions_at (take 38 (passing_bytes AMD64)) (drop 43 (passing_bytes AMD64)) 3 (field 7 2 amd64_rel32 ∷ field 13 1 amd64_rel32 ∷ field 19 1 amd64_rel32_1 ∷ field 26 1 amd64_rel32 ∷ field 34 1 amd64_rel32 ∷ []) (field 43 2 x86_secrel ∷ field 52 1 amd64_addr64 ∷ []) (inl (omega arith), (inl (omega arith), (inl (omega arith), (inl (omega arith), (inl (omega arith), tt))))) (inr (omega arith), (inr (omega arith), tt)) refl refl refl refl;
-  arm64_direct = instructions_at (take 28 (passing_bytes ARM64)) (drop 32 (passing_bytes ARM64)) 3 (field 4 2 arm64_pagebase_rel21 ∷ field 8 2 arm64_pageoffset_12a ∷ field 12 1 arm64_pagebase_rel21 ∷ field 16 1 arm64_pageoffset_12l ∷ field 24 2 arm64_pageoffset_12l ∷ []) (field 32 1 arm64_addr64 ∷ field 40 2 arm64_secrel ∷ []) (inl (omega arith), (inl (omega arith), (inl (omega arith), (inl (omega arith), (inl (omega arith), tt))))) (inr (omega arith), (inr (omega arith), tt)) refl refl refl refl;
-}
-
 -- The programs, by the laws: in memory at the base that they were linked for, or at another.
 
 fields_at : (machine : MachineType) → NotThumb machine → (base : ℕ) (memory : List Range) → AreInMemory machine base (passing_image machine (touching machine)) (passing_placed machine (touching machine)) (passing_codes machine (touching machine)) (passing_targets machine (touching machine)) memory → WorkedFields machine base (touching machine) memory (if is_32bit machine then 0x60 else 0x80)
@@ -693,9 +600,7 @@ later_apart p low (q ∷ places) before test =
 rising_apart : (low : ℕ) (places : List Place) → rising low places ≡ true → ArePlacesApart places
 unfolding rising
 rising_apart low [] test = tt
-rising_apart low (p ∷ places) test =
-    let parts = and_parts (nat_le low p.address) (rising (p.address + p.width) places) test in
-    (later_apart p (p.address + p.width) places (omega arith) parts.1, rising_apart (p.address + p.width) places parts.1)
+rising_apart low (p ∷ places) test = grind (arith, rising_apart (p.address + p.width) places, and_parts, rising, later_apart)
 
 amd64_movable : CanBeMoved AMD64 (passing_codes AMD64 touching_8)
 unfolding rising

@@ -40,18 +40,8 @@ worked machine _ = record {
   );
   stub = record { bytes = refl; relocations = refl; begins = refl; symbol = _; held = refl; placed = refl };
   defines = record { held = (1, omega arith, refl); external = refl; here = refl };
-  pointer = record {
-    type = whole_type machine;
-    field = record { symbol = 1; alone = refl; inside = omega arith; names = names machine };
-    stores = refl;
-    empty = refl;
-  };
-  relative = record {
-    type = based_type machine;
-    field = record { symbol = 1; alone = refl; inside = omega arith; names = names machine };
-    relative = refl;
-    empty = refl;
-  };
+  pointer = grind (arith, whole_type machine, names machine);
+  relative = grind (arith, based_type machine, names machine);
 }
 
 pub worked_registering : WorkedRegistering

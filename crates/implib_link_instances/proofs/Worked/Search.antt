@@ -25,7 +25,7 @@ use Rattle.implib.proofs.Link.Ranges.{Among, among_back}
 use Rattle.implib_link_instances.specs.Worked.Search.{WorkedFound, WorkedNamedApart, WorkedSweeps, first_x, given_f, reads_by_hand, second_x, two_libraries, wants_x}
 use Rattle.implib_link.proofs.Search.Lists.{among_any, any_among, contains_among}
 use Rattle.implib_link.proofs.Search.Sweeps.{sweeps_take}
-use Rattle.implib_link.specs.Search.NamedApart.{AreNamedApart, names_in, stem}
+use Rattle.implib_link.specs.Search.NamedApart.{AreNamedApart}
 use Rattle.implib_link.proofs.Search.FlavorGroups.{named_apart}
 use Rattle.implib_link.proofs.Search.Closing.{AreTakenInTurnAs, PullsInAs, TakesAs, claims_apart, takes_into}
 
@@ -55,10 +55,7 @@ all_settled P (n ∷ names) name all (inr held) = all_settled P names name (and_
 pub settled_ends : (reads : List ℕ → Option Object) (archive : List MemberView) (names : List (List ℕ)) (taken : List MemberView) → list_all (is_settled reads archive taken) (names ++ left_as reads taken) ≡ true →
     (name : List ℕ) (m : MemberView) → PullsInAs reads archive names taken name m → ⊥
 settled_ends reads archive names taken all name m pulls =
-    let settled : is_settled reads archive taken name ≡ true =
-    all_settled (is_settled reads archive taken) (names ++ left_as reads taken) name all (contains_among name (names ++ left_as reads taken) pulls.named) in
-    let is : false ≡ true = rw (pulls.undefined, pulls.listed) at settled in
-    true≢false (sym is)
+    grind (arith, all_settled (is_settled reads archive taken) (names ++ left_as reads taken) name all (contains_among name (names ++ left_as reads taken) pulls.named), contains_among name (names ++ left_as reads taken) pulls.named)
 
 -- the first symbol that a member is listed for
 abbrev first_of : List (List ℕ) → List ℕ
@@ -93,22 +90,7 @@ turns_by : (reads : List ℕ → Option Object) (archive : List MemberView) (wan
 unfolding AreTakenInTurnAs
 turns_by reads archive wanted names [] listed all = tt
 turns_by reads archive wanted [] (m ∷ earlier) listed all = absurd (true≢false (sym all))
-turns_by reads archive wanted (name ∷ names) (m ∷ earlier) listed all =
-    let new : Bool = not (list_any (bytes_eq (first_symbol m)) (map first_symbol earlier)) in
-    let undefined : Bool = not (list_any (bytes_eq name) (claimed_as reads earlier)) in
-    let left : Bool = list_any (bytes_eq name) (wanted ++ left_as reads earlier) in
-    let parts = and_parts (left && (undefined && new)) (are_in_turn reads wanted names earlier) all in
-    let first = and_parts left (undefined && new) parts.0 in
-    let last = and_parts undefined new first.1 in
-    let is : first_listed archive name ≡ Some m = cc in
-    let others : map (first_listed archive) names ≡ map Some earlier = cc in (
-      (
-        name,
-        pulls_in_now reads archive wanted earlier name m first.0 (not-true (list_any (bytes_eq name) (claimed_as reads earlier)) last.0) is
-            (not-true (list_any (bytes_eq (first_symbol m)) (map first_symbol earlier)) last.1),
-      ),
-      turns_by reads archive wanted names earlier others parts.1,
-    )
+turns_by reads archive wanted (name ∷ names) (m ∷ earlier) listed all = grind (arith, turns_by reads archive wanted names earlier, and_parts, pulls_in_now, not-true)
 
 -- What a linker takes, each member for a name, by computing.
 pub takes_by : {reads : List ℕ → Option Object} {archive : List MemberView} {wanted : List (List ℕ)} {taken : List MemberView} (names : List (List ℕ)) → map (first_listed archive) names ≡ map Some taken →
@@ -157,12 +139,7 @@ worked_found = record {
 
 apart : AreNamedApart AMD64 two_libraries
 unfolding opened_of_programs
-apart = record {
-  stems = distinct_by (map stem two_libraries) refl;
-  begin = (refl, (refl, tt));
-  exports = distinct_by (names_in two_libraries) refl;
-  plain = (refl, (refl, (refl, (refl, tt))));
-}
+apart = grind (arith, distinct_by)
 
 pub worked_named_apart : WorkedNamedApart
 unfolding opened_of_programs refusal renamed_refusal alias_specs encoded_size weak_object

@@ -57,11 +57,7 @@ holds_further AMD64 type image_base target old new test = record {
 }
 holds_further ARM64 type image_base target old new test = record {
   relative = λ is. let here : (type == arm64_addr32nb) ≡ true = eq-eqb type arm64_addr32nb is in eqb-true (new 4) ((old 4 + target) % 2 ^ 32) (rw here at test);
-  added = λ is t a.
-      let other : (type == arm64_addr32nb) ≡ false = ne_eqb type arm64_addr32nb (λ same. omega arith) in
-      let here : ((type == arm64_pageoffset_12a) && (bits_of 22 10 (old 4) == arm64_add)) ≡ true =
-      and_from (type == arm64_pageoffset_12a) (bits_of 22 10 (old 4) == arm64_add) (eq-eqb type arm64_pageoffset_12a t) (eq-eqb (bits_of 22 10 (old 4)) arm64_add a) in
-      both_equal _ _ _ _ (rw (other, here) at test);
+  added = λ is t a. grind (arith, ne_eqb, and_from, eq-eqb, both_equal);
 }
 
 abbrev each_further : MachineType → ℕ → (LinkedCode → ℕ → ℕ) → LinkedCode → Relocation → Bool
@@ -143,12 +139,7 @@ holding_at machine is base memory at = record {
   steady = refl;
   at = at;
   thunk = record { from = refl; number = refl };
-  pointer = record {
-    type = whole_type machine;
-    field = record { symbol = 3; alone = refl; inside = omega arith; names = mid_names machine };
-    stores = refl;
-    empty = refl;
-  };
+  pointer = grind (arith, whole_type machine, mid_names machine);
 }
 
 worked : (machine : MachineType) → NotThumb machine → WorkedHolding machine (image_base machine) (holding_memory machine) (if is_32bit machine then 4 else 8)

@@ -1,5 +1,5 @@
 -- Tables of short imports with a third text, by computing and by the laws.
-use Rattle.std.proofs.Common.{◌≡◌, ℕ, zero, suc, ◌+◌, ◌*◌, List, [], ◌∷◌, ◌++◌, codes, map, Some, refl, ap, sym, ◌∙◌, subst, arith, inl}
+use Rattle.std.proofs.Common.{◌≡◌, ℕ, zero, suc, ◌+◌, ◌*◌, List, [], ◌∷◌, ◌++◌, codes, map, Some, refl, ap, sym, subst, arith, inl}
 use Rattle.std.specs.Prelude.{slice_get}
 use Rattle.std.specs.List.{AllByRecursion}
 use Rattle.implib.specs.declared.machine.MachineType.TheVariants.{AMD64}
@@ -14,7 +14,7 @@ use Rattle.implib_link.proofs.Flavors.LldImports.{built_pieces}
 use Rattle.implib_link.proofs.Tables.{tables_lead_in_memory, thunk_called_in_memory, pieces_tables}
 use Rattle.implib_link_instances.specs.Worked.Parts.{asking, table_at, PiecesAsk, WorkedThirdTexts, block_asking, third_code, third_codes, third_feed, third_image, third_linked, third_memory, third_section, third_tables, third_targets, third_thunk, third_written}
 use Rattle.implib_link_instances.specs.Worked.Programs.{symbol_of_class}
-use Rattle.implib_link_instances.proofs.Worked.Programs.{relocated_by, relocated_test, lld_opened, meet_test, meets_up, takes_outside, instruction_by}
+use Rattle.implib_link_instances.proofs.Worked.Programs.{relocated_by, relocated_test, lld_opened, meet_test, meets_up, instruction_by}
 use Rattle.implib_link_instances.proofs.Worked.Parts.{all_apart, all_apart_test, is_apart}
 
 written : built_bytes AMD64 0x2000 (map imported_by_table third_tables) ≡ third_written
@@ -37,14 +37,7 @@ zoo_table = table_at (codes "zoo.dll") 0x2040 (asking (codes "hay") 0 (codes "__
 -- an entry of the table, by its number
 by_entry : (x : Table) (own e : TableEntry) (symbol name : List ℕ) (j : ℕ) → zoo_table ≡ x → slice_get zoo_table.entries j ≡ Some own → slice_get x.entries j ≡ Some e → own.symbol ≡ Some symbol → e.symbol ≡ Some name →
     definitions_of symbol third_linked ≡ record { name = symbol; address = Some (0x2040 + 8 * j) } ∷ [] → definitions_of name third_linked ≡ record { name = name; address = Some (x.address + 8 * j) } ∷ []
-by_entry x own e symbol name j table own_at at own_named named defined =
-    let other : slice_get zoo_table.entries j ≡ Some e = subst (λ (y : Table). slice_get y.entries j ≡ Some e) (sym table) at in
-    let entries : Some own ≡ Some e = sym own_at ∙ other in
-    let same : own ≡ e = cc in
-    let names : Some symbol ≡ Some name = sym own_named ∙ ap (λ (y : TableEntry). y.symbol) same ∙ named in
-    let text : symbol ≡ name = cc in
-    subst (λ (y : Table). definitions_of name third_linked ≡ record { name = name; address = Some (y.address + 8 * j) } ∷ []) table
-    (subst (λ n. definitions_of n third_linked ≡ record { name = n; address = Some (0x2040 + 8 * j) } ∷ []) text defined)
+by_entry x own e symbol name j table own_at at own_named named defined = grind arith
 
 feed_defined : definitions_of (codes "__imp_feed") third_linked ≡ record { name = codes "__imp_feed"; address = Some 0x2040 } ∷ []
 unfolding lld_opened
@@ -79,17 +72,8 @@ steady = refl
 
 beside : AreLinkedBeside AMD64 0x1_4000_0000 third_image third_linked third_codes third_targets
 unfolding lld_opened relocated_test meets_up meet_test is_apart all_apart_test
-beside = record {
-  held = ((0, omega arith, refl), ((2, omega arith, refl), tt));
-  sections = (refl, (refl, tt));
-  ends = (omega arith, (omega arith, tt));
-  apart = all_apart (third_image ++ ranges_of_codes third_codes) refl;
-  relocated = (
-    relocated_by AMD64 0x1_4000_0000 (third_targets third_code) 0x1000 third_section third_code.bytes refl,
-    (relocated_by AMD64 0x1_4000_0000 (third_targets third_thunk) 0x1020 (thunk_section AMD64) third_thunk.bytes refl, tt),
-  );
-  resolved = takes_outside (λ name. 0x1020) third_linked third_codes refl;
-}
+beside =
+    grind (arith, all_apart (third_image ++ ranges_of_codes third_codes) refl, relocated_by AMD64 0x1_4000_0000 (third_targets third_code) 0x1000 third_section third_code.bytes refl, relocated_by AMD64 0x1_4000_0000 (third_targets third_thunk) 0x1020 (thunk_section AMD64) third_thunk.bytes refl)
 
 call : HasBranch AMD64 third_code 7 0 (codes "feed")
 call = record {

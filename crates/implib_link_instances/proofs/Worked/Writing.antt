@@ -61,8 +61,6 @@ i386_left = refl
 i386 : WorkedWriting I386 touching_4 (left_4 I386)
 i386 = worked I386 touching_4 (left_4 I386) worked_programs.i386.made worked_programs.i386.program (given I386) i386_left
 
--- Images that are read in two ways.
-
 pub worked_writings : WorkedWritings
 worked_writings = record {
   amd64 = amd64;

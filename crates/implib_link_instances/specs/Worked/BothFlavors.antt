@@ -21,13 +21,12 @@ use Rattle.implib_link.specs.Search.Libraries.{IsFlavorArchive, LinksClosed, Tak
 use Rattle.implib_link.specs.Search.Libraries.{archive_of_both, inputs_in, symbols_kept}
 use Rattle.implib_link.specs.Search.Libraries.{TakesIntoFor, wanted_for, HasClosed, tables_end_by}
 use Rattle.implib_link.specs.Search.Libraries.{LieWithin}
-use Rattle.implib_link.specs.Search.Search.{unresolved, PullsIntoAs}
+use Rattle.implib_link.specs.Search.Search.{unresolved}
 use Rattle.implib_link_instances.specs.Worked.Search.{aliased, library_of, descriptor_named}
 use Rattle.implib_link_instances.specs.Worked.Search.{msvc_zed, null_named, short_named}
 use Rattle.implib_link_instances.specs.Worked.Search.{thunk_named, zed_members, msvc_library}
 use Rattle.implib.specs.Link.Image.{image_of}
 use Rattle.implib.specs.Worked.Members.{of_dll}
-use Rattle.implib_link.specs.Flavors.Expansion.{expanded_in}
 
 -- an object that names data of foo.dll by its alias, a function of zed.dll by its pointer, and one
 -- of another library; and that has a function of its own, `stack`, which zed.dll exports, too
@@ -35,16 +34,6 @@ abbrev pub choosing : Object
 choosing = code_object (
     symbol_of_class (codes "main") 1 class_external
     ∷ symbol_of_class (codes "stack") 1 class_external
-    ∷ symbol_of_class (codes "bar") 0 class_external
-    ∷ symbol_of_class (codes "__imp_queue") 0 class_external
-    ∷ symbol_of_class (codes "printf") 0 class_external
-    ∷ [])
-
--- the same with `queue` for `stack`: of its own, and by its pointer from zed.dll
-abbrev pub clashing : Object
-clashing = code_object (
-    symbol_of_class (codes "main") 1 class_external
-    ∷ symbol_of_class (codes "queue") 1 class_external
     ∷ symbol_of_class (codes "bar") 0 class_external
     ∷ symbol_of_class (codes "__imp_queue") 0 class_external
     ∷ symbol_of_class (codes "printf") 0 class_external
@@ -116,15 +105,13 @@ foo_members_taken =
     ∷ foo_alias
     ∷ []
 
-abbrev pub mixed_without_last : List MemberView
-mixed_without_last =
-    null_named (codes "zed.dll")
+abbrev pub mixed_taken : List MemberView
+mixed_taken =
+    thunk_named (codes "zed.dll")
+    ∷ null_named (codes "zed.dll")
     ∷ descriptor_named (codes "zed.dll")
     ∷ short_named (codes "zed.dll") (codes "queue")
     ∷ foo_members_taken
-
-abbrev pub mixed_taken : List MemberView
-mixed_taken = thunk_named (codes "zed.dll") ∷ mixed_without_last
 
 -- what is linked: the object, the alias, zed.dll's members, its null descriptor, foo.dll's members
 abbrev pub mixed_objects : List Object
@@ -141,9 +128,7 @@ mixed_inputs = inputs_in AMD64 zed_and_foo (choosing ∷ []) mixed_taken
 
 -- For the object a linker takes eight members of both flavours, and with them it is a closed
 -- program, in which `printf` alone is left. The pointer to `queue` is zed.dll's first entry, and
--- that to `baz` foo.dll's. A search that stops before the last member is none; a name that the
--- object claims pulls in nothing; and an object with a `queue` of its own is not closed by these
--- members.
+-- that to `baz` foo.dll's.
 pub record WorkedBoth : Type 0 where
   pub archive : IsFlavorArchive AMD64 foo_and_zed
   pub takes : TakesIntoFor AMD64 (archive_of_both foo_and_zed) (choosing ∷ []) mixed_taken
@@ -160,12 +145,6 @@ pub record WorkedBoth : Type 0 where
       ≡ record { name = codes "__imp_queue"; address = Some 0x2060 } ∷ []
   pub baz : definitions_of (codes "__imp_baz") (placed_from mixed_bases mixed_objects)
       ≡ record { name = codes "__imp_baz"; address = Some 0x2070 } ∷ []
-  pub stopped : TakesIntoFor AMD64 (archive_of_both foo_and_zed) (choosing ∷ [])
-      mixed_without_last → ⊥
-  pub claimed : (taken : List MemberView) (m : MemberView) →
-      PullsIntoAs (expanded_in AMD64) (archive_of_both foo_and_zed) (choosing ∷ []) taken (codes "stack") m → ⊥
-  pub clashes : (arranged : List FlavorLibrary) (objects : List Object) →
-      AreClosed AMD64 OfMember foo_and_zed (clashing ∷ []) mixed_taken arranged objects → ⊥
 
 -- The object may be given. What members alone may claim are these names. A search for it ends, and
 -- takes no more members than there are.

@@ -19,7 +19,7 @@ use Rattle.implib_link.specs.Flavors.Program.{HaveSame}
 use Rattle.implib_link.specs.Flavors.Expansion.{expanded_in}
 use Rattle.implib_link.specs.Search.Search.{Library, listed_in, objects_as, TakesIntoAs, unresolved}
 use Rattle.implib_link.specs.Search.Search.{members_at}
-use Rattle.implib_link.specs.Search.Libraries.{HasClosed, AreGiven, FlavorLibrary, IsFlavorArchive}
+use Rattle.implib_link.specs.Search.Libraries.{AreGiven, FlavorLibrary, IsFlavorArchive}
 use Rattle.implib_link.specs.Search.Libraries.{archive_of_both, TakesIntoFor, msvc_among}
 use Rattle.implib_link.specs.Search.Libraries.{short_inputs}
 use Rattle.implib_link.specs.Search.CommandLines.{AnObject, Archives, AreListedWhole, Input}
@@ -155,10 +155,6 @@ in_group own = inputs_of own ++ Archives (of_kernel ∷ of_quit ∷ []) ∷ []
 abbrev pub all_taken : List ℕ
 all_taken = 0 ∷ 1 ∷ 2 ∷ 3 ∷ []
 
--- the library, as one for GNU's linker
-abbrev pub gnu_kernel : MachineType → List ℕ → FlavorLibrary
-gnu_kernel machine symbol = record { flavor = Gnu; library = kernel_on machine symbol }
-
 -- On one machine, where `own` is the object:
 -- `first`, `ordered`, `takes`: with the library last GNU ld takes all, and by the law as one search
 -- of all does;
@@ -175,24 +171,9 @@ pub record WorkedCommandLine (machine : MachineType) (members : List MemberView)
   pub alike : (other : List MemberView) → TakesIntoFor machine members own other →
       HaveSame (members_at members all_taken) other
 
--- as a search of libraries: the archive's member is as given; and there is a closed program
-pub record WorkedLibraries (machine : MachineType) (l : FlavorLibrary) (members : List MemberView)
-    (own : List Object) : Type 0 where
-  pub archive : IsFlavorArchive machine (l ∷ [])
-  pub ready : HaveArchive Coff Second (archive_of_both (l ∷ []))
-  pub searches : SearchesFlavors machine (l ∷ []) members (library_last own) is_quit all_taken
-  pub given : AreGiven machine (l ∷ [])
-      (given_with (expanded_in machine) is_quit own (members_at members all_taken))
-  pub exists : HasClosed machine (l ∷ [])
-      (given_with (expanded_in machine) is_quit own (members_at members all_taken)) 0x2000
-
 pub record WorkedCommandLines : Type 0 where
   pub amd64 : WorkedCommandLine AMD64 amd64_members (read_or_none wants_bytes)
   pub i386 : WorkedCommandLine I386 i386_members (read_or_none i386_wants_bytes)
-  pub libraries : WorkedLibraries AMD64 (gnu_kernel AMD64 (codes "ExitProcess")) amd64_members
-      (read_or_none wants_bytes)
-  pub i386_libraries : WorkedLibraries I386 (gnu_kernel I386 (codes "_ExitProcess@4")) i386_members
-      (read_or_none i386_wants_bytes)
 
 -- Command lines of an object, an archive and a library for Microsoft's linker, for GNU `ld`, which
 -- expands short imports.

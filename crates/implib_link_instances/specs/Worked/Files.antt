@@ -7,18 +7,16 @@ use Rattle.std.specs.Prelude.{Some, drop, ◌*◌}
 use Rattle.implib.specs.declared.machine.MachineType.{MachineType}
 use Rattle.implib.specs.declared.machine.MachineType.TheVariants.{AMD64, I386, ARM64, ARMNT}
 use Rattle.implib.specs.Import.{Ask, Name, Ordinal}
-use Rattle.implib.specs.Link.Image.{IsAdmissible, Range}
+use Rattle.implib.specs.Link.Image.{Range}
 use Rattle.implib.specs.Link.Placement.{Bases}
 use Rattle.implib.specs.Members.ImportTables.{thunk_width, zeros}
 use Rattle.implib_link.specs.Directory.{WalkFinds, imported, Imported}
 use Rattle.implib_link.specs.Gnu.Writing.{Writes, ReadsAndWrites, AreAlike, WritesAsItGoes}
-use Rattle.implib_link.specs.Flavors.Program.{IsProgram, LinksAmong, gnu_input, null_descriptor}
-use Rattle.implib_link.specs.Flavors.Program.{packed, packed_end}
+use Rattle.implib_link.specs.Flavors.Program.{LinksAmong, gnu_input}
 use Rattle.implib_link_instances.specs.Worked.Programs.{both_inputs, program_image, program_objects}
 use Rattle.implib_link_instances.specs.Worked.Programs.{touching_4, touching_8, addresses_on}
 use Rattle.implib_link_instances.specs.Worked.Programs.{linked_thunk, lld_image_on, shorts_on}
 use Rattle.implib_link_instances.specs.Worked.Programs.{tables_on}
-use Rattle.implib.specs.Formats.Object.{Object}
 use Rattle.implib.specs.Link.Linked.{AllLink}
 use Rattle.implib.specs.Link.LinkedMembers.{all_linked, objects_in}
 use Rattle.implib_link_instances.specs.Worked.Operands.{moved_memory, given_on}
@@ -65,10 +63,12 @@ written_4 machine =
     ∷ entry_of machine 112 0x71 0x7A
     ∷ []
 
--- The program of a machine links, a walk of its directory finds what it imports, and a loader
--- writes this.
+-- The program of a machine links, and so do its members in any order; a walk of its directory finds
+-- what it imports, and a loader writes this.
 pub record WorkedLoad (machine : MachineType) (bases : Bases) (written : List Range) : Type 0 where
   pub links : LinksAmong machine bases (both_inputs machine) (program_objects machine)
+  pub any_order : AllLink machine bases (both_inputs machine)
+      (objects_in (all_linked machine (both_inputs machine)))
   pub walk : WalkFinds (program_image machine bases) (thunk_width machine) bases.descriptors
       (map (imported machine) (both_inputs machine))
   pub given : (dll : List ℕ) (ask : Ask) →
@@ -84,51 +84,6 @@ pub record WorkedLoad (machine : MachineType) (bases : Bases) (written : List Ra
 pub record WorkedLoads : Type 0 where
   pub amd64 : WorkedLoad AMD64 touching_8 (written_8 AMD64)
   pub i386 : WorkedLoad I386 touching_4 (written_4 I386)
-
--- the bases of the programs packed from 0x1001 on, for thunks of 8 and of 4 bytes: the descriptors
--- from the first multiple of 8 on, the others after one another
-abbrev pub packed_8 : Bases
-packed_8 = record {
-  descriptors = 0x1008;
-  directory_ends = 0x1044;
-  lookups = 0x1048;
-  addresses = 0x1080;
-  hint_names = 0x10B8;
-  dll_names = 0x10D8;
-}
-
-abbrev pub packed_4 : Bases
-packed_4 = record {
-  descriptors = 0x1008;
-  directory_ends = 0x1044;
-  lookups = 0x1048;
-  addresses = 0x1068;
-  hint_names = 0x1088;
-  dll_names = 0x10A8;
-}
-
--- the members of both DLLs and the null descriptor, and nothing else
-abbrev pub alone : MachineType → List Object
-alone machine = objects_in (all_linked machine (both_inputs machine)) ++ null_descriptor ∷ []
-
--- The packed program of a machine has these bases and this end, and they are admissible; so are
--- those of the members alone, which are a program.
-pub record WorkedPacking (machine : MachineType) (bases : Bases) (end : ℕ) : Type 0 where
-  pub bases_are : packed 0x1001 (program_objects machine) ≡ bases
-  pub end_is : packed_end 0x1001 (program_objects machine) ≡ end
-  pub admissible : IsAdmissible machine (packed 0x1001 (program_objects machine))
-      (program_objects machine)
-  pub program : IsProgram machine (packed 0x1001 (alone machine)) (both_inputs machine)
-      (alone machine)
-
--- On two machines. Where ranges touch, the members link in any order, and with the null descriptor
--- are a program.
-pub record WorkedPackings : Type 0 where
-  pub amd64 : WorkedPacking AMD64 packed_8 0x10FC
-  pub i386 : WorkedPacking I386 packed_4 0x10CC
-  pub any_order : AllLink AMD64 touching_8 (both_inputs AMD64)
-      (objects_in (all_linked AMD64 (both_inputs AMD64)))
-  pub touching : IsProgram AMD64 touching_8 (both_inputs AMD64) (alone AMD64)
 
 -- A loader that writes as it goes, by hand: what it leaves of the programs that are linked by hand.
 

@@ -9,17 +9,16 @@ use Rattle.implib.specs.declared.machine.MachineType.{MachineType}
 use Rattle.implib.specs.declared.machine.MachineType.TheVariants.{I386, AMD64}
 use Rattle.implib.specs.Definition.{DefinitionView, empty_export, ExportView}
 use Rattle.implib.specs.Formats.Object.{Object, ASymbol}
-use Rattle.implib.specs.Link.LinkedMembers.{all_linked, objects_in}
 use Rattle.implib.specs.Members.MemberSpec.{member_of, MemberView}
 use Rattle.implib.specs.Members.Members.{member_specs}
 use Rattle.implib.specs.Renaming.{renamed}
 use Rattle.implib.specs.Worked.Members.{of_dll}
 use Rattle.implib.specs.Worked.Statements.{plain_export}
 use Rattle.implib_link.specs.Flavors.Program.{OfMember, all_members, null_member, objects_taken}
-use Rattle.implib_link.specs.Flavors.Program.{IsProgramOf, IsProgram, OfLinker, null_descriptor}
+use Rattle.implib_link.specs.Flavors.Program.{IsProgramOf}
 use Rattle.implib_link.specs.Flavors.Program.{FlavorInput, IsMadeFor, packed}
 use Rattle.implib_link.specs.Flavors.Texts.{FlavorSource, FlavorTextsLink, IsFlavorSource}
-use Rattle.implib_link.specs.Flavors.Texts.{flavor_source, input_of, link_input_of}
+use Rattle.implib_link.specs.Flavors.Texts.{flavor_source, input_of}
 use Rattle.implib_link_instances.specs.Worked.Programs.{symbol_on, another, caller, symbol_of_class}
 use Rattle.implib_link_instances.specs.Worked.Programs.{zed_dll}
 use Rattle.implib.specs.Formats.Constants.{class_external}
@@ -56,25 +55,12 @@ source_in flavor machine text d chosen =
     (record { definition = renamed d; machine = machine; flavor = flavor })
     (map member_of (member_specs (renamed (renamed d)) machine flavor)) chosen
 
--- both for GNU's linker
-abbrev pub gnu_sources : MachineType → List FlavorSource
-gnu_sources machine =
-    source_in Gnu machine foo_text (foo_meant machine) (1 ∷ 0 ∷ [])
-    ∷ source_in Gnu machine zed_text (zed_meant machine) (0 ∷ [])
-    ∷ []
-
 -- foo.dll for Microsoft's linker, zed.dll for GNU's
 abbrev pub both_sources : MachineType → List FlavorSource
 both_sources machine =
     source_in Msvc machine foo_text (foo_meant machine) (1 ∷ 0 ∷ [])
     ∷ source_in Gnu machine zed_text (zed_meant machine) (0 ∷ [])
     ∷ []
-
--- the objects that are linked of them
-abbrev pub gnu_text_objects : MachineType → List Object
-gnu_text_objects machine =
-    objects_in (all_linked machine (map (λ s. link_input_of s.source) (gnu_sources machine)))
-    ++ null_descriptor ∷ []
 
 abbrev pub both_text_objects : MachineType → List Object
 both_text_objects machine = objects_taken machine
@@ -84,12 +70,6 @@ both_text_objects machine = objects_taken machine
 -- The texts' libraries and members are what the laws ask for, packed they are programs, and these
 -- link as the laws say.
 pub record WorkedSource (machine : MachineType) : Type 0 where
-  pub gnu : AllByRecursion (IsFlavorSource machine) (gnu_sources machine)
-  pub gnu_program : IsProgram machine (packed 1 (gnu_text_objects machine))
-      (map (λ s. link_input_of s.source) (gnu_sources machine)) (gnu_text_objects machine)
-  pub gnu_links : FlavorTextsLink machine OfLinker (packed 1 (gnu_text_objects machine))
-      (gnu_sources machine)
-      (gnu_text_objects machine)
   pub both : AllByRecursion (IsFlavorSource machine) (both_sources machine)
   pub both_program : IsProgramOf machine OfMember (packed 1 (both_text_objects machine))
       (map input_of (both_sources machine)) (both_text_objects machine)

@@ -12,7 +12,7 @@ use Rattle.implib.specs.Link.Image.{Range, image_of}
 use Rattle.implib.specs.Link.Placement.{Bases, Placed, Unplaced, placed_from, SectionAddress}
 use Rattle.implib_link.specs.Gnu.Fields.{PlacedCode, arm64_branch26, direct_bytes}
 use Rattle.implib_link.specs.Gnu.Fields.{direct_relocations, i386_rel32, moved_by, AreBeside}
-use Rattle.implib_link.specs.Gnu.Fields.{IsRelocated, LinkedCode, placed_code, HasDirectCall}
+use Rattle.implib_link.specs.Gnu.Fields.{IsRelocated, LinkedCode, placed_code}
 use Rattle.implib_link.specs.Gnu.Fields.{amd64_addr64, arm64_addr64, StubAt, ranges_of_codes}
 use Rattle.implib_link.specs.Gnu.Fields.{HasBranch, HasInstruction, HasOffsetField, HasOperand}
 use Rattle.implib_link.specs.Gnu.Fields.{HasPageField, HasPointer, branch_leads, operand_leads}
@@ -516,12 +516,6 @@ pub record PassingFields : Type 0 where
   pub arm64_offset : HasOffsetField (passing_at ARM64) 16 (imp_open ARM64)
   pub arm64_branch : HasBranch ARM64 (passing_at ARM64) 28 0 (open_on ARM64)
   pub arm64_pointer : HasPointer ARM64 (passing_at ARM64) 32 (imp_open ARM64)
-
--- The calls of the laws over placed code by the name, right after a field of 4 bytes: after `mov`,
--- and after an address or the field relative to a section.
-pub record AdjacentCalls : Type 0 where
-  pub amd64_direct : HasDirectCall AMD64 (placed_code (passing_at AMD64)) 38 (open_on AMD64)
-  pub arm64_direct : HasDirectCall ARM64 (placed_code (passing_at ARM64)) 28 (open_on ARM64)
 
 -- The program is in memory at a base, by these numbers of relocated fields; its second code is the
 -- stub of this entry.

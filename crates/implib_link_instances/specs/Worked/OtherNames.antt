@@ -1,6 +1,6 @@
 -- Calls and pointers by an alias, by hand: a program as in Worked/Calls on AMD64, whose code calls
 -- through `__imp_opened` and reads a pointer through it, with the weak external that makes this an
--- alias of `__imp_open`; and a program of both flavours with such code.
+-- alias of `__imp_open`.
 use Rattle.std.specs.Prelude.{◌≡◌, ℕ, List, [], ◌∷◌, ◌++◌, codes, Some, bytes_eq, length, slice_get}
 use Rattle.std.specs.Prelude.{if◌then◌else◌}
 use Rattle.implib.specs.declared.machine.MachineType.TheVariants.{AMD64}
@@ -11,7 +11,7 @@ use Rattle.implib.specs.Import.{imp_symbol, Ask, Name, Ordinal}
 use Rattle.implib.specs.Link.Placement.{Placed, Unplaced, placed_from}
 use Rattle.implib.specs.Link.Resolution.{definitions_of}
 use Rattle.implib.specs.Members.WeakExternal.{weak_object}
-use Rattle.implib_link.specs.Flavors.Program.{OfMember, objects_taken, IsProgramOf, IsProgram}
+use Rattle.implib_link.specs.Flavors.Program.{IsProgram}
 use Rattle.implib_link.specs.Flavors.Program.{null_descriptor}
 use Rattle.implib_link.specs.Gnu.Aliases.{ResolvesAliases, weak_target, StandsFor}
 use Rattle.implib_link.specs.Gnu.Fields.{PlacedCode, DirectCallArrives, HasDirectCall, StubAt}
@@ -21,9 +21,7 @@ use Rattle.implib_link_instances.specs.Worked.Operands.{calling, calling_code, f
 use Rattle.implib_link_instances.specs.Worked.Operands.{last_bytes, loading, loading_code}
 use Rattle.implib_link_instances.specs.Worked.Operands.{CodesBeside, as_placed, code_range}
 use Rattle.implib_link_instances.specs.Worked.Operands.{linked_codes}
-use Rattle.implib_link_instances.specs.Worked.Flavors.{both_inputs as flavor_inputs, flavor_bases_8}
-use Rattle.implib_link_instances.specs.Worked.Flavors.{members_with_null}
-use Rattle.implib_link_instances.specs.Worked.Programs.{another, both_inputs, foo_input}
+use Rattle.implib_link_instances.specs.Worked.Programs.{both_inputs, foo_input}
 use Rattle.implib_link_instances.specs.Worked.Programs.{input_objects, symbol_of_class, touching_8}
 use Rattle.implib_link_instances.specs.Worked.Programs.{zed_input, addresses_on, calling_object}
 use Rattle.implib_link_instances.specs.Worked.Programs.{code_of_object, code_of_thunk, lld_image_on}
@@ -121,41 +119,6 @@ pub record WorkedAlias : Type 0 where
     object = object_of (weak_object AMD64 (codes "__imp_bar") (codes "__imp_baz"));
     section_addresses = [];
   } ∷ alias_placed) ≡ Some (codes "__imp_baz")
-
--- what is linked of both flavours: the calling object, the reading one, a weak external of
--- `__imp_opened`, what the members of foo.dll for Microsoft's linker, its null descriptor, and
--- those of zed.dll for GNU's are taken for, and another object
-abbrev pub alias_flavors : List ℕ → List Object
-alias_flavors target =
-    alias_calling
-    ∷ (alias_loading
-    ∷ (object_of (weak_object AMD64 opened_name target)
-    ∷ (objects_taken AMD64 (members_with_null AMD64 0) ++ another AMD64 ∷ [])))
-
--- weak for `__imp_open`
-abbrev pub opened_flavors : List Object
-opened_flavors = alias_flavors (imp_symbol (codes "open"))
-
-abbrev pub opened_placed : List Placed
-opened_placed = placed_from flavor_bases_8 opened_flavors
-
--- The program of both flavours meets all that the law of aliases asks for; the entry of `open` is
--- at 0x88, which the call at 0x1004 and the load at 0x1014 read.
-pub record WorkedFlavorAlias : Type 0 where
-  pub program : IsProgramOf AMD64 OfMember flavor_bases_8 (flavor_inputs AMD64) opened_flavors
-  pub beside : CodesBeside AMD64 0x1_4000_0000 flavor_bases_8 opened_flavors alias_codes
-      (all_at 0x88)
-  pub resolves : ResolvesAliases opened_placed
-      (linked_codes AMD64 0x1_4000_0000 (all_at 0x88) alias_codes)
-      (as_placed (all_at 0x88))
-  pub undefined : definitions_of opened_name opened_placed ≡ []
-  pub weak : weak_target opened_name opened_placed ≡ Some (imp_symbol (codes "open"))
-  -- call [rip - 0xF82]
-  pub call_is : (code_range AMD64 0x1_4000_0000 (all_at 0x88) alias_at).bytes
-      ≡ first_bytes AMD64 ++ (0xFF ∷ 0x15 ∷ 0x7E ∷ 0xF0 ∷ 0xFF ∷ 0xFF ∷ last_bytes AMD64)
-  -- mov rax, [rip - 0xF93]
-  pub load_is : (code_range AMD64 0x1_4000_0000 (all_at 0x88) alias_load_at).bytes
-      ≡ first_bytes AMD64 ++ (0x48 ∷ 0x8B ∷ 5 ∷ 0x6D ∷ 0xF0 ∷ 0xFF ∷ 0xFF ∷ last_bytes AMD64)
 
 -- Names that stand for others in links, by real linkers, which wrote the same bytes as for the
 -- names themselves. By GNU ld 2.40 the program of Parts on AMD64, whose object has `zoo_oped` and

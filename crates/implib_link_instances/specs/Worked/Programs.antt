@@ -204,11 +204,10 @@ pub record WorkedProgram (machine : MachineType) (bases : Bases)
       (ASymbol (symbol_of_class (imp_symbol (symbol_on machine (codes "open"))) 0 class_external))
       ≡ expected.named
 
--- on three machines
+-- on two machines
 pub record WorkedPrograms : Type 0 where
   pub amd64 : WorkedProgram AMD64 touching_8 expected_8
   pub i386 : WorkedProgram I386 touching_4 expected_4
-  pub armnt : WorkedProgram ARMNT touching_4 expected_4
 
 -- Programs that lld-link 14.0.6 and 19.1.7 wrote for three machines, the same bytes by both: the
 -- short imports of llvm-dlltool 19.1.7, the code of an object before and after the link, the thunk,

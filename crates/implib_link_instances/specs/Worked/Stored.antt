@@ -20,7 +20,6 @@ use Rattle.implib_link.specs.Gnu.Fields.{placed_code, ranges_of_codes, HasPageFi
 use Rattle.implib_link.specs.Gnu.Fields.{HasBranch, HasInstruction, Place}
 use Rattle.implib_link.specs.Gnu.Stored.{AreStoredInMemory, HasAddField, HasRelative}
 use Rattle.implib_link.specs.Gnu.Stored.{amd64_addr32nb, arm64_addr32nb, arm64_pageoffset_12a}
-use Rattle.implib_link.specs.Gnu.Stored.{i386_dir32nb}
 use Rattle.implib_link_instances.specs.Worked.Operands.{field, named_or, open_on, placed_or_passing}
 use Rattle.implib_link_instances.specs.Worked.Operands.{stub_linked, stub_section}
 use Rattle.implib_link_instances.specs.Worked.Programs.{another, both_inputs, foo_input}
@@ -34,13 +33,11 @@ use Rattle.implib_link.specs.Flavors.LldImports.{IsLldProgram, placed_by_lld, Is
 use Rattle.implib_link.specs.Flavors.LldImports.{thunk_section}
 use Rattle.implib_link.specs.Tables.{AreSteady}
 
--- The section. I386: a pointer; `push offset _open`; three `nop`; an address from the image's base.
--- AMD64: a pointer, as `.rdata$.refptr.open` has it, with eight bytes behind; an address from the
--- image's base. ARM64: a pointer; `adrp x1` and `add x2, x1` for `open`; an address from the
--- image's base.
+-- The section. AMD64: a pointer, as `.rdata$.refptr.open` has it, with eight bytes behind; an
+-- address from the image's base. ARM64: a pointer; `adrp x1` and `add x2, x1` for `open`; an
+-- address from the image's base.
 abbrev pub registering_bytes : MachineType → List ℕ
-registering_bytes I386 =
-    0 ∷ 0 ∷ 0 ∷ 0 ∷ 0x68 ∷ 0 ∷ 0 ∷ 0 ∷ 0 ∷ 0x90 ∷ 0x90 ∷ 0x90 ∷ 0 ∷ 0 ∷ 0 ∷ 0 ∷ []
+registering_bytes I386 = []
 registering_bytes ARMNT = []
 registering_bytes AMD64 =
     0 ∷ 0 ∷ 0 ∷ 0 ∷ 0 ∷ 0 ∷ 0 ∷ 0 ∷ 0 ∷ 0 ∷ 0 ∷ 0 ∷ 0 ∷ 0 ∷ 0 ∷ 0 ∷ 0 ∷ 0 ∷ 0 ∷ 0 ∷ []
@@ -49,19 +46,16 @@ registering_bytes ARM64 =
 
 -- its relocations: symbol 1 is `open`
 abbrev pub registering_relocations : MachineType → List Relocation
-registering_relocations I386 = field 0 1 i386_dir32 ∷ field 5 1 i386_dir32 ∷ field 12 1 i386_dir32nb
-    ∷ []
+registering_relocations I386 = []
 registering_relocations ARMNT = []
 registering_relocations AMD64 = field 0 1 amd64_addr64 ∷ field 16 1 amd64_addr32nb ∷ []
 registering_relocations ARM64 =
     field 0 1 arm64_addr64 ∷ field 8 1 arm64_pagebase_rel21 ∷ field 12 1 arm64_pageoffset_12a
     ∷ field 16 1 arm64_addr32nb ∷ []
 
--- what it is linked to at 0x2010, `open` being at 0x1040, of images at 0x500000 and 0x180000000
+-- what it is linked to at 0x2010, `open` being at 0x1040, of an image at 0x180000000
 abbrev pub registering_linked : MachineType → List ℕ
-registering_linked I386 =
-    0x40 ∷ 0x10 ∷ 0x50 ∷ 0 ∷ 0x68 ∷ 0x40 ∷ 0x10 ∷ 0x50 ∷ 0 ∷ 0x90 ∷ 0x90 ∷ 0x90 ∷ 0x40 ∷ 0x10 ∷ 0
-    ∷ 0 ∷ []
+registering_linked I386 = []
 registering_linked ARMNT = []
 registering_linked AMD64 =
     0x40 ∷ 0x10 ∷ 0 ∷ 0x80 ∷ 1 ∷ 0 ∷ 0 ∷ 0 ∷ 0 ∷ 0 ∷ 0 ∷ 0 ∷ 0 ∷ 0 ∷ 0 ∷ 0 ∷ 0x40 ∷ 0x10 ∷ 0 ∷ 0
@@ -69,13 +63,6 @@ registering_linked AMD64 =
 registering_linked ARM64 =
     0x40 ∷ 0x10 ∷ 0 ∷ 0x80 ∷ 1 ∷ 0 ∷ 0 ∷ 0 ∷ 0xE1 ∷ 0xFF ∷ 0xFF ∷ 0xF0 ∷ 0x22 ∷ 0 ∷ 1 ∷ 0x91 ∷ 0x40
     ∷ 0x10 ∷ 0 ∷ 0 ∷ []
-
--- and the stub of `open` at 0x1040: on I386 its jump has an address whole
-abbrev pub registered_stub : MachineType → List ℕ
-registered_stub I386 = 0xFF ∷ 0x25 ∷ 0x60 ∷ 0 ∷ 0x50 ∷ 0 ∷ 0x90 ∷ 0x90 ∷ []
-registered_stub ARMNT = []
-registered_stub AMD64 = stub_linked AMD64
-registered_stub ARM64 = stub_linked ARM64
 
 abbrev pub registering_section : MachineType → ObjectSection
 registering_section machine =
@@ -107,7 +94,7 @@ registered_stub_at machine bases = record {
   number = 1;
   code = stub_section machine;
   position = 0x1040;
-  bytes = registered_stub machine;
+  bytes = stub_linked machine;
 }
 
 abbrev pub registering_at : MachineType → LinkedCode

@@ -4,8 +4,8 @@ ghost use Rattle.implib_link_instances.specs.Worked.CommandLines.{WorkedCommandL
 ghost use Rattle.implib_link_instances.specs.Worked.CommandLines.{WorkedFlavorLines};
 
 /// On AMD64 and I386: with the library last and in a group GNU `ld` takes all, as one search, and
-/// so lld's, does; there is a closed program of what they take. On AMD64 and, in a group, on I386
-/// GNU `ld` takes a short import and its library's headers behind an archive's member.
+/// so lld's, does. On AMD64 and, in a group, on I386 GNU `ld` takes a short import and its
+/// library's headers behind an archive's member.
 pub fn worked_command_lines()
     ensures worked_command_lines { WorkedCommandLines }
     ensures worked_flavor_lines { WorkedFlavorLines }

@@ -1,6 +1,6 @@
 //! Fields of code against imports, stored addresses, and the bounds of tables.
 
-ghost use Rattle.implib_link_instances.specs.Worked.Operands.{AdjacentCalls, MovableCode};
+ghost use Rattle.implib_link_instances.specs.Worked.Operands.{MovableCode};
 ghost use Rattle.implib_link_instances.specs.Worked.Operands.{PassingFields, WorkedOperands};
 ghost use Rattle.implib_link_instances.specs.Worked.Stored.{WorkedRegistering, WorkedHoldings};
 
@@ -13,7 +13,6 @@ ghost use Rattle.implib_link_instances.specs.Worked.Stored.{WorkedRegistering, W
 /// that name a stub for GNU's linker, by hand.
 pub fn worked_fields()
     ensures passing_fields { PassingFields }
-    ensures adjacent_calls { AdjacentCalls }
     ensures worked_operands { WorkedOperands }
     ensures movable_code { MovableCode }
     ensures worked_holdings { WorkedHoldings }

@@ -1,12 +1,12 @@
 //! Names that stand for others, and names that are wanted otherwise.
 
-ghost use Rattle.implib_link_instances.specs.Worked.OtherNames.{WorkedAlias, WorkedFlavorAlias};
+ghost use Rattle.implib_link_instances.specs.Worked.OtherNames.{WorkedAlias};
 ghost use Rattle.implib_link_instances.specs.Worked.OtherNames.{HoldsOfSome, WorkedAlternateNames};
 ghost use Rattle.implib_link_instances.specs.Worked.OtherNames.{WorkedOtherNames};
 ghost use Rattle.implib_link_instances.specs.Worked.Wanting.{WorkedWanting};
 
 /// A call by an alias of a program that was linked by hand, and a pointer, are resolved to the
-/// alias's target; in a program of both flavours, too.
+/// alias's target.
 ///
 /// Programs whose objects have names that stand for others are what the law asks for: one of GNU
 /// `ld` with `--defsym`, and one of lld with `/alternatename`. What laws of import tables in memory
@@ -16,7 +16,6 @@ ghost use Rattle.implib_link_instances.specs.Worked.Wanting.{WorkedWanting};
 /// programs with a list are programs.
 pub fn worked_names()
     ensures worked_alias { WorkedAlias }
-    ensures worked_flavor_alias { WorkedFlavorAlias }
     ensures worked_other_names { WorkedOtherNames }
     ensures worked_alternate_names { WorkedAlternateNames }
     ensures holds_of_some { HoldsOfSome }

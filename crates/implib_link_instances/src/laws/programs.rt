@@ -2,10 +2,10 @@
 
 ghost use Rattle.implib_link_instances.specs.Worked.Expansion.{WorkedExpansion};
 ghost use Rattle.implib_link_instances.specs.Worked.Flavors.{WorkedFlavors, WorkedSources};
-ghost use Rattle.implib_link_instances.specs.Worked.Files.{WorkedLoads, WorkedPackings};
+ghost use Rattle.implib_link_instances.specs.Worked.Files.{WorkedLoads};
 ghost use Rattle.implib_link_instances.specs.Worked.Programs.{WorkedPrograms};
 
-/// Programs that were linked by hand, on AMD64, I386 and ARMNT, meet what the laws ask for and have
+/// Programs that were linked by hand, on AMD64 and I386, meet what the laws ask for and have
 /// these tables.
 ///
 /// Short imports, by their bytes, and objects with section symbols are taken for these objects.
@@ -16,14 +16,11 @@ ghost use Rattle.implib_link_instances.specs.Worked.Programs.{WorkedPrograms};
 /// The programs that were linked by hand link as the laws say; loaded by hand, they hold what the
 /// DLLs give, and their stubs jump through their entries.
 ///
-/// The programs that were linked by hand, packed, are as the law says.
-///
-/// Programs of texts, for GNU's linker and in both flavours, link as the laws say.
+/// Programs of texts, packed, link as the laws say.
 pub fn worked_programs()
     ensures worked_programs { WorkedPrograms }
     ensures worked_expansion { WorkedExpansion }
     ensures worked_flavors { WorkedFlavors }
     ensures worked_loads { WorkedLoads }
-    ensures worked_packings { WorkedPackings }
     ensures worked_sources { WorkedSources }
 {}

@@ -1,7 +1,6 @@
 use Rattle.implib_link_instances.proofs.Worked.Expansion.{worked_expansion}
 use Rattle.implib_link_instances.proofs.Worked.Flavors.{worked_flavors}
 use Rattle.implib_link_instances.proofs.Worked.Loads.{worked_loads}
-use Rattle.implib_link_instances.proofs.Worked.Packed.{worked_packings}
 use Rattle.implib_link_instances.proofs.Worked.Programs.{worked_programs}
 use Rattle.implib_link_instances.proofs.Worked.Aliases.{worked_sources}
 use Rattle.implib_link_instances.proofs.laws.programs.worked_programs.Goals as goal
@@ -12,6 +11,5 @@ returns c = record {
   worked_expansion = worked_expansion;
   worked_flavors = worked_flavors;
   worked_loads = worked_loads;
-  worked_packings = worked_packings;
   worked_sources = worked_sources;
 }
