@@ -16,6 +16,7 @@ ghost use Rattle.implib_c_calls.specs.ImportsAnswer.{ImportsAnswers};
 ghost use Rattle.implib_c_calls.specs.Library.{LibraryAnswers};
 ghost use Rattle.implib_c_calls.specs.LibraryOf.{LibraryOfAnswers, given_export};
 ghost use Rattle.implib_c_calls.specs.LibraryWith.{LibraryWithAnswers, NamedLibraryAnswers};
+ghost use Rattle.implib_c_calls.specs.LibraryWith.{given_options, options_passed};
 ghost use Rattle.implib_c_calls.specs.Place.{text_before};
 ghost use Rattle.implib_c_calls.specs.Status.{status_number, text_for, with_text};
 ghost use Rattle.implib_c_calls.specs.Version.{version};
@@ -50,6 +51,25 @@ fn tell(answer: &Result<usize, Failure>, length: &mut usize, place: &mut usize) 
     *length = length_of(answer);
     *place = place_of(answer);
     status_of(answer).number()
+}
+
+// The options that C passes.
+fn passed<'a>(
+    machine: u16,
+    flavor: u32,
+    flags: u32,
+    has_dll: u32,
+    dll: &'a [u8],
+) -> OptionsArguments<'a>
+    ensures { given_options result ≡ options_passed machine flavor flags has_dll dll.now }
+{
+    OptionsArguments {
+        machine,
+        flavor,
+        flags,
+        has_dll,
+        dll,
+    }
 }
 
 /// Puts the members of the import library that a text describes at the beginning of `buffer`,
@@ -129,23 +149,10 @@ pub extern "C" fn implib_library_with_nonnull(
     place: &mut usize,
 ) -> u32
     ensures { LibraryWithAnswers text.now
-        (record {
-          machine = machine;
-          flavor = flavor;
-          flags = flags;
-          has_dll = has_dll;
-          dll =
-              dll.now;
-        })
+        (options_passed machine flavor flags has_dll dll.now)
         buffer.old buffer.new length.new place.new result }
 {
-    let arguments = OptionsArguments {
-        machine,
-        flavor,
-        flags,
-        has_dll,
-        dll,
-    };
+    let arguments = passed(machine, flavor, flags, has_dll, dll);
     let answer = library_with_into(alloc, text, arguments, buffer);
     tell(&answer, length, place)
 }
@@ -167,23 +174,10 @@ pub extern "C" fn implib_named_library_nonnull(
     place: &mut usize,
 ) -> u32
     ensures { NamedLibraryAnswers text.now
-        (record {
-          machine = machine;
-          flavor = flavor;
-          flags = flags;
-          has_dll = has_dll;
-          dll =
-              dll.now;
-        })
+        (options_passed machine flavor flags has_dll dll.now)
         buffer.old buffer.new length.new place.new result }
 {
-    let arguments = OptionsArguments {
-        machine,
-        flavor,
-        flags,
-        has_dll,
-        dll,
-    };
+    let arguments = passed(machine, flavor, flags, has_dll, dll);
     let answer = named_library_into(alloc, text, arguments, buffer);
     tell(&answer, length, place)
 }
@@ -208,23 +202,10 @@ pub extern "C" fn implib_delayed_library_nonnull(
     place: &mut usize,
 ) -> u32
     ensures { DelayedAnswers text.now
-        (record {
-          machine = machine;
-          flavor = flavor;
-          flags = flags;
-          has_dll = has_dll;
-          dll =
-              dll.now;
-        })
+        (options_passed machine flavor flags has_dll dll.now)
         buffer.old buffer.new length.new place.new result }
 {
-    let arguments = OptionsArguments {
-        machine,
-        flavor,
-        flags,
-        has_dll,
-        dll,
-    };
+    let arguments = passed(machine, flavor, flags, has_dll, dll);
     let answer = delayed_into(alloc, text, arguments, buffer);
     tell(&answer, length, place)
 }
@@ -250,23 +231,10 @@ pub extern "C" fn implib_library_of_nonnull(
     place: &mut usize,
 ) -> u32
     ensures { LibraryOfAnswers (map given_export exports.now)
-        (record {
-          machine = machine;
-          flavor = flavor;
-          flags = flags;
-          has_dll = has_dll;
-          dll =
-              dll.now;
-        })
+        (options_passed machine flavor flags has_dll dll.now)
         buffer.old buffer.new length.new place.new result }
 {
-    let arguments = OptionsArguments {
-        machine,
-        flavor,
-        flags,
-        has_dll,
-        dll,
-    };
+    let arguments = passed(machine, flavor, flags, has_dll, dll);
     let answer = library_of_into(alloc, exports, arguments, buffer);
     tell(&answer, length, place)
 }
@@ -318,23 +286,10 @@ pub extern "C" fn implib_warnings_nonnull(
     place: &mut usize,
 ) -> u32
     ensures { WarningsAnswers text.now
-        (record {
-          machine = machine;
-          flavor = flavor;
-          flags = flags;
-          has_dll = has_dll;
-          dll =
-              dll.now;
-        })
+        (options_passed machine flavor flags has_dll dll.now)
         buffer.old buffer.new length.new place.new result }
 {
-    let arguments = OptionsArguments {
-        machine,
-        flavor,
-        flags,
-        has_dll,
-        dll,
-    };
+    let arguments = passed(machine, flavor, flags, has_dll, dll);
     let answer = warnings_into(alloc, text, arguments, buffer);
     tell(&answer, length, place)
 }
@@ -437,23 +392,10 @@ pub extern "C" fn implib_check_library_nonnull(
     place: &mut usize,
 ) -> u32
     ensures { CheckAnswers bytes.now text.now
-        (record {
-          machine = machine;
-          flavor = flavor;
-          flags = flags;
-          has_dll = has_dll;
-          dll =
-              dll.now;
-        })
+        (options_passed machine flavor flags has_dll dll.now)
         buffer.old buffer.new length.new place.new result }
 {
-    let arguments = OptionsArguments {
-        machine,
-        flavor,
-        flags,
-        has_dll,
-        dll,
-    };
+    let arguments = passed(machine, flavor, flags, has_dll, dll);
     let answer = check_into(alloc, bytes, text, arguments, buffer);
     tell(&answer, length, place)
 }

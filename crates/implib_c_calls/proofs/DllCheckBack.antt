@@ -1,26 +1,14 @@
 -- An encoding of what is told of a library beside a DLL reads back.
-use Rattle.std.proofs.Common.{◌≡◌, ℕ, ◌<◌, ◌≤◌, ◌^◌, List, ◌++◌, Some, length, refl, append_assoc, arith}
-use Rattle.implib_c_calls.specs.DllCheck.{DllTold, ReadsDllToldBack, dll_told_in, encoded_dll_told}
-use Rattle.implib_c_calls.specs.Encoding.{encoded_list, encoded_number, number_in}
-use Rattle.implib_c_calls.proofs.Lengths.{number_size}
-use Rattle.implib_c_calls.proofs.ListBack.{front_few, list_back_where, rest_few}
-use Rattle.implib_c_calls.proofs.ReadBack.{number_back}
+use Rattle.std.proofs.Common.{ℕ, ◌<◌, ◌^◌, All, List, refl}
+use Rattle.implib_c_calls.specs.DllCheck.{DllTold, DllToldFits, dll_told_in, encoded_dll_told}
+use Rattle.implib_c_calls.specs.Encoding.{ReadsBack, encoded_list, encoded_number, list_in, number_in}
+use Rattle.implib_c_calls.proofs.ReadBack.{last_back, list_back_where, number_back, number_long, then_back}
 
-number_read : (n : ℕ) (rest : List ℕ) → n < 2 ^ 64 → length (encoded_number n) < 2 ^ 64 → number_in (encoded_number n ++ rest) ≡ Some (n, rest)
-number_read n rest fit below = number_back n rest fit
+numbers_back : (ns : List ℕ) (rest : List ℕ) → ReadsBack (encoded_list encoded_number) (list_in number_in) (All (λ n. n < 2 ^ 64)) ns rest
+numbers_back = list_back_where encoded_number number_in (λ n. n < 2 ^ 64) (λ n rest fit below. number_back n rest fit) number_long
 
--- a number takes a byte or more
-number_long : (n : ℕ) → 1 ≤ length (encoded_number n)
-number_long n = omega (arith, number_size n)
-
-pub dll_told_back : (t : DllTold) (rest : List ℕ) → ReadsDllToldBack t rest
+pub dll_told_back : (t : DllTold) (rest : List ℕ) → ReadsBack encoded_dll_told dll_told_in DllToldFits t rest
 unfolding dll_told_in encoded_dll_told
 dll_told_back t rest fit below =
-    let members : List ℕ = encoded_list encoded_number t.members in
-    let unasked : List ℕ = encoded_list encoded_number t.unasked in
-    rw (
-      append_assoc members unasked rest,
-      list_back_where encoded_number number_in (λ n. n < 2 ^ 64) number_read number_long t.members (unasked ++ rest) fit.members (front_few members unasked below),
-      list_back_where encoded_number number_in (λ n. n < 2 ^ 64) number_read number_long t.unasked rest fit.unasked (rest_few members unasked below),
-    )
-    refl
+    then_back (encoded_list encoded_number) (list_in number_in) (All (λ n. n < 2 ^ 64)) numbers_back _ t.members _ rest fit.members below (λ below.
+    last_back (encoded_list encoded_number) (list_in number_in) (All (λ n. n < 2 ^ 64)) numbers_back _ t.unasked rest fit.unasked below refl)

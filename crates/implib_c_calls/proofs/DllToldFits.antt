@@ -2,18 +2,13 @@
 use Rattle.std.proofs.Common.{◌<◌, ◌^◌, All, List, [], ◌∷◌, arith, map}
 use Rattle.std.proofs.lemmas.List.Elements.{All-cons, All-nil}
 use Rattle.implib_dll_check.specs.declared.import.Judgement.{Judgement}
-use Rattle.implib_dll_check.specs.declared.import.Judgement.TheVariants.{Lost, NoImport, Reached, Searched}
-use Rattle.implib_dll_check.specs.declared.import.Loss.TheVariants.{DataAsFunction, NotFound, OtherDll, OtherMachine}
+use Rattle.implib_dll_check.specs.declared.import.Judgement.TheVariants.{Lost}
+use Rattle.implib_dll_check.specs.declared.import.Loss.TheVariants.{OtherDll}
 use Rattle.implib_c_calls.specs.DllCheck.{judgement_number}
 
 number_fits : (judgement : Judgement) → judgement_number judgement < 2 ^ 64
-number_fits NoImport = omega arith
-number_fits Reached = omega arith
-number_fits Searched = omega arith
 number_fits (Lost OtherDll) = omega arith
-number_fits (Lost OtherMachine) = omega arith
-number_fits (Lost NotFound) = omega arith
-number_fits (Lost DataAsFunction) = omega arith
+number_fits _ = omega arith
 
 pub numbers_fit : (found : List Judgement) → All (λ n. n < 2 ^ 64) (map judgement_number found)
 numbers_fit [] = All-nil (λ n. n < 2 ^ 64)

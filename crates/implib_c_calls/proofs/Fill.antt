@@ -72,12 +72,6 @@ module _ {T V : Type 0} (f : V → List ℕ) (view : T → V) (items : List T) (
   pub fills_all : length items ≤ index → Fills old mid a b (front ++ flat_map f (map view items))
   fills_all past = fills_as (front ++ flat_map f (map view items)) (ap (λ t. front ++ t) (mapped_all f view items index past)) fills
 
--- what is at the beginning
-pub fills_front : {old new : List ℕ} → {b : ℕ} → {x : List ℕ} → Fills old new 0 b x → (b ≡ length x) × (new ≡ x ++ drop (length x) old)
-fills_front {old} {new} {b} {x} fills =
-    let end : b ≡ length x = omega (arith, fills.end_is) in
-    (end, fills.new_is ∙ ap (λ n. x ++ drop n old) end)
-
 -- a text and a NUL at the beginning
 pub text_ended : (old text written : List ℕ) → written ≡ text → length text < length old
     → set (written ++ drop (length text) old) (length text) 0 ≡ with_text old text

@@ -8,8 +8,7 @@ use Rattle.implib.specs.Definition.{ExportView}
 use Rattle.implib_c_calls.specs.declared.export.Export.{Export}
 use Rattle.implib_c_calls.specs.declared.export.ExportFault.{ExportFault}
 use Rattle.implib_rules.specs.Exports.{LackSymbolNames}
-use Rattle.implib_c_calls.specs.GivenOf.{AreGiven}
-use Rattle.implib_c_calls.specs.LibraryOf.{GivenExport, IsAccepted, IsExportFault, IsFirstFault, export_given, exports_given, given_export}
+use Rattle.implib_c_calls.specs.LibraryOf.{AreGiven, GivenExport, IsAccepted, IsExportFault, IsFirstFault, export_given, exports_given, given_export}
 
 -- none has a symbol name
 pub lack_symbol_names : (exports : List GivenExport) → LackSymbolNames (exports_given exports)

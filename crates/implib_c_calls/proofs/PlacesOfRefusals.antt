@@ -40,7 +40,5 @@ places_are_of_refusals text options (refusal.NotUtf8 at) position is some =
     in_bytes text at is.is ∙ ap (λ (p : Position). (p.line, p.column)) (same_Some at position some)
 places_are_of_refusals text options (refusal.Syntax fault at) position is some =
     in_bytes text at (syntax_there (definition_text text) (cause_of fault) at is.refused) ∙ ap (λ (p : Position). (p.line, p.column)) (same_Some at position some)
-places_are_of_refusals text options refusal.NoName position is some = absurd (none-some position some)
 places_are_of_refusals text options (refusal.Members fault at) position is some = of_export text (export_index (cause_of fault)) at position is.1 some
-places_are_of_refusals text options (refusal.Archive fault) position is some = absurd (none-some position some)
-places_are_of_refusals text options refusal.OutOfMemory position is some = absurd (none-some position some)
+places_are_of_refusals text options _ position is some = absurd (none-some position some)

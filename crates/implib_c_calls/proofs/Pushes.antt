@@ -1,8 +1,8 @@
 -- Items that are appended one by one.
-use Rattle.std.proofs.Common.{◌≡◌, ℕ, ◌+◌, ◌<◌, ◌≤◌, List, ◌++◌, length, map, flat_map, take, get_or, ap, ◌∙◌, append_assoc}
+use Rattle.std.proofs.Common.{◌≡◌, ℕ, ◌+◌, ◌<◌, List, ◌++◌, length, map, flat_map, take, get_or, ap, ◌∙◌, append_assoc}
 use Rattle.implib_archive.specs.Pushed.{Pushes}
 use Rattle.implib_archive.proofs.Appended.{pushes_as, pushes_then}
-use Rattle.implib_c_calls.proofs.Lists.{mapped_all, mapped_more}
+use Rattle.implib_c_calls.proofs.Lists.{mapped_more}
 
 module _ {T V : Type 0} (f : V → List ℕ) (view : T → V) (items : List T) (index : ℕ) (front : List ℕ) {old mid : List ℕ} (pushes : Pushes old mid (front ++ flat_map f (map view (take index items)))) where
   -- one item more
@@ -11,7 +11,3 @@ module _ {T V : Type 0} (f : V → List ℕ) (view : T → V) (items : List T) (
   pushes_item item within is more = pushes_as
       (append_assoc front (flat_map f (map view (take index items))) (f (view item)) ∙ ap (λ t. front ++ t) (mapped_more f view items index item within is))
       (pushes_then pushes more)
-
-  -- all items
-  pub pushes_items : length items ≤ index → Pushes old mid (front ++ flat_map f (map view items))
-  pushes_items past = pushes_as (ap (λ t. front ++ t) (mapped_all f view items index past)) pushes

@@ -1,16 +1,13 @@
 -- An encoding reads back.
-use Rattle.std.proofs.Common.{◌≡◌, ℕ, ◌+◌, ◌<◌, ◌≤◌, ◌^◌, true, List, [], ◌∷◌, ◌++◌, Option, Some, length, flat_map, nat_le, refl, ap, ◌∙◌, append_assoc, arith, length-append, le-leb}
+use Rattle.std.proofs.Common.{◌≡◌, ℕ, ◌<◌, ◌≤◌, ◌^◌, true, All, List, [], ◌∷◌, ◌++◌, Option, Some, length, flat_map, nat_le, refl, ap, append_assoc, arith, length-append, le-leb}
 use Rattle.std.specs.Int.{w64, from_le_bytes}
 use Rattle.std.specs.Option.{option_map}
 use Rattle.std.proofs.lemmas.List.{drop_at, take_at}
+use Rattle.std.proofs.lemmas.List.Elements.{All-cons, All-head, All-nil, All-tail}
 use Rattle.std.proofs.lemmas.Nat.{from_le_bytes-to_le_bytes_8}
 use Rattle.implib.specs.Members.MemberSpec.{MemberView}
-use Rattle.implib_c_calls.specs.Encoding.{bytes_in, encoded_list, encoded_member, encoded_members, encoded_number, encoded_text, items_in, list_in, member_in, members_in, number_in, text_in}
-use Rattle.implib_c_calls.proofs.Lengths.{list_size, member_size, number_size, text_size}
-
--- the reader finds the item, and then what follows it
-abbrev pub ReadsItem : {X : Type 0} → (X → List ℕ) → (List ℕ → Option (X × List ℕ)) → Type 0
-ReadsItem {X} f read = (x : X) (rest : List ℕ) → length (f x) < 2 ^ 64 → read (f x ++ rest) ≡ Some (x, rest)
+use Rattle.implib_c_calls.specs.Encoding.{ReadsBack, ReadsMembersBack, bytes_in, encoded_list, encoded_member, encoded_members, encoded_number, encoded_text, items_in, list_in, member_in, members_in, number_in, text_in, then_in}
+use Rattle.implib_c_calls.proofs.Lengths.{list_size, number_size, text_size}
 
 within : (chunk rest : List ℕ) (count : ℕ) → length chunk ≡ count → nat_le count (length (chunk ++ rest)) ≡ true
 within chunk rest count e = le-leb count (length (chunk ++ rest)) (omega (arith, e, length-append chunk rest))
@@ -30,65 +27,102 @@ unfolding bytes_in
 bytes_back bytes rest =
     rw (within bytes rest (length bytes) refl, take_at bytes rest (length bytes) refl, drop_at bytes rest (length bytes) refl) refl
 
-pub text_back : ReadsItem encoded_text text_in
-unfolding text_in
-text_back text rest below =
+pub text_back : (text rest : List ℕ) → ReadsBack encoded_text text_in (λ text. Unit {0}) text rest
+unfolding text_in then_in
+text_back text rest fit below =
     let short : length text < 2 ^ 64 = omega (arith, below, text_size text) in
     rw (append_assoc (encoded_number (length text)) text rest, number_back (length text) (text ++ rest) short)
     (bytes_back text rest)
 
 -- items that take a byte or more are no more than their bytes
-pub counted : {Y : Type 0} (g : Y → List ℕ) → ((y : Y) → 1 ≤ length (g y)) → (items : List Y) → length items ≤ length (flat_map g items)
+counted : {Y : Type 0} (g : Y → List ℕ) → ((y : Y) → 1 ≤ length (g y)) → (items : List Y) → length items ≤ length (flat_map g items)
 counted g long [] = omega arith
 counted g long (y ∷ items) = omega (arith, long y, counted g long items, length-append (g y) (flat_map g items))
 
-text_long : (text : List ℕ) → 1 ≤ length (encoded_text text)
+-- each takes a byte or more
+
+pub number_long : (n : ℕ) → 1 ≤ length (encoded_number n)
+number_long n = omega (arith, number_size n)
+
+pub text_long : (text : List ℕ) → 1 ≤ length (encoded_text text)
 text_long text = omega (arith, text_size text)
 
-member_long : (m : MemberView) → 1 ≤ length (encoded_member m)
-member_long m = omega (arith, member_size m, text_size m.name)
+pub front_long : (a b : List ℕ) → 1 ≤ length a → 1 ≤ length (a ++ b)
+front_long a b long = omega (arith, long, length-append a b)
 
--- a list
+-- parts of bytes that are few are few
+pub front_few : (a b : List ℕ) → length (a ++ b) < 2 ^ 64 → length a < 2 ^ 64
+front_few a b below = omega (arith, below, length-append a b)
 
-module _ {X : Type 0} (f : X → List ℕ) (read : List ℕ → Option (X × List ℕ)) (back : ReadsItem f read) where
-  items_back : (items : List X) (rest : List ℕ) → length (flat_map f items) < 2 ^ 64 → items_in read (length items) (flat_map f items ++ rest) ≡ Some (items, rest)
+pub rest_few : (a b : List ℕ) → length (a ++ b) < 2 ^ 64 → length b < 2 ^ 64
+rest_few a b below = omega (arith, below, length-append a b)
+
+module _ {X : Type 0} (f : X → List ℕ) (read : List ℕ → Option (X × List ℕ)) (Fits : X → Type 0) (back : (x : X) (rest : List ℕ) → ReadsBack f read Fits x rest) where
+  items_back_where : (items : List X) (rest : List ℕ) → All Fits items → length (flat_map f items) < 2 ^ 64 → items_in read (length items) (flat_map f items ++ rest) ≡ Some (items, rest)
   unfolding items_in
-  items_back [] rest below = refl
-  items_back (x ∷ items) rest below =
-      let sum : length (f x ++ flat_map f items) ≡ length (f x) + length (flat_map f items) = length-append (f x) (flat_map f items) in
-      let first : length (f x) < 2 ^ 64 = omega (arith, below, sum) in
-      let others : length (flat_map f items) < 2 ^ 64 = omega (arith, below, sum) in
-      rw (append_assoc (f x) (flat_map f items) rest, back x (flat_map f items ++ rest) first)
-      (ap (option_map (λ found. (x ∷ found.0, found.1))) (items_back items rest others))
+  items_back_where [] rest fit below = refl
+  items_back_where (x ∷ items) rest fit below =
+      let others : List ℕ = flat_map f items in
+      rw (append_assoc (f x) others rest, back x (others ++ rest) (All-head Fits x items fit) (front_few (f x) others below))
+      (ap (option_map (λ found. (x ∷ found.0, found.1))) (items_back_where items rest (All-tail Fits x items fit) (rest_few (f x) others below)))
 
-  pub list_back : ((x : X) → 1 ≤ length (f x)) → ReadsItem (encoded_list f) (list_in read)
-  unfolding list_in
-  list_back long items rest below =
+  pub list_back_where : ((x : X) → 1 ≤ length (f x)) → (items : List X) (rest : List ℕ) → ReadsBack (encoded_list f) (list_in read) (All Fits) items rest
+  unfolding list_in then_in
+  list_back_where long items rest fit below =
+      let bytes : List ℕ = flat_map f items in
       let count : length items < 2 ^ 64 = omega (arith, below, list_size f items, counted f long items) in
-      let short : length (flat_map f items) < 2 ^ 64 = omega (arith, below, list_size f items) in
-      rw (append_assoc (encoded_number (length items)) (flat_map f items) rest, number_back (length items) (flat_map f items ++ rest) count)
-      (items_back items rest short)
+      rw (append_assoc (encoded_number (length items)) bytes rest, number_back (length items) (bytes ++ rest) count)
+      (items_back_where items rest fit (rest_few (encoded_number (length items)) bytes below))
 
-pub member_back : ReadsItem encoded_member member_in
+-- items that always read back
+
+all_fit : {X : Type 0} (items : List X) → All (λ x. Unit {0}) items
+all_fit [] = All-nil (λ x. Unit {0})
+all_fit (x ∷ items) = All-cons (λ x. Unit {0}) x items tt (all_fit items)
+
+pub texts_back : (texts : List (List ℕ)) (rest : List ℕ) → ReadsBack (encoded_list encoded_text) (list_in text_in) (λ texts. Unit {0}) texts rest
+texts_back texts rest fit below = list_back_where encoded_text text_in (λ text. Unit {0}) text_back text_long texts rest (all_fit texts) below
+
+-- what is read field by field
+
+module _ {X Y : Type 0} (f : X → List ℕ) (read : List ℕ → Option (X × List ℕ)) (Fits : X → Type 0) (back : (x : X) (rest : List ℕ) → ReadsBack f read Fits x rest) (next : X → List ℕ → Option (Y × List ℕ)) {all : Option (Y × List ℕ)} (x : X) where
+  pub then_back : (b rest : List ℕ) → Fits x → length (f x ++ b) < 2 ^ 64 → (length b < 2 ^ 64 → next x (b ++ rest) ≡ all) → then_in read next ((f x ++ b) ++ rest) ≡ all
+  unfolding then_in
+  then_back b rest fit below more = rw (append_assoc (f x) b rest, back x (b ++ rest) fit (front_few (f x) b below)) (more (rest_few (f x) b below))
+
+  pub last_back : (rest : List ℕ) → Fits x → length (f x) < 2 ^ 64 → next x rest ≡ all → then_in read next (f x ++ rest) ≡ all
+  unfolding then_in
+  last_back rest fit below is = rw (back x rest fit below) is
+
+module _ {Y : Type 0} {all : Option (Y × List ℕ)} where
+  pub then_number : (next : ℕ → List ℕ → Option (Y × List ℕ)) (n : ℕ) (b rest : List ℕ) → n < 2 ^ 64 → length (encoded_number n ++ b) < 2 ^ 64 → (length b < 2 ^ 64 → next n (b ++ rest) ≡ all)
+      → then_in number_in next ((encoded_number n ++ b) ++ rest) ≡ all
+  then_number next n b rest fit below more = then_back encoded_number number_in (λ n. n < 2 ^ 64) (λ n rest fit below. number_back n rest fit) next n b rest fit below more
+
+  pub last_number : (next : ℕ → List ℕ → Option (Y × List ℕ)) (n : ℕ) (rest : List ℕ) → n < 2 ^ 64 → next n rest ≡ all → then_in number_in next (encoded_number n ++ rest) ≡ all
+  unfolding then_in
+  last_number next n rest fit is = rw (number_back n rest fit) is
+
+  pub then_text : (next : List ℕ → List ℕ → Option (Y × List ℕ)) (text b rest : List ℕ) → length (encoded_text text ++ b) < 2 ^ 64 → (length b < 2 ^ 64 → next text (b ++ rest) ≡ all)
+      → then_in text_in next ((encoded_text text ++ b) ++ rest) ≡ all
+  then_text next text b rest below more = then_back encoded_text text_in (λ text. Unit {0}) text_back next text b rest tt below more
+
+  pub last_text : (next : List ℕ → List ℕ → Option (Y × List ℕ)) (text rest : List ℕ) → length (encoded_text text) < 2 ^ 64 → next text rest ≡ all → then_in text_in next (encoded_text text ++ rest) ≡ all
+  last_text next text rest below is = last_back encoded_text text_in (λ text. Unit {0}) text_back next text rest tt below is
+
+-- members
+
+member_back : (m : MemberView) (rest : List ℕ) → ReadsBack encoded_member member_in (λ m. Unit {0}) m rest
 unfolding member_in encoded_member
-member_back m rest below =
-    let name : List ℕ = encoded_text m.name in
-    let symbols : List ℕ = encoded_list encoded_text m.symbols in
-    let file : List ℕ = encoded_text m.bytes in
-    let sum = member_size m in
-    let short_name : length name < 2 ^ 64 = omega (arith, below, sum) in
-    let short_symbols : length symbols < 2 ^ 64 = omega (arith, below, sum) in
-    let short_file : length file < 2 ^ 64 = omega (arith, below, sum) in
-    let behind : (name ++ (symbols ++ file)) ++ rest ≡ name ++ (symbols ++ (file ++ rest))
-    = append_assoc name (symbols ++ file) rest ∙ ap (λ t. name ++ t) (append_assoc symbols file rest) in
-    rw (
-      behind,
-      text_back m.name (symbols ++ (file ++ rest)) short_name,
-      list_back encoded_text text_in text_back text_long m.symbols (file ++ rest) short_symbols,
-      text_back m.bytes rest short_file,
-    )
-    refl
+member_back m rest fit below =
+    then_text _ m.name _ rest below (λ below.
+    then_back (encoded_list encoded_text) (list_in text_in) (λ texts. Unit {0}) texts_back _ m.symbols _ rest tt below (λ below.
+    last_text _ m.bytes rest below refl))
 
-pub members_back : ReadsItem encoded_members members_in
+member_long : (m : MemberView) → 1 ≤ length (encoded_member m)
+unfolding encoded_member
+member_long m = front_long _ _ (text_long m.name)
+
+pub members_back : (members : List MemberView) (rest : List ℕ) → ReadsMembersBack members rest
 unfolding members_in encoded_members
-members_back members rest below = list_back encoded_member member_in member_back member_long members rest below
+members_back members rest fit below = list_back_where encoded_member member_in (λ m. Unit {0}) member_back member_long members rest (all_fit members) below

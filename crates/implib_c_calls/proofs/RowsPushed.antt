@@ -4,15 +4,15 @@ use Rattle.std.proofs.lemmas.List.Elements.{All-map}
 use Rattle.implib_archive.specs.Pushed.{Pushes}
 use Rattle.implib_archive.proofs.Appended.{pushes_then}
 use Rattle.implib_compare.specs.declared.compare.Verdict.{Verdict}
-use Rattle.implib_compare.specs.declared.compare.Verdict.TheVariants.{Different, NotDecided, Same}
+use Rattle.implib_compare.specs.declared.compare.Verdict.TheVariants.{Same}
 use Rattle.implib_compare.specs.declared.working.Working.{Working}
 use Rattle.implib_compare.specs.declared.working.Working.TheVariants as working
 use Rattle.implib_c_calls.specs.declared.imports.Row.{Row as FoundRow}
-use Rattle.implib_c_calls.specs.Check.{encoded_told, verdict_number, working_number}
-use Rattle.implib_c_calls.specs.CheckGiven.{EncodesTold}
+use Rattle.implib_c_calls.specs.Check.{ToldFits, encoded_told, verdict_number, working_number}
 use Rattle.implib_c_calls.specs.Encoding.{encoded_list, encoded_number}
+use Rattle.implib_c_calls.specs.Given.{IsEncoding}
 use Rattle.implib_c_calls.specs.Imports.{Fits, Row, encoded_row, encoded_rows}
-use Rattle.implib_c_calls.specs.ImportsGiven.{EncodesRows, row_view}
+use Rattle.implib_c_calls.specs.ImportsAnswer.{row_view}
 
 -- rows that are appended are these, and their numbers fit
 pub record AreAppended (rows : List Row) (old new : List ℕ) : Type 0 where
@@ -28,7 +28,7 @@ appended found rows old new is pushes fit = record {
 }
 
 -- rows alone are an encoding of rows
-pub rows_alone : (rows : List Row) (old new : List ℕ) → old ≡ [] → AreAppended rows old new → EncodesRows rows new
+pub rows_alone : (rows : List Row) (old new : List ℕ) → old ≡ [] → AreAppended rows old new → IsEncoding encoded_rows (All Fits) rows new
 rows_alone rows old new none are = record {
   is = are.pushes.whole ∙ ap (λ t. t ++ encoded_rows rows) none;
   fit = are.fit;
@@ -37,18 +37,16 @@ rows_alone rows old new none are = record {
 -- the numbers of what is told have 64 bits
 verdict_small : (v : Verdict) → verdict_number v < 2 ^ 64
 verdict_small Same = omega arith
-verdict_small Different = omega arith
-verdict_small NotDecided = omega arith
+verdict_small _ = omega arith
 
 working_small : (w : Working) → working_number w < 2 ^ 64
 working_small working.Works = omega arith
-working_small working.Broken = omega arith
-working_small working.NotDecided = omega arith
+working_small _ = omega arith
 
 -- two numbers, and rows after rows, are an encoding of what is told
 pub told_appended : (v : Verdict) (w : Working) (extra missing : List Row) (a b c d e : List ℕ) → a ≡ [] → Pushes a b (encoded_number (verdict_number v)) → Pushes b c (encoded_number (working_number w))
     → AreAppended extra c d → AreAppended missing d e
-    → EncodesTold (record { verdict = verdict_number v; works = working_number w; extra = extra; missing = missing }) e
+    → IsEncoding encoded_told ToldFits (record { verdict = verdict_number v; works = working_number w; extra = extra; missing = missing }) e
 unfolding encoded_told
 told_appended v w extra missing a b c d e none first second third fourth =
     let all : _ = pushes_then first (pushes_then second (pushes_then third.pushes fourth.pushes)) in

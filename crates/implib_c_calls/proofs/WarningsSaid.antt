@@ -9,7 +9,7 @@ use Rattle.implib_rules.specs.declared.warnings.Warning.{Warning}
 use Rattle.implib_rules.specs.Warnings.{WarningView, warning_view}
 use Rattle.implib_c_calls.specs.Encoding.{encoded_number}
 use Rattle.implib_c_calls.specs.Warnings.{AreSaid, Fits, Said, encoded_said, encoded_warnings, warned_of}
-use Rattle.implib_c_calls.specs.WarningsGiven.{IsEncodingOf, PushesWarning, PushesWarnings}
+use Rattle.implib_c_calls.specs.WarningsAnswer.{IsEncodingOf, PushesWarning, PushesWarnings}
 
 -- after their number alone none is said
 pub pushes_none : (mark count : ℕ) (new mid : List ℕ) → new ≡ [] → Pushes new mid (encoded_number count) → PushesWarnings mark count [] [] mid
@@ -52,8 +52,7 @@ encodes_all mark warnings index bytes done past =
     let count : length warnings ≡ length done.said
     = sym (sym (length-map done.said (λ (s : Said). s.warned)) ∙ (ap length are ∙ (length-map (map warning_view warnings) (warned_of mark) ∙ length-map warnings warning_view))) in
     record {
-      said = done.said;
-      are = are;
-      fit = done.fit;
-      is = done.pushes.whole ∙ ap (λ n. encoded_number n ++ flat_map encoded_said done.said) count;
+      what = done.said;
+      has = are;
+      encoding = record { is = done.pushes.whole ∙ ap (λ n. encoded_number n ++ flat_map encoded_said done.said) count; fit = done.fit };
     }

@@ -9,7 +9,7 @@ use Rattle.implib.specs.declared.def.listener.Role.TheVariants.{Name, Other}
 use Rattle.implib.specs.declared.def.position.Position.{Position}
 use Rattle.implib.specs.Fault.{Cause, cause_of, export_index}
 use Rattle.implib.specs.Text.Heard.{Heard, heard_of, names_of, roles_of}
-use Rattle.implib.specs.Text.Token.{TokenView, Lexed}
+use Rattle.implib.specs.Text.Token.{TokenView}
 use Rattle.implib.proofs.Text.RefusedWithin.{BeginsBy, refused_within, tokens_begin}
 use Rattle.implib_rules.specs.declared.library.Refusal.{Refusal}
 use Rattle.implib_rules.specs.declared.library.Refusal.TheVariants as refusal
@@ -22,8 +22,7 @@ use Rattle.implib_rules.specs.Options.{LibraryOptionsView}
 use Rattle.implib_rules.specs.Plain.{beginning, step_of}
 use Rattle.implib_rules.specs.Places.{IsAtExport}
 use Rattle.implib_null_descriptor.specs.Libraries.{IsRefusalOfNamed}
-use Rattle.implib_c_calls.specs.GivenWith.{IsWithin}
-use Rattle.implib_c_calls.specs.LibraryWith.{mark_length}
+use Rattle.implib_c_calls.specs.LibraryWith.{IsWithin, mark_length}
 
 -- what holds of all tokens holds of those that are heard as names
 names_all : (P : TokenView → Type 0) (roles : List Role) (tokens : List TokenView) → AllByRecursion P tokens → AllByRecursion P (names_of (heard_of roles tokens))
@@ -101,10 +100,8 @@ syntax_within text cause position (inr (inr misplaced)) = misplaced_within text 
 pub refusal_within : (text : List ℕ) (options : LibraryOptionsView) (why : Refusal) → IsRefusalOfMembers text options why → IsWithin text why
 refusal_within text options (refusal.NotUtf8 position) is = let short = is.longest.short in omega (arith, short)
 refusal_within text options (refusal.Syntax fault position) is = syntax_within (definition_text text) (cause_of fault) position is.refused
-refusal_within text options refusal.NoName is = tt
 refusal_within text options (refusal.Members fault position) is = export_within (definition_text text) (export_index (cause_of fault)) position is.1
-refusal_within text options (refusal.Archive fault) is = tt
-refusal_within text options refusal.OutOfMemory is = tt
+refusal_within text options _ is = tt
 
 -- and so is one of members with a named null descriptor
 pub named_within : (text : List ℕ) (options : LibraryOptionsView) (why : Refusal) → IsRefusalOfNamed text options why → IsWithin text why

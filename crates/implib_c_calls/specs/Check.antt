@@ -1,9 +1,8 @@
 -- What is told of a library beside the library of a definition, how this is encoded for C, and how
 -- an encoding is read (this project's choice). How two libraries are compared, and when one works,
 -- is `implib_compare`'s.
-use Rattle.std.specs.Prelude.{◌≡◌, ℕ, ◌<◌, ◌^◌, All, Bool, List, [], ◌∷◌, ◌++◌, Option, Some}
-use Rattle.std.specs.Prelude.{if◌then◌else◌, length, map}
-use Rattle.std.specs.Option.{option_and_then, option_map}
+use Rattle.std.specs.Prelude.{ℕ, ◌<◌, ◌^◌, All, Bool, List, [], ◌∷◌, ◌++◌, Option}
+use Rattle.std.specs.Prelude.{if◌then◌else◌, map}
 use Rattle.implib_compare.specs.Comparison.{differing, verdict}
 use Rattle.implib_compare.specs.Facts.{both_tell}
 use Rattle.implib_compare.specs.Working.{working_of}
@@ -13,7 +12,7 @@ use Rattle.implib_compare.specs.declared.working.Working.{Working}
 use Rattle.implib_compare.specs.declared.working.Working.TheVariants as working
 use Rattle.implib_read.specs.Archives.{Archive}
 use Rattle.implib_read.specs.Classes.{MemberRead}
-use Rattle.implib_c_calls.specs.Encoding.{encoded_number, number_in}
+use Rattle.implib_c_calls.specs.Encoding.{encoded_number, found, number_in, then_in}
 use Rattle.implib_c_calls.specs.Imports.{Fits, Row, encoded_rows, row_of, rows_in}
 
 -- What is told: the number of the verdict, that of whether the library works, the members of the
@@ -62,23 +61,17 @@ encoded_told t =
 
 -- How it is read: what is told at the front of a buffer, and what follows it.
 unfoldable pub told_in : List ℕ → Option (Told × List ℕ)
-told_in bytes = option_and_then
-    (λ verdict. option_and_then
-    (λ works. option_and_then
-    (λ extra. option_map
-    (λ missing. (
-      record {
-        verdict = verdict.0;
-        works = works.0;
-        extra = extra.0;
-        missing = missing.0;
-      },
-      missing.1,
-    ))
-    (rows_in extra.1))
-    (rows_in works.1))
-    (number_in verdict.1))
-    (number_in bytes)
+told_in =
+    then_in number_in
+    (λ verdict. then_in number_in
+    (λ works. then_in rows_in
+    (λ extra. then_in rows_in
+    (λ missing. found (record {
+      verdict = verdict;
+      works = works;
+      extra = extra;
+      missing = missing;
+    })))))
 
 -- the numbers have 64 bits
 pub record ToldFits (t : Told) : Type 0 where
@@ -86,9 +79,3 @@ pub record ToldFits (t : Told) : Type 0 where
   pub works : t.works < 2 ^ 64
   pub extra : All Fits t.extra
   pub missing : All Fits t.missing
-
--- An encoding of fewer than 2^64 bytes reads back, whatever follows it.
-abbrev pub ReadsToldBack : Told → List ℕ → Type 0
-ReadsToldBack t rest =
-    ToldFits t → length (encoded_told t) < 2 ^ 64 →
-    told_in (encoded_told t ++ rest) ≡ Some (t, rest)

@@ -1,20 +1,19 @@
 -- What `implib_check_library` answers: how a library compares with what a definition means under
 -- these options, as the program `implib_check` has it (`implib_compare`).
-use Rattle.std.specs.Prelude.{◌≡◌, ℕ, ◌<◌, ◌≤◌, false, List, ◌++◌, None, Some, length, drop}
+use Rattle.std.specs.Prelude.{◌≡◌, ℕ, ◌⊎◌, false, List, None, Some}
 use Rattle.std.specs.Option.{IsSome}
 use Rattle.implib_compare.specs.declared.compare.Verdict.{Verdict}
 use Rattle.implib_compare.specs.Meant.{IsVerdictOn}
 use Rattle.implib_read.specs.Archives.{Archive, archive_in}
 use Rattle.implib_read.specs.Classes.{MemberRead, library_in}
-use Rattle.implib_rules.specs.declared.library.Refusal.{Refusal}
 use Rattle.implib_rules.specs.Library.{IsRefusalOfBytes}
 use Rattle.implib_rules.specs.Options.{LibraryOptionsView}
-use Rattle.implib_c_calls.specs.declared.status.Status.{Status}
-use Rattle.implib_c_calls.specs.declared.status.Status.TheVariants as status
-use Rattle.implib_c_calls.specs.Check.{Told, encoded_told, told_in, told_of, verdict_number}
-use Rattle.implib_c_calls.specs.LibraryWith.{GivenOptions, IsOptionFault, OptionFault, WithOptions}
-use Rattle.implib_c_calls.specs.LibraryWith.{option_status, place_of_refusal, refusal_status}
-use Rattle.implib_c_calls.specs.Status.{status_number}
+use Rattle.implib_c_calls.specs.declared.outcome.Failure.{Failure}
+use Rattle.implib_c_calls.specs.declared.outcome.Failure.TheVariants.{NotALibrary, OutOfMemory}
+use Rattle.implib_c_calls.specs.Check.{Told, ToldFits, encoded_told, told_in, told_of}
+use Rattle.implib_c_calls.specs.Check.{verdict_number}
+use Rattle.implib_c_calls.specs.Given.{Encodes, IsBecause, IsEncoding, Leaves}
+use Rattle.implib_c_calls.specs.LibraryWith.{GivenOptions, LacksWith, WithOptions, failure_at}
 
 -- This is told of a library beside the library that a definition has for these options.
 pub record ComparesSo (bytes text : List ℕ) (options : LibraryOptionsView)
@@ -31,83 +30,29 @@ pub record ComparesSo (bytes text : List ℕ) (options : LibraryOptionsView)
   pub is : told ≡ told_of archive members on.meant
   pub verdict_is : told.verdict ≡ verdict_number verdict
 
--- How a call ends: with what is told; with a buffer that is too small for it; with bytes that are
--- no archive; with a definition that has no library; without memory; or with what is given no
--- options.
-pub data CheckEnding : Type 0 where
-  Made : Told → CheckEnding
-  TooLong : Told → CheckEnding
-  NoLibrary : CheckEnding
-  Refused : Refusal → CheckEnding
-  NoMemory : CheckEnding
-  NoOptions : OptionFault → CheckEnding
+-- the bytes are no archive, or memory was refused
+abbrev pub IsNoLibrary : List ℕ → Failure → Type 0
+IsNoLibrary bytes NotALibrary = library_in bytes ≡ None
+IsNoLibrary bytes OutOfMemory = Unit {0}
+IsNoLibrary bytes _ = ⊥
 
--- when a call ends so, for a buffer of this many bytes
-abbrev pub CheckEndsSo : List ℕ → List ℕ → GivenOptions → ℕ → CheckEnding → Type 0
-CheckEndsSo bytes text given room (Made told) =
-    WithOptions given
-    (λ options. ComparesSo bytes text options told × (length (encoded_told told) ≤ room))
-CheckEndsSo bytes text given room (TooLong told) =
-    WithOptions given
-    (λ options. ComparesSo bytes text options told × (room < length (encoded_told told)))
-CheckEndsSo bytes text given room NoLibrary = WithOptions given (λ options. library_in bytes ≡ None)
-CheckEndsSo bytes text given room (Refused why) =
-    WithOptions given (λ options. IsSome (library_in bytes) × IsRefusalOfBytes text options why)
-CheckEndsSo bytes text given room NoMemory = WithOptions given (λ options. Unit {0})
-CheckEndsSo bytes text given room (NoOptions fault) = IsOptionFault given fault
+-- nothing is told with these options: so it is, or the definition has no library
+abbrev pub LacksCheck : List ℕ → List ℕ → LibraryOptionsView → Failure → Type 0
+LacksCheck bytes text options why =
+    IsNoLibrary bytes why
+    ⊎ (IsSome (library_in bytes) × IsBecause (failure_at text) (IsRefusalOfBytes text options) why)
 
--- the status
-abbrev pub status_of : CheckEnding → Status
-status_of (Made told) = status.Success
-status_of (TooLong told) = status.BufferTooSmall
-status_of NoLibrary = status.NotALibrary
-status_of (Refused why) = refusal_status why
-status_of NoMemory = status.OutOfMemory
-status_of (NoOptions fault) = option_status fault
+-- what a call leaves: the encoding of what is told, or why there is none
+abbrev pub CheckAnswers : List ℕ → List ℕ → GivenOptions → List ℕ → List ℕ → ℕ → ℕ → ℕ → Type 0
+CheckAnswers bytes text given =
+    Leaves
+    (Encodes encoded_told told_in
+    (λ told. WithOptions given (λ options. ComparesSo bytes text options told)))
+    (LacksWith given (LacksCheck bytes text))
 
--- the length of the encoding, where something is told; else 0
-abbrev pub length_of : CheckEnding → ℕ
-length_of (Made told) = length (encoded_told told)
-length_of (TooLong told) = length (encoded_told told)
-length_of NoLibrary = 0
-length_of (Refused why) = 0
-length_of NoMemory = 0
-length_of (NoOptions fault) = 0
-
--- what is at fault in the text, as `implib_library_with` answers it; else 0
-abbrev pub place_of : List ℕ → CheckEnding → ℕ
-place_of text (Made told) = 0
-place_of text (TooLong told) = 0
-place_of text NoLibrary = 0
-place_of text (Refused why) = place_of_refusal text why
-place_of text NoMemory = 0
-place_of text (NoOptions fault) = 0
-
--- the buffer: the encoding and what was after it, or all as it was
-abbrev pub buffer_of : List ℕ → CheckEnding → List ℕ
-buffer_of old (Made told) = encoded_told told ++ drop (length (encoded_told told)) old
-buffer_of old (TooLong told) = old
-buffer_of old NoLibrary = old
-buffer_of old (Refused why) = old
-buffer_of old NoMemory = old
-buffer_of old (NoOptions fault) = old
-
--- what is read in the buffer: what is told, and then what was after its encoding
-abbrev pub BufferReads : List ℕ → List ℕ → CheckEnding → Type 0
-BufferReads old new (Made told) = told_in new ≡ Some (told, drop (length (encoded_told told)) old)
-BufferReads old new (TooLong told) = Unit {0}
-BufferReads old new NoLibrary = Unit {0}
-BufferReads old new (Refused why) = Unit {0}
-BufferReads old new NoMemory = Unit {0}
-BufferReads old new (NoOptions fault) = Unit {0}
-
--- the call's ending, with all that it leaves
-pub record CheckAnswers (bytes text : List ℕ) (given : GivenOptions) (old new : List ℕ)
-    (length_left place_left : ℕ) (status_left : ℕ) : Type 0 where
-  pub ending : CheckEnding
-  pub ends : CheckEndsSo bytes text given (length old) ending
-  pub status_is : status_left ≡ status_number (status_of ending)
-  pub length_is : length_left ≡ length_of ending
-  pub place_is : place_left ≡ place_of text ending
-  pub buffer_is : new ≡ buffer_of old ending
-  pub buffer_reads : BufferReads old new ending
+-- View: these are the bytes of an encoding of what is told of a library beside that of a definition.
+pub record EncodesCheck (archive : Archive) (members : List MemberRead) (text : List ℕ)
+    (options : LibraryOptionsView) (bytes : List ℕ) : Type 0 where
+  pub verdict : Verdict
+  pub on : IsVerdictOn false text options members verdict
+  pub encodes : IsEncoding encoded_told ToldFits (told_of archive members on.meant) bytes

@@ -1,12 +1,12 @@
 -- How a definition is encoded for C, and how an encoding is read (this project's choice).
-use Rattle.std.specs.Prelude.{◌≡◌, ℕ, ◌+◌, ◌/◌, ◌%◌, ◌<◌, ◌^◌, ◌==◌, nat_lt, All, Bool, true, false}
-use Rattle.std.specs.Prelude.{List, ◌++◌, length, map}
+use Rattle.std.specs.Prelude.{ℕ, ◌+◌, ◌/◌, ◌%◌, ◌<◌, ◌^◌, ◌==◌, nat_lt, All, Bool, true, false}
+use Rattle.std.specs.Prelude.{List, ◌++◌, map}
 use Rattle.std.specs.Prelude.{Option, None, Some, if◌then◌else◌}
-use Rattle.std.specs.Option.{option_and_then, option_map}
+use Rattle.std.specs.Option.{option_map}
 use Rattle.implib.specs.declared.def.definition.ShortExport.{ShortExport}
 use Rattle.implib.specs.Definition.{DefinitionView, ExportView, export_view}
-use Rattle.implib_c_calls.specs.Encoding.{encoded_list, encoded_number, encoded_text, list_in}
-use Rattle.implib_c_calls.specs.Encoding.{number_in, text_in}
+use Rattle.implib_c_calls.specs.Encoding.{encoded_list, encoded_number, encoded_text, found}
+use Rattle.implib_c_calls.specs.Encoding.{list_in, number_in, text_in, then_in}
 
 -- What a text states.
 
@@ -113,7 +113,7 @@ optional_after number bytes =
 
 -- a text that may be missing
 unfoldable pub optional_in : List ℕ → Option (Option (List ℕ) × List ℕ)
-optional_in bytes = option_and_then (λ found. optional_after found.0 found.1) (number_in bytes)
+optional_in = then_in number_in optional_after
 
 -- whether a flag is set in a number
 abbrev pub has_flag : ℕ → ℕ → Bool
@@ -134,53 +134,38 @@ export_with name ext_name alias_target ordinal flags = if nat_lt flags 16 then S
 
 -- an export
 unfoldable pub export_in : List ℕ → Option (StatedExport × List ℕ)
-export_in bytes = option_and_then
-    (λ name. option_and_then
-    (λ ext_name. option_and_then
-    (λ target. option_and_then
-    (λ ordinal. option_and_then
-    (λ flags. option_map (λ e. (e, flags.1))
-    (export_with name.0 ext_name.0 target.0 ordinal.0 flags.0))
-    (number_in ordinal.1))
-    (number_in target.1))
-    (text_in ext_name.1))
-    (optional_in name.1))
-    (text_in bytes)
+export_in =
+    then_in text_in
+    (λ name. then_in optional_in
+    (λ ext_name. then_in text_in
+    (λ target. then_in number_in
+    (λ ordinal. then_in number_in
+    (λ flags bytes. option_map (λ e. (e, bytes))
+    (export_with name ext_name target ordinal flags))))))
 
 -- the definition at the front of a buffer, and what follows it
 unfoldable pub definition_in : List ℕ → Option (StatedDefinition × List ℕ)
-definition_in bytes = option_and_then
-    (λ name. option_and_then
-    (λ base. option_and_then
-    (λ stack_reserve. option_and_then
-    (λ stack_commit. option_and_then
-    (λ heap_reserve. option_and_then
-    (λ heap_commit. option_and_then
-    (λ major. option_and_then
-    (λ minor. option_map
-    (λ exports. (
-      record {
-        import_name = name.0;
-        image_base = base.0;
-        stack_reserve = stack_reserve.0;
-        stack_commit = stack_commit.0;
-        heap_reserve = heap_reserve.0;
-        heap_commit = heap_commit.0;
-        major_image_version = major.0;
-        minor_image_version = minor.0;
-        exports = exports.0;
-      },
-      exports.1,
-    ))
-    (list_in export_in minor.1))
-    (number_in major.1))
-    (number_in heap_commit.1))
-    (number_in heap_reserve.1))
-    (number_in stack_commit.1))
-    (number_in stack_reserve.1))
-    (number_in base.1))
-    (number_in name.1))
-    (text_in bytes)
+definition_in =
+    then_in text_in
+    (λ name. then_in number_in
+    (λ base. then_in number_in
+    (λ stack_reserve. then_in number_in
+    (λ stack_commit. then_in number_in
+    (λ heap_reserve. then_in number_in
+    (λ heap_commit. then_in number_in
+    (λ major. then_in number_in
+    (λ minor. then_in (list_in export_in)
+    (λ exports. found (record {
+      import_name = name;
+      image_base = base;
+      stack_reserve = stack_reserve;
+      stack_commit = stack_commit;
+      heap_reserve = heap_reserve;
+      heap_commit = heap_commit;
+      major_image_version = major;
+      minor_image_version = minor;
+      exports = exports;
+    }))))))))))
 
 -- the numbers have 64 bits, as those of a text do
 pub record NumbersFit (d : StatedDefinition) : Type 0 where
@@ -192,9 +177,3 @@ pub record NumbersFit (d : StatedDefinition) : Type 0 where
   pub major_image_version : d.major_image_version < 2 ^ 64
   pub minor_image_version : d.minor_image_version < 2 ^ 64
   pub ordinals : All (λ e. e.ordinal < 2 ^ 64) d.exports
-
--- An encoding of fewer than 2^64 bytes reads back, whatever follows it.
-abbrev pub ReadsDefinitionBack : StatedDefinition → List ℕ → Type 0
-ReadsDefinitionBack d rest =
-    NumbersFit d → length (encoded_definition d) < 2 ^ 64 →
-    definition_in (encoded_definition d ++ rest) ≡ Some (d, rest)

@@ -1,9 +1,8 @@
 -- What the members of a library come to in a DLL, member by member, and what of its exports none
 -- asks for; how that is encoded for C, and how an encoding is read (this project's choice). What an
 -- import comes to is `implib_dll_check`'s.
-use Rattle.std.specs.Prelude.{◌≡◌, ℕ, ◌<◌, ◌^◌, All, List, [], ◌∷◌, ◌++◌, Option, Some}
-use Rattle.std.specs.Prelude.{if◌then◌else◌, length, map}
-use Rattle.std.specs.Option.{option_and_then, option_map}
+use Rattle.std.specs.Prelude.{ℕ, ◌<◌, ◌^◌, All, List, [], ◌∷◌, ◌++◌, Option}
+use Rattle.std.specs.Prelude.{if◌then◌else◌, map}
 use Rattle.implib.specs.Import.{is_empty_text}
 use Rattle.implib_dll.specs.Exports.{Exports}
 use Rattle.implib_dll_check.specs.DllName.{loader_name}
@@ -16,7 +15,8 @@ use Rattle.implib_dll_check.specs.declared.import.Loss.{Loss}
 use Rattle.implib_dll_check.specs.declared.import.Loss.TheVariants.{DataAsFunction, NotFound}
 use Rattle.implib_dll_check.specs.declared.import.Loss.TheVariants.{OtherDll, OtherMachine}
 use Rattle.implib_read.specs.Classes.{MemberRead}
-use Rattle.implib_c_calls.specs.Encoding.{encoded_list, encoded_number, list_in, number_in}
+use Rattle.implib_c_calls.specs.Encoding.{encoded_list, encoded_number, found, list_in}
+use Rattle.implib_c_calls.specs.Encoding.{number_in, then_in}
 
 -- What is told: of each member the number of what it comes to; and the exports that no import asks
 -- for, each by its index in the export address table.
@@ -59,19 +59,12 @@ encoded_dll_told t = encoded_list encoded_number t.members ++ encoded_list encod
 
 -- How it is read: what is told at the front of a buffer, and what follows it.
 unfoldable pub dll_told_in : List ℕ → Option (DllTold × List ℕ)
-dll_told_in bytes = option_and_then
-    (λ members. option_map
-    (λ unasked. (record { members = members.0; unasked = unasked.0 }, unasked.1))
-    (list_in number_in members.1))
-    (list_in number_in bytes)
+dll_told_in =
+    then_in (list_in number_in)
+    (λ members. then_in (list_in number_in)
+    (λ unasked. found (record { members = members; unasked = unasked })))
 
 -- the numbers have 64 bits
 pub record DllToldFits (t : DllTold) : Type 0 where
   pub members : All (λ n. n < 2 ^ 64) t.members
   pub unasked : All (λ n. n < 2 ^ 64) t.unasked
-
--- An encoding of fewer than 2^64 bytes reads back, whatever follows it.
-abbrev pub ReadsDllToldBack : DllTold → List ℕ → Type 0
-ReadsDllToldBack t rest =
-    DllToldFits t → length (encoded_dll_told t) < 2 ^ 64 →
-    dll_told_in (encoded_dll_told t ++ rest) ≡ Some (t, rest)

@@ -1,13 +1,12 @@
 -- What a DLL exports, ordinal by ordinal, how that is encoded for C, and how an encoding is read
 -- (this project's choice). What is in the file of a DLL is `implib_dll`'s `exports_in`.
-use Rattle.std.specs.Prelude.{◌≡◌, ℕ, ◌<◌, ◌^◌, All, List, [], ◌++◌, Option, Some, length, map}
-use Rattle.std.specs.Option.{option_and_then, option_map}
+use Rattle.std.specs.Prelude.{ℕ, ◌<◌, ◌^◌, All, List, [], ◌++◌, Option, map}
 use Rattle.implib_dll.specs.Exports.{Address, Empty, Exports, Forwarder, Target}
 use Rattle.implib_dll.specs.Rows.{Row, rows_of}
 use Rattle.implib_dll.specs.declared.section.AddressKind.{AddressKind}
 use Rattle.implib_dll.specs.declared.section.AddressKind.TheVariants.{Code, Data, Outside}
-use Rattle.implib_c_calls.specs.Encoding.{encoded_list, encoded_number, encoded_text, list_in}
-use Rattle.implib_c_calls.specs.Encoding.{number_in, text_in}
+use Rattle.implib_c_calls.specs.Encoding.{encoded_list, encoded_number, encoded_text, found}
+use Rattle.implib_c_calls.specs.Encoding.{list_in, number_in, text_in, then_in}
 
 -- An ordinal: what it leads to, and its names in the order of the name table. The address is 0 and
 -- the forwarder empty where it leads to no such thing.
@@ -82,36 +81,27 @@ encoded_dll d =
 
 -- an ordinal
 unfoldable pub export_row_in : List ℕ → Option (ExportRow × List ℕ)
-export_row_in bytes = option_and_then
-    (λ ordinal. option_and_then
-    (λ kind. option_and_then
-    (λ address. option_and_then
-    (λ forwarder. option_map
-    (λ names. (
-      record {
-        ordinal = ordinal.0;
-        kind = kind.0;
-        address = address.0;
-        forwarder = forwarder.0;
-        names = names.0;
-      },
-      names.1,
-    ))
-    (list_in text_in forwarder.1))
-    (text_in address.1))
-    (number_in kind.1))
-    (number_in ordinal.1))
-    (number_in bytes)
+export_row_in =
+    then_in number_in
+    (λ ordinal. then_in number_in
+    (λ kind. then_in number_in
+    (λ address. then_in text_in
+    (λ forwarder. then_in (list_in text_in)
+    (λ names. found (record {
+      ordinal = ordinal;
+      kind = kind;
+      address = address;
+      forwarder = forwarder;
+      names = names;
+    }))))))
 
 -- a DLL at the front of a buffer, and what follows it
 unfoldable pub dll_in : List ℕ → Option (DllRows × List ℕ)
-dll_in bytes = option_and_then
-    (λ machine. option_and_then
-    (λ dll. option_map
-    (λ rows. (record { machine = machine.0; dll = dll.0; rows = rows.0 }, rows.1))
-    (list_in export_row_in dll.1))
-    (text_in machine.1))
-    (number_in bytes)
+dll_in =
+    then_in number_in
+    (λ machine. then_in text_in
+    (λ dll. then_in (list_in export_row_in)
+    (λ rows. found (record { machine = machine; dll = dll; rows = rows }))))
 
 -- the numbers of an ordinal have 64 bits
 pub record ExportFits (r : ExportRow) : Type 0 where
@@ -123,9 +113,3 @@ pub record ExportFits (r : ExportRow) : Type 0 where
 pub record DllFits (d : DllRows) : Type 0 where
   pub machine : d.machine < 2 ^ 64
   pub rows : All ExportFits d.rows
-
--- An encoding of fewer than 2^64 bytes reads back, whatever follows it.
-abbrev pub ReadsDllBack : DllRows → List ℕ → Type 0
-ReadsDllBack d rest =
-    DllFits d → length (encoded_dll d) < 2 ^ 64 →
-    dll_in (encoded_dll d ++ rest) ≡ Some (d, rest)

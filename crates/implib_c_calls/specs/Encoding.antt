@@ -33,6 +33,22 @@ encoded_members members = encoded_list encoded_member members
 
 -- How it is read. Each reader gives what it finds at the front, and the bytes after it.
 
+-- something, and then what is read after it
+unfoldable pub then_in : {X Y : Type 0} → (List ℕ → Option (X × List ℕ)) →
+    (X → List ℕ → Option (Y × List ℕ)) → List ℕ → Option (Y × List ℕ)
+then_in first next bytes = option_and_then (λ found. next found.0 found.1) (first bytes)
+
+-- nothing more
+abbrev pub found : {X : Type 0} → X → List ℕ → Option (X × List ℕ)
+found x bytes = Some (x, bytes)
+
+-- An encoding of fewer than 2^64 bytes reads back, whatever follows it, where its numbers have 64
+-- bits.
+abbrev pub ReadsBack : {X : Type 0} → (X → List ℕ) → (List ℕ → Option (X × List ℕ)) →
+    (X → Type 0) → X → List ℕ → Type 0
+ReadsBack encoded read Fits x rest =
+    Fits x → length (encoded x) < 2 ^ 64 → read (encoded x ++ rest) ≡ Some (x, rest)
+
 -- the number in the first 8 bytes
 unfoldable pub number_in : List ℕ → Option (ℕ × List ℕ)
 number_in bytes =
@@ -45,7 +61,7 @@ bytes_in count bytes =
 
 -- a text, after its length
 unfoldable pub text_in : List ℕ → Option (List ℕ × List ℕ)
-text_in bytes = option_and_then (λ found. bytes_in found.0 found.1) (number_in bytes)
+text_in = then_in number_in bytes_in
 
 -- `count` items
 unfoldable pub items_in : {X : Type 0} → (List ℕ → Option (X × List ℕ)) → ℕ → List ℕ →
@@ -58,24 +74,20 @@ items_in read (suc count) bytes = option_and_then
 -- a list, after its length
 unfoldable pub list_in : {X : Type 0} → (List ℕ → Option (X × List ℕ)) → List ℕ →
     Option (List X × List ℕ)
-list_in read bytes = option_and_then (λ found. items_in read found.0 found.1) (number_in bytes)
+list_in read = then_in number_in (items_in read)
 
 -- a member: its name, its symbols, its file
 unfoldable pub member_in : List ℕ → Option (MemberView × List ℕ)
-member_in bytes = option_and_then
-    (λ name. option_and_then
-    (λ symbols. option_map
-    (λ file. (record { name = name.0; bytes = file.0; symbols = symbols.0 }, file.1))
-    (text_in symbols.1))
-    (list_in text_in name.1))
-    (text_in bytes)
+member_in =
+    then_in text_in
+    (λ name. then_in (list_in text_in)
+    (λ symbols. then_in text_in
+    (λ file. found (record { name = name; bytes = file; symbols = symbols }))))
 
 -- the members at the front of a buffer, and what follows them
 unfoldable pub members_in : List ℕ → Option (List MemberView × List ℕ)
-members_in bytes = list_in member_in bytes
+members_in = list_in member_in
 
--- An encoding of fewer than 2^64 bytes reads back, whatever follows it.
-abbrev pub ReadsBack : List MemberView → List ℕ → Type 0
-ReadsBack members rest =
-    length (encoded_members members) < 2 ^ 64 →
-    members_in (encoded_members members ++ rest) ≡ Some (members, rest)
+-- an encoding of members reads back so
+abbrev pub ReadsMembersBack : List MemberView → List ℕ → Type 0
+ReadsMembersBack = ReadsBack encoded_members members_in (λ members. Unit {0})

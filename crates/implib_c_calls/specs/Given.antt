@@ -1,228 +1,178 @@
--- Views: what the functions below the exports give each other. No promise cites them.
-use Rattle.std.specs.Prelude.{◌≡◌, ℕ, ◌<◌, ◌≤◌, ◌^◌, List, ◌++◌, length, drop, None, Some, Result}
-use Rattle.std.specs.Prelude.{Ok, Err}
+-- How a call ends that fills a buffer: what it gives, and what it leaves.
+use Rattle.std.specs.Prelude.{◌≡◌, ℕ, ◌<◌, ◌≤◌, ◌^◌, ◌⊎◌, List, ◌++◌, length, drop, Option, None}
+use Rattle.std.specs.Prelude.{Some, Result, Ok, Err}
 use Rattle.std.specs.Option.{unwrap_or}
 use Rattle.implib.specs.declared.error.Error.{Error}
 use Rattle.implib.specs.declared.error.Error.TheVariants as error
 use Rattle.implib.specs.declared.error.ParseError.{ParseError}
 use Rattle.implib.specs.declared.error.ParseError.TheVariants as parse_error
-use Rattle.implib.specs.declared.machine.MachineType.{MachineType}
-use Rattle.implib.specs.declared.flavor.Flavor.{Flavor}
 use Rattle.implib.specs.Fault.{cause_of, export_index}
 use Rattle.implib.specs.Members.MemberSpec.{MemberView}
-use Rattle.implib.specs.Text.Parses.{RefusesAt}
-use Rattle.implib_c_calls.specs.declared.outcome.Failure.{Failure}
-use Rattle.implib_c_calls.specs.declared.outcome.Failure.TheVariants.{BufferTooSmall, OutOfMemory}
-use Rattle.implib_c_calls.specs.declared.outcome.Failure.TheVariants.{NotUtf8}
-use Rattle.implib_c_calls.specs.declared.outcome.Failure.TheVariants.{UnknownMachine, UnknownFlavor}
-use Rattle.implib_c_calls.specs.declared.outcome.Failure.TheVariants.{SyntaxError, Refused}
-use Rattle.implib_c_calls.specs.declared.outcome.Failure.TheVariants.{NoArchive, UnknownFlags}
-use Rattle.implib_c_calls.specs.declared.outcome.Failure.TheVariants.{DllNotUtf8, NoDllName}
-use Rattle.implib_c_calls.specs.declared.outcome.Failure.TheVariants.{RefusedAt, NoExport}
-use Rattle.implib_c_calls.specs.declared.outcome.Failure.TheVariants.{NotALibrary, NotAnImage}
-use Rattle.implib_c_calls.specs.declared.outcome.Failure.TheVariants.{NoExportDirectory, NotDelayed}
 use Rattle.implib_archive.specs.declared.error.Error.{Error as ArchiveError}
 use Rattle.implib_archive.specs.declared.error.Error.TheVariants as archive_error
 use Rattle.implib_archive.specs.declared.kind.Kind.{Kind}
 use Rattle.implib_archive.specs.Archive.{archive_of}
 use Rattle.implib_archive.specs.Refusal.{refusal_of}
+use Rattle.implib_c_calls.specs.declared.outcome.Failure.{Failure}
+use Rattle.implib_c_calls.specs.declared.outcome.Failure.TheVariants as failure
 use Rattle.implib_c_calls.specs.declared.status.Status.{Status}
 use Rattle.implib_c_calls.specs.declared.status.Status.TheVariants as status
-use Rattle.implib.specs.Members.OfText.{HasNoMembers, MembersOf}
-use Rattle.implib_c_calls.specs.Answer.{EndsSo, IsFailure, Outcome, WithInput, place_of, status_of}
 use Rattle.implib_c_calls.specs.Encoding.{encoded_members}
-use Rattle.implib_c_calls.specs.Fill.{Fills}
-use Rattle.implib_c_calls.specs.Delayed.{delay_status}
-use Rattle.implib_c_calls.specs.LibraryOf.{export_status}
-use Rattle.implib_c_calls.specs.Status.{archive_status, cause_status}
+use Rattle.implib_c_calls.specs.Status.{archive_status, cause_status, delay_status, export_status}
+use Rattle.implib_c_calls.specs.Status.{status_number}
 
--- what an error of the library becomes
-abbrev pub failure_of : Error → Failure
-failure_of (error.Invalid fault) = Refused fault
-failure_of (error.OutOfMemory refused) = OutOfMemory
-
--- what an error of an archive becomes
-abbrev pub failure_of_archive : ArchiveError → Failure
-failure_of_archive (archive_error.Invalid fault) = NoArchive fault
-failure_of_archive (archive_error.OutOfMemory refused) = OutOfMemory
-
--- what an error of the parser becomes
-abbrev pub failure_of_parsing : ParseError → Failure
-failure_of_parsing (parse_error.Invalid fault position) = SyntaxError fault position.offset
-failure_of_parsing (parse_error.OutOfMemory refused) = OutOfMemory
+-- What C gets.
 
 -- the status of a failure
 abbrev pub failure_status : Failure → Status
-failure_status (BufferTooSmall needed) = status.BufferTooSmall
-failure_status OutOfMemory = status.OutOfMemory
-failure_status (NotUtf8 offset) = status.NotUtf8
-failure_status UnknownMachine = status.UnknownMachine
-failure_status UnknownFlavor = status.UnknownFlavor
-failure_status (SyntaxError fault offset) = cause_status (cause_of fault)
-failure_status (Refused fault) = cause_status (cause_of fault)
-failure_status (NoArchive fault) = archive_status fault
-failure_status UnknownFlags = status.UnknownFlags
-failure_status DllNotUtf8 = status.DllNotUtf8
-failure_status NoDllName = status.NoDllName
-failure_status (RefusedAt fault offset) = cause_status (cause_of fault)
-failure_status (NoExport fault index) = export_status fault
-failure_status NotALibrary = status.NotALibrary
-failure_status (NotAnImage offset) = status.NotAnImage
-failure_status NoExportDirectory = status.NoExportDirectory
-failure_status (NotDelayed why offset) = delay_status why
+failure_status (failure.BufferTooSmall needed) = status.BufferTooSmall
+failure_status failure.OutOfMemory = status.OutOfMemory
+failure_status (failure.NotUtf8 offset) = status.NotUtf8
+failure_status failure.UnknownMachine = status.UnknownMachine
+failure_status failure.UnknownFlavor = status.UnknownFlavor
+failure_status (failure.SyntaxError fault offset) = cause_status (cause_of fault)
+failure_status (failure.Refused fault) = cause_status (cause_of fault)
+failure_status (failure.NoArchive fault) = archive_status fault
+failure_status failure.UnknownFlags = status.UnknownFlags
+failure_status failure.DllNotUtf8 = status.DllNotUtf8
+failure_status failure.NoDllName = status.NoDllName
+failure_status (failure.RefusedAt fault offset) = cause_status (cause_of fault)
+failure_status (failure.NoExport fault index) = export_status fault
+failure_status failure.NotALibrary = status.NotALibrary
+failure_status (failure.NotAnImage offset) = status.NotAnImage
+failure_status failure.NoExportDirectory = status.NoExportDirectory
+failure_status (failure.NotDelayed why offset) = delay_status why
 
--- the status of an answer
+-- the status of what is given
 abbrev pub status_given : Result ℕ Failure → Status
 status_given (Ok put) = status.Success
-status_given (Err failure) = failure_status failure
+status_given (Err why) = failure_status why
 
--- the length in an answer
+-- the length, where something is put, or the buffer is too small for it; else 0
 abbrev pub length_given : Result ℕ Failure → ℕ
 length_given (Ok put) = put
-length_given (Err (BufferTooSmall needed)) = needed
-length_given (Err OutOfMemory) = 0
-length_given (Err (NotUtf8 offset)) = 0
-length_given (Err UnknownMachine) = 0
-length_given (Err UnknownFlavor) = 0
-length_given (Err (SyntaxError fault offset)) = 0
-length_given (Err (Refused fault)) = 0
-length_given (Err (NoArchive fault)) = 0
-length_given (Err UnknownFlags) = 0
-length_given (Err DllNotUtf8) = 0
-length_given (Err NoDllName) = 0
-length_given (Err (RefusedAt fault offset)) = 0
-length_given (Err (NoExport fault index)) = 0
-length_given (Err NotALibrary) = 0
-length_given (Err (NotAnImage offset)) = 0
-length_given (Err NoExportDirectory) = 0
-length_given (Err (NotDelayed why offset)) = 0
+length_given (Err (failure.BufferTooSmall needed)) = needed
+length_given _ = 0
 
--- the place in an answer
+-- the offset or the index of what is at fault, where there is one; else 0
 abbrev pub place_given : Result ℕ Failure → ℕ
-place_given (Ok put) = 0
-place_given (Err (BufferTooSmall needed)) = 0
-place_given (Err OutOfMemory) = 0
-place_given (Err (NotUtf8 offset)) = offset
-place_given (Err UnknownMachine) = 0
-place_given (Err UnknownFlavor) = 0
-place_given (Err (SyntaxError fault offset)) = offset
-place_given (Err (Refused fault)) = unwrap_or (export_index (cause_of fault)) 0
-place_given (Err (NoArchive fault)) = 0
-place_given (Err UnknownFlags) = 0
-place_given (Err DllNotUtf8) = 0
-place_given (Err NoDllName) = 0
-place_given (Err (RefusedAt fault offset)) = offset
-place_given (Err (NoExport fault index)) = index
-place_given (Err NotALibrary) = 0
-place_given (Err (NotAnImage offset)) = offset
-place_given (Err NoExportDirectory) = 0
-place_given (Err (NotDelayed why offset)) = offset
+place_given (Err (failure.NotUtf8 offset)) = offset
+place_given (Err (failure.SyntaxError fault offset)) = offset
+place_given (Err (failure.Refused fault)) = unwrap_or (export_index (cause_of fault)) 0
+place_given (Err (failure.RefusedAt fault offset)) = offset
+place_given (Err (failure.NoExport fault index)) = index
+place_given (Err (failure.NotAnImage offset)) = offset
+place_given (Err (failure.NotDelayed why offset)) = offset
+place_given _ = 0
 
--- the text is refused, or memory was
-abbrev pub OnTextFault : List ℕ → MachineType → Flavor → Failure → Type 0
-OnTextFault text machine flavor (BufferTooSmall needed) = ⊥
-OnTextFault text machine flavor OutOfMemory = Unit {0}
-OnTextFault text machine flavor (NotUtf8 offset) = ⊥
-OnTextFault text machine flavor UnknownMachine = ⊥
-OnTextFault text machine flavor UnknownFlavor = ⊥
-OnTextFault text machine flavor (SyntaxError fault offset) = RefusesAt text (cause_of fault) offset
-OnTextFault text machine flavor (Refused fault) = HasNoMembers text machine flavor (cause_of fault)
-OnTextFault text machine flavor (NoArchive fault) = ⊥
-OnTextFault text machine flavor UnknownFlags = ⊥
-OnTextFault text machine flavor DllNotUtf8 = ⊥
-OnTextFault text machine flavor NoDllName = ⊥
-OnTextFault text machine flavor (RefusedAt fault offset) = ⊥
-OnTextFault text machine flavor (NoExport fault index) = ⊥
-OnTextFault text machine flavor NotALibrary = ⊥
-OnTextFault text machine flavor (NotAnImage offset) = ⊥
-OnTextFault text machine flavor NoExportDirectory = ⊥
-OnTextFault text machine flavor (NotDelayed why offset) = ⊥
+-- How a call ends, by which bytes it has, and for which failures it has none.
 
--- the text has these members for this flavour, by the numbers of a machine and of the flavour
-abbrev pub HasMembers : List ℕ → ℕ → ℕ → Flavor → List MemberView → Type 0
-HasMembers text machine flavor found members =
-    WithInput text machine flavor (λ m f. (f ≡ found) × MembersOf text m f members)
+-- bytes are put at the beginning of the buffer, and what was after them is as it was
+pub record IsPut (Has : List ℕ → Type 0) (old new : List ℕ) (put : ℕ) : Type 0 where
+  pub bytes : List ℕ
+  pub has : Has bytes
+  pub length_is : put ≡ length bytes
+  pub room : put ≤ length old
+  pub buffer_is : new ≡ bytes ++ drop (length bytes) old
 
--- a call without members fails so, whatever its buffer
-pub record FailsSo (text : List ℕ) (machine flavor : ℕ) (failure : Failure) : Type 0 where
-  pub outcome : Outcome
-  pub is_failure : IsFailure outcome
-  pub ends : (room : ℕ) → EndsSo text machine flavor room outcome
-  pub status_is : failure_status failure ≡ status_of outcome
-  pub length_is : length_given (Err failure) ≡ 0
-  pub place_is : place_given (Err failure) ≡ place_of text outcome
+-- the buffer is too small for the bytes
+pub record IsTooSmall (Has : List ℕ → Type 0) (old : List ℕ) (why : Failure) : Type 0 where
+  pub bytes : List ℕ
+  pub has : Has bytes
+  pub is : why ≡ failure.BufferTooSmall (length bytes)
+  pub short : length old < length bytes
 
--- the members' encoding is put at the beginning of the buffer, where there is room; else nothing is
-abbrev pub PutsInto : List MemberView → List ℕ → List ℕ → Result ℕ Failure → Type 0
-PutsInto members old new (Ok put) =
-    (put ≡ length (encoded_members members)) × (put ≤ length old) × (put < 2 ^ 64)
-    × (new ≡ encoded_members members ++ drop (length (encoded_members members)) old)
-PutsInto members old new (Err (BufferTooSmall needed)) =
-    (needed ≡ length (encoded_members members)) × (length old < needed) × (new ≡ old)
-PutsInto members old new (Err OutOfMemory) = new ≡ old
-PutsInto members old new (Err (NotUtf8 offset)) = ⊥
-PutsInto members old new (Err UnknownMachine) = ⊥
-PutsInto members old new (Err UnknownFlavor) = ⊥
-PutsInto members old new (Err (SyntaxError fault offset)) = ⊥
-PutsInto members old new (Err (Refused fault)) = ⊥
-PutsInto members old new (Err (NoArchive fault)) = ⊥
-PutsInto members old new (Err UnknownFlags) = ⊥
-PutsInto members old new (Err DllNotUtf8) = ⊥
-PutsInto members old new (Err NoDllName) = ⊥
-PutsInto members old new (Err (RefusedAt fault offset)) = ⊥
-PutsInto members old new (Err (NoExport fault index)) = ⊥
-PutsInto members old new (Err NotALibrary) = ⊥
-PutsInto members old new (Err (NotAnImage offset)) = ⊥
-PutsInto members old new (Err NoExportDirectory) = ⊥
-PutsInto members old new (Err (NotDelayed why offset)) = ⊥
+-- when a call ends so: without bytes the buffer is as it was
+abbrev pub EndsSo : (List ℕ → Type 0) → (Failure → Type 0) → List ℕ → List ℕ →
+    Result ℕ Failure → Type 0
+EndsSo Has Lacks old new (Ok put) = IsPut Has old new put
+EndsSo Has Lacks old new (Err why) = (new ≡ old) × (IsTooSmall Has old why ⊎ Lacks why)
 
--- an encoding is put at the beginning of the buffer, where there is room; else nothing is
+-- what a call leaves: the numbers of what it gives
+pub record Leaves (Has : List ℕ → Type 0) (Lacks : Failure → Type 0) (old new : List ℕ)
+    (length_left place_left status_left : ℕ) : Type 0 where
+  pub given : Result ℕ Failure
+  pub ends : EndsSo Has Lacks old new given
+  pub length_is : length_left ≡ length_given given
+  pub place_is : place_left ≡ place_given given
+  pub status_is : status_left ≡ status_number (status_given given)
+
+-- the bytes encode something of this kind, which is read of them, whatever follows them
+pub record Encodes {X : Type 0} (encoded : X → List ℕ) (read : List ℕ → Option (X × List ℕ))
+    (Has : X → Type 0) (bytes : List ℕ) : Type 0 where
+  pub what : X
+  pub has : Has what
+  pub is : bytes ≡ encoded what
+  pub buffer_reads : (rest : List ℕ) → read (bytes ++ rest) ≡ Some (what, rest)
+
+-- a failure is what some cause becomes
+pub record IsBecause {Why : Type 0} (told : Why → Failure) (Is : Why → Type 0)
+    (why : Failure) : Type 0 where
+  pub cause : Why
+  pub is : Is cause
+  pub told_is : why ≡ told cause
+
+-- Views: what the functions below the exports give each other. No promise cites them.
+
+-- what an error of the library becomes
+abbrev pub failure_of : Error → Failure
+failure_of (error.Invalid fault) = failure.Refused fault
+failure_of (error.OutOfMemory refused) = failure.OutOfMemory
+
+-- what an error of an archive becomes
+abbrev pub failure_of_archive : ArchiveError → Failure
+failure_of_archive (archive_error.Invalid fault) = failure.NoArchive fault
+failure_of_archive (archive_error.OutOfMemory refused) = failure.OutOfMemory
+
+-- what an error of the parser becomes
+abbrev pub failure_of_parsing : ParseError → Failure
+failure_of_parsing (parse_error.Invalid fault position) = failure.SyntaxError fault position.offset
+failure_of_parsing (parse_error.OutOfMemory refused) = failure.OutOfMemory
+
+-- bytes that are accepted are put at the beginning of the buffer, where there is room; else nothing
+-- is
+abbrev pub Puts : List ℕ → Type 0 → (Failure → Type 0) → List ℕ → List ℕ → Result ℕ Failure →
+    Type 0
+Puts bytes Accepted Refused old new (Ok put) =
+    Accepted × (put ≡ length bytes) × (put ≤ length old) × (put < 2 ^ 64)
+    × (new ≡ bytes ++ drop (length bytes) old)
+Puts bytes Accepted Refused old new (Err (failure.BufferTooSmall needed)) =
+    Accepted × (needed ≡ length bytes) × (length old < needed) × (needed < 2 ^ 64) × (new ≡ old)
+Puts bytes Accepted Refused old new (Err why) = Refused why × (new ≡ old)
+
+-- memory was refused
+abbrev pub IsOutOfMemory : Failure → Type 0
+IsOutOfMemory failure.OutOfMemory = Unit {0}
+IsOutOfMemory _ = ⊥
+
+-- members have no archive
+abbrev pub LacksArchive : Kind → List MemberView → Failure → Type 0
+LacksArchive kind members failure.OutOfMemory = Unit {0}
+LacksArchive kind members (failure.NoArchive fault) = refusal_of kind members ≡ Some fault
+LacksArchive kind members _ = ⊥
+
+-- an encoding is put
 abbrev pub PutsEncoding : List ℕ → List ℕ → List ℕ → Result ℕ Failure → Type 0
-PutsEncoding bytes old new (Ok put) =
-    (length bytes ≤ length old) × (length bytes < 2 ^ 64) × Fills old new 0 put bytes
-PutsEncoding bytes old new (Err (BufferTooSmall needed)) =
-    (needed ≡ length bytes) × (length old < needed) × (new ≡ old)
-PutsEncoding bytes old new (Err OutOfMemory) = ⊥
-PutsEncoding bytes old new (Err (NotUtf8 offset)) = ⊥
-PutsEncoding bytes old new (Err UnknownMachine) = ⊥
-PutsEncoding bytes old new (Err UnknownFlavor) = ⊥
-PutsEncoding bytes old new (Err (SyntaxError fault offset)) = ⊥
-PutsEncoding bytes old new (Err (Refused fault)) = ⊥
-PutsEncoding bytes old new (Err (NoArchive fault)) = ⊥
-PutsEncoding bytes old new (Err UnknownFlags) = ⊥
-PutsEncoding bytes old new (Err DllNotUtf8) = ⊥
-PutsEncoding bytes old new (Err NoDllName) = ⊥
-PutsEncoding bytes old new (Err (RefusedAt fault offset)) = ⊥
-PutsEncoding bytes old new (Err (NoExport fault index)) = ⊥
-PutsEncoding bytes old new (Err NotALibrary) = ⊥
-PutsEncoding bytes old new (Err (NotAnImage offset)) = ⊥
-PutsEncoding bytes old new (Err NoExportDirectory) = ⊥
-PutsEncoding bytes old new (Err (NotDelayed why offset)) = ⊥
+PutsEncoding bytes = Puts bytes (Unit {0}) (λ why. ⊥)
 
--- the members' archive is put at the beginning of the buffer, where there is one and room for it;
--- else nothing is
+-- the encoding of members is put
+abbrev pub PutsInto : List MemberView → List ℕ → List ℕ → Result ℕ Failure → Type 0
+PutsInto members = Puts (encoded_members members) (Unit {0}) IsOutOfMemory
+
+-- the archive of members is put
 abbrev pub PacksInto : Kind → List MemberView → List ℕ → List ℕ → Result ℕ Failure → Type 0
-PacksInto kind members old new (Ok put) =
-    (refusal_of kind members ≡ None) × (put ≡ length (archive_of kind members)) × (put ≤ length old)
-    × (new ≡ archive_of kind members ++ drop (length (archive_of kind members)) old)
-PacksInto kind members old new (Err (BufferTooSmall needed)) =
-    (refusal_of kind members ≡ None) × (needed ≡ length (archive_of kind members))
-    × (length old < needed)
-    × (new ≡ old)
-PacksInto kind members old new (Err OutOfMemory) = new ≡ old
-PacksInto kind members old new (Err (NotUtf8 offset)) = ⊥
-PacksInto kind members old new (Err UnknownMachine) = ⊥
-PacksInto kind members old new (Err UnknownFlavor) = ⊥
-PacksInto kind members old new (Err (SyntaxError fault offset)) = ⊥
-PacksInto kind members old new (Err (Refused fault)) = ⊥
-PacksInto kind members old new (Err (NoArchive fault)) =
-    (refusal_of kind members ≡ Some fault) × (new ≡ old)
-PacksInto kind members old new (Err UnknownFlags) = ⊥
-PacksInto kind members old new (Err DllNotUtf8) = ⊥
-PacksInto kind members old new (Err NoDllName) = ⊥
-PacksInto kind members old new (Err (RefusedAt fault offset)) = ⊥
-PacksInto kind members old new (Err (NoExport fault index)) = ⊥
-PacksInto kind members old new (Err NotALibrary) = ⊥
-PacksInto kind members old new (Err (NotAnImage offset)) = ⊥
-PacksInto kind members old new (Err NoExportDirectory) = ⊥
-PacksInto kind members old new (Err (NotDelayed why offset)) = ⊥
+PacksInto kind members =
+    Puts (archive_of kind members) (refusal_of kind members ≡ None) (LacksArchive kind members)
+
+-- the bytes are the encoding of this, whose numbers have 64 bits
+pub record IsEncoding {X : Type 0} (encoded : X → List ℕ) (Fits : X → Type 0) (what : X)
+    (bytes : List ℕ) : Type 0 where
+  pub is : bytes ≡ encoded what
+  pub fit : Fits what
+
+-- the bytes are the encoding of something of this kind
+pub record EncodesSome {X : Type 0} (encoded : X → List ℕ) (Fits : X → Type 0) (Has : X → Type 0)
+    (bytes : List ℕ) : Type 0 where
+  pub what : X
+  pub has : Has what
+  pub encoding : IsEncoding encoded Fits what bytes

@@ -1,8 +1,8 @@
 -- What a library of any maker imports, row by row, how the rows are encoded for C, and how an
 -- encoding is read (this project's choice). What the members of a library are for is
 -- `implib_read`'s `library_in`.
-use Rattle.std.specs.Prelude.{◌≡◌, ℕ, ◌<◌, ◌^◌, All, List, [], ◌++◌, Option, Some, length, map}
-use Rattle.std.specs.Option.{option_and_then, option_map}
+use Rattle.std.specs.Prelude.{ℕ, ◌<◌, ◌^◌, List, [], ◌++◌, Option, map}
+use Rattle.std.specs.Option.{option_map}
 use Rattle.implib.specs.Import.{Ask, Name, Ordinal}
 use Rattle.implib_read.specs.Classes.{AnAlias, AnImport, Class, DelayImport, Descriptor, Head}
 use Rattle.implib_read.specs.Classes.{Imported, MemberRead, NotUnderstood, NullDescriptor}
@@ -11,8 +11,8 @@ use Rattle.implib_read.specs.declared.import.ImportKind.{ImportKind}
 use Rattle.implib_read.specs.declared.import.ImportKind.TheVariants.{Code, CodeOrConst, Const, Data}
 use Rattle.implib_read.specs.declared.import.ImportKind.TheVariants.{Delayed}
 use Rattle.implib_read.specs.Symbols.{linked_symbol}
-use Rattle.implib_c_calls.specs.Encoding.{encoded_list, encoded_number, encoded_text, list_in}
-use Rattle.implib_c_calls.specs.Encoding.{number_in, text_in}
+use Rattle.implib_c_calls.specs.Encoding.{encoded_list, encoded_number, encoded_text, found}
+use Rattle.implib_c_calls.specs.Encoding.{list_in, number_in, text_in, then_in}
 
 -- A member of a library: what it is for, the offset of its header in the library, and what it
 -- imports. The rest is 0 or empty where it imports nothing.
@@ -133,39 +133,29 @@ encoded_rows rows = encoded_list encoded_row rows
 
 -- a row
 unfoldable pub row_in : List ℕ → Option (Row × List ℕ)
-row_in bytes = option_and_then
-    (λ kind. option_and_then
-    (λ offset. option_and_then
-    (λ dll. option_and_then
-    (λ symbol. option_and_then
-    (λ machine. option_and_then
-    (λ by_name. option_and_then
-    (λ asked. option_map
-    (λ number. (
-      record {
-        kind = kind.0;
-        offset = offset.0;
-        dll = dll.0;
-        symbol = symbol.0;
-        machine = machine.0;
-        by_name = by_name.0;
-        asked = asked.0;
-        number = number.0;
-      },
-      number.1,
-    ))
-    (number_in asked.1))
-    (text_in by_name.1))
-    (number_in machine.1))
-    (number_in symbol.1))
-    (text_in dll.1))
-    (text_in offset.1))
-    (number_in kind.1))
-    (number_in bytes)
+row_in =
+    then_in number_in
+    (λ kind. then_in number_in
+    (λ offset. then_in text_in
+    (λ dll. then_in text_in
+    (λ symbol. then_in number_in
+    (λ machine. then_in number_in
+    (λ by_name. then_in text_in
+    (λ asked. then_in number_in
+    (λ number. found (record {
+      kind = kind;
+      offset = offset;
+      dll = dll;
+      symbol = symbol;
+      machine = machine;
+      by_name = by_name;
+      asked = asked;
+      number = number;
+    })))))))))
 
 -- the rows at the front of a buffer, and what follows them
 unfoldable pub rows_in : List ℕ → Option (List Row × List ℕ)
-rows_in bytes = list_in row_in bytes
+rows_in = list_in row_in
 
 -- the numbers have 64 bits
 pub record Fits (r : Row) : Type 0 where
@@ -174,9 +164,3 @@ pub record Fits (r : Row) : Type 0 where
   pub machine : r.machine < 2 ^ 64
   pub by_name : r.by_name < 2 ^ 64
   pub number : r.number < 2 ^ 64
-
--- An encoding of fewer than 2^64 bytes reads back, whatever follows it.
-abbrev pub ReadsRowsBack : List Row → List ℕ → Type 0
-ReadsRowsBack rows rest =
-    All Fits rows → length (encoded_rows rows) < 2 ^ 64 →
-    rows_in (encoded_rows rows ++ rest) ≡ Some (rows, rest)

@@ -1,61 +1,46 @@
 -- What `implib_imports` answers: what the members of a library are for, and import, as
 -- `implib_read` has it.
-use Rattle.std.specs.Prelude.{◌≡◌, ℕ, ◌<◌, ◌≤◌, List, ◌++◌, None, Some, length, drop}
-use Rattle.implib_c_calls.specs.declared.status.Status.{Status}
-use Rattle.implib_c_calls.specs.declared.status.Status.TheVariants as status
-use Rattle.implib_c_calls.specs.Imports.{Row, encoded_rows, rows_in, rows_of}
-use Rattle.implib_c_calls.specs.Status.{status_number}
+use Rattle.std.specs.Prelude.{◌≡◌, ℕ, All, List, None, Some}
+use Rattle.implib_read.specs.ClassViews.{member_read_view}
+use Rattle.implib_read.specs.declared.class.MemberRead.{MemberRead}
+use Rattle.implib_c_calls.specs.declared.imports.Row.{Row as FoundRow}
+use Rattle.implib_c_calls.specs.declared.outcome.Failure.{Failure}
+use Rattle.implib_c_calls.specs.declared.outcome.Failure.TheVariants.{NotALibrary, OutOfMemory}
+use Rattle.implib_c_calls.specs.Given.{Encodes, EncodesSome, Leaves}
+use Rattle.implib_c_calls.specs.Imports.{Fits, Row, encoded_rows, row_of, rows_in, rows_of}
 
--- How a call ends: with the rows; with a buffer that is too small for them; with bytes that are no
--- archive; or without memory.
-pub data ImportsEnding : Type 0 where
-  Made : List Row → ImportsEnding
-  TooLong : List Row → ImportsEnding
-  NoLibrary : ImportsEnding
-  NoMemory : ImportsEnding
+-- a library has no rows: it is no archive, or memory was refused
+abbrev pub LacksImports : List ℕ → Failure → Type 0
+LacksImports library OutOfMemory = Unit {0}
+LacksImports library NotALibrary = rows_of library ≡ None
+LacksImports library _ = ⊥
 
--- when a call ends so, for a buffer of this many bytes
-abbrev pub ImportsEndSo : List ℕ → ℕ → ImportsEnding → Type 0
-ImportsEndSo bytes room (Made rows) =
-    (rows_of bytes ≡ Some rows) × (length (encoded_rows rows) ≤ room)
-ImportsEndSo bytes room (TooLong rows) =
-    (rows_of bytes ≡ Some rows) × (room < length (encoded_rows rows))
-ImportsEndSo bytes room NoLibrary = rows_of bytes ≡ None
-ImportsEndSo bytes room NoMemory = Unit {0}
+-- what a call leaves, with some place: the encoding of the rows, or why there are none
+abbrev pub ImportsAnswers : List ℕ → List ℕ → List ℕ → ℕ → ℕ → Type 0
+ImportsAnswers library old new length_left status_left =
+    (place : ℕ)
+    × Leaves (Encodes encoded_rows rows_in (λ rows. rows_of library ≡ Some rows))
+    (LacksImports library) old new length_left place status_left
 
--- the status
-abbrev pub status_of : ImportsEnding → Status
-status_of (Made rows) = status.Success
-status_of (TooLong rows) = status.BufferTooSmall
-status_of NoLibrary = status.NotALibrary
-status_of NoMemory = status.OutOfMemory
+-- Views: what the functions below `implib_imports` give each other. No promise cites them.
 
--- the length of the encoding, where there are rows; else 0
-abbrev pub length_of : ImportsEnding → ℕ
-length_of (Made rows) = length (encoded_rows rows)
-length_of (TooLong rows) = length (encoded_rows rows)
-length_of NoLibrary = 0
-length_of NoMemory = 0
+-- a row, as it is written
+abbrev pub row_view : FoundRow → Row
+row_view r = record {
+  kind = r.kind;
+  offset = r.offset;
+  dll = r.dll.now;
+  symbol = r.symbol.now;
+  machine = r.machine;
+  by_name = r.by_name;
+  asked = r.asked.now;
+  number = r.number;
+}
 
--- the buffer: the encoding and what was after it, or all as it was
-abbrev pub buffer_of : List ℕ → ImportsEnding → List ℕ
-buffer_of old (Made rows) = encoded_rows rows ++ drop (length (encoded_rows rows)) old
-buffer_of old (TooLong rows) = old
-buffer_of old NoLibrary = old
-buffer_of old NoMemory = old
+-- the row of a member that is read
+abbrev pub row_of_found : MemberRead → Row
+row_of_found m = row_of (member_read_view m)
 
--- what is read in the buffer: the rows, and then what was after their encoding
-abbrev pub BufferReads : List ℕ → List ℕ → ImportsEnding → Type 0
-BufferReads old new (Made rows) = rows_in new ≡ Some (rows, drop (length (encoded_rows rows)) old)
-BufferReads old new (TooLong rows) = Unit {0}
-BufferReads old new NoLibrary = Unit {0}
-BufferReads old new NoMemory = Unit {0}
-
--- the call's ending, with all that it leaves
-pub record ImportsAnswers (bytes old new : List ℕ) (length_left status_left : ℕ) : Type 0 where
-  pub ending : ImportsEnding
-  pub ends : ImportsEndSo bytes (length old) ending
-  pub status_is : status_left ≡ status_number (status_of ending)
-  pub length_is : length_left ≡ length_of ending
-  pub buffer_is : new ≡ buffer_of old ending
-  pub buffer_reads : BufferReads old new ending
+-- these are the bytes of an encoding of a library's rows
+abbrev pub EncodesImports : List ℕ → List ℕ → Type 0
+EncodesImports library = EncodesSome encoded_rows (All Fits) (λ rows. rows_of library ≡ Some rows)

@@ -22,15 +22,6 @@ pub mod Place
 pub mod Version
 pub mod Flags
 pub mod Given
-pub mod GivenWith
-pub mod GivenOf
-pub mod DelayedGiven
-pub mod DefinitionGiven
-pub mod WarningsGiven
-pub mod ImportsGiven
-pub mod DllExportsGiven
-pub mod DllCheckGiven
-pub mod CheckGiven
 pub mod WorkedEncoding
 pub mod WorkedDefinition
 pub mod WorkedWarnings

@@ -1,8 +1,7 @@
 -- How warnings are encoded for C, and how an encoding is read (this project's choice).
-use Rattle.std.specs.Prelude.{◌≡◌, ℕ, ◌+◌, ◌<◌, ◌^◌, All, List, ◌++◌, Option, Some, length, map}
-use Rattle.std.specs.Option.{option_and_then, option_map}
-use Rattle.implib_c_calls.specs.Encoding.{encoded_list, encoded_number, encoded_text, list_in}
-use Rattle.implib_c_calls.specs.Encoding.{number_in, text_in}
+use Rattle.std.specs.Prelude.{◌≡◌, ℕ, ◌+◌, ◌<◌, ◌^◌, List, ◌++◌, Option, map}
+use Rattle.implib_c_calls.specs.Encoding.{encoded_list, encoded_number, encoded_text, found}
+use Rattle.implib_c_calls.specs.Encoding.{list_in, number_in, text_in, then_in}
 use Rattle.implib_rules.specs.Warnings as rules
 use Rattle.implib_rules.specs.Warnings.{NoticeView, WarningView}
 
@@ -69,27 +68,20 @@ encoded_warnings said = encoded_list encoded_said said
 
 -- a warning
 unfoldable pub said_in : List ℕ → Option (Said × List ℕ)
-said_in bytes = option_and_then
-    (λ kind. option_and_then
-    (λ offset. option_and_then
-    (λ line. option_and_then
-    (λ column. option_map
-    (λ words. (
-      record {
-        warned = record { kind = kind.0; offset = offset.0; line = line.0; column = column.0 };
-        words = words.0;
-      },
-      words.1,
-    ))
-    (text_in column.1))
-    (number_in line.1))
-    (number_in offset.1))
-    (number_in kind.1))
-    (number_in bytes)
+said_in =
+    then_in number_in
+    (λ kind. then_in number_in
+    (λ offset. then_in number_in
+    (λ line. then_in number_in
+    (λ column. then_in text_in
+    (λ words. found (record {
+      warned = record { kind = kind; offset = offset; line = line; column = column };
+      words = words;
+    }))))))
 
 -- the warnings at the front of a buffer, and what follows them
 unfoldable pub warnings_in : List ℕ → Option (List Said × List ℕ)
-warnings_in bytes = list_in said_in bytes
+warnings_in = list_in said_in
 
 -- the numbers have 64 bits
 pub record Fits (s : Said) : Type 0 where
@@ -97,9 +89,3 @@ pub record Fits (s : Said) : Type 0 where
   pub offset : s.warned.offset < 2 ^ 64
   pub line : s.warned.line < 2 ^ 64
   pub column : s.warned.column < 2 ^ 64
-
--- An encoding of fewer than 2^64 bytes reads back, whatever follows it.
-abbrev pub ReadsWarningsBack : List Said → List ℕ → Type 0
-ReadsWarningsBack said rest =
-    All Fits said → length (encoded_warnings said) < 2 ^ 64 →
-    warnings_in (encoded_warnings said ++ rest) ≡ Some (said, rest)

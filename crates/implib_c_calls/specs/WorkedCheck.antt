@@ -2,8 +2,7 @@
 -- that are read.
 use Rattle.std.specs.Prelude.{◌≡◌, ℕ, List, [], ◌∷◌, ◌++◌, None, codes}
 use Rattle.implib.specs.Worked.Digits.{hex}
-use Rattle.implib_compare.specs.Worked.{feed, member, zoo}
-use Rattle.implib_compare.specs.declared.compare.Verdict.TheVariants.{NotDecided}
+use Rattle.implib_compare.specs.Worked.{member, zoo}
 use Rattle.implib_compare.specs.declared.working.Working.TheVariants as working
 use Rattle.implib_read.specs.Archives.{Archive}
 use Rattle.implib_read.specs.Classes.{NotUnderstood}

@@ -1,5 +1,5 @@
 -- Rows of a library that was worked by hand, an encoding byte by byte, and a buffer that is read.
-use Rattle.std.specs.Prelude.{◌≡◌, ℕ, List, [], ◌∷◌, ◌++◌, None, Some, codes}
+use Rattle.std.specs.Prelude.{◌≡◌, ℕ, List, [], ◌∷◌, ◌++◌, None, Some, codes, map}
 use Rattle.implib.specs.Worked.Digits.{hex}
 use Rattle.implib_read.specs.Classes.{AnAlias, DelayImport, NotUnderstood, Other}
 use Rattle.implib_read.specs.WorkedLibraries.{member, worked_ld}
@@ -71,14 +71,6 @@ pub record WorkedRows : Type 0 where
   pub other : row_of (member (codes "a.o") 8 Other) ≡ other_row 8 8
   pub not_understood : row_of (member (codes "a.o") 8 NotUnderstood) ≡ other_row 9 8
 
--- the numbers of kinds of imports
-pub record WorkedKinds : Type 0 where
-  pub code : kind_number Code ≡ 1
-  pub data_kind : kind_number Data ≡ 2
-  pub constant : kind_number Const ≡ 3
-  pub code_or_constant : kind_number CodeOrConst ≡ 4
-  pub delayed : kind_number Delayed ≡ 10
-
 -- an encoding, and what is read of bytes that are none
 pub record WorkedRowBytes : Type 0 where
   pub two : encoded_rows (bar_row ∷ old_row ∷ []) ≡ two_rows_bytes
@@ -87,5 +79,6 @@ pub record WorkedRowBytes : Type 0 where
 -- all of them
 pub record WorkedImports : Type 0 where
   pub rows : WorkedRows
-  pub kinds : WorkedKinds
+  pub kinds : map kind_number (Code ∷ Data ∷ Const ∷ CodeOrConst ∷ Delayed ∷ [])
+      ≡ 1 ∷ 2 ∷ 3 ∷ 4 ∷ 10 ∷ []
   pub bytes : WorkedRowBytes

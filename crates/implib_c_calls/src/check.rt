@@ -1,10 +1,10 @@
 //! From a library and a definition to how they compare, encoded in a buffer.
 
-ghost use Rattle.implib_c_calls.specs.Check.{flagged, told_of, verdict_number, working_number};
-ghost use Rattle.implib_c_calls.specs.CheckAnswer.{CheckAnswers};
-ghost use Rattle.implib_c_calls.specs.CheckGiven.{EncodesCheck, EncodesTold};
-ghost use Rattle.implib_c_calls.specs.Given.{length_given, place_given, status_given};
-ghost use Rattle.implib_c_calls.specs.ImportsGiven.{row_of_found, row_view};
+ghost use Rattle.implib_c_calls.specs.Check.{ToldFits, encoded_told, flagged, told_of};
+ghost use Rattle.implib_c_calls.specs.Check.{verdict_number, working_number};
+ghost use Rattle.implib_c_calls.specs.CheckAnswer.{CheckAnswers, EncodesCheck};
+ghost use Rattle.implib_c_calls.specs.Given.{IsEncoding, length_given, place_given, status_given};
+ghost use Rattle.implib_c_calls.specs.ImportsAnswer.{row_of_found, row_view};
 ghost use Rattle.implib_c_calls.specs.LibraryWith.{given_options};
 ghost use Rattle.implib_c_calls.specs.Status.{status_number};
 ghost use Rattle.implib_read.specs.ArchiveViews.{archive_view};
@@ -96,7 +96,7 @@ fn encoding_of(
     library: &Library<'_>,
     meant: &[MemberRead<'_>],
 ) -> Result<Vec<u8>, AllocError>
-    ensures { IfOk result (λ bytes. EncodesTold
+    ensures { IfOk result (λ bytes. IsEncoding encoded_told ToldFits
         (told_of (archive_view library.now.archive) (map member_read_view library.now.members.items)
         (map member_read_view meant.now))
         bytes.items) }

@@ -2,12 +2,13 @@
 
 ghost use Rattle.implib.specs.Definition.{definition_view};
 ghost use Rattle.implib_archive.specs.Pushed.{Pushes};
-ghost use Rattle.implib_c_calls.specs.Definition.{encoded_export, encoded_optional, flag, flags_of};
-ghost use Rattle.implib_c_calls.specs.Definition.{stated, stated_of};
-ghost use Rattle.implib_c_calls.specs.DefinitionAnswer.{DefinitionAnswers};
-ghost use Rattle.implib_c_calls.specs.DefinitionGiven.{HasDefinition, IsEncoding, LacksDefinition};
+ghost use Rattle.implib_c_calls.specs.Definition.{NumbersFit, encoded_definition, encoded_export};
+ghost use Rattle.implib_c_calls.specs.Definition.{encoded_optional, flag, flags_of, stated};
+ghost use Rattle.implib_c_calls.specs.Definition.{stated_of};
+ghost use Rattle.implib_c_calls.specs.DefinitionAnswer.{DefinitionAnswers, HasDefinition};
+ghost use Rattle.implib_c_calls.specs.DefinitionAnswer.{LacksDefinition};
 ghost use Rattle.implib_c_calls.specs.Encoding.{encoded_list, encoded_number, encoded_text};
-ghost use Rattle.implib_c_calls.specs.Given.{length_given, place_given, status_given};
+ghost use Rattle.implib_c_calls.specs.Given.{IsEncoding, length_given, place_given, status_given};
 ghost use Rattle.implib_c_calls.specs.Status.{status_number};
 ghost use Rattle.std.specs.Option.{option_map};
 ghost use Rattle.std.specs.Prelude.{◌≡◌, ◌<◌, ◌^◌, ◌≤◌, All, IfErr, IfOk, OnOk, map};
@@ -94,7 +95,9 @@ fn push_exports(bytes: &mut Vec<u8>, exports: &[ShortExport]) -> Result<(), Allo
 // What a definition states, encoded.
 fn encoding_of(alloc: Global, definition: &ModuleDef) -> Result<Vec<u8>, AllocError>
     ensures { IfOk result
-        (λ bytes. IsEncoding (stated (definition_view definition.now)) bytes.items) }
+        (λ bytes. IsEncoding encoded_definition NumbersFit
+        (stated (definition_view definition.now))
+        bytes.items) }
 {
     let mut bytes = Vec::new(alloc);
     push_text(&mut bytes, definition.import_name.as_bytes())?;

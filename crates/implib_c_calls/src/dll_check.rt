@@ -5,13 +5,13 @@
 //! export directory. It is compared as loaders do it.
 
 ghost use Rattle.implib_archive.specs.Pushed.{Pushes};
-ghost use Rattle.implib_c_calls.specs.DllCheck.{dll_told, judgement_number, loss_number};
-ghost use Rattle.implib_c_calls.specs.DllCheck.{name_given, names_given};
-ghost use Rattle.implib_c_calls.specs.DllCheckAnswer.{DllCheckAnswers};
-ghost use Rattle.implib_c_calls.specs.DllCheckGiven.{EncodesDllCheck, EncodesDllTold};
-ghost use Rattle.implib_c_calls.specs.DllCheckGiven.{LacksDllCheck};
+ghost use Rattle.implib_c_calls.specs.DllCheck.{DllToldFits, dll_told, encoded_dll_told};
+ghost use Rattle.implib_c_calls.specs.DllCheck.{judgement_number, loss_number, name_given};
+ghost use Rattle.implib_c_calls.specs.DllCheck.{names_given};
+ghost use Rattle.implib_c_calls.specs.DllCheckAnswer.{DllCheckAnswers, EncodesDllCheck};
+ghost use Rattle.implib_c_calls.specs.DllCheckAnswer.{LacksDllCheck};
 ghost use Rattle.implib_c_calls.specs.Encoding.{encoded_list, encoded_number};
-ghost use Rattle.implib_c_calls.specs.Given.{length_given, place_given, status_given};
+ghost use Rattle.implib_c_calls.specs.Given.{IsEncoding, length_given, place_given, status_given};
 ghost use Rattle.implib_c_calls.specs.Status.{status_number};
 ghost use Rattle.implib_dll.specs.Views.{exports_view};
 ghost use Rattle.implib_read.specs.ClassViews.{member_read_view};
@@ -101,8 +101,9 @@ fn encoding_of(
     name: &[u8],
     members: &[MemberRead<'_>],
 ) -> Result<Vec<u8>, AllocError>
-    ensures { IfOk result (λ bytes. EncodesDllTold (dll_told (exports_view exports.now) name.now
-        (map member_read_view members.now)) bytes.items) }
+    ensures { IfOk result (λ bytes. IsEncoding encoded_dll_told DllToldFits
+        (dll_told (exports_view exports.now) name.now (map member_read_view members.now))
+        bytes.items) }
 {
     let names = names_given(alloc, name, exports)?;
     let found = judgements(alloc, exports, &names, members)?;

@@ -1,14 +1,13 @@
 //! From the file of a DLL to what it exports, encoded in a buffer.
 
 ghost use Rattle.implib_archive.specs.Pushed.{Pushes};
-ghost use Rattle.implib_c_calls.specs.DllExports.{ExportFits, address_number, dll_rows};
-ghost use Rattle.implib_c_calls.specs.DllExports.{encoded_export, target_address, target_forwarder};
-ghost use Rattle.implib_c_calls.specs.DllExports.{target_number};
-ghost use Rattle.implib_c_calls.specs.DllExportsAnswer.{ExportsAnswers};
-ghost use Rattle.implib_c_calls.specs.DllExportsGiven.{EncodesExports, EncodesRows, LacksExports};
-ghost use Rattle.implib_c_calls.specs.DllExportsGiven.{export_row_found};
+ghost use Rattle.implib_c_calls.specs.DllExports.{DllFits, ExportFits, address_number, dll_rows};
+ghost use Rattle.implib_c_calls.specs.DllExports.{encoded_dll, encoded_export, target_address};
+ghost use Rattle.implib_c_calls.specs.DllExports.{target_forwarder, target_number};
+ghost use Rattle.implib_c_calls.specs.DllExportsAnswer.{EncodesExports, ExportsAnswers};
+ghost use Rattle.implib_c_calls.specs.DllExportsAnswer.{LacksExports, export_row_found};
 ghost use Rattle.implib_c_calls.specs.Encoding.{encoded_list, encoded_text};
-ghost use Rattle.implib_c_calls.specs.Given.{length_given, place_given, status_given};
+ghost use Rattle.implib_c_calls.specs.Given.{IsEncoding, length_given, place_given, status_given};
 ghost use Rattle.implib_c_calls.specs.Status.{status_number};
 ghost use Rattle.implib_dll.specs.Views.{exports_view, target_view};
 ghost use Rattle.std.specs.Prelude.{◌≡◌, All, IfErr, IfOk, OnOk, map};
@@ -100,7 +99,8 @@ fn push_exports(bytes: &mut Vec<u8>, rows: &[Row<'_>]) -> Result<(), AllocError>
 
 // What a DLL exports, encoded.
 fn encoding_of(alloc: Global, exports: &Exports<'_>) -> Result<Vec<u8>, AllocError>
-    ensures { IfOk result (λ bytes. EncodesRows (dll_rows (exports_view exports.now)) bytes.items) }
+    ensures { IfOk result (λ bytes. IsEncoding encoded_dll DllFits
+        (dll_rows (exports_view exports.now)) bytes.items) }
 {
     let rows = exports.rows(alloc)?;
     let mut bytes = Vec::new(alloc);

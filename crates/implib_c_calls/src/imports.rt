@@ -2,12 +2,11 @@
 
 ghost use Rattle.implib_archive.specs.Pushed.{Pushes};
 ghost use Rattle.implib_c_calls.specs.Encoding.{encoded_list};
-ghost use Rattle.implib_c_calls.specs.Given.{length_given, status_given};
-ghost use Rattle.implib_c_calls.specs.Imports.{Fits, alias_row, encoded_row, import_row};
-ghost use Rattle.implib_c_calls.specs.Imports.{kind_number, other_row};
-ghost use Rattle.implib_c_calls.specs.ImportsAnswer.{ImportsAnswers};
-ghost use Rattle.implib_c_calls.specs.ImportsGiven.{EncodesImports, EncodesRows, LacksImports};
-ghost use Rattle.implib_c_calls.specs.ImportsGiven.{row_of_found, row_view};
+ghost use Rattle.implib_c_calls.specs.Given.{IsEncoding, length_given, status_given};
+ghost use Rattle.implib_c_calls.specs.Imports.{Fits, alias_row, encoded_row, encoded_rows};
+ghost use Rattle.implib_c_calls.specs.Imports.{import_row, kind_number, other_row};
+ghost use Rattle.implib_c_calls.specs.ImportsAnswer.{EncodesImports, ImportsAnswers, LacksImports};
+ghost use Rattle.implib_c_calls.specs.ImportsAnswer.{row_of_found, row_view};
 ghost use Rattle.implib_c_calls.specs.Status.{status_number};
 ghost use Rattle.implib_read.specs.AliasViews.{alias_view};
 ghost use Rattle.implib_read.specs.ClassViews.{imported_view};
@@ -161,7 +160,8 @@ fn rows_of<'m, 'a: 'm>(
 
 // The rows of members, encoded.
 fn encoding_of(alloc: Global, members: &[MemberRead<'_>]) -> Result<Vec<u8>, AllocError>
-    ensures { IfOk result (λ bytes. EncodesRows (map row_of_found members.now) bytes.items) }
+    ensures { IfOk result (λ bytes. IsEncoding encoded_rows (All Fits)
+        (map row_of_found members.now) bytes.items) }
 {
     let rows = rows_of(alloc, members)?;
     let mut bytes = Vec::new(alloc);

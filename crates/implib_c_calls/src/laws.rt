@@ -2,16 +2,19 @@
 //! each contract is a law.
 
 ghost use Rattle.implib.specs.Members.MemberSpec.{MemberView};
-ghost use Rattle.implib_c_calls.specs.Check.{ReadsToldBack, Told};
-ghost use Rattle.implib_c_calls.specs.Definition.{ReadsDefinitionBack, StatedDefinition};
-ghost use Rattle.implib_c_calls.specs.DllCheck.{DllTold, ReadsDllToldBack};
-ghost use Rattle.implib_c_calls.specs.DllExports.{DllRows, ReadsDllBack};
-ghost use Rattle.implib_c_calls.specs.Encoding.{ReadsBack};
-ghost use Rattle.implib_c_calls.specs.Imports.{ReadsRowsBack, Row};
+ghost use Rattle.implib_c_calls.specs.Check.{Told, ToldFits, encoded_told, told_in};
+ghost use Rattle.implib_c_calls.specs.Definition.{NumbersFit, StatedDefinition, definition_in};
+ghost use Rattle.implib_c_calls.specs.Definition.{encoded_definition};
+ghost use Rattle.implib_c_calls.specs.DllCheck.{DllTold, DllToldFits, dll_told_in};
+ghost use Rattle.implib_c_calls.specs.DllCheck.{encoded_dll_told};
+ghost use Rattle.implib_c_calls.specs.DllExports.{DllFits, DllRows, dll_in, encoded_dll};
+ghost use Rattle.implib_c_calls.specs.Encoding.{ReadsBack, ReadsMembersBack};
+ghost use Rattle.implib_c_calls.specs.Imports.{Fits, Row, encoded_rows, rows_in};
 ghost use Rattle.implib_c_calls.specs.LibraryOf.{GivenExport, exports_given};
 ghost use Rattle.implib_c_calls.specs.Place.{PlacesAreOfRefusals};
 ghost use Rattle.implib_c_calls.specs.Status.{NumbersReturn};
-ghost use Rattle.implib_c_calls.specs.Warnings.{ReadsWarningsBack, Said};
+ghost use Rattle.implib_c_calls.specs.Warnings.{Fits as FitsSaid, Said};
+ghost use Rattle.implib_c_calls.specs.Warnings.{encoded_warnings, warnings_in};
 ghost use Rattle.implib_c_calls.specs.WorkedCheck.{WorkedChecks};
 ghost use Rattle.implib_c_calls.specs.WorkedDefinition.{WorkedDefinitions};
 ghost use Rattle.implib_c_calls.specs.WorkedDllCheck.{WorkedDllChecks};
@@ -26,11 +29,12 @@ ghost use Rattle.implib_c_calls.specs.WorkedWarnings.{WorkedWarnings};
 ghost use Rattle.implib_c_calls.specs.WrittenAlike.{OneLibrary, PutsWhatIsWritten};
 ghost use Rattle.implib_rules.specs.Exports.{LackSymbolNames};
 ghost use Rattle.implib_rules.specs.Options.{LibraryOptionsView};
-ghost use Rattle.std.specs.Prelude.{List, ℕ};
+ghost use Rattle.std.specs.Prelude.{All, List, ℕ};
 
 /// An encoding of fewer than 2^64 bytes is read as its members, whatever follows it.
+#[tactic(auto, using(crate::proofs::ReadBack::members_back))]
 pub fn encodings_read_back()
-    ensures { (members : List MemberView) (rest : List ℕ) → ReadsBack members rest }
+    ensures { (members : List MemberView) (rest : List ℕ) → ReadsMembersBack members rest }
 {}
 
 /// Encodings that were worked by hand have these bytes, and are read so.
@@ -39,8 +43,10 @@ pub fn worked_encodings()
 {}
 
 /// An encoding of what a text states reads back, whatever follows it.
+#[tactic(auto, using(crate::proofs::DefinitionBack::definition_back))]
 pub fn definitions_read_back()
-    ensures { (said : StatedDefinition) (rest : List ℕ) → ReadsDefinitionBack said rest }
+    ensures { (said : StatedDefinition) (rest : List ℕ) →
+        ReadsBack encoded_definition definition_in NumbersFit said rest }
 {}
 
 /// Encodings of what texts state, worked by hand, have these bytes, and are read so.
@@ -49,8 +55,10 @@ pub fn worked_definitions()
 {}
 
 /// An encoding of warnings reads back, whatever follows it.
+#[tactic(auto, using(crate::proofs::WarningsBack::warnings_back))]
 pub fn warnings_read_back()
-    ensures { (said : List Said) (rest : List ℕ) → ReadsWarningsBack said rest }
+    ensures { (said : List Said) (rest : List ℕ) →
+        ReadsBack encoded_warnings warnings_in (All FitsSaid) said rest }
 {}
 
 /// Kinds of warnings have these numbers, each written out.
@@ -59,8 +67,9 @@ pub fn worked_warnings()
 {}
 
 /// An encoding of a library's rows reads back, whatever follows it.
+#[tactic(auto, using(crate::proofs::ImportsBack::rows_back))]
 pub fn rows_read_back()
-    ensures { (rows : List Row) (rest : List ℕ) → ReadsRowsBack rows rest }
+    ensures { (rows : List Row) (rest : List ℕ) → ReadsBack encoded_rows rows_in (All Fits) rows rest }
 {}
 
 /// Rows of libraries, worked by hand, are these, have these bytes, and are read so.
@@ -69,8 +78,9 @@ pub fn worked_imports()
 {}
 
 /// An encoding of what a DLL exports reads back, whatever follows it.
+#[tactic(auto, using(crate::proofs::DllExportsBack::dll_back))]
 pub fn dll_exports_read_back()
-    ensures { (d : DllRows) (rest : List ℕ) → ReadsDllBack d rest }
+    ensures { (d : DllRows) (rest : List ℕ) → ReadsBack encoded_dll dll_in DllFits d rest }
 {}
 
 /// An address outside of sections has this number, and bytes that are no encoding are not read.
@@ -79,8 +89,9 @@ pub fn worked_dll_exports()
 {}
 
 /// An encoding of what is told of a library beside a DLL reads back, whatever follows it.
+#[tactic(auto, using(crate::proofs::DllCheckBack::dll_told_back))]
 pub fn dll_checks_read_back()
-    ensures { (told : DllTold) (rest : List ℕ) → ReadsDllToldBack told rest }
+    ensures { (told : DllTold) (rest : List ℕ) → ReadsBack encoded_dll_told dll_told_in DllToldFits told rest }
 {}
 
 /// What imports come to in a DLL, worked by hand, is this, has these bytes, and is read so.
@@ -89,8 +100,9 @@ pub fn worked_dll_checks()
 {}
 
 /// An encoding of what is told of a library beside a definition's reads back, whatever follows it.
+#[tactic(auto, using(crate::proofs::ToldBack::told_back))]
 pub fn checks_read_back()
-    ensures { (told : Told) (rest : List ℕ) → ReadsToldBack told rest }
+    ensures { (told : Told) (rest : List ℕ) → ReadsBack encoded_told told_in ToldFits told rest }
 {}
 
 /// What is told of libraries, worked by hand, is this, has these bytes, and is read so.
@@ -109,6 +121,7 @@ pub fn worked_places()
 {}
 
 /// Line and column of the place that C has of a refused text are those of the refusal.
+#[tactic(auto, using(crate::proofs::PlacesOfRefusals::places_are_of_refusals))]
 pub fn places_are_of_refusals()
     ensures { PlacesAreOfRefusals }
 {}
@@ -125,6 +138,7 @@ pub fn worked_exports()
 
 /// No export that C passes has a symbol name in a definition, so the library of exports for
 /// Microsoft's linker is read in order (`library_reads` of `MembersOfExports`).
+#[tactic(auto, using(crate::proofs::GivenExports::lack_symbol_names))]
 pub fn given_exports_lack_symbol_names()
     ensures { (exports : List GivenExport) → LackSymbolNames (exports_given exports) }
 {}

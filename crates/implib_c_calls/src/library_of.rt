@@ -2,23 +2,18 @@
 //! is wrong.
 
 ghost use Rattle.implib.specs.Definition.{export_view};
-ghost use Rattle.implib_c_calls.specs.Given.{failure_status, length_given, place_given};
-ghost use Rattle.implib_c_calls.specs.Given.{status_given};
-ghost use Rattle.implib_c_calls.specs.GivenOf.{AreGiven, OnExportFault, PutsLibraryOf};
-ghost use Rattle.implib_c_calls.specs.LibraryOf.{LibraryOfAnswers, export_given, exports_status};
-ghost use Rattle.implib_c_calls.specs.LibraryOf.{given_export};
-ghost use Rattle.implib_c_calls.specs.LibraryOf.{place_of_refusal};
+ghost use Rattle.implib_c_calls.specs.Given.{length_given, place_given, status_given};
+ghost use Rattle.implib_c_calls.specs.LibraryOf.{AreGiven, LibraryOfAnswers, OnExportFault};
+ghost use Rattle.implib_c_calls.specs.LibraryOf.{export_given, failure_of_exports, given_export};
 ghost use Rattle.implib_c_calls.specs.LibraryWith.{given_options};
 ghost use Rattle.implib_c_calls.specs.Status.{status_number};
-ghost use Rattle.implib_rules.specs.Options.{library_options_view};
-ghost use Rattle.std.specs.Prelude.{◌≡◌, ◌++◌, [], ◌∷◌, Err, IfErr, IfOk, OnOk, map};
+ghost use Rattle.std.specs.Prelude.{◌≡◌, ◌++◌, [], ◌∷◌, IfErr, IfOk, OnOk, map};
 
 use crate::export::{Export, ExportFault, names_of, short_export};
 use crate::library_with::{OptionsArguments, options_with, pack_for};
 use crate::outcome::Failure;
 use implib::def::ShortExport;
 use implib_rules::exports::{ExportsRefusal, members_of_exports};
-use implib_rules::options::LibraryOptions;
 use std::alloc::{AllocError, Global};
 
 // Why a definition has nothing of exports.
@@ -41,7 +36,7 @@ impl From<AllocError> for GivenError {
 }
 
 impl From<GivenError> for Failure {
-    ghost use Rattle.implib_c_calls.specs.GivenOf.{failure_given};
+    ghost use Rattle.implib_c_calls.specs.LibraryOf.{failure_given};
 
     ghost from_gives = { λ error given. given ≡ failure_given error };
 
@@ -87,35 +82,12 @@ fn short_exports(alloc: Global, exports: &[Export<'_>]) -> Result<Vec<ShortExpor
 
 // What a refusal of exports becomes.
 fn failure_of(refusal: ExportsRefusal) -> Failure
-    ensures status { failure_status result ≡ exports_status refusal }
-    ensures length { length_given (Err result) ≡ 0 }
-    ensures place { place_given (Err result) ≡ place_of_refusal refusal }
+    ensures { result ≡ failure_of_exports refusal }
 {
     match refusal {
         ExportsRefusal::NoName => Failure::NoDllName,
         ExportsRefusal::Members(fault) => Failure::Refused(fault),
         ExportsRefusal::OutOfMemory => Failure::OutOfMemory,
-    }
-}
-
-// Puts the library of exports with these options at the beginning of the buffer, where there is
-// room. Gives its length.
-fn put_library_of(
-    alloc: Global,
-    exports: &[Export<'_>],
-    options: &LibraryOptions<'_>,
-    buffer: &mut [u8],
-) -> Result<usize, Failure>
-    ensures { PutsLibraryOf (map given_export exports.now) (library_options_view options.now)
-        buffer.old buffer.new (length_given result) (place_given result) (status_given result) }
-{
-    let given = match short_exports(alloc, exports) {
-        Ok(given) => given,
-        Err(error) => return Err(Failure::from(error)),
-    };
-    match members_of_exports(alloc, given, options) {
-        Ok(members) => pack_for(alloc, buffer, &members, options.flavor),
-        Err(refusal) => Err(failure_of(refusal)),
     }
 }
 
@@ -137,8 +109,16 @@ pub fn library_of_into(
         buffer.old buffer.new
         (length_given result) (place_given result) (status_number (status_given result)) }
 {
-    match options_with(arguments) {
-        Ok(options) => put_library_of(alloc, exports, &options, buffer),
-        Err(failure) => Err(failure),
+    let options = match options_with(arguments) {
+        Ok(options) => options,
+        Err(failure) => return Err(failure),
+    };
+    let given = match short_exports(alloc, exports) {
+        Ok(given) => given,
+        Err(error) => return Err(Failure::from(error)),
+    };
+    match members_of_exports(alloc, given, &options) {
+        Ok(members) => pack_for(alloc, buffer, &members, options.flavor),
+        Err(refusal) => Err(failure_of(refusal)),
     }
 }

@@ -1,18 +1,15 @@
 //! From a text and options to the library that the program makes of them, or to what is wrong.
 
-ghost use Rattle.implib_c_calls.specs.Given.{PacksInto, failure_status, length_given, place_given};
-ghost use Rattle.implib_c_calls.specs.Given.{status_given};
-ghost use Rattle.implib_c_calls.specs.GivenWith.{IsNoOptions, IsWithin, PutsLibrary};
-ghost use Rattle.implib_c_calls.specs.LibraryWith.{AreOptions, LibraryWithAnswers, given_options};
-ghost use Rattle.implib_c_calls.specs.LibraryWith.{mark_length};
-ghost use Rattle.implib_c_calls.specs.LibraryWith.{naming_numbered, place_of_refusal};
-ghost use Rattle.implib_c_calls.specs.LibraryWith.{refusal_status};
+ghost use Rattle.implib_c_calls.specs.Given.{PacksInto, length_given, place_given, status_given};
+ghost use Rattle.implib_c_calls.specs.LibraryWith.{AreOptions, IsOptionFault, IsWithin};
+ghost use Rattle.implib_c_calls.specs.LibraryWith.{LibraryWithAnswers, failure_at, given_options};
+ghost use Rattle.implib_c_calls.specs.LibraryWith.{mark_length, naming_numbered};
 ghost use Rattle.implib_c_calls.specs.Status.{status_number};
-ghost use Rattle.implib_rules.specs.Library.{kind_of};
+ghost use Rattle.implib_rules.specs.Library.{definition_text, kind_of};
 ghost use Rattle.implib_rules.specs.Linked.{naming_view};
 ghost use Rattle.implib_rules.specs.Options.{library_options_view};
 ghost use Rattle.std.specs.Option.{option_map};
-ghost use Rattle.std.specs.Prelude.{◌≡◌, ◌+◌, ◌<◌, ◌^◌, Err, IfErr, IfOk};
+ghost use Rattle.std.specs.Prelude.{◌≡◌, ◌+◌, ◌<◌, ◌≤◌, ◌^◌, IfErr, IfOk, length};
 
 use crate::export::has_flag;
 use crate::outcome::{Failure, flavor_with, machine_with, pack_into};
@@ -71,7 +68,7 @@ pub struct OptionsArguments<'a> {
 pub fn options_with<'a>(arguments: OptionsArguments<'a>) -> Result<LibraryOptions<'a>, Failure>
     ensures ok { IfOk result (λ options. AreOptions (given_options arguments.entry)
         (library_options_view options)) }
-    ensures fault { IfErr result (IsNoOptions (given_options arguments.entry)) }
+    ensures fault { IfErr result (IsOptionFault (given_options arguments.entry)) }
 {
     let OptionsArguments {
         machine,
@@ -121,22 +118,28 @@ pub fn mark_length(text: &[u8]) -> usize
     }
 }
 
+/// The offset in a text with its byte order mark.
+pub(crate) fn place_in(text: &[u8], offset: usize) -> usize
+    requires { offset ≤ length (definition_text text.now) }
+    ensures { result ≡ mark_length text.now + offset }
+{
+    mark_length(text) + offset
+}
+
 /// What a refusal of a text becomes: its offset is in the text with its byte order mark.
 pub fn failure_in(text: &[u8], refusal: Refusal) -> Failure
     requires { IsWithin text.now refusal }
-    ensures status { failure_status result ≡ refusal_status refusal }
-    ensures length { length_given (Err result) ≡ 0 }
-    ensures place { place_given (Err result) ≡ place_of_refusal text.now refusal }
+    ensures { result ≡ failure_at text.now refusal }
 {
     match refusal {
-        Refusal::NotUtf8(position) => Failure::NotUtf8(mark_length(text) + position.offset),
+        Refusal::NotUtf8(position) => Failure::NotUtf8(place_in(text, position.offset)),
         Refusal::Syntax(fault, position) => {
-            Failure::SyntaxError(fault, mark_length(text) + position.offset)
+            Failure::SyntaxError(fault, place_in(text, position.offset))
         }
         Refusal::NoName => Failure::NoDllName,
         Refusal::Members(fault, position) => {
             let offset = match fault.export_index() {
-                Some(_) => mark_length(text) + position.offset,
+                Some(_) => place_in(text, position.offset),
                 None => 0,
             };
             Failure::RefusedAt(fault, offset)
@@ -163,23 +166,6 @@ pub fn pack_for(
     pack_into(alloc, buffer, members, kind_for(flavor, members.len()))
 }
 
-// Puts the library that the program makes of a text with these options at the beginning of the
-// buffer, where there is room. Gives its length.
-fn put_library(
-    alloc: Global,
-    text: &[u8],
-    options: &LibraryOptions<'_>,
-    buffer: &mut [u8],
-) -> Result<usize, Failure>
-    ensures { PutsLibrary text.now (library_options_view options.now) buffer.old buffer.new
-        (length_given result) (place_given result) (status_given result) }
-{
-    match members_for(alloc, text, options) {
-        Ok(members) => pack_for(alloc, buffer, &members, options.flavor),
-        Err(refusal) => Err(failure_in(text, refusal)),
-    }
-}
-
 /// Puts the library that the program makes of a text with these options at the beginning of the
 /// buffer. Gives its length. An error leaves the buffer as it was.
 ///
@@ -198,7 +184,10 @@ pub fn library_with_into(
         (length_given result) (place_given result) (status_number (status_given result)) }
 {
     match options_with(arguments) {
-        Ok(options) => put_library(alloc, text, &options, buffer),
+        Ok(options) => match members_for(alloc, text, &options) {
+            Ok(members) => pack_for(alloc, buffer, &members, options.flavor),
+            Err(refusal) => Err(failure_in(text, refusal)),
+        },
         Err(failure) => Err(failure),
     }
 }

@@ -2,37 +2,14 @@
 //! descriptor that is named after the library; or to what is wrong.
 
 ghost use Rattle.implib_c_calls.specs.Given.{length_given, place_given, status_given};
-ghost use Rattle.implib_c_calls.specs.GivenWith.{PutsNamedLibrary};
 ghost use Rattle.implib_c_calls.specs.LibraryWith.{NamedLibraryAnswers, given_options};
 ghost use Rattle.implib_c_calls.specs.Status.{status_number};
-ghost use Rattle.implib_rules.specs.Options.{library_options_view};
 
 use crate::library_with::{OptionsArguments, failure_in, options_with};
 use crate::outcome::{Failure, pack_into};
 use implib_null_descriptor::named_members_for;
 use implib_rules::library::kind_for;
-use implib_rules::options::LibraryOptions;
 use std::alloc::Global;
-
-// Puts the library of a text with these options at the beginning of the buffer, where there is
-// room. Gives its length.
-fn put_named(
-    alloc: Global,
-    text: &[u8],
-    options: &LibraryOptions<'_>,
-    buffer: &mut [u8],
-) -> Result<usize, Failure>
-    ensures { PutsNamedLibrary text.now (library_options_view options.now) buffer.old buffer.new
-        (length_given result) (place_given result) (status_given result) }
-{
-    match named_members_for(alloc, text, options) {
-        Ok(members) => {
-            let kind = kind_for(options.flavor, members.len());
-            pack_into(alloc, buffer, &members, kind)
-        }
-        Err(refusal) => Err(failure_in(text, refusal)),
-    }
-}
 
 /// Puts the library of a text with these options at the beginning of the buffer. Gives its length.
 /// An error leaves the buffer as it was.
@@ -50,7 +27,13 @@ pub fn named_library_into(
         (length_given result) (place_given result) (status_number (status_given result)) }
 {
     match options_with(arguments) {
-        Ok(options) => put_named(alloc, text, &options, buffer),
+        Ok(options) => match named_members_for(alloc, text, &options) {
+            Ok(members) => {
+                let kind = kind_for(options.flavor, members.len());
+                pack_into(alloc, buffer, &members, kind)
+            }
+            Err(refusal) => Err(failure_in(text, refusal)),
+        },
         Err(failure) => Err(failure),
     }
 }

@@ -3,10 +3,10 @@
 ghost use Rattle.implib.specs.Conversions.{machine_numbered};
 ghost use Rattle.implib.specs.Library.{member_view};
 ghost use Rattle.implib.specs.Members.OfText.{MembersOf};
-ghost use Rattle.implib_c_calls.specs.Answer.{Answers, flavor_numbered};
-ghost use Rattle.implib_c_calls.specs.Given.{FailsSo, HasMembers, OnTextFault, PacksInto};
-ghost use Rattle.implib_c_calls.specs.Given.{PutsEncoding, PutsInto, failure_status, length_given};
-ghost use Rattle.implib_c_calls.specs.Given.{place_given, status_given};
+ghost use Rattle.implib_c_calls.specs.Answer.{Answers, HasMembers, LacksMembers, OnTextFault};
+ghost use Rattle.implib_c_calls.specs.Answer.{flavor_numbered};
+ghost use Rattle.implib_c_calls.specs.Given.{PacksInto, PutsEncoding, PutsInto, failure_status};
+ghost use Rattle.implib_c_calls.specs.Given.{length_given, place_given, status_given};
 ghost use Rattle.implib_c_calls.specs.Library.{LibraryAnswers, kind_of_flavor};
 ghost use Rattle.implib_c_calls.specs.Status.{status_number};
 ghost use Rattle.std.specs.Prelude.{◌≡◌, IfErr, IfOk, map};
@@ -291,7 +291,7 @@ fn read_members(
 ) -> Result<(Vec<Member>, Flavor), Failure>
     ensures ok { IfOk result (λ found. HasMembers text.now machine flavor found.1
         (map member_view found.0.items)) }
-    ensures fault { IfErr result (FailsSo text.now machine flavor) }
+    ensures fault { IfErr result (LacksMembers text.now machine flavor) }
 {
     let Some(machine) = machine_with(machine) else {
         return Err(Failure::UnknownMachine);

@@ -1,10 +1,8 @@
 //! The statuses that C gets.
 
 ghost use Rattle.implib.specs.Fault.{cause_of};
-ghost use Rattle.implib_c_calls.specs.Delayed.{delay_status};
-ghost use Rattle.implib_c_calls.specs.LibraryOf.{export_status};
-ghost use Rattle.implib_c_calls.specs.Status.{archive_status, cause_status, status_number};
-ghost use Rattle.implib_c_calls.specs.Status.{status_numbered, status_text, text_for, with_text};
+ghost use Rattle.implib_c_calls.specs.Status.{archive_status, cause_status, delay_status};
+ghost use Rattle.implib_c_calls.specs.Status.{export_status, status_number, text_for, with_text};
 ghost use Rattle.std.specs.Prelude.{◌<◌, ◌≡◌, length};
 
 use crate::export::ExportFault;
@@ -157,113 +155,6 @@ impl Status {
         }
     }
 
-    /// The status with a number.
-    pub fn numbered(number: u32) -> Option<Status>
-        ensures { result ≡ status_numbered number }
-    {
-        match number {
-            0 => Some(Status::Success),
-            1 => Some(Status::BufferTooSmall),
-            2 => Some(Status::OutOfMemory),
-            3 => Some(Status::NotUtf8),
-            4 => Some(Status::UnknownMachine),
-            5 => Some(Status::UnknownFlavor),
-            16 => Some(Status::UnknownDirective),
-            17 => Some(Status::ExpectedIdentifier),
-            18 => Some(Status::ExpectedEqual),
-            19 => Some(Status::ExpectedInteger),
-            20 => Some(Status::InvalidOrdinal),
-            21 => Some(Status::LoneAt),
-            22 => Some(Status::EmptyImportName),
-            23 => Some(Status::NulInImportName),
-            24 => Some(Status::EmptyName),
-            25 => Some(Status::NulInExport),
-            26 => Some(Status::EmptyAskedName),
-            27 => Some(Status::MemberTooLong),
-            28 => Some(Status::NoNameType),
-            29 => Some(Status::EmptyMemberName),
-            30 => Some(Status::NulInMemberName),
-            31 => Some(Status::LineEndInMemberName),
-            32 => Some(Status::EmptySymbol),
-            33 => Some(Status::NulInSymbol),
-            34 => Some(Status::TooManyMembers),
-            35 => Some(Status::ArchiveTooLong),
-            36 => Some(Status::EmptyLibraryName),
-            37 => Some(Status::NulInLibraryName),
-            38 => Some(Status::LineEndInLibraryName),
-            39 => Some(Status::NoDllName),
-            40 => Some(Status::UnknownOptions),
-            41 => Some(Status::UnknownFlags),
-            42 => Some(Status::DllNotUtf8),
-            43 => Some(Status::UnknownExportFlags),
-            44 => Some(Status::ExportNotUtf8),
-            45 => Some(Status::NullInExport),
-            46 => Some(Status::NotALibrary),
-            47 => Some(Status::WriteFailed),
-            48 => Some(Status::NotAnImage),
-            49 => Some(Status::NoExportDirectory),
-            50 => Some(Status::DelayFlavor),
-            51 => Some(Status::DelayMachine),
-            52 => Some(Status::DelayData),
-            53 => Some(Status::DelayAlias),
-            _ => None,
-        }
-    }
-
-    /// Its text, in ASCII without NUL. A fault's is its displayed text, less the value that
-    /// this ends with.
-    pub fn text(self) -> &'static str
-        ensures text { result.now ≡ status_text self }
-        ensures short { length result.now < 32 }
-    {
-        match self {
-            Status::Success => "success",
-            Status::BufferTooSmall => "buffer too small",
-            Status::OutOfMemory => "out of memory",
-            Status::NotUtf8 => "input is not UTF-8",
-            Status::UnknownMachine => "unknown machine",
-            Status::UnknownFlavor => "unknown flavour",
-            Status::UnknownDirective => "unknown directive",
-            Status::ExpectedIdentifier => "expected identifier",
-            Status::ExpectedEqual => "expected equal",
-            Status::ExpectedInteger => "expected integer",
-            Status::InvalidOrdinal => "invalid ordinal",
-            Status::LoneAt => "lone @ after =",
-            Status::EmptyImportName => "import name is empty",
-            Status::NulInImportName => "import name contains null byte",
-            Status::EmptyName => "export name is empty",
-            Status::NulInExport => "export name contains null byte",
-            Status::EmptyAskedName => "asked name is empty",
-            Status::MemberTooLong => "member too long",
-            Status::NoNameType => "no name type for the asked name",
-            Status::EmptyMemberName => "member name is empty",
-            Status::NulInMemberName => "member name contains null byte",
-            Status::LineEndInMemberName => "member name contains line end",
-            Status::EmptySymbol => "symbol is empty",
-            Status::NulInSymbol => "symbol contains null byte",
-            Status::TooManyMembers => "too many members",
-            Status::ArchiveTooLong => "archive too long",
-            Status::EmptyLibraryName => "library name is empty",
-            Status::NulInLibraryName => "library name contains null byte",
-            Status::LineEndInLibraryName => "library name contains line end",
-            Status::NoDllName => "no name of the DLL",
-            Status::UnknownOptions => "unknown options",
-            Status::UnknownFlags => "unknown flags",
-            Status::DllNotUtf8 => "name of the DLL is not UTF-8",
-            Status::UnknownExportFlags => "unknown flags of an export",
-            Status::ExportNotUtf8 => "export name is not UTF-8",
-            Status::NullInExport => "export has a null pointer",
-            Status::NotALibrary => "not a library",
-            Status::WriteFailed => "writing failed",
-            Status::NotAnImage => "not an image",
-            Status::NoExportDirectory => "no export directory",
-            Status::DelayFlavor => "no delay for Microsoft's linker",
-            Status::DelayMachine => "no delayed imports on machine",
-            Status::DelayData => "data cannot be delayed",
-            Status::DelayAlias => "alias cannot be delayed",
-        }
-    }
-
     /// The status of a fault of the input.
     pub fn of_fault(fault: &Fault) -> Status
         ensures { result ≡ cause_status (cause_of fault.now) }
@@ -327,14 +218,58 @@ impl Status {
     }
 }
 
-/// The text for a number, which may be no status.
+/// The text for a number, which may be no status: in ASCII without NUL. A fault's is its displayed
+/// text, less the value that this ends with.
 pub fn status_text(number: u32) -> &'static str
     ensures text { result.now ≡ text_for number }
     ensures short { length result.now < 32 }
 {
-    match Status::numbered(number) {
-        Some(status) => status.text(),
-        None => "unknown status",
+    match number {
+        0 => "success",
+        1 => "buffer too small",
+        2 => "out of memory",
+        3 => "input is not UTF-8",
+        4 => "unknown machine",
+        5 => "unknown flavour",
+        16 => "unknown directive",
+        17 => "expected identifier",
+        18 => "expected equal",
+        19 => "expected integer",
+        20 => "invalid ordinal",
+        21 => "lone @ after =",
+        22 => "import name is empty",
+        23 => "import name contains null byte",
+        24 => "export name is empty",
+        25 => "export name contains null byte",
+        26 => "asked name is empty",
+        27 => "member too long",
+        28 => "no name type for the asked name",
+        29 => "member name is empty",
+        30 => "member name contains null byte",
+        31 => "member name contains line end",
+        32 => "symbol is empty",
+        33 => "symbol contains null byte",
+        34 => "too many members",
+        35 => "archive too long",
+        36 => "library name is empty",
+        37 => "library name contains null byte",
+        38 => "library name contains line end",
+        39 => "no name of the DLL",
+        40 => "unknown options",
+        41 => "unknown flags",
+        42 => "name of the DLL is not UTF-8",
+        43 => "unknown flags of an export",
+        44 => "export name is not UTF-8",
+        45 => "export has a null pointer",
+        46 => "not a library",
+        47 => "writing failed",
+        48 => "not an image",
+        49 => "no export directory",
+        50 => "no delay for Microsoft's linker",
+        51 => "no delayed imports on machine",
+        52 => "data cannot be delayed",
+        53 => "alias cannot be delayed",
+        _ => "unknown status",
     }
 }
 

@@ -5,8 +5,8 @@ ghost use Rattle.implib_c_calls.specs.Given.{length_given, place_given, status_g
 ghost use Rattle.implib_c_calls.specs.LibraryWith.{given_options, mark_length};
 ghost use Rattle.implib_c_calls.specs.Status.{status_number};
 ghost use Rattle.implib_c_calls.specs.Warnings.{kind_number};
-ghost use Rattle.implib_c_calls.specs.WarningsAnswer.{HasNoWarnings, WarningsAnswers};
-ghost use Rattle.implib_c_calls.specs.WarningsGiven.{EncodesWarnings, IsEncodingOf, PushesWarning};
+ghost use Rattle.implib_c_calls.specs.WarningsAnswer.{EncodesWarnings, HasNoWarnings};
+ghost use Rattle.implib_c_calls.specs.WarningsAnswer.{IsEncodingOf, PushesWarning, WarningsAnswers};
 ghost use Rattle.implib_rules.specs.Options.{library_options_view};
 ghost use Rattle.implib_rules.specs.Warnings.{notice_view, warning_view};
 ghost use Rattle.std.specs.Prelude.{◌≡◌, ◌<◌, ◌≤◌, IfErr, IfOk, OnOk, map};

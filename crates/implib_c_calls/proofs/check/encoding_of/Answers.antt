@@ -9,7 +9,7 @@ use Rattle.implib_read.specs.ClassViews.{member_read_view}
 use Rattle.implib_c_calls.specs.Check.{flagged, verdict_number, working_number}
 use Rattle.implib_c_calls.specs.Encoding.{encoded_number}
 use Rattle.implib_c_calls.specs.Imports.{row_of}
-use Rattle.implib_c_calls.specs.ImportsGiven.{row_of_found, row_view}
+use Rattle.implib_c_calls.specs.ImportsAnswer.{row_of_found, row_view}
 use Rattle.implib_c_calls.proofs.Flagged.{flagged_as}
 use Rattle.implib_c_calls.proofs.RowsPushed.{appended, told_appended}
 use Rattle.implib_c_calls.proofs.check.encoding_of.Goals as goal

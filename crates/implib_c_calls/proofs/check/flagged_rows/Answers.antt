@@ -1,5 +1,5 @@
 use Rattle.std.proofs.Common.{◌∙◌, ap, map, sym}
-use Rattle.implib_c_calls.specs.ImportsGiven.{row_of_found, row_view}
+use Rattle.implib_c_calls.specs.ImportsAnswer.{row_of_found, row_view}
 use Rattle.implib_c_calls.proofs.Flagged.{flagged_more, flagged_none}
 use Rattle.implib_c_calls.proofs.check.flagged_rows.Goals as goal
 

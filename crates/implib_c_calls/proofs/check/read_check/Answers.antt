@@ -3,8 +3,8 @@ use Rattle.implib_read.specs.ArchiveViews.{archive_view}
 use Rattle.implib_read.specs.Classes.{library_in}
 use Rattle.implib_read.specs.ClassViews.{member_read_view}
 use Rattle.implib_rules.specs.Options.{library_options_view}
-use Rattle.implib_c_calls.specs.Check.{told_of}
-use Rattle.implib_c_calls.specs.CheckGiven.{EncodesTold}
+use Rattle.implib_c_calls.specs.Check.{ToldFits, encoded_told, told_of}
+use Rattle.implib_c_calls.specs.Given.{IsEncoding}
 use Rattle.implib_c_calls.proofs.CheckAnswers.{encodes_check}
 use Rattle.implib_c_calls.proofs.check.read_check.Goals as goal
 
@@ -17,4 +17,4 @@ returns-clause-ok c =
     let read = rw c.in-Some.is at c.in_ok-meant.ensures.members in
     encodes_check archive members meant c.args.text.now (library_options_view c.args.options.now) c.in_ok-file.file.items bytes c.in_ok-file.ensures.library
     (subst (λ file. Some meant ≡ library_in file) c.deref.ensures.value read)
-    (subst (λ items. EncodesTold (told_of archive members (map member_read_view items)) bytes) c.deref-2.ensures.value c.in_ok-bytes.ensures)
+    (subst (λ items. IsEncoding encoded_told ToldFits (told_of archive members (map member_read_view items)) bytes) c.deref-2.ensures.value c.in_ok-bytes.ensures)

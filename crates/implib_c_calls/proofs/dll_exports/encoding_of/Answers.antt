@@ -5,7 +5,7 @@ use Rattle.implib_dll.specs.Rows.{rows_of}
 use Rattle.implib_dll.specs.Views.{exports_view, row_view}
 use Rattle.implib_archive.proofs.Appended.{pushes_as, pushes_then}
 use Rattle.implib_c_calls.specs.DllExports.{ExportFits, dll_rows, encoded_dll, encoded_export, export_row}
-use Rattle.implib_c_calls.specs.DllExportsGiven.{export_row_found}
+use Rattle.implib_c_calls.specs.DllExportsAnswer.{export_row_found}
 use Rattle.implib_c_calls.specs.Encoding.{encoded_list, encoded_number}
 use Rattle.implib_c_calls.proofs.dll_exports.encoding_of.Goals as goal
 

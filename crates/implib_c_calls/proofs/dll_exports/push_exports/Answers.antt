@@ -1,7 +1,7 @@
 use Rattle.std.proofs.Common.{length, subst}
 use Rattle.std.proofs.lemmas.List.Elements.{All-more}
 use Rattle.implib_c_calls.specs.DllExports.{ExportFits, encoded_export}
-use Rattle.implib_c_calls.specs.DllExportsGiven.{export_row_found}
+use Rattle.implib_c_calls.specs.DllExportsAnswer.{export_row_found}
 use Rattle.implib_c_calls.specs.Encoding.{encoded_number}
 use Rattle.implib_c_calls.proofs.Pushes.{pushes_item}
 use Rattle.implib_c_calls.proofs.dll_exports.push_exports.Goals as goal

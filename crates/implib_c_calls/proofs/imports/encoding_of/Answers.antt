@@ -1,5 +1,5 @@
 use Rattle.std.proofs.Common.{◌∙◌, ap, map}
-use Rattle.implib_c_calls.specs.ImportsGiven.{row_of_found, row_view}
+use Rattle.implib_c_calls.specs.ImportsAnswer.{row_of_found, row_view}
 use Rattle.implib_c_calls.proofs.RowsPushed.{appended, rows_alone}
 use Rattle.implib_c_calls.proofs.imports.encoding_of.Goals as goal
 

@@ -1,13 +1,10 @@
-use Rattle.std.proofs.Common.{subst}
-use Rattle.implib_c_calls.specs.Given.{PutsEncoding}
-use Rattle.implib_c_calls.proofs.ImportsAnswers.{answers_encoded, answers_lacking}
+use Rattle.implib_c_calls.proofs.Answer.{leaves_encoded, leaves_lacking}
+use Rattle.implib_c_calls.proofs.ImportsBack.{rows_back}
 use Rattle.implib_c_calls.proofs.imports.imports_into.Goals as goal
-
-pub returns-in-Err : goal.returns-in-Err
-returns-in-Err c = answers_lacking c.args.library.now c.args.buffer.now c.in-Err.failure c.in-Err.ensures.lacks
 
 pub returns : goal.returns
 returns c =
-    let bytes = c.in-Ok.bytes in
-    answers_encoded c.args.library.now c.args.buffer.now bytes.items c.in-Ok.ensures.ok c.put_encoding.new.buffer c.put_encoding.result
-    (subst (λ items. PutsEncoding items c.args.buffer.now c.put_encoding.new.buffer c.put_encoding.result) c.as_slice.ensures.value c.put_encoding.ensures)
+    (_, leaves_encoded rows_back (λ what has. has) c.in-Ok.ensures.ok c.as_slice.ensures.value c.put_encoding.new.buffer c.put_encoding.result c.put_encoding.ensures)
+
+pub returns-in-Err : goal.returns-in-Err
+returns-in-Err c = (_, leaves_lacking c.in-Err.failure c.in-Err.ensures.lacks)

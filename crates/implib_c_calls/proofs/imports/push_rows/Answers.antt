@@ -4,7 +4,7 @@ use Rattle.std.proofs.lemmas.List.Elements.{All-more}
 use Rattle.implib_c_calls.specs.declared.imports.Row.{Row as FoundRow}
 use Rattle.implib_c_calls.specs.Encoding.{encoded_number}
 use Rattle.implib_c_calls.specs.Imports.{Fits, encoded_row}
-use Rattle.implib_c_calls.specs.ImportsGiven.{row_view}
+use Rattle.implib_c_calls.specs.ImportsAnswer.{row_view}
 use Rattle.implib_c_calls.proofs.Pushes.{pushes_item}
 use Rattle.implib_c_calls.proofs.imports.push_rows.Goals as goal
 

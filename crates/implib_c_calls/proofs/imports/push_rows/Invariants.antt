@@ -2,7 +2,7 @@ use Rattle.std.proofs.Common.{◌++◌, All, flat_map, length, map, take}
 use Rattle.implib_archive.specs.Pushed.{Pushes}
 use Rattle.implib_c_calls.specs.Encoding.{encoded_number}
 use Rattle.implib_c_calls.specs.Imports.{Fits, encoded_row}
-use Rattle.implib_c_calls.specs.ImportsGiven.{row_view}
+use Rattle.implib_c_calls.specs.ImportsAnswer.{row_view}
 use Rattle.implib_c_calls.proofs.imports.push_rows.Given as goal
 
 -- the rows are appended up to here, and their numbers fit

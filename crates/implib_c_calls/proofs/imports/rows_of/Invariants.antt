@@ -1,5 +1,5 @@
 use Rattle.std.proofs.Common.{◌≡◌, map, take}
-use Rattle.implib_c_calls.specs.ImportsGiven.{row_of_found, row_view}
+use Rattle.implib_c_calls.specs.ImportsAnswer.{row_of_found, row_view}
 use Rattle.implib_c_calls.proofs.imports.rows_of.Given as goal
 
 -- the rows of the members up to here

@@ -1,5 +1,5 @@
-use Rattle.implib_c_calls.proofs.WorkedGaps.{worked_gaps}
+use Rattle.std.proofs.Common.{refl}
 use Rattle.implib_c_calls.proofs.laws.worked_gaps.Goals as goal
 
 pub returns : goal.returns
-returns c = worked_gaps
+returns c = record { statuses = refl; flavors = refl; machines = refl; unknown_flag = refl }

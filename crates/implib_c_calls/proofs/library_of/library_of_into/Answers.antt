@@ -1,12 +1,40 @@
-use Rattle.std.proofs.Common.{map}
+use Rattle.std.proofs.Common.{inl, map, refl, subst, sym}
+use Rattle.implib_archive.specs.Archive.{archive_of}
+use Rattle.implib_rules.specs.Exports.{IsLibraryOfExports, RefusesArchiveOfExports}
+use Rattle.implib_rules.specs.Library.{kind_of}
 use Rattle.implib_rules.specs.Options.{library_options_view}
-use Rattle.implib_c_calls.specs.LibraryOf.{given_export}
-use Rattle.implib_c_calls.proofs.AnswerOf.{answers_no_options, answers_of}
+use Rattle.implib_c_calls.specs.LibraryOf.{LacksLibraryOf, given_export}
+use Rattle.implib_c_calls.proofs.Answer.{leaves_lacking}
+use Rattle.implib_c_calls.proofs.AnswerOf.{lacks_exports, lacks_refused, with_exports}
+use Rattle.implib_c_calls.proofs.AnswerWith.{with_archive, with_nothing}
 use Rattle.implib_c_calls.proofs.library_of.library_of_into.Goals as goal
 
-pub returns-in-Ok : goal.returns-in-Ok
-returns-in-Ok c =
-    answers_of (map given_export c.args.exports.now) _ c.args.buffer.now (library_options_view c.in-Ok.options) c.in-Ok.ensures.ok _ _ _ _ c.put_library_of.ensures
+pub returns-in-Err-short_exports : goal.returns-in-Err-short_exports
+returns-in-Err-short_exports c =
+    let exports = map given_export c.args.exports.now in
+    let options = library_options_view c.in-Ok.options in
+    with_nothing c.in-Ok.ensures.ok c.from.result
+    (subst (LacksLibraryOf exports options) (sym c.from.ensures) (lacks_exports exports options c.in-Err-short_exports.error c.in-Err-short_exports.ensures.fault))
+
+pub returns-in-Ok-members_of_exports : goal.returns-in-Ok-members_of_exports
+returns-in-Ok-members_of_exports c =
+    let members = c.in-Ok-members_of_exports.members in
+    let made = c.in-Ok-members_of_exports.ensures.made in
+    let given = c.in-Ok-short_exports.ensures.ok in
+    let options = library_options_view c.in-Ok.options in
+    let kind = kind_of c.in-Ok.options.flavor members in
+    with_archive c.in-Ok.ensures.ok kind members
+    (λ accepted. with_exports given (λ es. IsLibraryOfExports es options (archive_of kind members)) (record { members = members; members_are = made; accepted = accepted; is = refl })) tt
+    (λ fault refused. with_exports given (λ es. RefusesArchiveOfExports es options fault) (record { members = members; members_are = made; refused = refused }))
+    c.pack_for.new.buffer c.pack_for.result c.pack_for.ensures
+
+pub returns-in-Err-members_of_exports : goal.returns-in-Err-members_of_exports
+returns-in-Err-members_of_exports c =
+    let exports = map given_export c.args.exports.now in
+    let options = library_options_view c.in-Ok.options in
+    with_nothing c.in-Ok.ensures.ok c.failure_of.result
+    (subst (LacksLibraryOf exports options) (sym c.failure_of.ensures)
+    (lacks_refused c.in-Ok-short_exports.ensures.ok options c.in-Err-members_of_exports.refusal c.in-Err-members_of_exports.ensures.refused))
 
 pub returns-in-Err : goal.returns-in-Err
-returns-in-Err c = answers_no_options (map given_export c.args.exports.now) _ c.args.buffer.now c.in-Err.failure c.in-Err.ensures.fault
+returns-in-Err c = leaves_lacking c.in-Err.failure (inl c.in-Err.ensures.fault)

@@ -1,6 +1,6 @@
 use Rattle.std.proofs.Common.{map, take}
 use Rattle.implib.specs.Definition.{export_view}
-use Rattle.implib_c_calls.specs.GivenOf.{AreGiven}
+use Rattle.implib_c_calls.specs.LibraryOf.{AreGiven}
 use Rattle.implib_c_calls.specs.LibraryOf.{given_export}
 use Rattle.implib_c_calls.proofs.library_of.short_exports.Given as goal
 

@@ -1,6 +1,6 @@
 use Rattle.std.proofs.Common.{[], length, map, take}
 use Rattle.implib_rules.specs.Warnings.{warning_view}
-use Rattle.implib_c_calls.specs.WarningsGiven.{PushesWarnings}
+use Rattle.implib_c_calls.specs.WarningsAnswer.{PushesWarnings}
 use Rattle.implib_c_calls.proofs.warnings.encoding_of.Given as goal
 
 -- the warnings are appended up to here

@@ -9,20 +9,7 @@ use Rattle.implib_c_calls.proofs.warnings.push_warning.Goals as goal
 
 kind_fits : (notice : NoticeView) → kind_number notice < 2 ^ 64
 kind_fits rules_of.HasNoExport = omega arith
-kind_fits rules_of.IsOtherKind = omega arith
-kind_fits (rules_of.IsRepeated word first) = omega arith
-kind_fits (rules_of.RepeatsOrdinal ordinal first) = omega arith
-kind_fits (rules_of.OpensLine attribute word) = omega arith
-kind_fits (rules_of.IsLowered word attribute) = omega arith
-kind_fits (rules_of.IsOrdinalLike word) = omega arith
-kind_fits (rules_of.IsStdcall word) = omega arith
-kind_fits (rules_of.IsNotExported word) = omega arith
-kind_fits rules_of.IsSecondHeading = omega arith
-kind_fits rules_of.IsSkipped = omega arith
-kind_fits rules_of.EndsEarly = omega arith
-kind_fits (rules_of.StandsAlone word) = omega arith
-kind_fits (rules_of.IsLate word) = omega arith
-kind_fits (rules_of.IsCommentLike word) = omega arith
+kind_fits _ = omega arith
 
 pub returns : goal.returns
 unfolding encoded_said
