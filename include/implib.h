@@ -209,7 +209,9 @@ struct implib_export {
 
 /*
  * Puts the import library of these exports at the beginning of the buffer, and returns a status: the one that
- * implib_library_with makes, with these options, of a definition of the same exports in the same order.
+ * implib_library_with makes, with these options, of a definition of the same exports in the same order. But an
+ * export whose target is one without a name in the DLL (IMPLIB_EXPORT_NONAME) asks for that name, which the DLL does
+ * not have: pass it with the ordinal and that flag, and no target. (implib_library_with asks for the ordinal.)
  *
  * options      as above; the name of the DLL has to be given
  * exports      count exports; may be null where count is 0
