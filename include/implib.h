@@ -62,7 +62,7 @@ extern "C" {
 
 /* The version of this header, which grows with every change of what it declares or says. implib_version()
  * gives that of the library. */
-#define IMPLIB_VERSION 11
+#define IMPLIB_VERSION 12
 uint32_t implib_version(void);
 
 /* What a call answers. New statuses get new numbers. */
@@ -209,9 +209,8 @@ struct implib_export {
 
 /*
  * Puts the import library of these exports at the beginning of the buffer, and returns a status: the one that
- * implib_library_with makes, with these options, of a definition of the same exports in the same order. But an
- * export whose target is one without a name in the DLL (IMPLIB_EXPORT_NONAME) asks for that name, which the DLL does
- * not have: pass it with the ordinal and that flag, and no target. (implib_library_with asks for the ordinal.)
+ * implib_library_with makes, with these options, of a definition of the same exports in the same order. So an export
+ * whose target is one without a name in the DLL (IMPLIB_EXPORT_NONAME) asks for the ordinal.
  *
  * options      as above; the name of the DLL has to be given
  * exports      count exports; may be null where count is 0

@@ -1,19 +1,32 @@
 -- Exports as C passes them, read from the first to the last.
-use Rattle.std.proofs.Common.{◌≡◌, ◌∙◌, ◌++◌, ◌+◌, ◌<◌, ℕ, List, [], ◌∷◌, ap, arith, get_or, length, map, refl, subst, sym, take}
+use Rattle.std.proofs.Common.{◌≡◌, ◌∙◌, ◌++◌, ◌+◌, ◌<◌, ℕ, List, [], ◌∷◌, Option, None, Some, ◌&&◌, ap, arith, get_or, length, map, refl, subst, sym, take}
 use Rattle.std.specs.Option.{option_map}
 use Rattle.std.proofs.lemmas.List.{get_or-map, length-map, map_more}
 use Rattle.std.proofs.lemmas.List.Elements.{All-more}
 use Rattle.std.proofs.lemmas.Option.{slice_get-get_or, slice_get-map}
+use Rattle.std.specs.List.{list_all}
 use Rattle.implib.specs.Definition.{ExportView}
+use Rattle.implib.specs.Import.{is_empty_text}
 use Rattle.implib_c_calls.specs.declared.export.Export.{Export}
 use Rattle.implib_c_calls.specs.declared.export.ExportFault.{ExportFault}
 use Rattle.implib_rules.specs.Exports.{LackSymbolNames}
-use Rattle.implib_c_calls.specs.LibraryOf.{AreGiven, GivenExport, IsAccepted, IsExportFault, IsFirstFault, export_given, exports_given, given_export}
+use Rattle.implib_rules.specs.Nameless.{asking, ordinal_asked}
+use Rattle.implib_c_calls.specs.LibraryOf.{AreGiven, GivenExport, IsAccepted, IsExportFault, IsFirstFault, export_given, exports_asked, exports_given, given_export}
 
--- none has a symbol name
-pub lack_symbol_names : (exports : List GivenExport) → LackSymbolNames (exports_given exports)
-lack_symbol_names [] = refl
-lack_symbol_names (e ∷ exports) = lack_symbol_names exports
+-- none has a symbol name, whatever ordinals they ask for
+kept : (number : Option ℕ) (e : ExportView) → (asking number e).symbol_name ≡ e.symbol_name
+kept None e = refl
+kept (Some number) e = refl
+
+lack_asked : (all : List ExportView) (exports : List GivenExport) → LackSymbolNames (map (λ e. asking (ordinal_asked all e) e) (exports_given exports))
+lack_asked all [] = refl
+lack_asked all (e ∷ exports) =
+    ap (λ name. is_empty_text name && list_all (λ e. is_empty_text e.symbol_name) (map (λ e. asking (ordinal_asked all e) e) (exports_given exports)))
+    (kept (ordinal_asked all (export_given e)) (export_given e))
+    ∙ lack_asked all exports
+
+pub lack_symbol_names : (exports : List GivenExport) → LackSymbolNames (exports_asked exports)
+lack_symbol_names exports = lack_asked (exports_given exports) exports
 
 module _ (exports : List Export) (index : ℕ) (d : Export) (within : index < length exports) where
   -- one export more

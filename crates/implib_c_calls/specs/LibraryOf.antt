@@ -6,7 +6,8 @@ use Rattle.implib.specs.Definition.{ExportView, empty_export}
 use Rattle.implib_rules.specs.declared.exports.ExportsRefusal.{ExportsRefusal}
 use Rattle.implib_rules.specs.declared.exports.ExportsRefusal.TheVariants as refusal
 use Rattle.implib_rules.specs.Exports.{IsLibraryOfExports, IsRefusalOfExports}
-use Rattle.implib_rules.specs.Exports.{RefusesArchiveOfExports}
+use Rattle.implib_rules.specs.Exports.{RefusesArchiveOfExports, of_exports}
+use Rattle.implib_rules.specs.Nameless.{with_ordinals}
 use Rattle.implib_rules.specs.Options.{LibraryOptionsView}
 use Rattle.implib_c_calls.specs.declared.export.Export.{Export as PassedExport}
 use Rattle.implib_c_calls.specs.declared.export.ExportFault.{ExportFault}
@@ -50,6 +51,11 @@ export_given e = record empty_export {
 abbrev pub exports_given : List GivenExport → List ExportView
 exports_given exports = map export_given exports
 
+-- what their library is made of: that, once aliases of exports without a name are by ordinal, as in
+-- a text
+abbrev pub exports_asked : List GivenExport → List ExportView
+exports_asked exports = (with_ordinals (of_exports (exports_given exports))).exports
+
 -- an export has no unknown flag, and both names are UTF-8
 pub record IsAccepted (e : GivenExport) : Type 0 where
   pub flags : e.flags < 16
@@ -69,9 +75,9 @@ pub record IsFirstFault (exports : List GivenExport) (index : ℕ)
   pub before : All IsAccepted (take index exports)
   pub is : IsExportFault export fault
 
--- each export is accepted, and of what a definition has of them this holds
+-- each export is accepted, and of what their library is made of this holds
 abbrev pub WithExports : List GivenExport → (List ExportView → Type 0) → Type 0
-WithExports exports P = All IsAccepted exports × P (exports_given exports)
+WithExports exports P = All IsAccepted exports × P (exports_asked exports)
 
 -- there is no library with these options: an export is refused by itself, the rules refuse the
 -- exports, their members have no archive, or memory was refused

@@ -10,7 +10,7 @@ ghost use Rattle.implib_c_calls.specs.DllCheck.{encoded_dll_told};
 ghost use Rattle.implib_c_calls.specs.DllExports.{DllFits, DllRows, dll_in, encoded_dll};
 ghost use Rattle.implib_c_calls.specs.Encoding.{ReadsBack, ReadsMembersBack};
 ghost use Rattle.implib_c_calls.specs.Imports.{Fits, Row, encoded_rows, rows_in};
-ghost use Rattle.implib_c_calls.specs.LibraryOf.{GivenExport, exports_given};
+ghost use Rattle.implib_c_calls.specs.LibraryOf.{GivenExport, exports_asked};
 ghost use Rattle.implib_c_calls.specs.Place.{PlacesAreOfRefusals};
 ghost use Rattle.implib_c_calls.specs.Status.{NumbersReturn};
 ghost use Rattle.implib_c_calls.specs.Warnings.{Fits as FitsSaid, Said};
@@ -140,7 +140,7 @@ pub fn worked_exports()
 /// Microsoft's linker is read in order (`library_reads` of `MembersOfExports`).
 #[tactic(auto, using(crate::proofs::GivenExports::lack_symbol_names))]
 pub fn given_exports_lack_symbol_names()
-    ensures { (exports : List GivenExport) → LackSymbolNames (exports_given exports) }
+    ensures { (exports : List GivenExport) → LackSymbolNames (exports_asked exports) }
 {}
 
 /// A text has one library for some options, by the rules of the program.

@@ -4,7 +4,8 @@
 ghost use Rattle.implib.specs.Definition.{export_view};
 ghost use Rattle.implib_c_calls.specs.Given.{length_given, place_given, status_given};
 ghost use Rattle.implib_c_calls.specs.LibraryOf.{AreGiven, LibraryOfAnswers, OnExportFault};
-ghost use Rattle.implib_c_calls.specs.LibraryOf.{export_given, failure_of_exports, given_export};
+ghost use Rattle.implib_c_calls.specs.LibraryOf.{WithExports, export_given, failure_of_exports};
+ghost use Rattle.implib_c_calls.specs.LibraryOf.{given_export};
 ghost use Rattle.implib_c_calls.specs.LibraryWith.{given_options};
 ghost use Rattle.implib_c_calls.specs.Status.{status_number};
 ghost use Rattle.std.specs.Prelude.{◌≡◌, ◌++◌, [], ◌∷◌, IfErr, IfOk, OnOk, map};
@@ -12,8 +13,9 @@ ghost use Rattle.std.specs.Prelude.{◌≡◌, ◌++◌, [], ◌∷◌, IfErr, I
 use crate::export::{Export, ExportFault, names_of, short_export};
 use crate::library_with::{OptionsArguments, options_with, pack_for};
 use crate::outcome::Failure;
-use implib::def::ShortExport;
+use implib::def::{ModuleDef, ShortExport};
 use implib_rules::exports::{ExportsRefusal, members_of_exports};
+use implib_rules::nameless::with_ordinals;
 use std::alloc::{AllocError, Global};
 
 // Why a definition has nothing of exports.
@@ -80,6 +82,18 @@ fn short_exports(alloc: Global, exports: &[Export<'_>]) -> Result<Vec<ShortExpor
     Ok(given)
 }
 
+// What the library is made of: that, with the aliases of exports without a name by their ordinals.
+fn exports_asked(alloc: Global, exports: &[Export<'_>]) -> Result<Vec<ShortExport>, GivenError>
+    ensures ok { IfOk result (λ asked. WithExports (map given_export exports.now)
+        (λ es. map export_view asked.items ≡ es)) }
+    ensures fault { IfErr result (OnExportFault (map given_export exports.now)) }
+{
+    let mut def = ModuleDef::empty(alloc);
+    def.exports = short_exports(alloc, exports)?;
+    let ModuleDef { exports, .. } = with_ordinals(alloc, def)?;
+    Ok(exports)
+}
+
 // What a refusal of exports becomes.
 fn failure_of(refusal: ExportsRefusal) -> Failure
     ensures { result ≡ failure_of_exports refusal }
@@ -91,7 +105,8 @@ fn failure_of(refusal: ExportsRefusal) -> Failure
     }
 }
 
-/// Puts the library of exports with these options at the beginning of the buffer. Gives its length.
+/// Puts the library of exports with these options at the beginning of the buffer: the bytes of that
+/// of a text with them. Gives its length.
 /// An error leaves the buffer as it was.
 ///
 /// # Errors
@@ -113,11 +128,11 @@ pub fn library_of_into(
         Ok(options) => options,
         Err(failure) => return Err(failure),
     };
-    let given = match short_exports(alloc, exports) {
-        Ok(given) => given,
+    let asked = match exports_asked(alloc, exports) {
+        Ok(asked) => asked,
         Err(error) => return Err(Failure::from(error)),
     };
-    match members_of_exports(alloc, given, &options) {
+    match members_of_exports(alloc, asked, &options) {
         Ok(members) => pack_for(alloc, buffer, &members, options.flavor),
         Err(refusal) => Err(failure_of(refusal)),
     }

@@ -23,7 +23,7 @@ pub mod machine;
 pub mod members;
 mod message;
 pub mod name;
-mod nameless;
+pub mod nameless;
 pub mod options;
 pub mod places;
 pub mod plain;

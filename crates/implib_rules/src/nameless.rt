@@ -1,5 +1,6 @@
 //! Aliases of exports that the DLL has by their ordinals alone: they ask for the ordinal. It is a
-//! rule of texts: whoever gives exports without one says himself what each asks for.
+//! rule of what people write, in a text or as exports of their own; of a DLL's exports none is an
+//! alias.
 
 ghost use Rattle.implib.specs.Definition.{definition_view, export_view};
 ghost use Rattle.implib_rules.specs.Firsts.{AreFirstWords};
@@ -95,7 +96,7 @@ fn ask_all(alloc: Global, exports: &mut Vec<ShortExport>, ordinals: &[Option<u16
 /// # Errors
 ///
 /// An allocation failed.
-pub(crate) fn with_ordinals(alloc: Global, mut def: ModuleDef) -> Result<ModuleDef, AllocError>
+pub fn with_ordinals(alloc: Global, mut def: ModuleDef) -> Result<ModuleDef, AllocError>
     ensures { IfOk result (λ made. definition_view made ≡ with_ordinals (definition_view def)) }
 {
     if !has_targets(def.exports.as_slice()) {
