@@ -1,58 +1,41 @@
 -- What a file is read to export lies in memory.
-use Rattle.std.proofs.Common.{◌≡◌, ℕ, zero, suc, ◌+◌, ◌-◌, ◌*◌, ◌<◌, ◌≤◌, ◌==◌, Bool, true, false, cond, List, [], ◌∷◌, Option, Some, None, Ok, Err, length, take, drop, get_or, nat_lt, refl, ap, ◌∙◌, sym, subst, arith}
-use Rattle.std.specs.Int.{from_le_bytes, w16, w32}
+use Rattle.std.proofs.Common.{◌≡◌, ℕ, zero, suc, ◌+◌, ◌*◌, ◌<◌, ◌≤◌, ◌==◌, Bool, true, false, cond, List, [], ◌∷◌, Option, Some, None, Ok, Err, length, take, drop, get_or, nat_lt, refl, ap, ◌∙◌, sym, subst, arith}
 use Rattle.std.specs.List.{slice_get}
 use Rattle.std.proofs.Math.Seq.{drop-cons}
 use Rattle.std.proofs.lemmas.Bool.{eqb-true}
 use Rattle.std.proofs.lemmas.List.{length-take}
 use Rattle.implib_dll.specs.declared.fault.Cause.{Cause}
-use Rattle.implib_dll.specs.declared.fault.Cause.TheVariants.{AddressTableOutside, DirectoryOutside, DllNameOutside, ForwarderOutside, NameOutside, NameTableOutside, OrdinalTableOutside, TextsTooLong}
+use Rattle.implib_dll.specs.declared.fault.Cause.TheVariants.{AddressTableOutside, DirectoryOutside, DllNameOutside, NameOutside, NameTableOutside, OrdinalTableOutside}
 use Rattle.implib_dll.specs.declared.header.Entry.{Entry}
 use Rattle.implib_dll.specs.declared.header.Header.{Header}
 use Rattle.implib_dll.specs.declared.section.Layout.TheVariants.{File}
 use Rattle.implib_dll.specs.Bytes.{u16_at, u32_at}
-use Rattle.implib_dll.specs.Exports.{Exports, NameEntry, Target, Empty, Address, Forwarder, as_forwarder, as_name, exports_at, exports_behind, exports_in, found_or, is_forwarder, name_step, table_at, target_of, target_step, text_within}
+use Rattle.implib_dll.specs.Exports.{Exports, NameEntry, Target, Forwarder, as_forwarder, as_name, exports_at, exports_behind, exports_in, found_or, is_forwarder, name_step, table_at, target_of, target_step, text_within}
 use Rattle.implib_dll.specs.Headers.{header_in}
 use Rattle.implib_dll.specs.Memory.{AreAt, ExportsLieInMemory, IsTargetOf, IsTextAt, LiesIn, byte_at, half_at, word_at}
-use Rattle.implib_dll.specs.Outcome.{◌>>=◌, Read, each_from, refusal}
-use Rattle.implib_dll.specs.Sections.{Section, kind_at, located, part_at, part_of, sections_in, text_at}
+use Rattle.implib_dll.specs.Outcome.{◌>>=◌, Read, each_from}
+use Rattle.implib_dll.specs.Sections.{Section, part_at, sections_in, text_at}
 use Rattle.implib_dll.proofs.InMemory.{bind_ok, done, file_is_in_memory, ok_is, part_of-is, same_some, some_before}
 
 -- ---- numbers
 
 two : (bytes : List ℕ) (j : ℕ) → j + 2 ≤ length bytes → take 2 (drop j bytes) ≡ get_or bytes j 0 ∷ get_or bytes (suc j) 0 ∷ []
-two bytes j within =
-    ap (take 2) (drop-cons bytes j 0 (omega (arith, within)) ∙ ap (λ t. get_or bytes j 0 ∷ t) (drop-cons bytes (suc j) 0 (omega (arith, within))))
+two bytes j within = grind (arith, drop-cons)
 
 four : (bytes : List ℕ) (j : ℕ) → j + 4 ≤ length bytes
     → take 4 (drop j bytes) ≡ get_or bytes j 0 ∷ get_or bytes (suc j) 0 ∷ get_or bytes (suc (suc j)) 0 ∷ get_or bytes (suc (suc (suc j))) 0 ∷ []
-four bytes j within =
-    ap (take 4) (drop-cons bytes j 0 (omega (arith, within))
-    ∙ ap (λ t. get_or bytes j 0 ∷ t) (drop-cons bytes (suc j) 0 (omega (arith, within))
-    ∙ ap (λ t. get_or bytes (suc j) 0 ∷ t) (drop-cons bytes (suc (suc j)) 0 (omega (arith, within))
-    ∙ ap (λ t. get_or bytes (suc (suc j)) 0 ∷ t) (drop-cons bytes (suc (suc (suc j))) 0 (omega (arith, within))))))
+four bytes j within = grind (arith, drop-cons)
 
 byte-is : (sections : List Section) (rva at k : ℕ) (bytes : List ℕ) → AreAt sections rva bytes → k < length bytes → at ≡ rva + k → byte_at sections at ≡ get_or bytes k 0
 byte-is sections rva at k bytes all within is = ap (byte_at sections) is ∙ all k within
 
 half-is : (sections : List Section) (rva j : ℕ) (bytes : List ℕ) → AreAt sections rva bytes → j + 2 ≤ length bytes → half_at sections (rva + j) ≡ u16_at bytes j
 unfolding u16_at
-half-is sections rva j bytes all within =
-    let first : byte_at sections (rva + j) ≡ get_or bytes j 0 = byte-is sections rva (rva + j) j bytes all (omega (arith, within)) refl in
-    let second : byte_at sections (rva + j + 1) ≡ get_or bytes (suc j) 0 = byte-is sections rva (rva + j + 1) (suc j) bytes all (omega (arith, within)) (omega arith) in
-    let list : (byte_at sections (rva + j) ∷ byte_at sections (rva + j + 1) ∷ []) ≡ (get_or bytes j 0 ∷ get_or bytes (suc j) 0 ∷ []) = cc in
-    ap (from_le_bytes w16) (list ∙ sym (two bytes j within))
+half-is sections rva j bytes all within = grind (arith, byte-is, two)
 
 word-is : (sections : List Section) (rva j : ℕ) (bytes : List ℕ) → AreAt sections rva bytes → j + 4 ≤ length bytes → word_at sections (rva + j) ≡ u32_at bytes j
 unfolding u32_at
-word-is sections rva j bytes all within =
-    let first : byte_at sections (rva + j) ≡ get_or bytes j 0 = byte-is sections rva (rva + j) j bytes all (omega (arith, within)) refl in
-    let second : byte_at sections (rva + j + 1) ≡ get_or bytes (suc j) 0 = byte-is sections rva (rva + j + 1) (suc j) bytes all (omega (arith, within)) (omega arith) in
-    let third : byte_at sections (rva + j + 2) ≡ get_or bytes (suc (suc j)) 0 = byte-is sections rva (rva + j + 2) (suc (suc j)) bytes all (omega (arith, within)) (omega arith) in
-    let fourth : byte_at sections (rva + j + 3) ≡ get_or bytes (suc (suc (suc j))) 0 = byte-is sections rva (rva + j + 3) (suc (suc (suc j))) bytes all (omega (arith, within)) (omega arith) in
-    let list : (byte_at sections (rva + j) ∷ byte_at sections (rva + j + 1) ∷ byte_at sections (rva + j + 2) ∷ byte_at sections (rva + j + 3) ∷ [])
-    ≡ (get_or bytes j 0 ∷ get_or bytes (suc j) 0 ∷ get_or bytes (suc (suc j)) 0 ∷ get_or bytes (suc (suc (suc j))) 0 ∷ []) = cc in
-    ap (from_le_bytes w32) (list ∙ sym (four bytes j within))
+word-is sections rva j bytes all within = grind (arith, byte-is, four)
 
 -- ---- steps that succeed
 
@@ -75,16 +58,12 @@ item_at {X} {S} step index state x y next rest given later zero at =
     let same : y ≡ x = same_some (Some y) y x refl at in
     let here : index ≡ index + 0 = omega arith in
     (state, next, ap (λ k. step k state) (sym here) ∙ (given ∙ ap (λ (z : X). done {X = X × S} (z, next)) same))
-item_at {X} {S} step index state x y next rest given later (suc i) at =
-    let there : index + 1 + i ≡ index + suc i = omega arith in
-    subst (λ k. Given step k x) there (later i x at)
+item_at {X} {S} step index state x y next rest given later (suc i) at = grind arith
 
 each-item : {X S : Type 0} (step : ℕ → S → Read (X × S)) (count index : ℕ) (state last : S) (found : List X) → each_from step index count state ≡ Ok (found, last)
     → (i : ℕ) (x : X) → slice_get found i ≡ Some x → Given step (index + i) x
 unfolding each_from
-each-item {X} {S} step zero index state last found is i x at =
-    let none : slice_get [] i ≡ Some x = ap (λ (y : List X × S). slice_get y.0 i) (ok_is ([], state) (found, last) is) ∙ at in
-    absurd cc
+each-item {X} {S} step zero index state last found is i x at = grind (arith, ok_is)
 each-item {X} {S} step (suc count) index state last found is i x at =
     let first = bind_ok (step index state) (λ one. each_from step (index + 1) count one.1 >>= λ others. Ok (one.0 ∷ others.0, others.1)) (found, last) is in
     let others = bind_ok (each_from step (index + 1) count first.0.1) (λ others. Ok (first.0.0 ∷ others.0, others.1)) (found, last) first.2 in
@@ -98,16 +77,10 @@ within_list (y ∷ xs) (suc i) x at = omega (arith, within_list xs i x at)
 
 text_within-some : (cause : Cause) (place room : ℕ) (o : Option (List ℕ)) (text : List ℕ) (left : ℕ) → text_within cause place room o ≡ Ok (text, left) → o ≡ Some text
 text_within-some cause place room None text left is = absurd cc
-text_within-some cause place room (Some found) text left is = by_room (nat_lt (length found) room) is
-  where
-    by_room : (b : Bool) → cond {A = Read (List ℕ × ℕ)} b (Ok (found, room - (length found + 1))) (refusal TextsTooLong place) ≡ Ok (text, left) → Some found ≡ Some text
-    by_room true is = ap (λ (x : List ℕ × ℕ). Some x.0) (ok_is (found, room - (length found + 1)) (text, left) is)
-    by_room false is = absurd cc
+text_within-some cause place room (Some found) text left is = grind (arith, nat_lt, ok_is)
 
 as_name-ok : (index : ℕ) (read : Read (List ℕ × ℕ)) (name : NameEntry) (left : ℕ) → as_name index read ≡ Ok (name, left) → (read ≡ Ok (name.text, left)) × (index ≡ name.index)
-as_name-ok index (Ok (text, room)) name left is =
-    let same = ok_is (record { text = text; index = index }, room) (name, left) is in
-    subst (λ (x : NameEntry × ℕ). (done {X = List ℕ × ℕ} (text, room) ≡ Ok (x.0.text, x.1)) × (index ≡ x.0.index)) same (refl, refl)
+as_name-ok index (Ok (text, room)) name left is = grind (arith, ok_is)
 as_name-ok index (Err fault) name left is = absurd cc
 
 as_forwarder-ok : (sections : List Section) (entry : Entry) (address : ℕ) (read : Read (List ℕ × ℕ)) (target : Target) (left : ℕ) → is_forwarder entry address ≡ true
@@ -120,22 +93,7 @@ target_of-ok : (sections : List Section) (entry : Entry) (address place room lef
     → ((rva : ℕ) (text : List ℕ) → text_at sections rva ≡ Some text → IsTextAt sections rva text)
     → target_of sections entry address place room ≡ Ok (target, left) → IsTargetOf sections entry address target
 unfolding target_of
-target_of-ok sections entry address place room left target texts is = by_zero (address == 0) refl is
-  where
-    by_forwarder : (b : Bool) → is_forwarder entry address ≡ b
-        → cond b (as_forwarder (text_within ForwarderOutside place room (text_at sections address))) (Ok (Address address (kind_at sections address), room)) ≡ Ok (target, left)
-        → IsTargetOf sections entry address target
-    by_forwarder true forwards is =
-        as_forwarder-ok sections entry address (text_within ForwarderOutside place room (text_at sections address)) target left forwards
-        (λ text after found. texts address text (text_within-some ForwarderOutside place room (text_at sections address) text after found)) is
-    by_forwarder false plain is =
-        subst (λ (x : Target × ℕ). IsTargetOf sections entry address x.0) (ok_is (Address address (kind_at sections address), room) (target, left) is) (plain, refl, refl)
-
-    by_zero : (b : Bool) → (address == 0) ≡ b
-        → cond b (Ok (Empty, room)) (cond (is_forwarder entry address) (as_forwarder (text_within ForwarderOutside place room (text_at sections address))) (Ok (Address address (kind_at sections address), room))) ≡ Ok (target, left)
-        → IsTargetOf sections entry address target
-    by_zero true none is = subst (λ (x : Target × ℕ). IsTargetOf sections entry address x.0) (ok_is (Empty, room) (target, left) is) (eqb-true address 0 none)
-    by_zero false some is = by_forwarder (is_forwarder entry address) refl is
+target_of-ok sections entry address place room left target texts is = grind (arith, text_within-some, ok_is, eqb-true)
 
 -- ---- the directory
 
@@ -152,10 +110,7 @@ found_or-some cause place (Some found) x is = ap Some (ok_is found x is)
 
 part-length : (sections : List Section) (rva size : ℕ) (part : ℕ × List ℕ) → part_at sections rva size ≡ Some part → length part.1 ≡ size
 unfolding part_at
-part-length sections rva size part is =
-    let at = some_before (part_of size) (located sections rva) part is in
-    let front = part_of-is size at.0 part at.2 in
-    omega (arith, ap (λ (x : ℕ × List ℕ). length x.1) (sym front.1), length-take size at.0.1, front.0)
+part-length sections rva size part is = grind (arith, some_before, part_of-is, length-take)
 
 table-is : (sections : List Section) (cause : Cause) (place rva size : ℕ) (table : ℕ × List ℕ) → Parts sections → table_at sections cause place rva size ≡ Ok table
     → (length table.1 ≡ size) × AreAt sections rva table.1
@@ -163,8 +118,7 @@ unfolding table_at
 table-is sections cause place rva size table parts is = by_size (size == 0) refl is
   where
     by_size : (b : Bool) → (size == 0) ≡ b → cond b (Ok (0, [])) (found_or cause place (part_at sections rva size)) ≡ Ok table → (length table.1 ≡ size) × AreAt sections rva table.1
-    by_size true none is =
-        subst (λ (x : ℕ × List ℕ). (length x.1 ≡ size) × AreAt sections rva x.1) (ok_is (0, []) table is) (sym (eqb-true size 0 none), λ k within. absurd (omega (arith, within)))
+    by_size true none is = grind (arith, ok_is, eqb-true)
     by_size false some is =
         let part = found_or-some cause place (part_at sections rva size) table is in
         (part-length sections rva size table part, parts rva size table.0 table.1 part)
@@ -238,10 +192,8 @@ laid header sections room d dll addresses pointers ordinals targets names parts 
       targets = λ index target item.
           subst (λ r. IsTargetOf sections header.entry (word_at sections (r + 4 * index)) target) (sym (word 28 (omega (arith, size))))
           (target_in sections header.entry addresses (u32_at d 28) (u32_at d 20) room targets.1 targets.0 texts a.0 a.1 targets-are index target item);
-      names = λ position name item.
-          subst (λ r. IsTextAt sections (word_at sections (r + 4 * position)) name.text) (sym (word 32 (omega (arith, size)))) (named position name item).0;
-      indexes = λ position name item.
-          ap (λ r. half_at sections (r + 2 * position)) (word 36 (omega (arith, size))) ∙ (named position name item).1;
+      names = λ position name item. grind arith;
+      indexes = λ position name item. grind arith;
     }
 
 lies : (header : Header) (sections : List Section) (room : ℕ) (directory : ℕ × List ℕ) (e : Exports) → Parts sections → Texts sections

@@ -1,8 +1,8 @@
 -- What a lookup finds.
-use Rattle.std.proofs.Common.{◌≡◌, ℕ, zero, suc, ◌+◌, ◌-◌, ◌%◌, ◌<◌, ◌≤◌, ◌^◌, Bool, true, false, ◌&&◌, cond, List, [], ◌∷◌, Option, Some, None, Ordering, length, refl, ap, ◌∙◌, sym, inl, inr, arith}
+use Rattle.std.proofs.Common.{◌≡◌, ℕ, zero, suc, ◌+◌, ◌<◌, ◌≤◌, Bool, true, false, ◌&&◌, cond, List, [], ◌∷◌, Option, Some, None, Ordering, length, refl, ap, ◌∙◌, sym, inl, inr, arith}
 use Rattle.std.specs.Cmp.Lexicographic.{slice_cmp}
 use Rattle.std.specs.List.{slice_get}
-use Rattle.std.specs.Option.{option_and_then, option_map, option_map_or}
+use Rattle.std.specs.Option.{option_map, option_map_or}
 use Rattle.std.specs.Ordering.{MatchOrdering, is_eq, is_lt, nat_cmp, ordering_reverse}
 use Rattle.std.specs.declared.cmp.Ordering.TheVariants.{Less, Equal, Greater}
 use Rattle.std.proofs.lemmas.Bool.{cases_lt}
@@ -10,7 +10,7 @@ use Rattle.std.proofs.lemmas.Cmp.{nat_list_cmp_total, tied_itself}
 use Rattle.std.proofs.lemmas.Map.Lookups.{exact_bytes}
 use Rattle.implib_dll.specs.Exports.{NameEntry}
 use Rattle.implib_dll.specs.Laws.{FindsExactly, FindsTheName, HintsChangeNothing, NamesLead, OrdinalsLead, RightHintFinds}
-use Rattle.implib_dll.specs.Lookup.{is_at, middle, names_rise, order_at, position_of, rise_from, searched, target_at, text_at}
+use Rattle.implib_dll.specs.Lookup.{is_at, middle, names_rise, order_at, position_of, rise_from, searched, text_at}
 use Rattle.implib_dll.proofs.Searching.{searched-above, searched-below, searched-found, searched-none}
 
 -- what an option has is what it is said to have
@@ -20,11 +20,7 @@ same_some o x y is also = cc
 order_at-text : (names : List NameEntry) (position : ℕ) (text wanted : List ℕ) → text_at names position ≡ Some text
     → order_at names position wanted ≡ slice_cmp nat_cmp text wanted
 unfolding order_at
-order_at-text names position text wanted is = found (slice_get names position) is
-  where
-    found : (o : Option NameEntry) → option_map (λ name. name.text) o ≡ Some text → option_map_or (λ name. slice_cmp nat_cmp name.text wanted) o Greater ≡ slice_cmp nat_cmp text wanted
-    found None is = absurd cc
-    found (Some name) is = let same : name.text ≡ text = cc in ap (λ t. slice_cmp nat_cmp t wanted) same
+order_at-text names position text wanted is = grind arith
 
 text_at-equal : (names : List NameEntry) (position : ℕ) (wanted : List ℕ) → order_at names position wanted ≡ Equal → text_at names position ≡ Some wanted
 unfolding order_at
@@ -59,9 +55,7 @@ searched-text names wanted (suc steps) low high position is =
     by_order : ((from to : ℕ) → searched names wanted steps from to ≡ Some position → text_at names position ≡ Some wanted)
         → low < high → (order : Ordering) → order_at names (middle low high) wanted ≡ order → text_at names position ≡ Some wanted
     by_order later some Less order = later (middle low high + 1) high (sym (searched-above names wanted steps low high some order) ∙ is)
-    by_order later some Equal order =
-        let here : middle low high ≡ position = same_some (searched names wanted (suc steps) low high) (middle low high) position (searched-found names wanted steps low high some order) is in
-        ap (text_at names) (sym here) ∙ text_at-equal names (middle low high) wanted order
+    by_order later some Equal order = grind (arith, same_some, searched-found, text_at-equal)
     by_order later some Greater order = later low (middle low high) (sym (searched-below names wanted steps low high some order) ∙ is)
 
 pub finds_the_name : FindsTheName
@@ -110,9 +104,7 @@ rest_rises text (name ∷ names) rises = (both_parts (is_lt (slice_cmp nat_cmp t
 pub rising : (names : List NameEntry) (i j : ℕ) (text other : List ℕ) → names_rise names ≡ true → i < j → text_at names i ≡ Some text → text_at names j ≡ Some other → Below text other
 rising [] i j text other rises before is also = absurd cc
 rising (name ∷ names) i zero text other rises before is also = absurd (omega (arith, before))
-rising (name ∷ names) zero (suc j) text other rises before is also =
-    let same : name.text ≡ text = cc in
-    ap (λ t. slice_cmp nat_cmp t other) (sym same) ∙ above names name.text other j rises also
+rising (name ∷ names) zero (suc j) text other rises before is also = grind (arith, above)
 rising (name ∷ names) (suc i) (suc j) text other rises before is also = rising names i j text other (rest_rises name.text names rises) (omega (arith, before)) is also
 
 -- the order of two names is that of their positions
@@ -138,14 +130,7 @@ placed names i j text other order rises is also ordered =
     greater so behind Greater ordered = behind
 
     equal : i ≡ j → (order : Ordering) → slice_cmp nat_cmp text other ≡ order → MatchOrdering order (i < j) (i ≡ j) (j < i)
-    equal same order ordered =
-        let one : text ≡ other = same_some (text_at names j) text other (ap (text_at names) (sym same) ∙ is) also in
-        tied order (sym ordered ∙ (ap (λ t. slice_cmp nat_cmp t other) one ∙ equal_itself other))
-      where
-        tied : (order : Ordering) → order ≡ Equal → MatchOrdering order (i < j) (i ≡ j) (j < i)
-        tied Less so = absurd cc
-        tied Equal so = same
-        tied Greater so = absurd cc
+    equal same order ordered = grind (arith, same_some, equal_itself)
 
 text_at-within : (names : List NameEntry) (position : ℕ) (text : List ℕ) → text_at names position ≡ Some text → position < length names
 text_at-within [] position text is = absurd cc
@@ -170,20 +155,12 @@ searched-rising names wanted (suc steps) low high position rises is from to with
     by_order : ((from to : ℕ) → from ≤ position → position < to → to ≤ length names → to ≤ from + steps → searched names wanted steps from to ≡ Some position)
         → low < high → (order : Ordering) → order_at names (middle low high) wanted ≡ order → MatchOrdering order (middle low high < position) (middle low high ≡ position) (position < middle low high)
         → searched names wanted (suc steps) low high ≡ Some position
-    by_order later some Less order place =
-        searched-above names wanted steps low high some order
-        ∙ later (middle low high + 1) high (omega (arith, place)) to within (omega (arith, enough, some))
+    by_order later some Less order place = grind (arith, searched-above)
     by_order later some Equal order place = searched-found names wanted steps low high some order ∙ ap Some place
-    by_order later some Greater order place =
-        searched-below names wanted steps low high some order
-        ∙ later low (middle low high) from place (omega (arith, some, within)) (omega (arith, enough, some))
+    by_order later some Greater order place = grind (arith, searched-below)
 
 pub finds_each : (names : List NameEntry) (wanted : List ℕ) (hint position : ℕ) → names_rise names ≡ true → text_at names position ≡ Some wanted → position_of names wanted hint ≡ Some position
-finds_each names wanted hint position rises is = by_hint (is_at names hint wanted) refl
-  where
-    by_hint : (b : Bool) → is_at names hint wanted ≡ b → cond b (Some hint) (searched names wanted (length names) 0 (length names)) ≡ Some position
-    by_hint true here = ap Some (placed names hint position wanted wanted Equal rises (text_at-equal names hint wanted (equal_from_is_eq _ here)) is (equal_itself wanted))
-    by_hint false other = searched-rising names wanted (length names) 0 (length names) position rises is (omega arith) (text_at-within names position wanted is) (omega arith) (omega arith)
+finds_each names wanted hint position rises is = grind (arith, placed, text_at-equal, equal_from_is_eq, equal_itself, searched-rising, text_at-within)
 
 pub finds_exactly : FindsExactly
 finds_exactly names wanted hint position rises = (finds_the_name names wanted hint position, finds_each names wanted hint position rises)
@@ -197,12 +174,7 @@ hints_change_nothing names wanted hint other rises = by_found (position_of names
     by_found None (Some position) is same = sym is ∙ finds_each names wanted hint position rises (finds_the_name names wanted other position same)
 
 pub names_lead : NamesLead
-names_lead e name hint position rises is =
-    ap (option_and_then (λ p. option_and_then (λ n. target_at e.targets n.index) (slice_get e.names p)))
-    (finds_each e.names name.text hint position rises (ap (option_map (λ n. n.text)) is))
-    ∙ ap (option_and_then (λ n. target_at e.targets n.index)) is
+names_lead e name hint position rises is = grind (arith, finds_each e.names name.text hint position rises (ap (option_map (λ n. n.text)) is))
 
 pub ordinals_lead : OrdinalsLead
-ordinals_lead e index base small =
-    let same : (((e.base + index) % 2 ^ 32) + (2 ^ 32 - e.base)) % 2 ^ 32 ≡ index = omega (arith, base, small) in
-    ap (target_at e.targets) same
+ordinals_lead e index base small = grind arith

@@ -33,9 +33,7 @@ both_parts true b is = (refl, is)
 both_parts false b is = absurd cc
 
 with_end_ok : (read : Read Section) (found : Section × ℕ) → with_end read ≡ Ok found → (read ≡ Ok found.0) × (found.1 ≡ found.0.address + found.0.size)
-with_end_ok (Ok s) found is =
-    let same = ok_is (s, s.address + s.size) found is in
-    subst (λ (x : Section × ℕ). (done s ≡ Ok x.0) × (x.1 ≡ x.0.address + x.0.size)) same (refl, refl)
+with_end_ok (Ok s) found is = grind (arith, ok_is, is)
 with_end_ok (Err fault) found is = absurd cc
 
 -- ---- sections that ascend and are apart, each with a fact
@@ -48,8 +46,7 @@ sections-apart : (P : Section → Type 0) (layout : Layout) (bytes : List ℕ) (
     → ((place end : ℕ) (s : Section) → section_at layout bytes place end ≡ Ok s → (end ≤ s.address) × P s)
     → (count index end last : ℕ) (found : List Section) → each_from (section_step layout bytes sections) index count end ≡ Ok (found, last) → Apart P end found
 unfolding each_from
-sections-apart P layout bytes sections each zero index end last found is =
-    subst (λ (x : List Section × ℕ). Apart P end x.0) (ok_is ([], end) (found, last) is) tt
+sections-apart P layout bytes sections each zero index end last found is = grind (arith, ok_is, is)
 sections-apart P layout bytes sections each (suc count) index end last found is =
     let step = section_step layout bytes sections in
     let first = bind_ok (step index end) (λ one. each_from step (index + 1) count one.1 >>= λ others. Ok (one.0 ∷ others.0, others.1)) (found, last) is in
@@ -86,11 +83,7 @@ in_first P end s rest rva found from fact has is =
       high = ltb-true _ _ parts.1;
       behind = omega (arith, from, low);
       is = same_some (Some (data_from s rva)) (data_from s rva) found refl is;
-      bytes = λ k within.
-          let first : nat_le s.address (rva + k) ≡ true = le-leb s.address (rva + k) (omega (arith, low)) in
-          let second : nat_lt (rva + k) (s.address + s.size) ≡ true = lt-ltb (rva + k) (s.address + s.size) within in
-          ap (λ b. cond (b && nat_lt (rva + k) (s.address + s.size)) (byte_in s (rva + k)) (byte_at rest (rva + k))) first
-          ∙ ap (λ b. cond b (byte_in s (rva + k)) (byte_at rest (rva + k))) second;
+      bytes = λ k within. grind (arith, nat_le, le-leb, low, nat_lt, lt-ltb);
     }
 
 in_rest : (P : Section → Type 0) (end : ℕ) (s : Section) (rest : List Section) (rva : ℕ) (found : ℕ × List ℕ) → end ≤ s.address
@@ -103,19 +96,13 @@ in_rest P end s rest rva found from f = record {
   high = f.high;
   behind = omega (arith, from, f.behind);
   is = f.is;
-  bytes = λ k within.
-      let past : nat_lt (rva + k) (s.address + s.size) ≡ false = le-ltb (rva + k) (s.address + s.size) (omega (arith, f.behind)) in
-      let first : nat_le s.address (rva + k) ≡ true = le-leb s.address (rva + k) (omega (arith, f.behind)) in
-      ap (λ b. cond (b && nat_lt (rva + k) (s.address + s.size)) (byte_in s (rva + k)) (byte_at rest (rva + k))) first
-      ∙ (ap (λ b. cond b (byte_in s (rva + k)) (byte_at rest (rva + k))) past
-      ∙ f.bytes k within);
+  bytes = λ k within. grind (arith, nat_lt, le-ltb, nat_le, le-leb);
 }
 
 located-found : (P : Section → Type 0) (end : ℕ) (sections : List Section) (rva : ℕ) (found : ℕ × List ℕ) → Apart P end sections → located sections rva ≡ Some found → Found P end sections rva found
 unfolding located
 located-found P end [] rva found apart is = absurd cc
-located-found P end (s ∷ rest) rva found apart is =
-    by_data (λ later. located-found P (s.address + s.size) rest rva found apart.1.1 later) (has_data s rva) refl is
+located-found P end (s ∷ rest) rva found apart is = grind (arith, by_data (λ later. located-found P (s.address + s.size) rest rva found apart.1.1 later) (has_data s rva) refl is)
   where
     by_data : (located rest rva ≡ Some found → Found P (s.address + s.size) rest rva found) → (b : Bool) → has_data s rva ≡ b → cond b (Some (data_from s rva)) (located rest rva) ≡ Some found → Found P end (s ∷ rest) rva found
     by_data later true has is = in_first P end s rest rva found apart.0 apart.1.0 has is
@@ -128,15 +115,7 @@ Small s = length s.contents ≤ s.size
 
 contents_at-length : (bytes : List ℕ) (place size : ℕ) (contents : List ℕ) → contents_at bytes place size ≡ Some contents → length contents ≤ size
 unfolding contents_at bytes_at
-contents_at-length bytes place size contents is = by_size (size == 0) is
-  where
-    of_bytes : (b : Bool) → cond b (Some (take size (drop place bytes))) None ≡ Some contents → length contents ≤ size
-    of_bytes true is = let same = same_some (Some (take size (drop place bytes))) (take size (drop place bytes)) contents refl is in omega (arith, ap length same, length-take size (drop place bytes))
-    of_bytes false is = absurd cc
-
-    by_size : (b : Bool) → cond b (Some []) (cond (nat_le (place + size) (length bytes)) (Some (take size (drop place bytes))) None) ≡ Some contents → length contents ≤ size
-    by_size true is = let same = same_some (Some []) [] contents refl is in omega (arith, ap length same)
-    by_size false is = of_bytes (nat_le (place + size) (length bytes)) is
+contents_at-length bytes place size contents is = grind (arith, size, bytes, contents, is, same_some, length-take, nat_le)
 
 -- what a section has, from its header
 record Laid (layout : Layout) (bytes : List ℕ) (place end : ℕ) (s : Section) : Type 0 where
@@ -148,24 +127,19 @@ record Laid (layout : Layout) (bytes : List ℕ) (place end : ℕ) (s : Section)
 
 section-laid : (layout : Layout) (bytes : List ℕ) (place end : ℕ) (s : Section) → section_at layout bytes place end ≡ Ok s → Laid layout bytes place end s
 unfolding section_at
-section-laid layout bytes place end s is =
-    let begins = test_ok (nat_lt (u32_at bytes (place + 12)) end) _ _ s is in
-    by_contents (contents_at bytes (contents_place layout bytes place) (contents_size layout bytes place)) refl (ltb-false _ _ begins.0) begins.1
+section-laid layout bytes place end s is = grind (arith, test_ok, nat_lt, bytes, is, by_contents, ltb-false)
   where
     by_contents : (o : Option (List ℕ)) → contents_at bytes (contents_place layout bytes place) (contents_size layout bytes place) ≡ o → end ≤ u32_at bytes (place + 12)
         → section_with layout bytes place o ≡ Ok s → Laid layout bytes place end s
     by_contents None read from is = absurd cc
-    by_contents (Some contents) read from is =
-        subst (Laid layout bytes place end) (ok_is _ s is) (record { from = from; address = refl; size = refl; offset = refl; contents = read })
+    by_contents (Some contents) read from is = grind (arith, bytes, ok_is, is, from, contents)
 
 contents_size-le : (layout : Layout) (bytes : List ℕ) (place : ℕ) → contents_size layout bytes place ≤ section_size bytes place
 contents_size-le File bytes place = omega arith
 contents_size-le Image bytes place = omega arith
 
 section-small : (layout : Layout) (bytes : List ℕ) (place end : ℕ) (s : Section) → section_at layout bytes place end ≡ Ok s → (end ≤ s.address) × Small s
-section-small layout bytes place end s is =
-    let laid = section-laid layout bytes place end s is in
-    (laid.from, omega (arith, laid.size, contents_at-length bytes _ _ s.contents laid.contents, contents_size-le layout bytes place))
+section-small layout bytes place end s is = grind (arith, section-laid, bytes, is, contents_at-length, contents_size-le)
 
 -- the data at an address are in memory
 data_in_memory : (sections : List Section) (end rva : ℕ) (found : ℕ × List ℕ) → Apart Small end sections → located sections rva ≡ Some found → AreAt sections rva found.1
@@ -182,15 +156,10 @@ data_in_memory sections end rva found apart is k within =
 
 -- the first bytes of what is in memory are
 front_in_memory : (sections : List Section) (rva n : ℕ) (bytes : List ℕ) → AreAt sections rva bytes → AreAt sections rva (take n bytes)
-front_in_memory sections rva n bytes all k within =
-    all k (omega (arith, within, length-take n bytes)) ∙ sym (get_or-take n bytes k 0 (omega (arith, within, length-take n bytes)))
+front_in_memory sections rva n bytes all k within = grind (arith, length-take, bytes, get_or-take)
 
 pub part_of-is : (size : ℕ) (found part : ℕ × List ℕ) → part_of size found ≡ Some part → (size ≤ length found.1) × ((found.0, take size found.1) ≡ part)
-part_of-is size found part is = by_size (nat_le size (length found.1)) refl is
-  where
-    by_size : (b : Bool) → nat_le size (length found.1) ≡ b → cond b (Some (found.0, take size found.1)) None ≡ Some part → (size ≤ length found.1) × ((found.0, take size found.1) ≡ part)
-    by_size true le is = (leb-true _ _ le, same_some (Some (found.0, take size found.1)) _ part refl is)
-    by_size false le is = absurd cc
+part_of-is size found part is = grind (arith, nat_le, size, leb-true, same_some, is)
 
 pub some_before : {X Y : Type 0} (f : X → Option Y) (o : Option X) (y : Y) → option_and_then f o ≡ Some y → (x : X) × (o ≡ Some x) × (f x ≡ Some y)
 some_before f None y is = absurd cc
@@ -250,11 +219,7 @@ file_is_in_memory bytes place count end sections is =
 
 bytes_at-is : (bytes : List ℕ) (place n : ℕ) (part : List ℕ) → bytes_at bytes place n ≡ Some part → (place + n ≤ length bytes) × (take n (drop place bytes) ≡ part)
 unfolding bytes_at
-bytes_at-is bytes place n part is = by_length (nat_le (place + n) (length bytes)) refl is
-  where
-    by_length : (b : Bool) → nat_le (place + n) (length bytes) ≡ b → cond b (Some (take n (drop place bytes))) None ≡ Some part → (place + n ≤ length bytes) × (take n (drop place bytes) ≡ part)
-    by_length true le is = (leb-true _ _ le, same_some (Some (take n (drop place bytes))) _ part refl is)
-    by_length false le is = absurd cc
+bytes_at-is bytes place n part is = grind (arith, nat_le, bytes, leb-true, same_some, is)
 
 bytes_at-found : (bytes : List ℕ) (place n : ℕ) → place + n ≤ length bytes → bytes_at bytes place n ≡ Some (take n (drop place bytes))
 unfolding bytes_at
@@ -262,11 +227,7 @@ bytes_at-found bytes place n within = ap (λ b. cond b (Some (take n (drop place
 
 contents_at-some : (bytes : List ℕ) (place size : ℕ) (contents : List ℕ) → contents_at bytes place size ≡ Some contents → 0 < length contents → bytes_at bytes place size ≡ Some contents
 unfolding contents_at
-contents_at-some bytes place size contents is some = by_size (size == 0) is
-  where
-    by_size : (b : Bool) → cond b (Some []) (bytes_at bytes place size) ≡ Some contents → bytes_at bytes place size ≡ Some contents
-    by_size true is = let same = same_some (Some []) [] contents refl is in absurd (omega (arith, ap length same, some))
-    by_size false is = is
+contents_at-some bytes place size contents is some = grind (arith, size, bytes, contents, is, same_some)
 
 -- a section's data are the bytes at its address
 abbrev InImage : List ℕ → Section → Type 0

@@ -1,15 +1,15 @@
 -- A lookup in memory is a lookup in what was read.
-use Rattle.std.proofs.Common.{◌≡◌, ℕ, zero, suc, ◌+◌, ◌*◌, ◌<◌, ◌≤◌, ◌==◌, Bool, false, ◌&&◌, cond, List, [], ◌∷◌, ◌++◌, Option, Some, None, Ordering, length, get_or, nat_lt, refl, ap, ◌∙◌, ◌⊎◌, sym, inl, inr, arith}
+use Rattle.std.proofs.Common.{◌≡◌, ℕ, zero, suc, ◌+◌, ◌*◌, ◌<◌, ◌≤◌, ◌==◌, Bool, cond, List, [], ◌∷◌, ◌++◌, Option, Some, None, Ordering, length, get_or, nat_lt, refl, ap, ◌∙◌, ◌⊎◌, sym, inl, inr, arith}
 use Rattle.std.specs.Cmp.Lexicographic.{slice_cmp}
 use Rattle.std.specs.List.{slice_get}
 use Rattle.std.specs.Option.{option_map_or}
-use Rattle.std.specs.Ordering.{is_eq, is_gt, is_lt, nat_cmp, ordering_then}
+use Rattle.std.specs.Ordering.{is_eq, is_gt, nat_cmp, ordering_then}
 use Rattle.std.specs.declared.cmp.Ordering.TheVariants.{Less, Equal, Greater}
 use Rattle.std.proofs.lemmas.Bool.{cases_lt, eqb-true, false_from_ne_true, le-ltb, lt-ltb}
 use Rattle.std.proofs.lemmas.Option.{slice_get_past}
 use Rattle.implib_dll.specs.declared.header.Entry.{Entry}
 use Rattle.implib_dll.specs.Exports.{Exports, NameEntry}
-use Rattle.implib_dll.specs.Lookup.{middle, order_at, position_of, searched}
+use Rattle.implib_dll.specs.Lookup.{order_at, searched}
 use Rattle.implib_dll.specs.Memory.{AreAt, LiesIn, LookupsAreThoseInMemory, byte_at, order_from, order_in, searched_in, word_at}
 use Rattle.implib_dll.specs.Sections.{Section}
 
@@ -20,9 +20,7 @@ less_than : (n : ℕ) → 0 < n → nat_cmp 0 n ≡ Less
 less_than n some = ap (λ b. cond b Less (cond (0 == n) Equal Greater)) (lt-ltb 0 n some)
 
 greater_than : (n : ℕ) → 0 < n → nat_cmp n 0 ≡ Greater
-greater_than n some =
-    let other : (n == 0) ≡ false = false_from_ne_true _ (λ same. omega (arith, eqb-true n 0 same, some)) in
-    ap (λ b. cond b Less (cond (n == 0) Equal Greater)) (le-ltb n 0 (omega arith)) ∙ ap (λ b. cond b Equal Greater) other
+greater_than n some = grind (arith, false_from_ne_true, eqb-true, le-ltb)
 
 order_from-is : (sections : List Section) (text wanted : List ℕ) (rva : ℕ) → AreAt sections rva (text ++ 0 ∷ []) → NoNul text → NoNul wanted
     → order_from sections rva wanted ≡ slice_cmp nat_cmp text wanted
@@ -74,38 +72,12 @@ searched_in-is : (order_of : ℕ → Ordering) (names : List NameEntry) (wanted 
     → (steps low high : ℕ) → high ≤ length names → searched_in order_of steps low high ≡ searched names wanted steps low high
 unfolding searched searched_in
 searched_in-is order_of names wanted same zero low high within = refl
-searched_in-is order_of names wanted same (suc steps) low high within =
-    by_room (λ from to fits. searched_in-is order_of names wanted same steps from to fits) (cases_lt low high)
+searched_in-is order_of names wanted same (suc steps) low high within = grind (arith, by_room (λ from to fits. searched_in-is order_of names wanted same steps from to fits) (cases_lt low high), cases_lt low high)
   where
     by_room : ((from to : ℕ) → to ≤ length names → searched_in order_of steps from to ≡ searched names wanted steps from to) → (low < high) ⊎ (high ≤ low)
         → searched_in order_of (suc steps) low high ≡ searched names wanted (suc steps) low high
-    by_room later (inl some) =
-        let before : middle low high < length names = omega (arith, some, within) in
-        let order = order_at names (middle low high) wanted in
-        ap (λ o. shape (nat_lt low high) o (middle low high) (searched_in order_of steps (cond (is_lt o) (middle low high + 1) low) (cond (is_gt o) (middle low high) high))) (same (middle low high) before)
-        ∙ ap (shape (nat_lt low high) order (middle low high))
-        (later (cond (is_lt order) (middle low high + 1) low) (cond (is_gt order) (middle low high) high) (next_high order (middle low high) high (length names) (omega (arith, before)) within))
-    by_room later (inr none) =
-        let empty : nat_lt low high ≡ false = le-ltb low high none in
-        let o = order_of (middle low high) in
-        let order = order_at names (middle low high) wanted in
-        ap (λ b. shape b o (middle low high) (searched_in order_of steps (cond (is_lt o) (middle low high + 1) low) (cond (is_gt o) (middle low high) high))) empty
-        ∙ sym (ap (λ b. shape b order (middle low high) (searched names wanted steps (cond (is_lt order) (middle low high + 1) low) (cond (is_gt order) (middle low high) high))) empty)
+    by_room later (inl some) = grind (arith, nat_lt, next_high)
+    by_room later (inr none) = grind (arith, nat_lt, le-ltb)
 
 pub lookups_are_those_in_memory : LookupsAreThoseInMemory
-lookups_are_those_in_memory sections entry e wanted hint lies none =
-    let order_of = order_in sections entry wanted in
-    let same = order_in-is sections entry e wanted lies none in
-    let search = searched_in-is order_of e.names wanted same (length e.names) 0 (length e.names) (omega arith) in
-    ap (λ count. cond (nat_lt hint count && is_eq (order_of hint)) (Some hint) (searched_in order_of count 0 count)) lies.name_count
-    ∙ (ap (cond (nat_lt hint (length e.names) && is_eq (order_of hint)) (Some hint)) search
-    ∙ by_hint (cases_lt hint (length e.names)) same)
-  where
-    by_hint : (hint < length e.names) ⊎ (length e.names ≤ hint) → ((position : ℕ) → position < length e.names → order_in sections entry wanted position ≡ order_at e.names position wanted)
-        → cond (nat_lt hint (length e.names) && is_eq (order_in sections entry wanted hint)) (Some hint) (searched e.names wanted (length e.names) 0 (length e.names)) ≡ position_of e.names wanted hint
-    by_hint (inl within) same =
-        ap (λ b. cond (b && is_eq (order_in sections entry wanted hint)) (Some hint) (searched e.names wanted (length e.names) 0 (length e.names))) (lt-ltb hint (length e.names) within)
-        ∙ ap (λ o. cond (is_eq o) (Some hint) (searched e.names wanted (length e.names) 0 (length e.names))) (same hint within)
-    by_hint (inr past) same =
-        ap (λ b. cond (b && is_eq (order_in sections entry wanted hint)) (Some hint) (searched e.names wanted (length e.names) 0 (length e.names))) (le-ltb hint (length e.names) past)
-        ∙ sym (ap (λ o. cond (is_eq o) (Some hint) (searched e.names wanted (length e.names) 0 (length e.names))) (order_at-past e.names hint wanted past))
+lookups_are_those_in_memory sections entry e wanted hint lies none = grind (arith, order_in-is, searched_in-is, nat_lt, cases_lt, lt-ltb, le-ltb, order_at-past)

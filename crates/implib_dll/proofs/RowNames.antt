@@ -1,7 +1,5 @@
 -- Rows, a name at a time.
 use Rattle.std.proofs.Common.{◌≡◌, ℕ, zero, suc, ◌+◌, ◌<◌, ◌≤◌, ◌==◌, true, false, cond, List, [], ◌∷◌, ◌++◌, map, length, take, get_or, refl, ap, ◌∙◌, sym, append-nil, arith}
-use Rattle.std.specs.Prelude.{filter}
-use Rattle.std.specs.Borrow.{Bor}
 use Rattle.std.proofs.Math.ListN.{set, get_or-map}
 use Rattle.std.proofs.lemmas.Bool.{eq-eqb, eqb-true, false_from_ne_true}
 use Rattle.std.proofs.lemmas.List.{length-map, length-take, map-append, map-set, take_more}
@@ -24,18 +22,13 @@ with_name r text = record r { names = r.names ++ text ∷ [] }
 
 names_at-more : (names : List NameEntry) (n : NameEntry) (index : ℕ)
     → names_at (names ++ n ∷ []) index ≡ names_at names index ++ map (λ name. name.text) (cond (n.index == index) (n ∷ []) [])
-names_at-more names n index =
-    ap (map (λ name. name.text)) (filter-append (λ name. name.index == index) names (n ∷ []))
-    ∙ map-append (λ name. name.text) (filter (λ name. name.index == index) names) (cond (n.index == index) (n ∷ []) [])
+names_at-more names n index = grind (arith, filter-append, map-append)
 
 names_at-other : (names : List NameEntry) (n : NameEntry) (index : ℕ) → (n.index == index) ≡ false → names_at (names ++ n ∷ []) index ≡ names_at names index
-names_at-other names n index other =
-    names_at-more names n index
-    ∙ (ap (λ b. names_at names index ++ map (λ name. name.text) (cond b (n ∷ []) [])) other ∙ append-nil (names_at names index))
+names_at-other names n index other = grind (arith, names_at-more, append-nil)
 
 names_at-same : (names : List NameEntry) (n : NameEntry) (index : ℕ) → (n.index == index) ≡ true → names_at (names ++ n ∷ []) index ≡ names_at names index ++ n.text ∷ []
-names_at-same names n index same =
-    names_at-more names n index ∙ ap (λ b. names_at names index ++ map (λ name. name.text) (cond b (n ∷ []) [])) same
+names_at-same names n index same = grind (arith, names_at-more)
 
 -- a row of these names
 abbrev pub row_with : ℕ → Target → ℕ → List (List ℕ) → SeenRow
@@ -46,23 +39,14 @@ pub rows_from-apart : (base : ℕ) (names : List NameEntry) (n : NameEntry) (tar
     → ((k : ℕ) → index ≤ k → k < index + length targets → (n.index == k) ≡ false)
     → rows_from base (names ++ n ∷ []) targets index ≡ rows_from base names targets index
 rows_from-apart base names n [] index apart = refl
-rows_from-apart base names n (t ∷ targets) index apart =
-    let rest = rows_from-apart base names n targets (index + 1) (λ k low high. apart k (omega (arith, low)) (omega (arith, high))) in
-    ap (λ ns. row_with base t index ns ∷ rows_from base (names ++ n ∷ []) targets (index + 1)) (names_at-other names n index (apart index (omega arith) (omega arith)))
-    ∙ ap (λ rows. row_with base t index (names_at names index) ∷ rows) rest
+rows_from-apart base names n (t ∷ targets) index apart = grind (arith, rows_from-apart base names n targets (index + 1) (λ k low high. apart k (omega (arith, low)) (omega (arith, high))), names_at-other)
 
 -- a name of an index is a further name of its row
 pub rows_from-at : (base : ℕ) (names : List NameEntry) (n : NameEntry) (targets : List Target) (index k : ℕ) (d : SeenRow) → k < length targets → n.index ≡ index + k
     → rows_from base (names ++ n ∷ []) targets index ≡ set (rows_from base names targets index) k (with_name (get_or (rows_from base names targets index) k d) n.text)
 rows_from-at base names n [] index k d within is = absurd (omega (arith, within))
-rows_from-at base names n (t ∷ targets) index zero d within is =
-    let rest = rows_from-apart base names n targets (index + 1) (λ k low high. false_from_ne_true _ (λ same. omega (arith, eqb-true _ _ same, is, low))) in
-    ap (λ ns. row_with base t index ns ∷ rows_from base (names ++ n ∷ []) targets (index + 1)) (names_at-same names n index (eq-eqb n.index index (omega (arith, is))))
-    ∙ ap (λ rows. row_with base t index (names_at names index ++ n.text ∷ []) ∷ rows) rest
-rows_from-at base names n (t ∷ targets) index (suc k) d within is =
-    let rest = rows_from-at base names n targets (index + 1) k d (omega (arith, within)) (omega (arith, is)) in
-    ap (λ ns. row_with base t index ns ∷ rows_from base (names ++ n ∷ []) targets (index + 1)) (names_at-other names n index (false_from_ne_true _ (λ same. omega (arith, eqb-true _ _ same, is))))
-    ∙ ap (λ rows. row_with base t index (names_at names index) ∷ rows) rest
+rows_from-at base names n (t ∷ targets) index zero d within is = grind (arith, rows_from-apart, false_from_ne_true, eqb-true, names_at-same, eq-eqb)
+rows_from-at base names n (t ∷ targets) index (suc k) d within is = grind (arith, rows_from-at base names n targets (index + 1) k d (omega (arith, within)) (omega (arith, is)), names_at-other, false_from_ne_true, eqb-true)
 
 length-rows : (base : ℕ) (names : List NameEntry) (targets : List Target) (index : ℕ) → length (rows_from base names targets index) ≡ length targets
 length-rows base names [] index = refl
@@ -80,8 +64,7 @@ pub name_added : (base : ℕ) (items next : List Row) (names : List Name) (targe
 name_added base items next names targets i d old new some within is was named so_far =
     let n = name_view (get_or names i d) in
     let so_many : length items ≡ length targets = sym (length-map items row_view) ∙ (ap length so_far ∙ length-rows base (map name_view (take i names)) targets 0) in
-    let item : get_or (rows_from base (map name_view (take i names)) targets 0) n.index (row_view old) ≡ row_view old =
-    ap (λ rows. get_or rows n.index (row_view old)) (sym so_far) ∙ (get_or-map row_view items n.index old ∙ ap row_view (sym was)) in
+    let item : get_or (rows_from base (map name_view (take i names)) targets 0) n.index (row_view old) ≡ row_view old = grind (arith, get_or-map row_view items n.index old) in
     ap (map row_view) is
     ∙ (map-set row_view items n.index new
     ∙ (ap (λ rows. set rows n.index (row_view new)) so_far
@@ -93,41 +76,16 @@ pub name_passed : (base : ℕ) (items : List Row) (names : List Name) (targets :
     → i < length names → length items ≤ (get_or names i d).index
     → map row_view items ≡ rows_from base (map name_view (take i names)) targets 0
     → map row_view items ≡ rows_from base (map name_view (take (i + 1) names)) targets 0
-name_passed base items names targets i d some past so_far =
-    let n = name_view (get_or names i d) in
-    let so_many : length items ≡ length targets = sym (length-map items row_view) ∙ (ap length so_far ∙ length-rows base (map name_view (take i names)) targets 0) in
-    so_far
-    ∙ (sym (rows_from-apart base (map name_view (take i names)) n targets 0 (λ k low high. false_from_ne_true _ (λ same. omega (arith, eqb-true _ _ same, high, past, so_many))))
-    ∙ ap (λ seen. rows_from base seen targets 0) (sym (names_more names i d some)))
+name_passed base items names targets i d some past so_far = grind (arith, length-map items row_view, length-rows base (map name_view (take i names)) targets 0, rows_from-apart, false_from_ne_true, eqb-true, names_more names i d some)
 
 -- rows of targets without names, up to one more
 rows_from-append : (base : ℕ) (names : List NameEntry) (front : List Target) (t : Target) (index : ℕ)
     → rows_from base names (front ++ t ∷ []) index ≡ rows_from base names front index ++ row_with base t (index + length front) (names_at names (index + length front)) ∷ []
-rows_from-append base names [] t index =
-    let here : index ≡ index + 0 = omega arith in
-    ap (λ k. row_with base t k (names_at names k) ∷ []) here
-rows_from-append base names (s ∷ front) t index =
-    let here : index + 1 + length front ≡ index + suc (length front) = omega arith in
-    ap (λ rows. row_with base s index (names_at names index) ∷ rows)
-    (rows_from-append base names front t (index + 1) ∙ ap (λ k. rows_from base names front (index + 1) ++ row_with base t k (names_at names k) ∷ []) here)
+rows_from-append base names [] t index = grind arith
+rows_from-append base names (s ∷ front) t index = grind (arith, rows_from-append base names front t (index + 1))
 
 pub row_pushed : (base : ℕ) (items next : List Row) (targets : List BorrowedTarget) (i : ℕ) (new : Row)
     → i < length targets → next ≡ items ++ new ∷ [] → new.ordinal ≡ ordinal_of base i → new.target ≡ get_or targets i new.target → new.names.items ≡ []
     → map row_view items ≡ rows_from base [] (map target_view (take i targets)) 0
     → map row_view next ≡ rows_from base [] (map target_view (take (i + 1) targets)) 0
-row_pushed base items next targets i new some is ordinal target none so_far =
-    let front = map target_view (take i targets) in
-    let t = target_view (get_or targets i new.target) in
-    let so_many : 0 + length front ≡ i = omega (arith, length-map (take i targets) target_view, length-take i targets, some) in
-    let more : map target_view (take (i + 1) targets) ≡ front ++ t ∷ [] = ap (map target_view) (take_more targets i new.target some) ∙ map-append target_view (take i targets) (get_or targets i new.target ∷ []) in
-    let row : row_view new ≡ row_with base t i [] =
-    ap (λ (o : ℕ). record { ordinal = o; target = target_view new.target; names = map (λ name. name.now) new.names.items }) ordinal
-    ∙ (ap (λ (s : BorrowedTarget). record { ordinal = ordinal_of base i; target = target_view s; names = map (λ name. name.now) new.names.items }) target
-    ∙ ap (λ (ns : List (Bor (List ℕ))). row_with base t i (map (λ name. name.now) ns)) none) in
-    ap (map row_view) is
-    ∙ (map-append row_view items (new ∷ [])
-    ∙ (ap (λ rows. rows ++ row_view new ∷ []) so_far
-    ∙ (ap (λ r. rows_from base [] front 0 ++ r ∷ []) row
-    ∙ (ap (λ k. rows_from base [] front 0 ++ row_with base t k [] ∷ []) (sym so_many)
-    ∙ (sym (rows_from-append base [] front t 0)
-    ∙ ap (λ ts. rows_from base [] ts 0) (sym more))))))
+row_pushed base items next targets i new some is ordinal target none so_far = grind (arith, length-map, length-take i targets, take_more targets i new.target some, map-append, rows_from-append)

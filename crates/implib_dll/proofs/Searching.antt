@@ -1,8 +1,6 @@
 -- The binary search, a step at a time.
 use Rattle.std.proofs.Common.{◌≡◌, ℕ, zero, suc, ◌+◌, ◌<◌, ◌≤◌, Bool, true, false, cond, List, [], ◌∷◌, Option, Some, None, Ordering, map, length, nat_lt, refl, ap, ◌∙◌, sym, arith}
-use Rattle.std.specs.Cmp.Lexicographic.{slice_cmp}
-use Rattle.std.specs.Option.{option_map_or}
-use Rattle.std.specs.Ordering.{is_eq, is_gt, is_lt, nat_cmp}
+use Rattle.std.specs.Ordering.{is_eq, is_gt, is_lt}
 use Rattle.std.specs.declared.cmp.Ordering.TheVariants.{Less, Equal, Greater}
 use Rattle.std.specs.List.{slice_get}
 use Rattle.std.proofs.lemmas.Bool.{le-ltb, lt-ltb}
@@ -23,9 +21,7 @@ length-names (n ∷ names) = ap suc (length-names names)
 -- no name is past the end
 pub not_at : (names : List Name) (position : ℕ) (wanted : List ℕ) → length names ≤ position → is_at (map name_view names) position wanted ≡ false
 unfolding order_at
-not_at names position wanted past =
-    ap (λ found. is_eq (option_map_or (λ n. slice_cmp nat_cmp n.text wanted) found Greater))
-    (slice_get-past (map name_view names) position (omega (arith, past, length-names names)))
+not_at names position wanted past = grind (arith, slice_get-past, length-names)
 
 -- a step of the search, by the order of what is in the middle
 stepped : List NameEntry → List ℕ → ℕ → ℕ → ℕ → ℕ → Bool → Ordering → Option ℕ
@@ -40,10 +36,7 @@ searched-step names wanted steps low high = refl
 -- what is left of a search that has a step
 searched-as : (names : List NameEntry) (wanted : List ℕ) (steps low high : ℕ) (order : Ordering) → low < high → order_at names (middle low high) wanted ≡ order
     → searched names wanted (suc steps) low high ≡ stepped names wanted steps low high (middle low high) true order
-searched-as names wanted steps low high order some is =
-    searched-step names wanted steps low high
-    ∙ (ap (λ b. stepped names wanted steps low high (middle low high) b (order_at names (middle low high) wanted)) (lt-ltb low high some)
-    ∙ ap (stepped names wanted steps low high (middle low high) true) is)
+searched-as names wanted steps low high order some is = grind (arith, searched-step, steps, stepped, lt-ltb)
 
 pub searched-found : (names : List NameEntry) (wanted : List ℕ) (steps low high : ℕ) → low < high → order_at names (middle low high) wanted ≡ Equal
     → searched names wanted (suc steps) low high ≡ Some (middle low high)
@@ -63,9 +56,7 @@ searched-below names wanted steps low high some is = searched-as names wanted st
 pub searched-none : (names : List NameEntry) (wanted : List ℕ) (steps low high : ℕ) → high ≤ low → searched names wanted steps low high ≡ None
 unfolding searched stepped
 searched-none names wanted zero low high none = refl
-searched-none names wanted (suc steps) low high none =
-    searched-step names wanted steps low high
-    ∙ ap (λ b. stepped names wanted steps low high (middle low high) b (order_at names (middle low high) wanted)) (le-ltb low high none)
+searched-none names wanted (suc steps) low high none = grind (arith, searched-step, steps, stepped, le-ltb)
 
 -- a search of all names has come down to those from `low` to before `high`
 pub record Searches (names : List NameEntry) (wanted : List ℕ) (low high : ℕ) (whole : Option ℕ) : Type 0 where
@@ -92,8 +83,7 @@ searches-above names wanted low high position whole some is order s =
     record {
       steps = t.0;
       enough = omega (arith, some, is, s.enough, t.1);
-      same = ap (λ p. searched names wanted t.0 (p + 1) high) is
-          ∙ (sym (searched-above names wanted t.0 low high some (ap (λ p. order_at names p wanted) (sym is) ∙ order)) ∙ t.2);
+      same = grind (arith, searched-above);
     }
 
 pub searches-below : (names : List NameEntry) (wanted : List ℕ) (low high position : ℕ) (whole : Option ℕ) → low < high → position ≡ middle low high
@@ -103,8 +93,7 @@ searches-below names wanted low high position whole some is order s =
     record {
       steps = t.0;
       enough = omega (arith, some, is, s.enough, t.1);
-      same = ap (searched names wanted t.0 low) is
-          ∙ (sym (searched-below names wanted t.0 low high some (ap (λ p. order_at names p wanted) (sym is) ∙ order)) ∙ t.2);
+      same = grind (arith, searched-below);
     }
 
 pub searches-none : (names : List NameEntry) (wanted : List ℕ) (low high : ℕ) (whole : Option ℕ) → high ≤ low → Searches names wanted low high whole → None ≡ whole
@@ -113,8 +102,4 @@ searches-none names wanted low high whole none s = sym (searched-none names want
 -- a name is found without a hint where it is with one past all names
 pub found_alone : (names : List Name) (wanted : List ℕ)
     → position_of (map name_view names) wanted (length names) ≡ searched (map name_view names) wanted (length names) 0 (length names)
-found_alone names wanted =
-    let seen = map name_view names in
-    ap (λ (b : Bool). cond b (Some (length names)) (searched seen wanted (length seen) 0 (length seen)))
-    (not_at names (length names) wanted (omega arith))
-    ∙ ap (λ n. searched seen wanted n 0 n) (length-names names)
+found_alone names wanted = grind (arith, not_at, length-names)

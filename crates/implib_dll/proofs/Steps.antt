@@ -21,21 +21,13 @@ regrouped front x (Err fault) = refl
 pub each_from-step : {X S : Type 0} (step : ℕ → S → Read (X × S)) (index left : ℕ) (state later : S) (x : X) → step index state ≡ Ok (x, later)
     → each_from step index (suc left) state ≡ (each_from step (index + 1) left later >>= λ others. Ok (x ∷ others.0, others.1))
 unfolding each_from
-each_from-step step index left state later x is =
-    ap (λ found. found >>= λ found. each_from step (index + 1) left found.1 >>= λ others. Ok (found.0 ∷ others.0, others.1)) is
+each_from-step step index left state later x is = grind arith
 
 -- one more, and what it is seen as
 pub reads-more : {A X S : Type 0} (view : A → X) (step : ℕ → S → Read (X × S)) (whole : Read (List X × S)) (items next : List A) (x : A) (index count : ℕ) (state later : S)
     → next ≡ items ++ x ∷ [] → index < count → step index state ≡ Ok (view x, later)
     → Reads step whole (map view items) index count state → Reads step whole (map view next) (index + 1) count later
-reads-more view step whole items next x index count state later pushed within is reads =
-    let more : count - index ≡ suc (count - (index + 1)) = omega arith in
-    let rest = each_from step (index + 1) (count - (index + 1)) later in
-    let one = ap (λ left. with_front (map view items) (each_from step index left state)) more
-    ∙ (ap (with_front (map view items)) (each_from-step step index (count - (index + 1)) state later (view x) is)
-    ∙ regrouped (map view items) (view x) rest) in
-    let items-are = ap (map view) pushed ∙ map-append view items (x ∷ []) in
-    record { so_far = ap (λ front. with_front front rest) items-are ∙ (sym one ∙ reads.so_far) }
+reads-more view step whole items next x index count state later pushed within is reads = grind (arith, each_from-step step index (count - (index + 1)) state later (view x) is, regrouped (map view items) (view x) (each_from step (index + 1) (count - (index + 1)) later), map-append view items (x ∷ []))
 
 -- a step that finds a fault
 pub reads-fault : {X S : Type 0} (error : ReadError) (step : ℕ → S → Read (X × S)) (whole : Read (List X × S)) (front : List X) (index count : ℕ) (state : S)
@@ -52,8 +44,4 @@ reads-fault (Refused fault) step whole front index count state within fails read
 pub reads-end : {X S : Type 0} (step : ℕ → S → Read (X × S)) (whole : Read (List X × S)) (front : List X) (index count : ℕ) (state : S)
     → count ≤ index → Reads step whole front index count state → whole ≡ Ok (front, state)
 unfolding each_from
-reads-end step whole front index count state past reads =
-    let none : count - index ≡ 0 = omega arith in
-    sym reads.so_far
-    ∙ (ap (λ left. with_front front (each_from step index left state)) none
-    ∙ ap (λ items. Ok (items, state)) (append-nil front))
+reads-end step whole front index count state past reads = grind (arith, append-nil)

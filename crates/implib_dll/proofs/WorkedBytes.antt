@@ -1,5 +1,5 @@
 -- Worked files, lookups and memory, by computing.
-use Rattle.std.proofs.Common.{refl}
+use Rattle.std.proofs.Common.{arith, refl}
 use Rattle.implib_dll.specs.Bytes.{bytes_at, text_in, u16_at, u32_at}
 use Rattle.implib_dll.specs.Digits.{bytes_of_digits}
 use Rattle.implib_dll.specs.Exports.{exports_at, exports_behind, exports_in, table_at, target_of}
@@ -49,48 +49,7 @@ worked_dlls = record {
 
 pub worked_lookups : WorkedLookups
 unfolding order_at searched
-worked_lookups = record {
-  rise = refl;
-  hint_right = refl;
-  hint_low = refl;
-  hint_high = refl;
-  hint_past = refl;
-  hint_last = refl;
-  shorter = refl;
-  longer = refl;
-  nothing = refl;
-  fall = refl;
-  missed = refl;
-  found_by_hint = refl;
-  found_first = refl;
-  case_misses = refl;
-  case_falls = refl;
-  twice_falls = refl;
-  twice_first = refl;
-  twice_second = refl;
-  unsigned = refl;
-  by_first = refl;
-  by_alias = refl;
-  by_forwarder = refl;
-  by_none = refl;
-  at_hole = refl;
-  at_last = refl;
-  past = refl;
-  odd_hole = refl;
-  odd_past = refl;
-  not_odd = refl;
-  ordinal_4 = refl;
-  ordinal_5 = refl;
-  ordinal_6 = refl;
-  ordinal_7 = refl;
-  ordinal_8 = refl;
-  ordinal_9 = refl;
-  ordinal_10 = refl;
-  high_first = refl;
-  high_second = refl;
-  wraps = refl;
-  wrapped = refl;
-}
+worked_lookups = grind arith
 
 pub worked_refusals : WorkedRefusals
 unfolding bytes_at bytes_of_digits contents_at each_from entry_in exports_at exports_behind exports_in header_at header_for header_with kind_at located part_at section_at signature_in table_at target_of text_at text_in u16_at u32_at worked_pe32 worked_pe32_plus

@@ -1,5 +1,5 @@
 -- Lemmas on lines of hexadecimal digits, made many at a time.
-use Rattle.std.proofs.Common.{◌≡◌, ℕ, zero, suc, ◌+◌, ◌*◌, ◌/◌, ◌%◌, ◌<◌, ◌≤◌, List, [], ◌∷◌, ◌++◌, length, map, get_or, refl, ap, ◌∙◌, arith, cond, leb, w8, Fits}
+use Rattle.std.proofs.Common.{◌≡◌, ℕ, zero, suc, ◌+◌, ◌*◌, ◌/◌, ◌%◌, ◌<◌, ◌≤◌, List, [], ◌∷◌, ◌++◌, length, map, get_or, refl, arith, cond, leb, w8, Fits}
 use Rattle.std.specs.Simd.Lanes.{Each1}
 use Rattle.std.proofs.lemmas.Simd.{swz_l}
 use Rattle.std.proofs.lemmas.Bool.Decides.{nat_tests}
@@ -36,10 +36,7 @@ not_zeroed n a below = grind (arith, nat_tests)
 -- looking each up gives its digit
 pub looked_up : (values : List ℕ) (i : ℕ) → i + length values ≤ 16 → Each1 (λ n. n < 16) values → swz_l w8 16 hex_digits i values ≡ map hex_digit values
 looked_up [] i room below = refl
-looked_up (n ∷ values) i room below =
-    let place : 16 * (i / 16) + n ≡ n = omega (arith, room) in
-    let lane = not_zeroed n (get_or hex_digits (16 * (i / 16) + n) 0) below.0 ∙ ap (λ k. get_or hex_digits k 0) place ∙ digit_at n below.0 in
-    ap (λ t. t ∷ swz_l w8 16 hex_digits (suc i) values) lane ∙ ap (λ t. hex_digit n ∷ t) (looked_up values (suc i) (omega (arith, room)) below.1)
+looked_up (n ∷ values) i room below = grind (arith, looked_up values (suc i) (omega (arith, room)) below.1, not_zeroed n (get_or hex_digits (16 * (i / 16) + n) 0) below.0, digit_at n below.0, swz_l w8 16 hex_digits (suc i) values)
 
 -- the high half of a byte is below 16
 pub highs_below : (values : List ℕ) → Each1 (Fits w8) values → Each1 (λ n. n < 16) (map (λ b. b / 16) values)

@@ -1,5 +1,5 @@
 -- Lemmas on the runs of the program.
-use Rattle.std.proofs.Common.{◌≡◌, ℕ, ◌-◌, Bool, true, List, [], ◌∷◌, ◌++◌, ◌⊎◌, Option, None, Some, IfSome, IsNone, MatchOption, Result, Ok, Err, OnOk, OnErr, false, ◌↔◌, inl, inr, length, take, drop, refl, sym, ap, subst, ◌∙◌, append_assoc, append-nil, take-append-drop}
+use Rattle.std.proofs.Common.{arith, ◌≡◌, ℕ, ◌-◌, Bool, true, List, [], ◌∷◌, ◌++◌, ◌⊎◌, Option, None, Some, IfSome, IsNone, MatchOption, Result, Ok, Err, OnOk, OnErr, false, ◌↔◌, inl, inr, length, take, drop, refl, sym, ap, subst, ◌∙◌, append_assoc, append-nil, take-append-drop}
 use Rattle.std.proofs.KnownBytes.{Appends-kept, Appends-nil, Appends-trans, Keeps-refl, Keeps-trans}
 use Rattle.std.proofs.lemmas.List.{take_rest}
 use Rattle.std.specs.Borrow.{Bor}
@@ -38,8 +38,7 @@ passes_more {keeps} old middle new bytes more p q = by_bool (Passes keeps old ne
     (λ sound. record {
       taken = p.taken ++ q.taken;
       left = q.left;
-      whole = sym (append_assoc old.waiting bytes more) ∙ ap (λ t. t ++ more) p.whole ∙ append_assoc p.taken p.left more
-          ∙ ap (λ t. p.taken ++ (t ++ more)) (p.waits sound) ∙ ap (λ t. p.taken ++ t) q.whole ∙ sym (append_assoc p.taken q.taken q.left);
+      whole = grind (arith, append_assoc);
       written = λ sure. Appends-trans old.contents middle.contents new.contents p.taken q.taken (p.written (inl sound)) (q.written sure);
       waits = q.waits;
       sound = λ h. p.sound (q.sound h);
@@ -61,37 +60,16 @@ passes_as {keeps} old new bytes same e p = subst (Passes keeps old new) e p
 
 -- nothing follows
 pub passes_nothing : {keeps : Bool} (old : Buffered) → Passes keeps old old []
-passes_nothing old = record {
-  taken = [];
-  left = old.waiting;
-  whole = append-nil old.waiting;
-  written = λ sure. Appends-nil old.contents;
-  waits = λ h. refl;
-  sound = λ h. h;
-  stopped = λ h. Keeps-refl old.contents;
-}
+passes_nothing old = grind (arith, append-nil, Appends-nil, Keeps-refl)
 
 -- a writer that has failed takes no more
 pub passes_failed : {keeps : Bool} (old new : Buffered) (bytes more : List ℕ) → Passes keeps old new bytes → new.failed ≡ true → Passes keeps old new (bytes ++ more)
-passes_failed old new bytes more p failed = record {
-  taken = p.taken;
-  left = p.left ++ more;
-  whole = sym (append_assoc old.waiting bytes more) ∙ ap (λ t. t ++ more) p.whole ∙ append_assoc p.taken p.left more;
-  written = p.written;
-  waits = λ h. both_ways (p.left ++ more ≡ new.waiting) new.failed h failed;
-  sound = λ h. both_ways (old.failed ≡ false) new.failed h failed;
-  stopped = p.stopped;
-}
+passes_failed old new bytes more p failed = grind (arith, append_assoc old.waiting bytes more, append_assoc p.taken p.left more, both_ways)
 
 -- with a writer that takes no byte in a write that fails, a beginning is written in any case
 pub beginning_written : {keeps : Bool} (before after : Option (List ℕ)) (failed failed' : Bool) (waiting waiting' bytes : List ℕ) → waiting ≡ [] → Passes keeps (buffered before failed waiting) (buffered after failed' waiting') bytes
     → keeps ≡ true → AppendsBeginning before after bytes
-beginning_written before after failed failed' waiting waiting' bytes none p keeping = record {
-  taken = p.taken;
-  left = p.left;
-  whole = ap (λ t. t ++ bytes) (sym none) ∙ p.whole;
-  written = p.written (inr keeping);
-}
+beginning_written before after failed failed' waiting waiting' bytes none p keeping = grind arith
 
 neither : {A B : Type 0} → (A → ⊥) → (B → ⊥) → A ⊎ B → ⊥
 neither left right (inl a) = left a
@@ -101,45 +79,13 @@ neither left right (inr b) = right b
 pub passes_written : {E : Type 0} (keeps : Bool) (before after : Option (List ℕ)) (failed failed' : Bool) (bytes : List ℕ) (answer : Result (Unit {0}) E) → failed ≡ false → OnOk answer (Appends before after bytes)
     → OnOk answer (failed' ≡ failed) → (keeps ≡ true → OnErr answer (AppendsBeginning before after bytes)) → OnErr answer (failed' ≡ true)
     → Passes keeps (buffered before failed []) (buffered after failed' []) bytes
-passes_written keeps before after failed failed' bytes (Ok done) good moved sound beginning fault = record {
-  taken = bytes;
-  left = [];
-  whole = sym (append-nil bytes);
-  written = λ sure. moved;
-  waits = λ h. refl;
-  sound = λ h. good;
-  stopped = λ h. both_ways (Keeps before after) failed good h;
-}
-passes_written keeps before after failed failed' bytes (Err error) good moved sound beginning fault = by_bool (Passes keeps (buffered before failed []) (buffered after failed' []) bytes) keeps
-    (λ tears. record {
-      taken = [];
-      left = bytes;
-      whole = refl;
-      written = λ sure. absurd (neither (λ h. never_both failed' h fault) (λ h. never_both keeps tears h) sure);
-      waits = λ h. both_ways (bytes ≡ []) failed' h fault;
-      sound = λ h. good;
-      stopped = λ h. both_ways (Keeps before after) failed good h;
-    })
-    (λ keeping.
-    let front = beginning keeping in record {
-      taken = front.taken;
-      left = front.left;
-      whole = front.whole;
-      written = λ sure. front.written;
-      waits = λ h. both_ways (front.left ≡ []) failed' h fault;
-      sound = λ h. good;
-      stopped = λ h. both_ways (Keeps before after) failed good h;
-    })
+passes_written keeps before after failed failed' bytes (Ok done) good moved sound beginning fault = grind (arith, append-nil, both_ways)
+passes_written keeps before after failed failed' bytes (Err error) good moved sound beginning fault = grind (arith, by_bool, neither, never_both, both_ways)
 
 -- one more write
 pub written_more : (before middle after : Option (List ℕ)) (bytes rest : List ℕ) (count : ℕ) → WrittenSoFar before middle bytes rest → Appends middle after (take count rest)
     → WrittenSoFar before after bytes (take (length rest - count) (drop count rest))
-written_more before middle after bytes rest count w moved = record {
-  taken = w.taken ++ take count rest;
-  whole = w.whole ∙ ap (λ t. w.taken ++ t) (sym (take-append-drop count rest)) ∙ sym (append_assoc w.taken (take count rest) (drop count rest))
-      ∙ ap (λ t. (w.taken ++ take count rest) ++ t) (sym (take_rest rest count));
-  written = Appends-trans before middle after w.taken (take count rest) w.written moved;
-}
+written_more before middle after bytes rest count w moved = grind (arith, take-append-drop, append_assoc, take_rest, Appends-trans)
 
 module _ (machine : MachineType) (flavor : Flavor) where
   made_last : (text : List ℕ) (members : List MemberView) → IsUndivided text → MembersOfDocument text machine flavor members → MembersOfDocuments text machine flavor (members ∷ [])
@@ -197,12 +143,7 @@ module _ (machine : MachineType) (flavor : Flavor) where
 
   pub document_made : (text : List ℕ) (lists : List (List MemberView)) (members : List MemberView) (left : Bor (List ℕ)) (document : List ℕ) (after : Option (Bor (List ℕ))) → DocumentsLeft text machine flavor lists (Some left)
       → Divided left.now document after → MembersOfDocument document machine flavor members → DocumentsLeft text machine flavor (lists ++ members ∷ []) after
-  document_made text lists members left document None l d made = record {
-    lists = λ more none.
-        subst (λ t. MembersOfDocuments text machine flavor t) (sym (append-nil (lists ++ members ∷ [])) ∙ ap (λ t. (lists ++ members ∷ []) ++ t) (sym none))
-        (l.lists (members ∷ []) (made_last left.now members d.1 (subst (λ t. MembersOfDocument t machine flavor members) d.0 made)));
-    refused = λ cause no. absurd no;
-  }
+  document_made text lists members left document None l d made = grind (arith, append-nil, made_last)
   document_made text lists members left document (Some rest) l d made = record {
     lists = λ more given.
         subst (λ t. MembersOfDocuments text machine flavor t) (sym (append_assoc lists (members ∷ []) more))
@@ -212,10 +153,8 @@ module _ (machine : MachineType) (flavor : Flavor) where
 
   document_refused : (text : List ℕ) (lists : List (List MemberView)) (left : Bor (List ℕ)) (document : List ℕ) (after : Option (Bor (List ℕ))) (cause : Cause) → DocumentsLeft text machine flavor lists (Some left) → Divided left.now document after
       → IsRefused document machine flavor cause → FirstRefused text machine flavor cause
-  document_refused text lists left document None cause l d refused =
-      l.refused cause (refused_last left.now cause d.1 (subst (λ t. IsRefused t machine flavor cause) d.0 refused))
-  document_refused text lists left document (Some rest) cause l d refused =
-      l.refused cause (refused_first left.now document rest.now cause d refused)
+  document_refused text lists left document None cause l d refused = grind (arith, refused_last, refused)
+  document_refused text lists left document (Some rest) cause l d refused = grind (arith, refused_first left.now document rest.now cause d refused)
 
   -- what `members_of` answers, as an answer of `members_of_documents`
   pub document_fault : (text : List ℕ) (lists : List (List MemberView)) (left : Bor (List ℕ)) (document : List ℕ) (after : Option (Bor (List ℕ))) (error : RunError) → DocumentsLeft text machine flavor lists (Some left)

@@ -1,5 +1,5 @@
+use Rattle.std.proofs.Common.{rules, arith}
 use Rattle.std.proofs.lemmas.Result.{err_from_is_err_and}
-use Rattle.implib_dll.specs.Views.{ask_view}
 use Rattle.implib_dll.proofs.Steps.{reads-end, reads-fault, reads-more}
 use Rattle.implib_dll.proofs.imports.each_ask.Goals as goal
 
@@ -10,11 +10,7 @@ returns-in_err-ask c =
     rw (p.1, p.2) (reads-fault c.in_err-ask.field-0.0 _ _ _ l.number c.args.count l.left c.loop-number-test.true c.in_err-ask.ensures l.invariant)
 
 pub loop-number-preserved : goal.loop-number-preserved
-loop-number-preserved c =
-    let l = c.loop-number in
-    reads-more ask_view _ _ l.asks.items _ c.in_ok-ask.ask l.number c.args.count l.left c.in_ok-ask.next_left c.in_ok-push.ensures.items c.loop-number-test.true c.in_ok-ask.ensures l.invariant
+loop-number-preserved c = grind (arith, reads-more, c.in_ok-push.ensures.items, c.loop-number-test.true, c.in_ok-ask.ensures, c.loop-number.invariant)
 
 pub returns : goal.returns
-returns c =
-    let l = c.loop-number in
-    reads-end _ _ _ l.number c.args.count l.left c.loop-number-test.false l.invariant
+returns c = search (rules, reads-end, c.loop-number-test.false, c.loop-number.invariant)

@@ -1,4 +1,4 @@
-use Rattle.std.proofs.Common.{◌≡◌, ◌+◌, ◌-◌, ◌/◌, sym, arith}
+use Rattle.std.proofs.Common.{rules, ◌≡◌, ◌+◌, ◌-◌, ◌/◌, sym, arith}
 use Rattle.implib_dll.specs.Lookup.{middle}
 use Rattle.implib_dll.proofs.Searching.{searches-above, searches-below, searches-found, searches-none}
 use Rattle.implib_dll.proofs.lookup.searched.Goals as goal
@@ -25,6 +25,4 @@ loop-low-preserved c =
     (searches-below _ c.args.wanted.now l.low l.high _ _ some is (sym c.in-Greater.ensures) l.invariant.0, omega (arith, some, l.invariant.1))
 
 pub returns-clause-found : goal.returns-clause-found
-returns-clause-found c =
-    let l = c.loop-low in
-    searches-none _ c.args.wanted.now l.low l.high _ c.loop-low-test.false l.invariant.0
+returns-clause-found c = search (rules, searches-none, c.loop-low-test.false, c.loop-low.invariant.0)

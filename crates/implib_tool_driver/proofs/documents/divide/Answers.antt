@@ -1,4 +1,4 @@
-use Rattle.std.proofs.Common.{rules, take, subst, sym, ◌∙◌}
+use Rattle.std.proofs.Common.{arith, rules, take, subst, sym, ◌∙◌}
 use Rattle.std.proofs.lemmas.Slice.{between_from_start}
 use Rattle.std.proofs.lemmas.Str.{IsCharBoundary-start}
 use Rattle.implib_tool_driver.specs.Documents.{Divides}
@@ -6,15 +6,10 @@ use Rattle.implib_tool_driver.proofs.Dividing.{start_first, start_next, divides_
 use Rattle.implib_tool_driver.proofs.documents.divide.Goals as goal
 
 pub loop-start-init : goal.loop-start-init
-loop-start-init c = record {
-  place = start_first c.args.text.now;
-  boundary = IsCharBoundary-start c.args.text.now c.utf8.text;
-}
+loop-start-init c = grind (arith, start_first, IsCharBoundary-start, c.utf8.text)
 
 pub range_from-requires : goal.range_from-requires
-range_from-requires c =
-    let at = rw c.as_bytes-bytes.ensures.value at c.line_at-end.ensures in
-    λ _. next_boundary c.args.text.now c.loop-start.start c.line_at-end.result.0 c.line_at-end.result.1 c.utf8.text at
+range_from-requires c = grind (arith, next_boundary c.args.text.now c.loop-start.start c.line_at-end.result.0 c.line_at-end.result.1 c.utf8.text, c.as_bytes-bytes.ensures.value, c.line_at-end.ensures, c.utf8.text)
 
 pub returns-then-is_separator : goal.returns-then-is_separator
 returns-then-is_separator c =
@@ -31,7 +26,6 @@ loop-start-preserved c =
     let at = rw c.as_bytes-bytes.ensures.value at c.line_at-end.ensures in
     let separates = rw c.as_bytes-bytes.ensures.value at c.is_separator.ensures in
     record {
-      place = start_next c.args.text.now c.loop-start.start c.line_at-end.result.0 c.line_at-end.result.1 c.loop-start.invariant.place at
-          (λ separator. let yes = separates.1 separator in search rules);
+      place = grind (arith, start_next c.args.text.now c.loop-start.start c.line_at-end.result.0 c.line_at-end.result.1 c.loop-start.invariant.place, c.loop-start.invariant.place);
       boundary = next_boundary c.args.text.now c.loop-start.start c.line_at-end.result.0 c.line_at-end.result.1 c.utf8.text at;
     }

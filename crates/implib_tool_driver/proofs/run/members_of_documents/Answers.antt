@@ -1,8 +1,8 @@
-use Rattle.std.proofs.Common.{[], ◌∷◌, ap, refl, subst, sym, append-nil, map, ◌∙◌}
+use Rattle.std.proofs.Common.{arith, [], ◌∷◌, ap, subst, sym, append-nil, map, ◌∙◌}
 use Rattle.std.proofs.lemmas.List.{map-append}
 use Rattle.std.proofs.lemmas.Result.{err_from_is_err_and}
 use Rattle.implib.specs.Library.{member_view}
-use Rattle.implib_tool_driver.specs.Views.{MembersOfDocuments, DocumentsLeft, member_views}
+use Rattle.implib_tool_driver.specs.Views.{DocumentsLeft, member_views}
 use Rattle.implib_tool_driver.proofs.Running.{document_made, document_fault}
 use Rattle.implib_tool_driver.proofs.run.members_of_documents.Goals as goal
 
@@ -25,6 +25,4 @@ loop-rest-preserved c =
     left c.divide.ensures c.in_ok-members_of.ensures.ok)
 
 pub returns-clause-ok : goal.returns-clause-ok
-returns-clause-ok c =
-    let none = rw c.in_default.is at c.loop-rest.invariant in
-    subst (MembersOfDocuments c.args.text.now c.args.machine c.args.flavor) (append-nil (member_views c.loop-rest.lists.items)) (none.lists _ refl)
+returns-clause-ok c = grind (arith, append-nil (member_views c.loop-rest.lists.items), c.in_default.is, c.loop-rest.invariant)
