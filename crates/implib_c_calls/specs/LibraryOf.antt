@@ -2,11 +2,14 @@
 -- under these options.
 use Rattle.std.specs.Prelude.{◌≡◌, ℕ, ◌<◌, ◌≤◌, ◌⊎◌, List, All, Some, map, slice_get, take}
 use Rattle.std.specs.Str.{IsUtf8}
-use Rattle.implib.specs.Definition.{ExportView, empty_export}
+use Rattle.implib.specs.declared.machine.MachineType.TheVariants.{AMD64}
+use Rattle.implib.specs.Definition.{DefinitionView, ExportView, empty_export}
+use Rattle.implib.specs.Text.Parses.{Parses}
 use Rattle.implib_rules.specs.declared.exports.ExportsRefusal.{ExportsRefusal}
 use Rattle.implib_rules.specs.declared.exports.ExportsRefusal.TheVariants as refusal
 use Rattle.implib_rules.specs.Exports.{IsLibraryOfExports, IsRefusalOfExports}
 use Rattle.implib_rules.specs.Exports.{RefusesArchiveOfExports, of_exports}
+use Rattle.implib_rules.specs.Library.{IsLibrary, definition_text}
 use Rattle.implib_rules.specs.Nameless.{with_ordinals}
 use Rattle.implib_rules.specs.Options.{LibraryOptionsView}
 use Rattle.implib_c_calls.specs.declared.export.Export.{Export as PassedExport}
@@ -100,6 +103,16 @@ LibraryOfAnswers exports given =
     (λ file. WithOptions given
     (λ options. WithExports exports (λ es. IsLibraryOfExports es options file)))
     (LacksWith given (LacksLibraryOf exports))
+
+-- Exports have the library of a text that states just these, whatever DLL it names, with the same
+-- options.
+abbrev pub ExportsHaveTheTextsLibrary : Type 0
+ExportsHaveTheTextsLibrary =
+    (text : List ℕ) (exports : List GivenExport) (options : LibraryOptionsView)
+    (stated : DefinitionView) (file other : List ℕ) →
+    Parses (definition_text text) AMD64 stated → stated.exports ≡ exports_given exports →
+    IsLibrary text options file →
+    WithExports exports (λ es. IsLibraryOfExports es options other) → file ≡ other
 
 -- Views: what the functions below `implib_library_of` give each other. No promise cites them.
 

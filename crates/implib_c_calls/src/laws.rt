@@ -10,7 +10,8 @@ ghost use Rattle.implib_c_calls.specs.DllCheck.{encoded_dll_told};
 ghost use Rattle.implib_c_calls.specs.DllExports.{DllFits, DllRows, dll_in, encoded_dll};
 ghost use Rattle.implib_c_calls.specs.Encoding.{ReadsBack, ReadsMembersBack};
 ghost use Rattle.implib_c_calls.specs.Imports.{Fits, Row, encoded_rows, rows_in};
-ghost use Rattle.implib_c_calls.specs.LibraryOf.{GivenExport, exports_asked};
+ghost use Rattle.implib_c_calls.specs.LibraryOf.{ExportsHaveTheTextsLibrary, GivenExport};
+ghost use Rattle.implib_c_calls.specs.LibraryOf.{exports_asked};
 ghost use Rattle.implib_c_calls.specs.Place.{PlacesAreOfRefusals};
 ghost use Rattle.implib_c_calls.specs.Status.{NumbersReturn};
 ghost use Rattle.implib_c_calls.specs.Warnings.{Fits as FitsSaid, Said};
@@ -141,6 +142,12 @@ pub fn worked_exports()
 #[tactic(auto, using(crate::proofs::GivenExports::lack_symbol_names))]
 pub fn given_exports_lack_symbol_names()
     ensures { (exports : List GivenExport) → LackSymbolNames (exports_asked exports) }
+{}
+
+/// Where a text and the exports that it states have a library for some options, these are the same
+/// bytes.
+pub fn exports_have_the_texts_library()
+    ensures { ExportsHaveTheTextsLibrary }
 {}
 
 /// A text has one library for some options, by the rules of the program.

@@ -1,4 +1,4 @@
--- The answer for a library beside a definition (docs/CHECK.md, "A definition").
+-- The answer for a library beside a definition (docs/CHECK.md, "Beside a definition").
 use Rattle.std.specs.Prelude.{◌≡◌, ◌⊎◌, ℕ, Bool, true, false, List, ◌++◌, None, Option, Some}
 use Rattle.std.specs.Prelude.{codes}
 use Rattle.implib_compare.specs.Meant.{IsArm64ecFault, IsArm64ecVerdictOn, IsRefusalFor}

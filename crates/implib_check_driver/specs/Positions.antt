@@ -1,5 +1,5 @@
--- Where the exports of a definition are in its text (this project's choice; docs/CHECK.md, "A
--- definition").
+-- Where the exports of a definition are in its text (this project's choice; docs/CHECK.md,
+-- "Beside a definition").
 use Rattle.std.specs.Prelude.{◌≡◌, ◌⊎◌, ℕ, ◌+◌, ◌&&◌, not, List, [], ◌∷◌, Option, None, Some}
 use Rattle.std.specs.Prelude.{bytes_eq, codes, drop, if◌then◌else◌, nat_eq, slice_get}
 use Rattle.std.specs.List.{starts_with}

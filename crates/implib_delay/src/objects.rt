@@ -1,4 +1,5 @@
-//! The objects of delayed imports: the head, the tail, and the exports (docs/guarantees/delay.md).
+//! The objects of delayed imports: the head, the tail, and the exports (docs/GUARANTEES.md, "Delayed
+//! imports").
 
 ghost use Rattle.implib.specs.Definition.{export_view};
 ghost use Rattle.implib.specs.Formats.Layout.{contents_size, encoded_size};

@@ -1,4 +1,4 @@
--- The name that a library is given for the linker (docs/DECISIONS.md, "The name of a library").
+-- The name that a library is given for the linker (docs/FORMATS.md, "The name of a library").
 use Rattle.std.specs.Prelude.{ℕ, Bool, true, false, not, List, [], ◌∷◌, ◌++◌, Option, None, Some, ◌==◌}
 use Rattle.std.specs.Prelude.{if◌then◌else◌, take}
 use Rattle.std.specs.Int.{to_le_bytes, w16}
