@@ -1,34 +1,28 @@
 -- What holds of a library that has an archive.
-use Rattle.std.proofs.Common.{◌≡◌, ℕ, ◌+◌, ◌*◌, ◌^◌, ◌<◌, ◌≤◌, Bool, true, false, ◌&&◌, List, [], ◌∷◌, ◌++◌, Option, Some, None, codes, flat_map, if◌then◌else◌, is_some, length, nat_lt, unwrap_or, refl, sym, ap, subst, ◌∙◌, length-append, arith}
+use Rattle.std.proofs.Common.{◌≡◌, ℕ, ◌+◌, ◌*◌, ◌^◌, ◌<◌, ◌≤◌, Bool, true, false, ◌&&◌, List, [], ◌∷◌, ◌++◌, Option, Some, None, flat_map, if◌then◌else◌, is_some, length, nat_lt, unwrap_or, refl, sym, ap, subst, ◌∙◌, length-append, arith}
 use Rattle.std.specs.List.{All}
 use Rattle.std.proofs.lemmas.Bool.{and_parts, lt-ltb, ltb-true}
 use Rattle.implib.specs.Members.MemberSpec.{MemberView}
-use Rattle.implib_archive.specs.Archive.{end_from, entries_of, first_place, front, linkers, member_part, names_bytes, names_part, offset_of, places_from, places_of, second_linker_size, first_linker_size, strings_of}
-use Rattle.implib_archive.specs.Parts.{part_size, signature, u16_le, u32_le}
+use Rattle.implib_archive.specs.Archive.{end_from, first_place, front, member_part, names_bytes, offset_of, places_from, places_of, strings_of}
+use Rattle.implib_archive.specs.Parts.{part_size, signature}
 use Rattle.implib_archive.specs.Pushed.{FrontFits}
 use Rattle.implib_archive.specs.Refusal.{has_short_places, has_too_many, members_refusal, places_refusal, refusal_of}
 use Rattle.implib_archive.specs.declared.error.Fault.{Fault}
-use Rattle.implib_archive.specs.declared.error.Fault.TheVariants.{ArchiveTooLong, TooManyMembers}
+use Rattle.implib_archive.specs.declared.error.Fault.TheVariants.{TooManyMembers}
 use Rattle.implib_archive.specs.declared.kind.Kind.TheVariants.{Coff}
 use Rattle.implib_archive.proofs.Numbered.{all_from_each, each_entry, each_sorted, each_weaker, sorted_as_many}
 use Rattle.implib_archive.proofs.Placed.{are_short, none_too_far}
 use Rattle.implib_archive.proofs.Sized.{length-u16_le, length-u32_le, length_twos}
 use Rattle.implib_archive.proofs.Whole.{LabelFits, first_near, few_if_coff, front_fits, front_short, length-members, length-padded, length-places, linkers-size, members_short, names_below, names_of-size, offset_below, refused_places as refused_ordinary, sum_first}
 use Rattle.implib_arm64ec.specs.Archive.{arm64_entries, ec_archive, ec_entries, ec_front, ec_index, ec_label, ec_members, ec_part, first_member_place, library_names, library_refusal, member_places}
-use Rattle.implib_arm64ec.specs.Library.{LibraryView, for_arm64, for_arm64ec, members_of}
+use Rattle.implib_arm64ec.specs.Library.{LibraryView, for_arm64, members_of}
 use Rattle.implib_arm64ec.proofs.Alike.{few_for_arm64, none_for_arm64, same_many_ec}
 
 -- Offsets that are not refused.
 
 accepted_places : (place : ℕ) (members : List MemberView) → places_refusal place members ≡ None → (place < 2 ^ 32) × (are_short (places_from place members) ≡ true)
 unfolding places_refusal has_short_places
-accepted_places place members none =
-    let both = and_parts (nat_lt place (2 ^ 32)) (are_short (places_from place members)) (by_test (nat_lt place (2 ^ 32) && are_short (places_from place members)) none) in
-    (ltb-true place (2 ^ 32) both.0, both.1)
-  where
-    by_test : (b : Bool) → (if b then None else Some ArchiveTooLong) ≡ None → b ≡ true
-    by_test true e = refl
-    by_test false e = absurd (cc)
+accepted_places place members none = grind (arith, nat_lt, none, ltb-true)
 
 short_before : (a b : ℕ) (members : List MemberView) → a ≤ b → are_short (places_from b members) ≡ true → are_short (places_from a members) ≡ true
 unfolding places_from
@@ -42,17 +36,13 @@ short_before a b (m ∷ members) less all =
 
 -- members that are not too far are not where they begin earlier
 near_before : (a b : ℕ) (members : List MemberView) → a ≤ b → places_refusal b members ≡ None → places_refusal a members ≡ None
-near_before a b members less none =
-    let both = accepted_places b members none in
-    none_too_far a members (omega (arith, both.0, less)) (short_before a b members less both.1)
+near_before a b members less none = grind (arith, accepted_places, none, none_too_far, short_before)
 
 -- The first cause, in turn.
 module _ (l : LibraryView) where
   pub refused_member : (f : Option Fault) → members_refusal Coff (members_of l) ≡ f → is_some f ≡ true → library_refusal l ≡ f
   unfolding library_refusal
-  refused_member f is some =
-      ap (λ b. if b then members_refusal Coff (members_of l) else (if has_too_many Coff (members_of l) then Some TooManyMembers else places_refusal (first_member_place l) (for_arm64 l)))
-      (ap is_some is ∙ some) ∙ is
+  refused_member f is some = grind (arith, is_some)
 
   rest : members_refusal Coff (members_of l) ≡ None → library_refusal l ≡ (if has_too_many Coff (members_of l) then Some TooManyMembers else places_refusal (first_member_place l) (for_arm64 l))
   unfolding library_refusal
@@ -83,8 +73,7 @@ accepted_library l accepted = by_member (members_refusal Coff (members_of l)) re
           none = none;
           few = few_if_coff Coff (members_of l) few refl;
           near = near;
-          ordinary = refused_ordinary Coff members (none_for_arm64 l none) (few_for_arm64 l ∙ few)
-              ∙ near_before (first_place Coff members) (first_member_place l) members (omega arith) near;
+          ordinary = grind (arith, refused_ordinary, none_for_arm64, none, few_for_arm64, few, near_before, near);
         }
 
     by_member : (f : Option Fault) → members_refusal Coff (members_of l) ≡ f → Accepted l
@@ -95,15 +84,7 @@ accepted_library l accepted = by_member (members_refusal Coff (members_of l)) re
 
 pub length-ec_index : (entries : List (List ℕ × ℕ)) → length (ec_index entries) ≡ 4 + 2 * length entries + length (strings_of entries)
 unfolding ec_index
-length-ec_index entries =
-    let numbers = flat_map (λ (e : List ℕ × ℕ). u16_le e.1) entries in
-    omega (
-      arith,
-      length-append (u32_le (length entries) ++ numbers) (strings_of entries),
-      length-append (u32_le (length entries)) numbers,
-      length-u32_le (length entries),
-      length_twos (λ (e : List ℕ × ℕ). u16_le e.1) (λ e. length-u16_le e.1) entries,
-    )
+length-ec_index entries = grind (arith, length-append, length-u32_le, length_twos, length-u16_le)
 
 pub ec_fits : LabelFits ec_label
 unfolding ec_label
@@ -124,12 +105,7 @@ module _ (l : LibraryView) (a : Accepted l) where
       }
 
   pub ec_numbers : All (λ e. e.1 < 2 ^ 16) (ec_entries l)
-  ec_numbers =
-      let members = for_arm64ec l in
-      let entries = entries_of Coff members in
-      let n = length members in
-      all_from_each (λ i. i < 2 ^ 16) (ec_entries l) (each_sorted (λ i. i < 2 ^ 16) entries
-      (each_weaker (λ i. (0 < i) × (i ≤ n)) (λ i. i < 2 ^ 16) (λ i h. omega (arith, h.1, a.few, same_many_ec l)) entries (each_entry Coff members)))
+  ec_numbers = grind (arith, all_from_each, each_sorted, each_weaker, same_many_ec, each_entry)
 
   pub first_below : first_member_place l < 2 ^ 32
   first_below = first_near (first_member_place l) (for_arm64 l) a.near
@@ -144,18 +120,7 @@ module _ (l : LibraryView) (a : Accepted l) where
 
   length-linkers : length (front Coff (member_places l) (arm64_entries l) (library_names l)) ≡ first_place Coff (for_arm64 l)
   unfolding front signature
-  length-linkers =
-      let members = for_arm64 l in
-      let short = front_short Coff members a.ordinary in
-      let entries = arm64_entries l in
-      let places = member_places l in
-      let names = names_bytes Coff (library_names l) in
-      let count = length-places (first_member_place l) members in
-      let first = linkers Coff places entries in
-      let one = linkers-size Coff places entries short.linker (subst (λ n. second_linker_size Coff n (length entries) (length (strings_of entries)) < 2 ^ 32) (sym count) short.second) (λ is. sorted_as_many members)
-      ∙ ap (λ n. first_linker_size Coff (length entries) (length (strings_of entries)) + second_linker_size Coff n (length entries) (length (strings_of entries))) count in
-      let two = names_of-size names short.names in
-      omega (arith, length-append (codes "!<arch>\n" ++ first) (names_part names), length-append (codes "!<arch>\n") first, one, two, sum_first Coff members)
+  length-linkers = grind (arith, front_short, length-places, linkers-size, sorted_as_many, names_of-size, length-append, sum_first)
 
   pub length-ec_archive : length (ec_archive l) ≡ end_from (first_member_place l) (for_arm64 l)
   unfolding ec_archive ec_front ec_members ec_part

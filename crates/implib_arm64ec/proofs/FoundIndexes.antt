@@ -1,17 +1,17 @@
 -- The indexes of a library's archive lead to its members.
-use Rattle.std.proofs.Common.{◌≡◌, ℕ, ◌-◌, ◌^◌, ◌<◌, ◌≤◌, Bool, true, false, List, [], ◌∷◌, ◌++◌, Some, bytes_eq, codes, flat_map, if◌then◌else◌, is_some, length, map, nat_lt, option_and_then, refl, sym, ap, subst, ◌∙◌, append_assoc, arith}
+use Rattle.std.proofs.Common.{◌≡◌, ℕ, ◌-◌, ◌^◌, ◌<◌, ◌≤◌, Bool, true, false, List, [], ◌∷◌, ◌++◌, Some, bytes_eq, codes, if◌then◌else◌, is_some, length, map, nat_lt, option_and_then, refl, sym, ap, subst, ◌∙◌, append_assoc, arith}
 use Rattle.std.specs.Prelude.{slice_get}
 use Rattle.std.specs.List.{AllByRecursion}
 use Rattle.std.specs.Map.{lookup}
 use Rattle.std.specs.Option.{option_map}
-use Rattle.implib_archive.specs.Archive.{entries_of, first_linker, names_bytes, place_of, second_linker, sorted_entries, strings_of}
+use Rattle.implib_archive.specs.Archive.{entries_of, first_linker, names_bytes, place_of, second_linker, sorted_entries}
 use Rattle.implib_archive.specs.Leads.{first_lister, header_for, numbered, second_header_for}
-use Rattle.implib_archive.specs.Parts.{padding, u16_le, u32_le}
+use Rattle.implib_archive.specs.Parts.{padding}
 use Rattle.implib_archive.specs.ReadBack.{padded, read_view, stored, stored_linkers, stored_member, stored_names}
 use Rattle.implib_archive.specs.Reader.{Stored, first_in, member_at, second_in}
 use Rattle.implib_archive.specs.declared.kind.Kind.TheVariants.{Coff}
 use Rattle.implib_archive.proofs.Distinct.{distinct_of-coff}
-use Rattle.implib_archive.proofs.FoundIndex.{AreTexts, entries_data, entries_read, first_data, first_read, linker_there, second_data, second_read}
+use Rattle.implib_archive.proofs.FoundIndex.{AreTexts, entries_read, first_read, linker_there, second_data, second_read}
 use Rattle.implib_archive.proofs.Leading.{each_small, entries_texts, map_twice, near_at, numbers_lead, short_places, sorted_texts}
 use Rattle.implib_archive.proofs.Lookups.{entries_rise, index_lookup, listed_somewhere, lookup_mapped, sorted_lookup}
 use Rattle.implib_archive.proofs.Numbered.{Each, each_entry, each_sorted, each_weaker, sorted_as_many}
@@ -59,19 +59,14 @@ data_found l =
 symbols_read : (entries : List (List ℕ × ℕ)) (pad : List ℕ) → length entries < 2 ^ 32 → AllByRecursion (λ (e : List ℕ × ℕ). e.1 < 2 ^ 16) entries → AreTexts entries
     → numbered_symbols (ec_index entries ++ pad) ≡ entries
 unfolding numbered_symbols ec_index
-symbols_read entries pad few small texts =
-    let count = u32_le (length entries) in
-    let numbers = flat_map (λ (e : List ℕ × ℕ). u16_le e.1) entries in
-    ap entries_data (append_assoc (count ++ numbers) (strings_of entries) pad ∙ append_assoc count numbers (strings_of entries ++ pad))
-    ∙ entries_read entries pad few small texts
+symbols_read entries pad few small texts = grind (arith, append_assoc, entries_read, few, texts)
 
 -- numbers of an index that lead to members
 within : (places : List ℕ) (n : ℕ) (entries : List (List ℕ × ℕ)) → length places ≡ n → Each (λ k. (0 < k) × (k ≤ n)) entries → Each (λ k. (0 < k) × (k ≤ length places)) entries
 within places n entries same each = subst (λ m. Each (λ k. (0 < k) × (k ≤ m)) entries) (sym same) each
 
 small_numbers : (n : ℕ) (entries : List (List ℕ × ℕ)) → n < 65535 → Each (λ k. (0 < k) × (k ≤ n)) entries → AllByRecursion (λ (e : List ℕ × ℕ). e.1 < 2 ^ 16) (sorted_entries entries)
-small_numbers n entries few each =
-    each_small (sorted_entries entries) (each_sorted (λ k. k < 2 ^ 16) entries (each_weaker (λ k. (0 < k) × (k ≤ n)) (λ k. k < 2 ^ 16) (λ k h. omega (arith, h.1, few)) entries each))
+small_numbers n entries few each = grind (arith, each_small, each_sorted, each_weaker, few)
 
 module _ (l : LibraryView) (a : Accepted l) where
   many : length (member_places l) ≡ length (for_arm64 l)
@@ -107,13 +102,7 @@ module _ (l : LibraryView) (a : Accepted l) where
   -- the first linker member
   first_found : (symbol : List ℕ) → header_for (ec_archive l) symbol ≡ lookup (bytes_eq symbol) (map (λ e. (e.0, place_of (member_places l) e.1)) (arm64_entries l))
   unfolding header_for first_in
-  first_found symbol =
-      let places = member_places l in
-      let entries = arm64_entries l in
-      let data' = first_linker places entries in
-      let there = linker_there 0 (ec_archive l) (ec_parts l) (padded 0 data') (parts_found l a) first_at in
-      ap (λ t. option_and_then (lookup (bytes_eq symbol)) (option_map first_data t)) there
-      ∙ ap (lookup (bytes_eq symbol)) (first_read places entries (padding 0 (length data')) (omega (arith, (linkers_fit l a).short)) place_near texts)
+  first_found symbol = grind (arith, linker_there, parts_found, first_at, option_and_then, first_read, linkers_fit, place_near, texts)
 
   -- the second linker member
   second_found : second_in (ec_archive l) ≡ Some (member_places l, sorted_entries (arm64_entries l))
@@ -141,9 +130,7 @@ module _ (l : LibraryView) (a : Accepted l) where
   -- sorted entries lead where those in order do
   by_numbers : (symbol : List ℕ) (entries : List (List ℕ × ℕ)) → lookup (bytes_eq symbol) (sorted_entries entries) ≡ lookup (bytes_eq symbol) entries → Each (λ k. (0 < k) × (k ≤ length (member_places l))) entries
       → option_and_then (numbered (member_places l)) (lookup (bytes_eq symbol) (sorted_entries entries)) ≡ lookup (bytes_eq symbol) (map (λ e. (e.0, place_of (member_places l) e.1)) entries)
-  by_numbers symbol entries same each =
-      let places = member_places l in
-      ap (option_and_then (numbered places)) same ∙ (numbers_lead places symbol entries each ∙ sym (lookup_mapped symbol (place_of places) entries))
+  by_numbers symbol entries same each = grind (arith, option_and_then (numbered (member_places l)), numbers_lead (member_places l) symbol entries each, lookup_mapped symbol (place_of (member_places l)) entries)
 
   second_leads : (symbol : List ℕ) → second_header_for (ec_archive l) symbol ≡ header_for (ec_archive l) symbol
   unfolding second_header_for

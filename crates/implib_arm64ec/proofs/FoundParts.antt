@@ -1,5 +1,5 @@
 -- A reader finds the parts of a library's archive, and its members.
-use Rattle.std.proofs.Common.{◌≡◌, ℕ, ◌+◌, ◌%◌, ◌^◌, ◌<◌, Bool, true, false, inl, inr, List, [], ◌∷◌, ◌++◌, Some, bytes_eq, codes, flat_map, if◌then◌else◌, length, map, nat_lt, option_and_then, unwrap_or, refl, sym, ap, ◌∙◌, append_assoc, arith}
+use Rattle.std.proofs.Common.{rules, ◌≡◌, ℕ, ◌+◌, ◌%◌, ◌^◌, ◌<◌, Bool, true, false, List, [], ◌∷◌, ◌++◌, Some, bytes_eq, codes, flat_map, if◌then◌else◌, length, map, nat_lt, option_and_then, unwrap_or, refl, sym, ap, ◌∙◌, append_assoc, arith}
 use Rattle.std.specs.Option.{option_map}
 use Rattle.std.proofs.lemmas.Slice.Eq.{bytes_eq-Decides}
 use Rattle.implib.specs.Members.MemberSpec.{MemberView}
@@ -7,7 +7,7 @@ use Rattle.implib_archive.specs.Archive.{first_linker, first_linker_size, front,
 use Rattle.implib_archive.specs.Leads.{with_header}
 use Rattle.implib_archive.specs.Parts.{field, padding, part_size, signature}
 use Rattle.implib_archive.specs.ReadBack.{AreLaidOut, padded, read_view, stored, stored_linkers, stored_member, stored_names}
-use Rattle.implib_archive.specs.Reader.{LongAt, Read, Short, Stored, Unknown, long_name_at, long_names_in, long_names_or, member_at, members_among, name_in, number_in, stored_from, stored_in, trimmed}
+use Rattle.implib_archive.specs.Reader.{Read, Stored, Unknown, long_name_at, long_names_in, long_names_or, member_at, members_among, name_in, number_in, stored_from, stored_in, trimmed}
 use Rattle.implib_archive.specs.declared.kind.Kind.TheVariants.{Coff}
 use Rattle.implib_archive.proofs.FoundMembers.{among_members, archive_named, names_found, names_past_linkers, none_among, past_linkers, past_names}
 use Rattle.implib_archive.proofs.FoundNames.{HasName, HaveNames, linker_named, long_names_named}
@@ -50,15 +50,7 @@ unfolding field
 names_other contents = refl
 
 other_name : (data' field' name : List ℕ) → HasName Coff data' field' name → bytes_eq field' ec_field ≡ false
-other_name data' field' name named = by_test (bytes_eq field' ec_field) refl
-  where
-    by_name_of : name_in field' ≡ Unknown → HasName Coff data' field' name → bytes_eq field' ec_field ≡ false
-    by_name_of unknown (inl short) = let e : Unknown ≡ Short name = sym unknown ∙ short in absurd (cc)
-    by_name_of unknown (inr long) = let e : Unknown ≡ LongAt long.offset = sym unknown ∙ long.at in absurd (cc)
-
-    by_test : (b : Bool) → bytes_eq field' ec_field ≡ b → bytes_eq field' ec_field ≡ false
-    by_test false is = is
-    by_test true is = by_name_of (ap name_in ((bytes_eq-Decides field' ec_field).0 is) ∙ ec_unknown) named
+other_name data' field' name named = grind (arith, bytes_eq-Decides, ec_unknown)
 
 -- The parts.
 
@@ -90,15 +82,7 @@ module _ (l : LibraryView) (a : Accepted l) where
 
   pub names_read : long_names_in (ec_parts l) ≡ padded 10 (names_bytes Coff (library_names l))
   unfolding ec_parts long_names_in long_names_or
-  names_read =
-      let names = library_names l in
-      let text = names_bytes Coff names in
-      let contents = padded 0 (ec_index (ec_entries l)) in
-      let members = map (stored_member names) (for_arm64 l) in
-      let behind = stored (codes "/<ECSYMBOLS>/") contents ∷ members in
-      let past : long_names_in behind ≡ [] = ap (λ f. long_names_or (name_in f) contents (long_names_in members)) ec_named
-      ∙ (ap (λ n. long_names_or n contents (long_names_in members)) ec_unknown ∙ none_among Coff (padded 10 text) names (for_arm64 l) names_there) in
-      names_past_linkers Coff (member_places l) (arm64_entries l) (stored_names text ++ behind) ∙ names_found text behind past
+  names_read = grind (arith, ec_named, ec_unknown, none_among, names_there, names_past_linkers, names_found)
 
 -- The parts but for the EC index.
 
@@ -106,11 +90,7 @@ without_members : (data' : List ℕ) (names : List (List ℕ × ℕ)) (members :
     → without_ec_index (map (stored_member names) members) ≡ map (stored_member names) members
 unfolding without_ec_index
 without_members data' names [] named = refl
-without_members data' names (m ∷ members) named =
-    let s = stored_member names m in
-    let others = map (stored_member names) members in
-    ap (λ b. if b then without_ec_index others else s ∷ without_ec_index others) (other_name data' (field 16 (name_field names m.name)) m.name named.0)
-    ∙ ap (λ t. s ∷ t) (without_members data' names members named.1)
+without_members data' names (m ∷ members) named = grind (arith, without_members data' names members named.1, other_name data' (field 16 (name_field names m.name)) m.name named.0)
 
 without_other : (s : Stored) (parts : List Stored) → is_ec_index s ≡ false → without_ec_index (s ∷ parts) ≡ s ∷ without_ec_index parts
 unfolding without_ec_index
@@ -126,36 +106,16 @@ without_names text parts = by_test (nat_lt 0 (length text))
 
 without_linkers : (places : List ℕ) (entries : List (List ℕ × ℕ)) (parts : List Stored) → without_ec_index (stored_linkers Coff places entries ++ parts) ≡ stored_linkers Coff places entries ++ without_ec_index parts
 unfolding stored_linkers
-without_linkers places entries parts =
-    let one = stored (codes "/") (padded 0 (first_linker places entries)) in
-    let two = stored (codes "/") (padded 0 (second_linker places (sorted_entries entries))) in
-    without_other one (two ∷ parts) (linker_other one.contents) ∙ ap (λ t. one ∷ t) (without_other two parts (linker_other two.contents))
+without_linkers places entries parts = search (rules, without_other, linker_other)
 
 without_index : (contents : List ℕ) (parts : List Stored) → without_ec_index (stored (codes "/<ECSYMBOLS>/") contents ∷ parts) ≡ without_ec_index parts
 unfolding without_ec_index
-without_index contents parts =
-    let s = stored (codes "/<ECSYMBOLS>/") contents in ap (λ b. if b then without_ec_index parts else s ∷ without_ec_index parts) (ec_found contents)
+without_index contents parts = grind (arith, ec_found contents)
 
 module _ (l : LibraryView) (a : Accepted l) where
   pub members_there : members_among Coff (long_names_in (ec_parts l)) (without_ec_index (ec_parts l)) ≡ Some (map read_view (for_arm64 l))
   unfolding ec_parts
-  members_there =
-      let names = library_names l in
-      let text = names_bytes Coff names in
-      let data' = padded 10 text in
-      let places = member_places l in
-      let entries = arm64_entries l in
-      let contents = padded 0 (ec_index (ec_entries l)) in
-      let members = map (stored_member names) (for_arm64 l) in
-      let behind = stored (codes "/<ECSYMBOLS>/") contents ∷ members in
-      let left : without_ec_index (ec_parts l) ≡ stored_linkers Coff places entries ++ (stored_names text ++ members) =
-      without_linkers places entries (stored_names text ++ behind)
-      ∙ ap (λ t. stored_linkers Coff places entries ++ t) (without_names text behind
-      ∙ ap (λ t. stored_names text ++ t) (without_index contents members ∙ without_members data' names (for_arm64 l) (names_there l a))) in
-      ap (λ d. members_among Coff d (without_ec_index (ec_parts l))) (names_read l a)
-      ∙ (ap (members_among Coff data') left
-      ∙ (past_linkers Coff data' Coff places entries (stored_names text ++ members)
-      ∙ (past_names Coff data' text members ∙ among_members Coff data' names (for_arm64 l) (names_there l a))))
+  members_there = grind (arith, without_linkers, without_names, without_index, without_members, names_there, names_read, past_linkers, past_names, among_members)
 
 pub each_is_read_back : EachIsReadBack
 unfolding ec_members_in
@@ -174,29 +134,18 @@ each_is_read_back l accepted =
 
 past_index : (place : ℕ) (contents : List ℕ) (parts : List Stored) → ec_headers_among place (stored (codes "/<ECSYMBOLS>/") (padded 0 contents) ∷ parts) ≡ ec_headers_among (place + part_size (length contents)) parts
 unfolding ec_headers_among
-past_index place contents parts =
-    let s = stored (codes "/<ECSYMBOLS>/") (padded 0 contents) in
-    let others = ec_headers_among (place + (60 + length s.contents + length s.contents % 2)) parts in
-    ap (λ b. if b then others else with_header (name_in s.field) place others) (ec_found s.contents) ∙ ap (λ n. ec_headers_among n parts) (padded_size 0 contents place)
+past_index place contents parts = grind (arith, ec_found (stored (codes "/<ECSYMBOLS>/") (padded 0 contents)).contents, padded_size 0 contents place)
 
 after_linker : (place : ℕ) (contents : List ℕ) (parts : List Stored) → ec_headers_among place (stored (codes "/") (padded 0 contents) ∷ parts) ≡ ec_headers_among (place + part_size (length contents)) parts
 unfolding ec_headers_among with_header
-after_linker place contents parts =
-    let s = stored (codes "/") (padded 0 contents) in
-    let others = ec_headers_among (place + (60 + length s.contents + length s.contents % 2)) parts in
-    ap (λ b. if b then others else with_header (name_in s.field) place others) (linker_other s.contents)
-    ∙ (ap (λ n. with_header n place others) linker_named ∙ ap (λ n. ec_headers_among n parts) (padded_size 0 contents place))
+after_linker place contents parts = search (rules, linker_other, linker_named, padded_size)
 
 after_names : (place : ℕ) (text : List ℕ) (parts : List Stored) → ec_headers_among place (stored_names text ++ parts) ≡ ec_headers_among (place + names_size (length text)) parts
 unfolding stored_names names_size ec_headers_among with_header
 after_names place text parts = by_test (nat_lt 0 (length text))
   where
     by_test : (b : Bool) → ec_headers_among place ((if b then stored (codes "//") (padded 10 text) ∷ [] else []) ++ parts) ≡ ec_headers_among (place + (if b then part_size (length text) else 0)) parts
-    by_test true =
-        let s = stored (codes "//") (padded 10 text) in
-        let others = ec_headers_among (place + (60 + length s.contents + length s.contents % 2)) parts in
-        ap (λ b. if b then others else with_header (name_in s.field) place others) (names_other s.contents)
-        ∙ (ap (λ n. with_header n place others) long_names_named ∙ ap (λ n. ec_headers_among n parts) (padded_size 10 text place))
+    by_test true = search (rules, names_other, long_names_named, padded_size)
     by_test false = ap (λ n. ec_headers_among n parts) (omega arith)
 
 member_headers : (data' : List ℕ) (names : List (List ℕ × ℕ)) (place : ℕ) (members : List MemberView) → HaveNames Coff data' names members → ec_headers_among place (map (stored_member names) members) ≡ places_from place members
@@ -228,8 +177,7 @@ module _ (l : LibraryView) (a : Accepted l) where
       let after_two = after_one + part_size (length two) in
       let after_text = after_two + names_size (length text) in
       let many = sorted_as_many (for_arm64 l) in
-      let sum : after_text + part_size (length data') ≡ first_member_place l =
-      omega (arith, sum_first Coff (for_arm64 l), length-first_linker places entries, length-second_linker places (sorted_entries entries), many.0, many.1, length-places (first_member_place l) (for_arm64 l)) in
+      let sum : after_text + part_size (length data') ≡ first_member_place l = grind (arith, sum_first, length-first_linker, length-second_linker, length-places) in
       after_linker 8 one (stored (codes "/") (padded 0 two) ∷ (stored_names text ++ behind))
       ∙ (after_linker after_one two (stored_names text ++ behind)
       ∙ (after_names after_two text behind
@@ -246,8 +194,7 @@ module _ (bytes : List ℕ) (all : List Stored) (found : stored_in bytes ≡ Som
       → map (member_at Coff bytes) (ec_headers_among place parts) ≡ map (λ r. Some r) reads
   unfolding AreLaidOut ec_headers_among members_among without_ec_index
   headers_read place [] reads laid is = let none : reads ≡ [] = cc in sym (ap (map (λ r. Some r)) none)
-  headers_read place (s ∷ parts) reads laid is =
-      by_test (is_ec_index s) (λ more. headers_read (place + (60 + length s.contents + length s.contents % 2)) parts more laid.1) is
+  headers_read place (s ∷ parts) reads laid is = grind (arith, by_test (is_ec_index s) (λ more. headers_read (place + (60 + length s.contents + length s.contents % 2)) parts more laid.1) is)
     where
       by_test : (b : Bool)
           → ((more : List Read) → members_among Coff (long_names_in all) (without_ec_index parts) ≡ Some more
@@ -256,6 +203,4 @@ module _ (bytes : List ℕ) (all : List Stored) (found : stored_in bytes ≡ Som
           → map (member_at Coff bytes) (if b then ec_headers_among (place + (60 + length s.contents + length s.contents % 2)) parts
           else with_header (name_in s.field) place (ec_headers_among (place + (60 + length s.contents + length s.contents % 2)) parts)) ≡ map (λ r. Some r) reads
       by_test true rest same = rest reads same
-      by_test false rest same =
-          by_name Coff bytes all found place (ec_headers_among (place + (60 + length s.contents + length s.contents % 2)) parts) (name_in s.field) s.contents reads
-          (members_among Coff (long_names_in all) (without_ec_index parts)) (at_header Coff bytes all found place s laid.0) rest same
+      by_test false rest same = search (rules, by_name, at_header)

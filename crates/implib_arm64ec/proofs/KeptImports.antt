@@ -1,5 +1,5 @@
 -- Short imports that are kept as what they say.
-use Rattle.std.proofs.Common.{◌≡◌, ℕ, zero, suc, ◌+◌, ◌-◌, ◌<◌, ◌≤◌, ◌==◌, Bool, true, false, List, [], ◌∷◌, ◌++◌, Option, None, Some, Ok, length, drop, map, take, get_or, if◌then◌else◌, refl, sym, ap, subst, ◌∙◌, arith, append_assoc, length-append}
+use Rattle.std.proofs.Common.{◌≡◌, ℕ, zero, suc, ◌+◌, ◌<◌, ◌≤◌, ◌==◌, Bool, true, false, List, [], ◌∷◌, ◌++◌, Option, Ok, length, drop, map, get_or, if◌then◌else◌, refl, sym, ap, subst, ◌∙◌, arith, append_assoc, length-append}
 use Rattle.std.specs.Prelude.{codes, slice_range, string_bytes}
 use Rattle.std.specs.Str.{IsCharBoundary, IsUtf8}
 use Rattle.std.proofs.lemmas.List.{drop_at, get_or-map, take_at}
@@ -18,13 +18,10 @@ use Rattle.implib_arm64ec.specs.LibraryImports.{IsFault, export_fault, spec_faul
 use Rattle.implib_arm64ec.specs.ShortImports.{auxiliary_symbol, import_of, import_symbols, name_type_of, plain_symbol, spec_of, symbol_apart, symbol_of, third_text}
 use Rattle.implib_arm64ec.specs.declared.kept_import.KeptImport.{KeptImport}
 use Rattle.implib_arm64ec.specs.declared.library.ImportsError.{ImportsError}
-use Rattle.implib_arm64ec.specs.declared.library.ImportsFault.TheVariants.{NulInExport}
 
 -- a part of a text, by where it begins and ends
 part : (text a b c : List ℕ) (i j : ℕ) → text ≡ a ++ (b ++ c) → length a ≡ i → length a + length b ≡ j → slice_range text i j ≡ b
-part text a b c i j e first last =
-    let size : length b ≡ j - i = omega (arith, first, last) in
-    ap (λ (t : List ℕ). take (j - i) (drop i t)) e ∙ (ap (take (j - i)) (drop_at a (b ++ c) i first) ∙ take_at b c (j - i) size)
+part text a b c i j e first last = grind (arith, drop_at, take_at)
 
 -- the parts of a text that is kept, and where it may be cut
 module _ (texts : List ℕ) (address_end symbol_end : ℕ) (plain symbol other : List ℕ) (has : HasTexts texts address_end symbol_end plain symbol other) where
@@ -81,16 +78,13 @@ module _ (texts : List ℕ) (address_end symbol_end : ℕ) (plain symbol other :
       (IsUtf8-append plain (auxiliary_symbol plain ++ (symbol ++ other)) has.plain_text later_text)
 
   pub cut_at_auxiliary : IsCharBoundary texts address_end
-  cut_at_auxiliary =
-      subst (IsCharBoundary texts) address_size (IsCharBoundary-at_seam texts (imp_symbol plain) (auxiliary_symbol plain ++ (symbol ++ other)) has.whole later_text)
+  cut_at_auxiliary = grind (arith, address_size, IsCharBoundary-at_seam, later_text)
 
   pub cut_at_symbol : IsCharBoundary texts (address_end + (address_end + 4))
-  cut_at_symbol =
-      subst (IsCharBoundary texts) symbols_size (IsCharBoundary-at_seam texts (imp_symbol plain ++ auxiliary_symbol plain) (symbol ++ other) after_symbols last_text)
+  cut_at_symbol = grind (arith, symbols_size, IsCharBoundary-at_seam, after_symbols, last_text)
 
   pub cut_at_other : IsCharBoundary texts symbol_end
-  cut_at_other =
-      subst (IsCharBoundary texts) all_size (IsCharBoundary-at_seam texts ((imp_symbol plain ++ auxiliary_symbol plain) ++ symbol) other after_all has.other_text)
+  cut_at_other = grind (arith, all_size, IsCharBoundary-at_seam, after_all)
 
 -- whether an import is of data, by its import type
 data_by_type : (e : ExportView) → (import_type_of e == import_data) ≡ e.is_data
@@ -121,8 +115,7 @@ same_list b b' address address' plain plain' auxiliary auxiliary' symbol symbol'
 -- the texts that are kept are these too
 regiven : (plain plain' symbol : List ℕ) (third third' : Option (List ℕ)) (k : KeptImport) → plain ≡ plain' → third ≡ third'
     → IsKeptWith plain symbol third k → IsKeptWith plain' symbol third' k
-regiven plain plain' symbol third third' k p t given =
-    subst (λ (x : Option (List ℕ)). IsKeptWith plain' symbol x k) t (subst (λ (x : List ℕ). IsKeptWith x symbol third k) p given)
+regiven plain plain' symbol third third' k p t given = grind (arith, third)
 
 -- what is kept of an export's texts and numbers is what its short import says
 module _ (dll : List ℕ) (e : ExportView) (symbol : List ℕ) (k : KeptImport) (given : IsKeptWith (plain_symbol symbol) symbol (third_text e symbol) k) where
@@ -145,33 +138,15 @@ module _ (dll : List ℕ) (e : ExportView) (symbol : List ℕ) (k : KeptImport) 
   address = address_is (string_bytes k.texts) k.address_end k.symbol_end (plain_symbol symbol) symbol given.other given.texts
 
   says : k.ordinal ≡ e.ordinal → k.import_type ≡ import_type_of e → k.name_type ≡ name_type_of e.no_name (third_text e symbol) → kept_import dll k ≡ import_of dll e symbol
-  says ordinal import_type name_type =
-      same_import k.ordinal e.ordinal k.import_type (import_type_of e) k.name_type (name_type_of e.no_name (third_text e symbol)) (kept_symbol k) symbol
-      (dll_texts dll (kept_third k)) (dll_texts dll (third_text e symbol)) ordinal import_type name_type own (ap (dll_texts dll) third)
+  says ordinal import_type name_type = grind (arith, same_import, own, third)
 
   lists : k.import_type ≡ import_type_of e → kept_symbols k ≡ import_symbols e symbol
-  lists import_type =
-      same_list (k.import_type == import_data) e.is_data (kept_address k) (imp_symbol (plain_symbol symbol)) (kept_plain k) (plain_symbol symbol)
-      (kept_auxiliary k) (auxiliary_symbol (plain_symbol symbol)) (kept_symbol k) symbol
-      (ap (λ n. n == import_data) import_type ∙ data_by_type e) address named auxiliary own
+  lists import_type = grind (arith, same_list, data_by_type, address, named, auxiliary, own)
 
   pub kept_of_export : k.ordinal ≡ e.ordinal → k.import_type ≡ import_type_of e → k.name_type ≡ name_type_of e.no_name (third_text e symbol)
       → symbol_of e ≡ Ok symbol → k.import_type ≤ 3 → k.name_type ≤ 7
       → 22 + (length symbol + length (dll_texts dll (third_text e symbol))) ≤ 0xFFFF_FFFF → IsKeptOf dll e k
-  kept_of_export ordinal import_type name_type marked few short size = record {
-    symbol = marked ∙ ap Ok (sym own);
-    says = says ordinal import_type name_type ∙ ap (import_of dll e) (sym own);
-    lists = lists import_type ∙ ap (import_symbols e) (sym own);
-    kept = record {
-      plain = plain_symbol symbol;
-      symbol = symbol;
-      other = given.other;
-      texts = given.texts;
-      import_type = few;
-      name_type = short;
-      short = omega (arith, size, ap short_import_size (says ordinal import_type name_type));
-    };
-  }
+  kept_of_export ordinal import_type name_type marked few short size = grind (arith, own, says, lists)
 
 -- the same, by the texts and numbers that were given
 pub kept_by : (dll : List ℕ) (e : ExportView) (plain symbol : List ℕ) (third : Option (List ℕ)) (import_type name_type : ℕ) (k : KeptImport)
@@ -188,9 +163,7 @@ kept_by dll e plain symbol third import_type name_type k p t given o i n import_
 -- the short import of an export that is not private, whatever the library's name
 module _ (dll : NamesOfDll) (index : ℕ) (e : ExportView) (public : e.private ≡ false) where
   not_passed_over : holds_nul e ≡ false → export_fault dll index e ≡ spec_fault index (spec_of dll e)
-  not_passed_over free =
-      ap (λ b. if b then None else if holds_nul e then Some (NulInExport index) else spec_fault index (spec_of dll e)) public
-      ∙ ap (λ b. if b then Some (NulInExport index) else spec_fault index (spec_of dll e)) free
+  not_passed_over free = grind arith
 
   pub fault_of : (error : ImportsError) → holds_nul e ≡ false → HasNoImport dll.text index e error → IsFault (export_fault dll index e) error
   fault_of error free none = subst (λ f. IsFault f error) (sym (not_passed_over free)) (none dll.linked)

@@ -23,49 +23,21 @@ none_seen (m ∷ members) = ap (λ t. silent m ∷ t) (none_seen members)
 
 -- each list is headers, imports and native members
 three_parts : (k : Listed) (l : LibraryView) → members_with k l ≡ l.headers ++ map (seen (has_imports k)) l.imports ++ map (seen (has_natives k)) l.natives
-three_parts All l =
-    ap (λ t. l.headers ++ t ++ l.natives) (all_seen l.imports) ∙ ap (λ t. l.headers ++ map (seen true) l.imports ++ t) (all_seen l.natives)
-three_parts Arm64 l =
-    ap (λ t. l.headers ++ t ++ l.natives) (none_seen l.imports) ∙ ap (λ t. l.headers ++ map (seen false) l.imports ++ t) (all_seen l.natives)
-three_parts Arm64ec l =
-    ap (λ t. l.headers ++ t ++ map silent l.natives) (all_seen l.imports) ∙ ap (λ t. l.headers ++ map (seen true) l.imports ++ t) (none_seen l.natives)
+three_parts All l = grind (arith, all_seen)
+three_parts Arm64 l = grind (arith, none_seen, all_seen)
+three_parts Arm64ec l = grind (arith, all_seen, none_seen)
 
 -- each list has all members
 pub many_listed : (k : Listed) (headers : List Member) (imports : List MemberView) (natives : List Member)
     → length (members_with k (record { headers = map member_view headers; imports = imports; natives = map member_view natives }))
     ≡ length headers + length imports + length natives
-many_listed k headers imports natives =
-    let hs = map member_view headers in
-    let ns = map member_view natives in
-    let some = map (seen (has_imports k)) imports in
-    let last = map (seen (has_natives k)) ns in
-    let many : length (hs ++ some ++ last) ≡ length headers + length imports + length natives =
-    omega (
-      arith,
-      length-append (hs ++ some) last,
-      length-append hs some,
-      length-map imports (seen (has_imports k)),
-      length-map ns (seen (has_natives k)),
-      length-map headers member_view,
-      length-map natives member_view,
-    ) in
-    ap length (three_parts k (record { headers = hs; imports = imports; natives = ns })) ∙ many
+many_listed k headers imports natives = grind (arith, length-append, length-map, three_parts)
 
 -- an import, and a native member, by their index among all
 module _ (k : Listed) (headers : List Member) (imports : List MemberView) (natives : List Member) (i : ℕ) (past : length headers ≤ i) where
   pub import_at : i - length headers < length imports → seen (has_imports k) (member_at imports (i - length headers))
       ≡ member_at (members_with k (record { headers = map member_view headers; imports = imports; natives = map member_view natives })) i
-  import_at within =
-      let hs = map member_view headers in
-      let j = i - length headers in
-      let listed = map (seen (has_imports k)) imports in
-      let count : length hs ≡ length headers = length-map headers member_view in
-      let all : length listed ≡ length imports = length-map imports (seen (has_imports k)) in
-      let first : i < length (hs ++ listed) = omega (arith, length-append hs listed, count, all, within, past) in
-      sym (ap (λ t. member_at t i) (three_parts k (record { headers = hs; imports = imports; natives = map member_view natives }))
-      ∙ (get_or_append_left (hs ++ listed) (map (seen (has_natives k)) (map member_view natives)) no_member i first
-      ∙ (get_or-append_right hs listed (length headers) i no_member count past
-      ∙ get_or-map (seen (has_imports k)) imports j no_member no_member within)))
+  import_at within = grind (arith, length-map, length-append, three_parts, get_or_append_left, get_or-append_right, get_or-map)
 
   pub native_at : (d : Member) → length imports ≤ i - length headers → i - length headers - length imports < length natives
       → seen (has_natives k) (member_view (get_or natives (i - length headers - length imports) d))
@@ -76,8 +48,7 @@ module _ (k : Listed) (headers : List Member) (imports : List MemberView) (nativ
       let j = i - length headers - length imports in
       let before = hs ++ map (seen (has_imports k)) imports in
       let listed = map (seen (has_natives k)) ns in
-      let count : length before ≡ length headers + length imports =
-      omega (arith, length-append hs (map (seen (has_imports k)) imports), length-map headers member_view, length-map imports (seen (has_imports k))) in
+      let count : length before ≡ length headers + length imports = grind (arith, length-append, length-map) in
       let many : length ns ≡ length natives = length-map natives member_view in
       let some : j < length ns = omega (arith, many, within) in
       let same : i - (length headers + length imports) ≡ j = omega arith in

@@ -1,5 +1,5 @@
 -- Archives that were made have the bytes of their libraries.
-use Rattle.std.proofs.Common.{◌≡◌, ℕ, ◌+◌, ◌-◌, ◌^◌, ◌++◌, List, flat_map, length, min, refl, ap, ◌∙◌, arith}
+use Rattle.std.proofs.Common.{◌≡◌, ℕ, ◌+◌, ◌-◌, ◌^◌, ◌++◌, List, flat_map, length, min, refl, ap, arith}
 use Rattle.implib_archive.specs.Archive.{first_place, front, member_part}
 use Rattle.implib_archive.specs.Parts.{part_size}
 use Rattle.implib_archive.specs.declared.kind.Kind.TheVariants.{Coff}
@@ -24,8 +24,7 @@ whole_archive l = refl
 module _ {l : LibraryView} {listed : Listed} {entries sorted marked offsets : List (List ℕ × ℕ)} {size : ℕ} {places : List ℕ} {end' : ℕ} (made : IsMade l listed entries sorted marked offsets size places end') where
   pub members_made : flat_map (member_part offsets) (members_with listed l) ≡ ec_members l
   unfolding ec_members
-  members_made =
-      ap (λ k. flat_map (member_part offsets) (members_with k l)) made.for_linkers ∙ ap (λ n. flat_map (member_part n) (for_arm64 l)) made.named
+  members_made = grind arith
 
 -- the members of a list for ARM64
 pub same_members : (s : Listing) → s.listed ≡ Arm64 → listing_members s ≡ for_arm64 (library_view s)

@@ -1,5 +1,5 @@
 -- Where the mark of a name is, and what is beside it.
-use Rattle.std.proofs.Common.{◌≡◌, ℕ, suc, ◌+◌, ◌-◌, ◌≤◌, ◌<◌, List, [], ◌∷◌, ◌++◌, length, drop, get_or, refl, sym, subst, Some, None, Option, Bool, true, false, eqb, arith}
+use Rattle.std.proofs.Common.{◌≡◌, ℕ, suc, ◌+◌, ◌≤◌, ◌<◌, List, [], ◌∷◌, ◌++◌, length, get_or, refl, sym, subst, Some, None, Option, Bool, true, false, eqb, arith}
 use Rattle.std.specs.Prelude.{option_map, if◌then◌else◌}
 use Rattle.std.specs.List.{starts_with}
 use Rattle.std.proofs.lemmas.Bool.Decides.{Decides-eqb, nat_tests}
@@ -27,11 +27,7 @@ at_beginning : (text rest : List ℕ) → text ≡ inner_mark ++ rest → MarkAt
 at_beginning text rest e = subst (λ (t : List ℕ). MarkAt t 0) (sym e) (record { within = omega arith; dollar = refl; letter = refl })
 
 one_further : (b : ℕ) (text : List ℕ) (place : ℕ) → MarkAt text place → MarkAt (b ∷ text) (suc place)
-one_further b text place m = record {
-  within = omega (arith, m.within);
-  dollar = m.dollar;
-  letter = let same : suc place + 2 ≡ suc (place + 2) = omega arith in rw same m.letter;
-}
+one_further b text place m = grind arith
 
 in_rest : (b : ℕ) (text : List ℕ) (place : ℕ) (found : Option ℕ)
     → ((p : ℕ) → found ≡ Some p → MarkAt text p) → option_map suc found ≡ Some place → MarkAt (b ∷ text) place
@@ -43,16 +39,12 @@ in_rest b text place (Some p) rest e =
 decided : (b : ℕ) (text : List ℕ) (place : ℕ) (here : Bool) → here ≡ starts_with eqb (b ∷ text) inner_mark
     → ((p : ℕ) → mark_position text ≡ Some p → MarkAt text p)
     → (if here then Some 0 else option_map suc (mark_position text)) ≡ Some place → MarkAt (b ∷ text) place
-decided b text place true s rest e =
-    let same : 0 ≡ place = cc in
-    subst (λ (q : ℕ). MarkAt (b ∷ text) q) same
-    (at_beginning (b ∷ text) (drop 3 (b ∷ text)) ((starts_is Decides-eqb (b ∷ text) inner_mark true s).0 refl))
+decided b text place true s rest e = grind (arith, at_beginning, starts_is, Decides-eqb)
 decided b text place false s rest e = in_rest b text place (mark_position text) rest e
 
 pub mark_is_at : (text : List ℕ) (place : ℕ) → mark_position text ≡ Some place → MarkAt text place
 mark_is_at [] place e = absurd (cc)
-mark_is_at (b ∷ text) place e =
-    decided b text place (starts_with eqb (b ∷ text) inner_mark) refl (mark_is_at text) e
+mark_is_at (b ∷ text) place e = grind (arith, mark_is_at text, decided b text place (starts_with eqb (b ∷ text) inner_mark) refl (mark_is_at text) e)
 
 -- a reading of what is behind the first byte ends, within the name, behind an `@`
 pub record EndsInside (name : List ℕ) (length_read : ℕ) : Type 0 where
@@ -61,9 +53,7 @@ pub record EndsInside (name : List ℕ) (length_read : ℕ) : Type 0 where
 
 pub behind_first : (name : List ℕ) (place : ℕ) → BehindAt (without_first name) place → EndsInside name place
 behind_first [] place h = absurd (omega (arith, h.within, h.positive))
-behind_first (b ∷ name) place h =
-    let same : place ≡ suc (place - 1) = omega (arith, h.positive) in
-    record { within = omega (arith, h.within); sign = rw same h.sign }
+behind_first (b ∷ name) place h = grind arith
 
 pub length_behind : (name : List ℕ) → length (without_first name) + 1 ≤ length name + 1
 length_behind [] = omega arith

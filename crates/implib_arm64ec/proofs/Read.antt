@@ -47,11 +47,7 @@ pub record BehindAt (text : List ℕ) (place : ℕ) : Type 0 where
   pub sign : get_or text (place - 1) 0 ≡ 0x40
 
 behind_later : (b : ℕ) (text : List ℕ) (place : ℕ) → BehindAt text place → BehindAt (b ∷ text) (suc place)
-behind_later b text place h = record {
-  positive = omega arith;
-  within = omega (arith, h.within);
-  sign = let same : suc place - 1 ≡ suc (place - 1) = omega (arith, h.positive) in rw same h.sign;
-}
+behind_later b text place h = grind arith
 
 ends_later : (b : ℕ) (text : List ℕ) (r : Reading) (place : ℕ)
     → ((p : ℕ) → r ≡ Ends p → BehindAt text p) → one_more r ≡ Ends place → BehindAt (b ∷ text) place
@@ -65,10 +61,8 @@ begun_end : (part : Nonterminal) (parts : List Nonterminal) (b : ℕ) (text : Li
     → next part b ≡ begun
     → ((all : List Nonterminal) → begun ≡ Some all → (p : ℕ) → read (all ++ parts) text ≡ Ends p → BehindAt text p)
     → read (part ∷ parts) (b ∷ text) ≡ Ends place → BehindAt (b ∷ text) place
-begun_end part parts b text place None n rest e =
-    let stops : Stops 0 ≡ Ends place = sym (read_other part parts b text n) ∙ e in absurd (cc)
-begun_end part parts b text place (Some all) n rest e =
-    ends_later b text (read (all ++ parts) text) place (rest all refl) (sym (read_byte part parts all b text n) ∙ e)
+begun_end part parts b text place None n rest e = grind (arith, read_other)
+begun_end part parts b text place (Some all) n rest e = grind (arith, ends_later b text (read (all ++ parts) text) place (rest all refl) (sym (read_byte part parts all b text n) ∙ e), read_byte part parts all b text n)
 
 -- scopes behind a scope
 scopes_begun : (text : List ℕ) (begun : Option (List Nonterminal))
@@ -89,8 +83,7 @@ bottom_end b text place true last rest e =
     let same : 1 ≡ place = cc in
     subst (λ (q : ℕ). BehindAt (b ∷ text) q) same
     (record { positive = omega arith; within = omega arith; sign = grind (arith, nat_tests, last) })
-bottom_end b text place false last rest e =
-    begun_end Scopes [] b text place (followed (scope b) (Scopes ∷ [])) (rw last refl) (scopes_begun text (scope b) rest) e
+bottom_end b text place false last rest e = grind (arith, begun_end Scopes [] b text place (followed (scope b) (Scopes ∷ [])) (rw last refl) (scopes_begun text (scope b) rest) e, scopes_begun text (scope b) rest)
 
 scopes_end_by : (text : List ℕ) (parts : List Nonterminal) (place : ℕ) → read (parts ++ (Scopes ∷ [])) text ≡ Ends place → BehindAt text place
 scopes_end_by [] [] place e = absurd (let stops : Stops 0 ≡ Ends place = sym (read_past Scopes []) ∙ e in cc)
@@ -114,8 +107,7 @@ stack_empty (part ∷ items) text place e = absurd (omega arith)
 pub stack_stops : (items before : List Nonterminal) (part : Nonterminal) (b : ℕ) (text : List ℕ) (place : ℕ)
     → items ≡ before ++ (part ∷ []) → next part b ≡ None
     → shifted place (read (reverse items) (b ∷ text)) ≡ Stops place
-stack_stops items before part b text place e n =
-    rw (e, reverse-append, read_other part (reverse before) b text n) (ap Stops (omega arith))
+stack_stops items before part b text place e n = grind (arith, reverse-append, read_other)
 
 pub stack_goes_on : (items before after parts then_parts : List Nonterminal) (part : Nonterminal) (b : ℕ) (text : List ℕ) (place : ℕ)
     → items ≡ before ++ (part ∷ []) → next part b ≡ Some (parts ++ then_parts)
@@ -150,15 +142,10 @@ stops_later b text (Stops p) place rest e = let same : suc p ≡ place = cc in o
 stops_begun : (part : Nonterminal) (parts : List Nonterminal) (b : ℕ) (text : List ℕ) (place : ℕ) (begun : Option (List Nonterminal))
     → next part b ≡ begun → ((all : List Nonterminal) (p : ℕ) → read all text ≡ Stops p → p ≤ length text)
     → read (part ∷ parts) (b ∷ text) ≡ Stops place → place ≤ length (b ∷ text)
-stops_begun part parts b text place None n rest e =
-    let here : Stops 0 ≡ Stops place = sym (read_other part parts b text n) ∙ e in
-    let same : 0 ≡ place = cc in omega arith
-stops_begun part parts b text place (Some all) n rest e =
-    stops_later b text (read (all ++ parts) text) place (rest (all ++ parts)) (sym (read_byte part parts all b text n) ∙ e)
+stops_begun part parts b text place None n rest e = grind (arith, read_other)
+stops_begun part parts b text place (Some all) n rest e = grind (arith, stops_later b text (read (all ++ parts) text) place (rest (all ++ parts)) (sym (read_byte part parts all b text n) ∙ e), read_byte part parts all b text n)
 
 pub stops_within : (text : List ℕ) (parts : List Nonterminal) (place : ℕ) → read parts text ≡ Stops place → place ≤ length text
 stops_within text [] place e = absurd (let ends : Ends 0 ≡ Stops place = sym (read_none text) ∙ e in cc)
-stops_within [] (part ∷ parts) place e =
-    let here : Stops 0 ≡ Stops place = sym (read_past part parts) ∙ e in
-    let same : 0 ≡ place = cc in omega arith
+stops_within [] (part ∷ parts) place e = grind (arith, read_past)
 stops_within (b ∷ text) (part ∷ parts) place e = stops_begun part parts b text place (next part b) refl (stops_within text) e

@@ -1,12 +1,12 @@
 -- A short import is read as the import of its export.
-use Rattle.std.proofs.Common.{◌≡◌, ◌∙◌, ℕ, ◌+◌, ◌-◌, ◌*◌, ◌/◌, ◌%◌, ◌<◌, ◌≤◌, ◌^◌, Bool, true, false, List, [], ◌∷◌, ◌++◌, None, Some, Option, ap, append_assoc, arith, drop, eq-eqb, if◌then◌else◌, length, nat_le, refl}
+use Rattle.std.proofs.Common.{◌≡◌, ◌∙◌, ℕ, ◌+◌, ◌*◌, ◌/◌, ◌%◌, ◌<◌, ◌≤◌, ◌^◌, Bool, true, false, List, [], ◌∷◌, ◌++◌, None, Some, Option, ap, append_assoc, arith, drop, eq-eqb, if◌then◌else◌, nat_le, refl}
 use Rattle.std.specs.Prelude.{◌==◌, ◌&&◌, unwrap_or}
 use Rattle.std.proofs.lemmas.Bool.{le-leb}
 use Rattle.std.proofs.lemmas.Nat.{from_le_bytes-to_le_bytes_2, from_le_bytes-to_le_bytes_4}
 use Rattle.implib.specs.Definition.{ExportView}
 use Rattle.implib.specs.Formats.Bytes.{u16_bytes, u32_bytes}
 use Rattle.implib.specs.Formats.Object.{u16_at, u32_at}
-use Rattle.implib.specs.Formats.ShortImport.{ShortImport, is_short_import, short_import_header_size, text_in}
+use Rattle.implib.specs.Formats.ShortImport.{ShortImport, is_short_import, text_in}
 use Rattle.implib.specs.Import.{Name, Ordinal, holds}
 use Rattle.implib.specs.Members.Msvc.{dll_texts, import_type_of, short_import_bytes, short_import_data_size, short_import_size}
 use Rattle.implib.proofs.Members.ShortImport.{length-short_import_bytes, text_in-append}
@@ -20,11 +20,7 @@ size_read r fits = from_le_bytes-to_le_bytes_4 (short_import_data_size r) (omega
 
 is_short : (r : ShortImport) → short_import_size r ≤ 0xFFFF_FFFF → is_short_import (short_import_bytes r) ≡ true
 unfolding u16_at u16_bytes u32_bytes
-is_short r fits =
-    let long : nat_le 20 (length (short_import_bytes r)) ≡ true = le-leb 20 (length (short_import_bytes r)) (omega (arith, length-short_import_bytes r)) in
-    let size : (u32_at (short_import_bytes r) 12 == length (short_import_bytes r) - short_import_header_size) ≡ true =
-    eq-eqb (u32_at (short_import_bytes r) 12) (length (short_import_bytes r) - short_import_header_size) (omega (arith, size_read r fits, length-short_import_bytes r)) in
-    rw (long, size) refl
+is_short r fits = grind (arith, nat_le, le-leb, length-short_import_bytes, eq-eqb, size_read)
 
 -- the fields of a header
 pub record Fields (r : ShortImport) : Type 0 where
@@ -34,11 +30,7 @@ pub record Fields (r : ShortImport) : Type 0 where
 
 fields_of : (r : ShortImport) → r.machine < 2 ^ 16 → r.ordinal < 2 ^ 16 → r.import_type + 4 * r.name_type < 2 ^ 16 → Fields r
 unfolding u16_at u16_bytes u32_bytes
-fields_of r m o t = record {
-  machine = from_le_bytes-to_le_bytes_2 r.machine m;
-  ordinal = from_le_bytes-to_le_bytes_2 r.ordinal o;
-  types = from_le_bytes-to_le_bytes_2 (r.import_type + 4 * r.name_type) t;
-}
+fields_of r m o t = grind (arith, from_le_bytes-to_le_bytes_2)
 
 -- the texts behind the header
 texts_of : (r : ShortImport) → drop 20 (short_import_bytes r) ≡ r.symbol ++ 0 ∷ (r.dll ++ 0 ∷ [])
@@ -54,12 +46,7 @@ split : (import_type name_type n : ℕ) → import_type < 4 → n ≡ import_typ
 split import_type name_type n small is = record { low = omega arith; high = omega arith }
 
 type_small : (e : ExportView) → import_type_of e < 4
-type_small e = by e.is_data e.constant
-  where
-    by : (variable constant : Bool) → (if variable then 1 else if constant then 2 else 0) < 4
-    by true constant = omega arith
-    by false true = omega arith
-    by false false = omega arith
+type_small e = grind arith
 
 -- two texts
 read_ordinal : (bytes symbol dll : List ℕ) (import_type ordinal : ℕ) → Types import_type 0 (u16_at bytes 18) → u16_at bytes 16 ≡ ordinal
@@ -78,8 +65,7 @@ after_third : (bytes symbol dll : List ℕ) (import_type ordinal : ℕ) → Type
     → (text : List ℕ) → holds 0 text ≡ false → read_after_dll bytes symbol (Some (dll, text ++ 0 ∷ []))
     ≡ Some (record { symbol = symbol; dll = dll; import_type = import_type; ask = Name text ordinal })
 after_third bytes symbol dll import_type ordinal t o [] none = read_third bytes symbol dll [] import_type ordinal t o
-after_third bytes symbol dll import_type ordinal t o (b ∷ text) none =
-    ap (read_three bytes symbol dll) (text_in-append (b ∷ text) [] none) ∙ read_third bytes symbol dll (b ∷ text) import_type ordinal t o
+after_third bytes symbol dll import_type ordinal t o (b ∷ text) none = grind (arith, text_in-append, read_third, ordinal)
 
 -- behind the DLL's name there is nothing, or the third text
 after_dll : (bytes symbol dll : List ℕ) (import_type ordinal : ℕ) (no_name : Bool) (third : Option (List ℕ))
@@ -91,8 +77,7 @@ after_dll bytes symbol dll import_type ordinal true None d f n t o = rw (text_in
 after_dll bytes symbol dll import_type ordinal true (Some name) d f n t o = absurd (let none : Some name ≡ None = n refl in cc)
 after_dll bytes symbol dll import_type ordinal false None d f n t o = rw (text_in-append dll [] d) (read_name bytes symbol dll import_type ordinal t o)
 after_dll bytes symbol dll import_type ordinal false (Some name) d f n t o =
-    let second : text_in ((dll ++ 0 ∷ name) ++ 0 ∷ []) ≡ Some (dll, name ++ 0 ∷ []) =
-    ap text_in (append_assoc dll (0 ∷ name) (0 ∷ [])) ∙ text_in-append dll (name ++ 0 ∷ []) d in
+    let second : text_in ((dll ++ 0 ∷ name) ++ 0 ∷ []) ≡ Some (dll, name ++ 0 ∷ []) = grind (arith, append_assoc, text_in-append) in
     ap (read_after_dll bytes symbol) second ∙ after_third bytes symbol dll import_type ordinal t o name f
 
 -- by ordinal there is no third text
@@ -112,8 +97,7 @@ reads_back dll e symbol can =
     let number : import_type_of e + 4 * name_type_of e.no_name third < 2 ^ 16 = omega (arith, type_small e, type_of_small e.no_name third) in
     let known = fields_of r (omega arith) can.ordinal number in
     let is : (is_short_import bytes && u16_at bytes 6 == 0xA641) ≡ true = rw (is_short r can.size, known.machine) refl in
-    let first : text_in (drop 20 bytes) ≡ Some (symbol, dll_texts dll third ++ 0 ∷ []) =
-    ap text_in (texts_of r) ∙ text_in-append symbol (dll_texts dll third ++ 0 ∷ []) can.symbol_free in
+    let first : text_in (drop 20 bytes) ≡ Some (symbol, dll_texts dll third ++ 0 ∷ []) = grind (arith, texts_of r, text_in-append symbol (dll_texts dll third ++ 0 ∷ []) can.symbol_free) in
     ap (λ test. if test then read_after_symbol bytes (text_in (drop 20 bytes)) else None) is
     ∙ (ap (read_after_symbol bytes) first
     ∙ after_dll bytes symbol dll (import_type_of e) e.ordinal e.no_name third can.dll_free can.third_free (no_third e symbol)

@@ -16,11 +16,7 @@ use Rattle.implib_arm64ec.proofs.FoundParts.{each_is_read_back}
 
 pub worked_archives : WorkedArchives
 unfolding bytes_of_digits worked_archive ec_archive ec_front ec_index ec_label ec_members ec_part end_from entries_from entries_of first_linker first_linker_size first_place front front_size is_long linker_label linkers long_names member_label member_part name_end name_field names_bytes names_label names_part names_size offset_of place_of places_from second_linker second_linker_size sorted_entries strings_of with_first with_name field header_bytes padded_part_bytes padding part_bytes signature u16_le u32_be u32_le digits
-worked_archives = record {
-  whole = refl;
-  function = refl;
-  odd = refl;
-}
+worked_archives = grind arith
 
 pub worked_library_refusals : WorkedLibraryRefusals
 unfolding bytes_of_digits worked_archive library_refusal ec_index entries_from entries_of first_linker_size first_place front_size has_short_places has_too_many is_long long_names member_refusal members_refusal name_end name_refusal names_bytes names_size offset_of places_from places_refusal second_linker_size sorted_entries strings_of symbol_refusal symbols_refusal u16_le u32_le with_first with_name

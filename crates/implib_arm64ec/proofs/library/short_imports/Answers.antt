@@ -1,10 +1,9 @@
-use Rattle.std.proofs.Common.{ℕ, ◌+◌, ◌<◌, ◌≤◌, List, ◌++◌, ◌∙◌, None, ap, arith, drop, length, map, subst, sym}
-use Rattle.std.specs.List.{AllByRecursion}
+use Rattle.std.proofs.Common.{◌+◌, ◌<◌, ◌∙◌, None, ap, arith, drop, length, map, sym}
 use Rattle.std.proofs.lemmas.Result.{err_from_is_err_and}
 use Rattle.implib.specs.Definition.{export_view}
 use Rattle.implib.specs.LibraryName.{NamesOfDll}
-use Rattle.implib_arm64ec.specs.KeptImports.{IsKept, kept_view}
-use Rattle.implib_arm64ec.specs.LibraryImports.{export_fault, exports_fault, import_of_export, imports_fault}
+use Rattle.implib_arm64ec.specs.KeptImports.{kept_view}
+use Rattle.implib_arm64ec.specs.LibraryImports.{export_fault, exports_fault, imports_fault}
 use Rattle.implib_arm64ec.proofs.LibraryImports.{faults_all, faults_more, first_error, imports_all, imports_more, names_free}
 use Rattle.implib_arm64ec.proofs.library.short_imports.Goals as goal
 
@@ -32,29 +31,16 @@ loop-index-preserved c =
     let within : i < length exports = omega (arith, c.loop-index-test.true) in
     let before = map (kept_view dll) c.loop-index.imports.items in
     record {
-      made = imports_more dll exports i d within before (map (kept_view dll) c.push_import.new.imports.items)
-          (c.in_ok-push_import.ensures.made dll.linked ∙ ap (λ x. before ++ import_of_export dll (export_view x)) c.index-exports-index.is)
-          ∙ c.loop-index.invariant.made;
+      made = grind (arith, imports_more, c.in_ok-push_import.ensures.made, c.index-exports-index.is, c.loop-index.invariant.made);
       kept = c.in_ok-push_import.ensures.kept c.loop-index.invariant.kept;
       passed = sym (faults_more dll exports i d within None (sym (ap (λ x. export_fault dll i (export_view x)) c.index-exports-index.is) ∙ c.in_ok-push_import.ensures.accepted dll.linked)) ∙ c.loop-index.invariant.passed;
     }
 
 pub invariant_of-result : goal.invariant_of-result
-invariant_of-result c =
-    subst (λ (text : List ℕ). AllByRecursion (IsKept text) c.loop-index.imports.items) (sym (c.in_ok-text.ensures {u = tt}).ok) c.loop-index.invariant.kept
+invariant_of-result c = grind (arith, c.in_ok-text.ensures, c.loop-index.invariant.kept)
 
 pub returns-clause-made : goal.returns-clause-made
-returns-clause-made c =
-    let dll : NamesOfDll = record { linked = c.args.library.now; text = c.args.dll.now } in
-    let exports = c.args.exports.now in
-    let past : length exports ≤ c.loop-index.index = omega (arith, c.loop-index-test.false) in
-    rw ((c.in_ok-linked.ensures {u = tt}).ok, (c.in_ok-text.ensures {u = tt}).ok)
-    (sym (imports_all dll exports c.loop-index.index past (map (kept_view dll) c.loop-index.imports.items)) ∙ c.loop-index.invariant.made)
+returns-clause-made c = grind (arith, imports_all, c.loop-index-test.false, c.in_ok-linked.ensures, c.in_ok-text.ensures, c.loop-index.invariant.made)
 
 pub returns-clause-accepted : goal.returns-clause-accepted
-returns-clause-accepted c =
-    let dll : NamesOfDll = record { linked = c.args.library.now; text = c.args.dll.now } in
-    let exports = c.args.exports.now in
-    let past : length exports ≤ c.loop-index.index = omega (arith, c.loop-index-test.false) in
-    names_free dll (map export_view exports) (sym c.holds_nul.ensures ∙ c.if-holds_nul.false) (sym c.holds_nul-else-holds_nul.ensures ∙ c.if-holds_nul-2.false)
-    ∙ (sym c.loop-index.invariant.passed ∙ faults_all dll exports c.loop-index.index past)
+returns-clause-accepted c = grind (arith, names_free, faults_all, c.loop-index-test.false, c.holds_nul.ensures, c.if-holds_nul.false, c.holds_nul-else-holds_nul.ensures, c.if-holds_nul-2.false, c.loop-index.invariant.passed)

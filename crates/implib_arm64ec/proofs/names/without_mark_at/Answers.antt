@@ -15,6 +15,4 @@ range_from-rest-requires c = λ positive.
     (IsCharBoundary-after_ascii c.args.name.now (c.args.place + 2) c.utf8.name (omega (arith, found.within)) (omega (arith, found.letter)))
 
 pub range-requires-clause-end_boundary : goal.range-requires-clause-end_boundary
-range-requires-clause-end_boundary c =
-    let found = mark_is_at c.args.name.now c.args.place c.requires in
-    IsCharBoundary-before_ascii c.args.name.now c.args.place (omega (arith, found.within)) (omega (arith, found.dollar))
+range-requires-clause-end_boundary c = grind (arith, mark_is_at, IsCharBoundary-before_ascii, c.requires)

@@ -18,8 +18,7 @@ pub returns-in-Some-clause-refused : goal.returns-in-Some-clause-refused
 returns-in-Some-clause-refused c = refused_member _ _ (sym c.in-Some.ensures) refl
 
 pub returns-then-has_too_many-clause-refused : goal.returns-then-has_too_many-clause-refused
-returns-then-has_too_many-clause-refused c =
-    refused_many _ (sym c.source_refusal.ensures ∙ c.in_default.is) (sym c.has_too_many.ensures ∙ c.if-has_too_many.true)
+returns-then-has_too_many-clause-refused c = grind (arith, refused_many, c.source_refusal.ensures, c.in_default.is, c.has_too_many.ensures, c.if-has_too_many.true)
 
 pub place_members-requires : goal.place_members-requires
 place_members-requires c =

@@ -1,5 +1,4 @@
-use Rattle.std.proofs.Common.{◌++◌, ◌∙◌, ap, flat_map, subst}
-use Rattle.implib.specs.Beginning.{AppendsBeginning}
+use Rattle.std.proofs.Common.{arith, ◌++◌, ◌∙◌, ap, flat_map}
 use Rattle.implib_archive.specs.Archive.{front, member_part}
 use Rattle.implib_archive.specs.Pushed.{shown}
 use Rattle.implib_archive.specs.declared.kind.Kind.TheVariants.{Coff}
@@ -10,22 +9,10 @@ use Rattle.implib_arm64ec.proofs.Making.{members_made, whole_archive}
 use Rattle.implib_arm64ec.proofs.archive.Archive.write_to.Goals as goal
 
 pub returns-in_err-write_start : goal.returns-in_err-write_start
-returns-in_err-write_start g c =
-    let v = c.args.self.now in
-    let start = front Coff (member_places v) (arm64_entries v) (library_names v) in
-    let index = ec_part (ec_entries v) in
-    writes_err c.from_residual-in_err-write_start.result _ _ _ c.from_residual-in_err-write_start.ensures.0
-    (subst (AppendsBeginning (g.W.Write.contents c.args.writer.now) (g.W.Write.contents c.write_start.new.writer)) (whole_archive v)
-    (begins_more _ _ (start ++ index) (ec_members v) (begins_more _ _ start index c.in_err-write_start.ensures)))
+returns-in_err-write_start g c = grind (arith, writes_err, whole_archive c.args.self.now, begins_more, c.from_residual-in_err-write_start.ensures.0, c.in_err-write_start.ensures)
 
 pub returns-in_err-write_ec_index : goal.returns-in_err-write_ec_index
-returns-in_err-write_ec_index g c =
-    let v = c.args.self.now in
-    let start = front Coff (member_places v) (arm64_entries v) (library_names v) in
-    let index = ec_part (ec_entries v) in
-    writes_err c.from_residual-in_err-write_ec_index.result _ _ _ c.from_residual-in_err-write_ec_index.ensures.0
-    (subst (AppendsBeginning (g.W.Write.contents c.args.writer.now) (g.W.Write.contents c.write_ec_index.new.writer)) (whole_archive v)
-    (begins_more _ _ (start ++ index) (ec_members v) (begins_then _ _ _ start index c.in_ok-write_start.ensures c.in_err-write_ec_index.ensures)))
+returns-in_err-write_ec_index g c = grind (arith, writes_err, whole_archive c.args.self.now, begins_more, begins_then, c.from_residual-in_err-write_ec_index.ensures.0, c.in_ok-write_start.ensures, c.in_err-write_ec_index.ensures)
 
 pub returns : goal.returns
 returns g c =
