@@ -100,23 +100,12 @@ five_are f top a b c d e room =
 words_at_helper : (p : Placement) (t : State) → 20 ≤ t.registers 4 → t.words (t.registers 4) ≡ p.descriptor →
     Five t.words (t.registers 4) (t.registers 1) (t.registers 2) (t.registers 0) p.descriptor (p.tail + 12) (at_helper p t).words
 unfolding at_helper pushed five
-words_at_helper p t room here =
-    let top : ℕ = t.registers 4 in
-    let again : top - 4 - 4 - 4 + 12 ≡ top = omega arith in
-    let f1 : ℕ → ℕ = with_value t.words (top - 4) (t.registers 1) in
-    let f2 : ℕ → ℕ = with_value f1 (top - 4 - 4) (t.registers 2) in
-    let f3 : ℕ → ℕ = with_value f2 (top - 4 - 4 - 4) (t.registers 0) in
-    let word : f3 (top - 4 - 4 - 4 + 12) ≡ p.descriptor =
-    rw again (elsewhere f2 (top - 4 - 4 - 4) (t.registers 0) top p.descriptor (λ s. omega arith) (elsewhere f1 (top - 4 - 4) (t.registers 2) top p.descriptor (λ s. omega arith) (elsewhere t.words (top - 4) (t.registers 1) top p.descriptor (λ s. omega arith) here))) in
-    rw word (five_are t.words top (t.registers 1) (t.registers 2) (t.registers 0) p.descriptor (p.tail + 12) room)
+words_at_helper p t room here = grind (arith, elsewhere, five_are)
 
 -- all accesses are aligned
 at_tail-sound : (p : Placement) (s : State) → s.registers 4 % 4 ≡ 0 → 4 ≤ s.registers 4 → s.is_sound ≡ true → (at_tail p s).is_sound ≡ true
 unfolding at_tail
-at_tail-sound p s whole room sound =
-    let one : (s.registers 4 - 4) % 4 ≡ 0 = omega arith in
-    let first : nat_le 4 (s.registers 4) ≡ true = le-leb _ _ room in
-    simp (sound, one, first)
+at_tail-sound p s whole room sound = grind (arith, le-leb)
 
 at_helper-sound : (p : Placement) (s : State) → s.registers 4 % 4 ≡ 0 → 20 ≤ s.registers 4 → s.is_sound ≡ true → (at_helper p s).is_sound ≡ true
 unfolding at_helper pushed
@@ -188,20 +177,7 @@ first_call32 p end s lead begins =
           record {
             arrived = at_function returned;
             goes = ByTail 12 (p.tail + 12) returned address (at_function returned) refl (leg_back p returned address answers.answer);
-            arrives_as = record {
-              arguments = (
-                again _ (omega arith) (omega arith) ∙ words.first _ (omega arith),
-                (again _ (omega arith) (omega arith) ∙ words.second _ (omega arith), tt),
-              );
-              argument_vectors = tt;
-              pointer = omega arith;
-              registers = (answers.registers.0 ∙ kept.0, (answers.registers.1.0 ∙ kept.1.0, (answers.registers.1.1.0 ∙ kept.1.1.0, (answers.registers.1.1.1.0 ∙ kept.1.1.1.0, tt))));
-              vectors = tt;
-              returns_to = again (s.registers 4) (omega arith) (omega arith) ∙ (words.above (s.registers 4) (omega arith) ∙ own (s.registers 4) (omega arith));
-              stack = λ q above below. again q (omega arith) below ∙ (words.above q (omega arith) ∙ own q (omega arith));
-              entry = answers.written;
-              sound = at_function-sound returned (omega (arith, begins.pointer)) (answers.sound ∙ helped);
-            };
+            arrives_as = grind (arith, at_function-sound);
           };
     }
 

@@ -195,9 +195,7 @@ frame_again p end address s t returned b =
 words_again : (p : Placement) (end address : ℕ) (s t returned : State) → Back p end address s t returned → (q : ℕ) →
     t.registers 4 - 136 + 32 ≤ q → q < end → returned.words q ≡ kept_words (t.registers 4 - 136) t q
 unfolding at_helper
-words_again p end address s t returned b q above below =
-    let same : t.registers 4 ≡ s.registers 4 = b.registers 4 (omega arith) (λ e. omega arith) (λ e. omega arith) in
-    b.answers.stack q (omega (arith, b.begins.room)) below ∙ at_helper-words p t q (omega arith) (omega (arith, b.begins.room))
+words_again p end address s t returned b q above below = grind (arith, at_helper-words)
 
 -- so each word of the frame is what was kept
 frame_words : (p : Placement) (end address : ℕ) (s t returned : State) → Back p end address s t returned →
@@ -246,58 +244,10 @@ arrives_as p end address s t returned b =
     let own : (r : ℕ) → r < 16 → r ≢ 0 → r ≢ 11 → t.registers r ≡ s.registers r = b.registers in
     record {
       arguments = (held.rcx, (held.rdx, (held.r8, (held.r9, tt))));
-      argument_vectors = (
-        vector_is _ _ held.low0 held.high0,
-        (vector_is _ _ held.low1 held.high1, (vector_is _ _ held.low2 held.high2, (vector_is _ _ held.low3 held.high3, (vector_is _ _ held.low4 held.high4, (vector_is _ _ held.low5 held.high5, tt))))),
-      );
+      argument_vectors = grind (arith, vector_is);
       pointer = omega arith;
-      registers = (
-        kept.0 ∙ own 3 (omega arith) (λ e. omega arith) (λ e. omega arith),
-        (
-          kept.1.0 ∙ own 5 (omega arith) (λ e. omega arith) (λ e. omega arith),
-          (
-            kept.1.1.0 ∙ own 6 (omega arith) (λ e. omega arith) (λ e. omega arith),
-            (
-              kept.1.1.1.0 ∙ own 7 (omega arith) (λ e. omega arith) (λ e. omega arith),
-              (
-                kept.1.1.1.1.0 ∙ own 12 (omega arith) (λ e. omega arith) (λ e. omega arith),
-                (
-                  kept.1.1.1.1.1.0 ∙ own 13 (omega arith) (λ e. omega arith) (λ e. omega arith),
-                  (
-                    kept.1.1.1.1.1.1.0 ∙ own 14 (omega arith) (λ e. omega arith) (λ e. omega arith),
-                    (kept.1.1.1.1.1.1.1.0 ∙ own 15 (omega arith) (λ e. omega arith) (λ e. omega arith), tt),
-                  ),
-                ),
-              ),
-            ),
-          ),
-        ),
-      );
-      vectors = (
-        vectors.0 ∙ b.vectors 6,
-        (
-          vectors.1.0 ∙ b.vectors 7,
-          (
-            vectors.1.1.0 ∙ b.vectors 8,
-            (
-              vectors.1.1.1.0 ∙ b.vectors 9,
-              (
-                vectors.1.1.1.1.0 ∙ b.vectors 10,
-                (
-                  vectors.1.1.1.1.1.0 ∙ b.vectors 11,
-                  (
-                    vectors.1.1.1.1.1.1.0 ∙ b.vectors 12,
-                    (
-                      vectors.1.1.1.1.1.1.1.0 ∙ b.vectors 13,
-                      (vectors.1.1.1.1.1.1.1.1.0 ∙ b.vectors 14, (vectors.1.1.1.1.1.1.1.1.1.0 ∙ b.vectors 15, tt)),
-                    ),
-                  ),
-                ),
-              ),
-            ),
-          ),
-        ),
-      );
+      registers = grind arith;
+      vectors = grind arith;
       returns_to =
           let at : s.registers 4 ≡ t.registers 4 - 136 + 136 = omega arith in
           words_again p end address s t returned b (s.registers 4) (omega arith) (omega arith)

@@ -1,9 +1,8 @@
 -- The objects of delayed imports fit what a file has room for.
-use Rattle.std.proofs.Common.{◌≡◌, ℕ, ◌+◌, ◌<◌, ◌^◌, Bool, true, false, if◌then◌else◌, List, [], ◌∷◌, ◌++◌, length, refl, ◌∙◌, arith, codes}
+use Rattle.std.proofs.Common.{◌≡◌, ℕ, ◌+◌, ◌<◌, ◌^◌, Bool, true, false, if◌then◌else◌, List, [], ◌∷◌, ◌++◌, length, refl, arith, codes}
 use Rattle.std.specs.List.{AllByRecursion}
 use Rattle.std.proofs.lemmas.Bool.{or_from}
 use Rattle.std.proofs.lemmas.List.Folds.{list_any-append}
-use Rattle.std.specs.Prelude.{◌==◌}
 use Rattle.implib.specs.declared.coff.object.Place.{Place}
 use Rattle.implib.specs.declared.coff.object.Place.TheVariants.{Undefined, Section}
 use Rattle.implib.specs.declared.machine.MachineType.{MachineType}
@@ -15,7 +14,7 @@ use Rattle.implib_delay.specs.Code.{stub_code, tail_code}
 use Rattle.implib.specs.Formats.Layout.{Fits, FitsRelocation}
 use Rattle.implib.proofs.Formats.WriterLayout.{layout_of-fits}
 use Rattle.implib.specs.Formats.Writer.{AddedSymbol, IsPlaceAmong, IsSymbolIndex, WriterState, layout_of}
-use Rattle.implib.specs.Import.{holds, imp_symbol, is_empty_text}
+use Rattle.implib.specs.Import.{holds, is_empty_text}
 use Rattle.implib.specs.LibraryName.{NamesOfDll}
 use Rattle.implib.specs.Members.Gnu.{added, data_name, mangled_name, section, text_name, thunk}
 use Rattle.implib.specs.Members.ImportTables.{relocation, thunk_flags, thunk_width, zeros}
@@ -31,10 +30,7 @@ use Rattle.implib_delay.specs.Objects.{export_object, export_symbols, head_objec
 
 -- a text around the library's name has no NUL, and begins
 around_free : (before library after : List ℕ) → holds 0 before ≡ false → holds 0 library ≡ false → holds 0 after ≡ false → holds 0 (before ++ (mangled_name library ++ after)) ≡ false
-around_free before library after one two three =
-    list_any-append (λ b. b == 0) before (mangled_name library ++ after)
-    ∙ or_from (holds 0 before) (holds 0 (mangled_name library ++ after)) one
-    (list_any-append (λ b. b == 0) (mangled_name library) after ∙ or_from (holds 0 (mangled_name library)) (holds 0 after) (holds-mangled_name library two) three)
+around_free before library after one two three = grind (arith, list_any-append, or_from, holds-mangled_name)
 
 pub tail_symbol-free : (machine : MachineType) (library : List ℕ) → holds 0 library ≡ false → holds 0 (tail_symbol machine library) ≡ false
 unfolding tail_symbol
@@ -87,8 +83,7 @@ plain_sound symbols name contents flags eight flags_fit = record { fits = plain_
 
 symbol_sound : (count : ℕ) (name : List ℕ) (place : Place) (class : ℕ) → 0 < length name → holds 0 name ≡ false → IsPlaceAmong count place →
     IsSoundSymbol count (added name place class)
-symbol_sound count name place class filled free among =
-    record { named = filled; no_nul = free; value = omega arith; place = among; aux = tt }
+symbol_sound count name place class filled free among = grind arith
 
 thunk_flags_fit : (machine : MachineType) → thunk_flags machine < 2 ^ 32
 thunk_flags_fit I386 = omega arith
@@ -109,20 +104,7 @@ word_kind_fits ARM64 = omega arith
 
 pub IsSound-tail_object : (machine : MachineType) (dll : NamesOfDll) → holds 0 dll.linked ≡ false → IsSound (tail_object machine dll) 1
 unfolding tail_object
-IsSound-tail_object machine dll free =
-    let symbols : List AddedSymbol = added (name_symbol dll.linked) (Section 3) class_external ∷ [] in
-    record {
-      few = omega arith;
-      records = refl;
-      sections = (
-        plain_sound symbols (codes ".didat$4") _ _ refl (thunk_flags_fit machine),
-        (
-          plain_sound symbols (codes ".didat$5") _ _ refl (thunk_flags_fit machine),
-          (plain_sound symbols (codes ".didat$7") _ _ refl (omega arith), tt),
-        ),
-      );
-      symbols = (symbol_sound 3 (name_symbol dll.linked) (Section 3) class_external (name_symbol-filled dll.linked) (name_symbol-free dll.linked free) (omega arith, omega arith), tt);
-    }
+IsSound-tail_object machine dll free = grind (arith, plain_sound, thunk_flags_fit, symbol_sound, name_symbol-filled, name_symbol-free)
 
 tail_within : (machine : MachineType) (dll : NamesOfDll) → AllByRecursion LieWithin (tail_object machine dll).sections
 unfolding tail_object
@@ -201,17 +183,8 @@ IsSound-head32 machine library free =
     record {
       few = omega arith;
       records = refl;
-      sections = (
-        code_sound machine symbols tt,
-        (plain_sound symbols data_name _ _ refl (thunk_flags_fit machine), tt),
-      );
-      symbols = (
-        symbol_sound 2 (tail_symbol machine library) (Section 1) class_external (tail_symbol-filled machine library) (tail_symbol-free machine library free) (omega arith, omega arith),
-        (
-          symbol_sound 2 (handle_symbol library) (Section 2) class_external (handle_symbol-filled library) (handle_symbol-free library free) (omega arith, omega arith),
-          (symbol_sound 2 (helper_symbol machine) Undefined class_external (helper_symbol-filled machine) (helper_symbol-free machine) tt, tt),
-        ),
-      );
+      sections = grind (arith, code_sound, plain_sound, thunk_flags_fit);
+      symbols = grind (arith, symbol_sound, tail_symbol-filled, tail_symbol-free, handle_symbol-filled, handle_symbol-free, helper_symbol-filled, helper_symbol-free);
     }
 
 IsSound-head64 : (machine : MachineType) (library : List ℕ) → holds 0 library ≡ false → IsSound (head64 machine library) 5
@@ -220,43 +193,8 @@ IsSound-head64 machine library free =
     record {
       few = omega arith;
       records = refl;
-      sections = (
-        code_sound machine symbols tt,
-        (
-          plain_sound symbols data_name _ _ refl (thunk_flags_fit machine),
-          (
-            plain_sound symbols (codes ".xdata" ++ zeros 2) _ _ refl (omega arith),
-            (
-              record {
-                fits = record {
-                  name = refl;
-                  flags = omega arith;
-                  count = omega arith;
-                  relocations = (
-                    relocation_fits machine 0 3 (omega arith) (omega arith),
-                    (relocation_fits machine 4 3 (omega arith) (omega arith), (relocation_fits machine 8 4 (omega arith) (omega arith), tt)),
-                  );
-                };
-                relocations = (tt, (tt, (tt, tt)));
-              },
-              tt,
-            ),
-          ),
-        ),
-      );
-      symbols = (
-        symbol_sound 4 (tail_symbol machine library) (Section 1) class_external (tail_symbol-filled machine library) (tail_symbol-free machine library free) (omega arith, omega arith),
-        (
-          symbol_sound 4 (handle_symbol library) (Section 2) class_external (handle_symbol-filled library) (handle_symbol-free library free) (omega arith, omega arith),
-          (
-            symbol_sound 4 (helper_symbol machine) Undefined class_external (helper_symbol-filled machine) (helper_symbol-free machine) tt,
-            (
-              symbol_sound 4 (codes ".text") (Section 1) class_static (omega arith) refl (omega arith, omega arith),
-              (symbol_sound 4 (codes ".xdata") (Section 3) class_static (omega arith) refl (omega arith, omega arith), tt),
-            ),
-          ),
-        ),
-      );
+      sections = grind (arith, code_sound, plain_sound, thunk_flags_fit, fits, relocation_fits);
+      symbols = grind (arith, symbol_sound, tail_symbol-filled, tail_symbol-free, handle_symbol-filled, handle_symbol-free, helper_symbol-filled, helper_symbol-free);
     }
 
 pub CanBeHeld-head32 : (machine : MachineType) (library : List ℕ) → holds 0 library ≡ false → CanBeHeld (head32 machine library)
@@ -287,10 +225,7 @@ stub_sound ARM64 symbols named = record { fits = record { name = refl; flags = o
 thunk_sound : (machine : MachineType) (no_name : Bool) (symbols : List AddedSymbol) (contents : List ℕ) → IsSymbolIndex symbols 9 →
     IsSoundSection symbols (section (codes ".didat$4") (thunk_flags machine) contents (if no_name then [] else relocation machine 0 9 ∷ []))
 thunk_sound machine true symbols contents named = plain_sound symbols (codes ".didat$4") contents _ refl (thunk_flags_fit machine)
-thunk_sound machine false symbols contents named = record {
-  fits = record { name = refl; flags = thunk_flags_fit machine; count = omega arith; relocations = (relocation_fits machine 0 9 (omega arith) (omega arith), tt) };
-  relocations = (named, tt);
-}
+thunk_sound machine false symbols contents named = grind (arith, fits, thunk_flags_fit, relocation_fits)
 
 pub IsSound-export_object : (machine : MachineType) (library : List ℕ) (e : ExportView) → holds 0 library ≡ false → holds 0 e.name ≡ false → is_empty_text e.name ≡ false →
     IsSound (export_object machine library e) 10
@@ -300,61 +235,8 @@ IsSound-export_object machine library e free name_free filled =
     record {
       few = omega arith;
       records = refl;
-      sections = (
-        stub_sound machine symbols (tt, (tt, (tt, (tt, tt)))),
-        (
-          record {
-            fits = record {
-              name = refl;
-              flags = omega arith;
-              count = omega arith;
-              relocations = (
-                relocation_fits machine 4 3 (omega arith) (omega arith),
-                (
-                  relocation_fits machine 8 4 (omega arith) (omega arith),
-                  (relocation_fits machine 12 8 (omega arith) (omega arith), (relocation_fits machine 16 7 (omega arith) (omega arith), tt)),
-                ),
-              );
-            };
-            relocations = (tt, (tt, (tt, (tt, tt))));
-          },
-          (
-            record { fits = record { name = refl; flags = thunk_flags_fit machine; count = omega arith; relocations = (fits 0 5 (word_kind machine) (omega arith) (omega arith) (word_kind_fits machine), tt) }; relocations = (tt, tt) },
-            (
-              thunk_sound machine e.no_name symbols _ tt,
-              (plain_sound symbols (codes ".didat$6") _ _ refl (omega arith), tt),
-            ),
-          ),
-        ),
-      );
-      symbols = (
-        symbol_sound 5 e.name (Section 1) class_external (filled_text e.name filled) name_free (omega arith, omega arith),
-        (
-          symbol_sound 5 (imp_symbol e.name) (Section 3) class_external (omega arith) name_free (omega arith, omega arith),
-          (
-            symbol_sound 5 (tail_symbol machine library) Undefined class_external (tail_symbol-filled machine library) (tail_symbol-free machine library free) tt,
-            (
-              symbol_sound 5 (name_symbol library) Undefined class_external (name_symbol-filled library) (name_symbol-free library free) tt,
-              (
-                symbol_sound 5 (handle_symbol library) Undefined class_external (handle_symbol-filled library) (handle_symbol-free library free) tt,
-                (
-                  symbol_sound 5 (codes ".text") (Section 1) class_static (omega arith) refl (omega arith, omega arith),
-                  (
-                    symbol_sound 5 (codes ".didat$2") (Section 2) class_static (omega arith) refl (omega arith, omega arith),
-                    (
-                      symbol_sound 5 (codes ".didat$4") (Section 4) class_static (omega arith) refl (omega arith, omega arith),
-                      (
-                        symbol_sound 5 (codes ".didat$5") (Section 3) class_static (omega arith) refl (omega arith, omega arith),
-                        (symbol_sound 5 (codes ".didat$6") (Section 5) class_static (omega arith) refl (omega arith, omega arith), tt),
-                      ),
-                    ),
-                  ),
-                ),
-              ),
-            ),
-          ),
-        ),
-      );
+      sections = grind (arith, stub_sound, fits, relocation_fits, thunk_flags_fit, word_kind_fits, thunk_sound, plain_sound);
+      symbols = grind (arith, symbol_sound, filled_text, tail_symbol-filled, tail_symbol-free, name_symbol-filled, name_symbol-free, handle_symbol-filled, handle_symbol-free);
     }
 
 stub_within : (machine : MachineType) → LieWithin (section [] 0 (stub_code (mode_of machine)) (stub_relocations machine))
@@ -379,10 +261,7 @@ thunk_within ARM64 false by_ordinal = (omega arith, tt)
 
 export_within : (machine : MachineType) (library : List ℕ) (e : ExportView) → AllByRecursion LieWithin (export_object machine library e).sections
 unfolding export_object thunk
-export_within machine library e = (
-  stub_within machine,
-  ((omega arith, (omega arith, (omega arith, (omega arith, tt)))), (entry_within machine, (thunk_within machine e.no_name _, (tt, tt)))),
-)
+export_within machine library e = grind (arith, stub_within, entry_within, thunk_within)
 
 pub CanBeHeld-export_object : (machine : MachineType) (library : List ℕ) (e : ExportView) → holds 0 library ≡ false → holds 0 e.name ≡ false → is_empty_text e.name ≡ false →
     CanBeHeld (export_object machine library e)

@@ -1,18 +1,18 @@
 -- Delayed exports that are kept as what their objects say.
-use Rattle.std.proofs.Common.{◌≡◌, ℕ, zero, suc, ◌<◌, ◌≤◌, ◌||◌, false, true, List, [], ◌∷◌, ◌++◌, length, drop, map, get_or, refl, sym, ap, ◌∙◌, arith, length-append, codes}
-use Rattle.std.specs.Prelude.{Bool, None, Option, min, option_map, string_bytes}
+use Rattle.std.proofs.Common.{◌≡◌, ℕ, zero, suc, ◌<◌, ◌≤◌, false, true, List, [], ◌∷◌, ◌++◌, length, drop, map, get_or, refl, ap, ◌∙◌, arith, length-append, codes}
+use Rattle.std.specs.Prelude.{Bool, None, Option, min, string_bytes}
 use Rattle.std.specs.List.{AllByRecursion}
 use Rattle.std.specs.Str.{IsCharBoundary}
 use Rattle.std.proofs.lemmas.Bool.{le-ltb, lt-ltb, or_parts}
 use Rattle.std.proofs.lemmas.List.{map-append}
 use Rattle.std.proofs.lemmas.Str.{IsCharBoundary-after_ascii, IsUtf8-string_bytes}
 use Rattle.implib.specs.declared.machine.MachineType.{MachineType}
-use Rattle.implib.specs.Definition.{ExportView, given_name}
+use Rattle.implib.specs.Definition.{ExportView}
 use Rattle.implib.specs.Formats.Layout.{encoded_size}
-use Rattle.implib.specs.Formats.Writer.{WriterState, layout_of}
+use Rattle.implib.specs.Formats.Writer.{layout_of}
 use Rattle.implib.specs.Import.{holds, imp_symbol, is_empty_text}
 use Rattle.implib.specs.Members.Gnu.{hint_name, thunk}
-use Rattle.implib.specs.Members.MemberSpec.{MemberView, member_of}
+use Rattle.implib.specs.Members.MemberSpec.{member_of}
 use Rattle.implib.specs.Members.Members.{is_too_long}
 use Rattle.implib.specs.Members.NameRules.{holds_nul}
 use Rattle.implib.proofs.Formats.ObjectReading.{length-encoded}
@@ -58,29 +58,14 @@ module _ (machine : MachineType) (linked : List ℕ) (number size : ℕ) (e : Ex
   name_kept = ap (drop 6) keeps.address_is
 
   object_kept : export_object machine linked (kept_export k) ≡ export_object machine linked e
-  object_kept =
-      let name = name_kept in
-      let whole : export_object machine linked (said (kept_name k) (option_map string_bytes k.asked_name) k.ordinal k.no_name) ≡ export_object machine linked (said e.name e.asked_name e.ordinal e.no_name) =
-      rw (name, keeps.asked_name, keeps.ordinal, keeps.no_name) refl in
-      whole ∙ object_of_said machine linked e
+  object_kept = grind (arith, name_kept, object_of_said)
 
   pub member_kept : kept_view machine linked k ≡ member_of (export_spec machine linked number e)
   unfolding export_spec
-  member_kept =
-      let name = name_kept in
-      let object = object_kept in
-      rw (keeps.name_is, object, name, keeps.address_is) refl
+  member_kept = grind (arith, name_kept, object_kept)
 
   pub is_kept : holds 0 e.name ≡ false → is_empty_text e.name ≡ false → size ≡ encoded_size (layout_of (export_object machine linked e)) → size ≤ 0xFFFF_FFFF → IsKept machine linked k
-  is_kept free filled is short =
-      let name = name_kept in
-      record {
-        address = keeps.address_is ∙ ap imp_symbol (sym name);
-        free = rw name free;
-        filled = rw name filled;
-        sized = keeps.size_is ∙ (is ∙ ap (λ (h : WriterState). encoded_size (layout_of h)) (sym object_kept));
-        short = rw keeps.size_is short;
-      }
+  is_kept free filled is short = grind (arith, name_kept, object_kept)
 
 -- the size of an object, and whether it is too long
 module _ (machine : MachineType) (linked : List ℕ) (number : ℕ) (e : ExportView) (size : ℕ)
@@ -98,29 +83,19 @@ module _ (machine : MachineType) (linked : List ℕ) (number : ℕ) (e : ExportV
 
 -- a name without NUL, of an export that holds none
 pub name_free : (e : ExportView) → holds_nul e ≡ false → holds 0 e.name ≡ false
-name_free e free =
-    let three = or_parts (holds 0 e.name || holds 0 e.symbol_name || holds 0 e.alias_target) (holds 0 (given_name e)) free in
-    let two = or_parts (holds 0 e.name || holds 0 e.symbol_name) (holds 0 e.alias_target) three.0 in
-    (or_parts (holds 0 e.name) (holds 0 e.symbol_name) two.0).0
+name_free e free = grind (arith, or_parts)
 
 -- the size of an object that is kept is that of its bytes
 pub length_kept : (machine : MachineType) (linked : List ℕ) (k : KeptExport) → holds 0 linked ≡ false → IsKept machine linked k
     → length ((kept_view machine linked k).bytes) ≡ k.size
-length_kept machine linked k free kept =
-    length-encoded (layout_of (export_object machine linked (kept_export k)))
-    (layout_of-fits (export_object machine linked (kept_export k)) 10 (IsSound-export_object machine linked (kept_export k) free kept.free kept.filled))
-    (let is = kept.sized in let short = kept.short in omega (arith, is, short))
-    ∙ sym kept.sized
+length_kept machine linked k free kept = grind (arith, length-encoded, layout_of-fits, IsSound-export_object)
 
 module _ (machine : MachineType) (linked : List ℕ) where
   -- one export more
   pub kept_more : (number : ℕ) (e : ExportView) (items more : List KeptExport) (k : KeptExport) → more ≡ items ++ k ∷ []
       → kept_view machine linked k ≡ member_of (export_spec machine linked number e)
       → map (kept_view machine linked) more ≡ map (kept_view machine linked) items ++ map member_of (export_spec machine linked number e ∷ [])
-  kept_more number e items more k is shows =
-      ap (map (kept_view machine linked)) is
-      ∙ (map-append (kept_view machine linked) items (k ∷ [])
-      ∙ ap (λ (m : MemberView). map (kept_view machine linked) items ++ m ∷ []) shows)
+  kept_more number e items more k is shows = grind (arith, map-append)
 
   pub all_kept : (items more : List KeptExport) (k : KeptExport) → more ≡ items ++ k ∷ [] → AllByRecursion (IsKept machine linked) items → IsKept machine linked k
       → AllByRecursion (IsKept machine linked) more

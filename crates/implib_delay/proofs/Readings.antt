@@ -15,7 +15,7 @@ use Rattle.implib.specs.Formats.Bytes.{u16_bytes}
 use Rattle.implib.specs.Formats.Layout.{Fits, encoded, encoded_size}
 use Rattle.implib.specs.Formats.Object.{object_in, u16_at, u32_at}
 use Rattle.implib.specs.Formats.Writer.{WriterState, layout_of, written_object}
-use Rattle.implib.specs.Import.{Name, Ordinal, expected_ask, expected_import, holds, name_asked, public_exports}
+use Rattle.implib.specs.Import.{Ordinal, expected_ask, expected_import, holds, name_asked, public_exports}
 use Rattle.implib.specs.LibraryName.{NamesOfDll}
 use Rattle.implib.specs.Members.Gnu.{hint_name, mangled_name, thunk}
 use Rattle.implib.specs.Members.MemberSpec.{MemberSpec, MemberView, member_of}
@@ -49,10 +49,7 @@ ask_by I386 library e fits free true = ap (λ n. Some (Ordinal n)) (from_le_byte
 ask_by ARMNT library e fits free true = ap (λ n. Some (Ordinal n)) (from_le_bytes-to_le_bytes_2 e.ordinal fits)
 ask_by AMD64 library e fits free true = ap (λ n. Some (Ordinal n)) (from_le_bytes-to_le_bytes_2 e.ordinal fits)
 ask_by ARM64 library e fits free true = ap (λ n. Some (Ordinal n)) (from_le_bytes-to_le_bytes_2 e.ordinal fits)
-ask_by machine library e fits free false =
-    ap (λ x. option_map (λ name. Name name (u16_at (u16_bytes e.ordinal ++ (name_asked machine e ++ 0 ∷ [])) 0)) x)
-    (before_nul-ended (name_asked machine e) [] free)
-    ∙ ap (λ n. Some (Name (name_asked machine e) n)) (from_le_bytes-to_le_bytes_2 e.ordinal fits)
+ask_by machine library e fits free false = grind (arith, before_nul-ended, from_le_bytes-to_le_bytes_2)
 
 delayed_read : (machine : MachineType) → machine_refusal machine ≡ None → (library : List ℕ) (e : ExportView) →
     is_delayed (written_object (export_object machine library e)) (written_object (head_object machine library)) ≡ true
@@ -82,9 +79,7 @@ import_read machine has dll e sound plain free =
 -- By the bytes.
 
 object_read : (h : WriterState) → Fits (layout_of h) → encoded_size (layout_of h) ≤ 0xFFFF_FFFF → object_in (encoded (layout_of h)) ≡ Some (written_object h)
-object_read h fits short =
-    let below : encoded_size (layout_of h) < 2 ^ 32 = omega arith in
-    object_in-encoded (layout_of h) fits below ∙ ap Some (object_of-layout_of h)
+object_read h fits short = grind (arith, object_in-encoded, object_of-layout_of)
 
 -- what the last two members are
 record Ends (machine : MachineType) (dll : NamesOfDll) (head tail : List ℕ) : Type 0 where
@@ -95,10 +90,7 @@ export_read : (machine : MachineType) → machine_refusal machine ≡ None → (
     (number : ℕ) (e : ExportView) → Sound e → e.is_data ≡ false → is_too_long (export_spec machine dll.linked number e) ≡ false →
     delayed_import_in (member_of (export_spec machine dll.linked number e)).bytes head tail ≡ Some (expected_import machine dll.text e)
 unfolding export_spec
-export_read machine has dll head tail ends linked_free text_free number e sound plain short =
-    let fits : Fits (layout_of (export_object machine dll.linked e)) = layout_of-fits (export_object machine dll.linked e) 10 (IsSound-export_object machine dll.linked e linked_free sound.name sound.filled) in
-    rw (object_read (export_object machine dll.linked e) fits (short_enough (export_spec machine dll.linked number e) short), ends.head_read, ends.tail_read)
-    (import_read machine has dll e sound plain text_free)
+export_read machine has dll head tail ends linked_free text_free number e sound plain short = grind (arith, layout_of-fits, IsSound-export_object, object_read, short_enough, import_read)
 
 -- data of no export
 abbrev IsPlain : ExportView → Type 0
@@ -159,10 +151,7 @@ read_back d machine members made =
     let tail_short = or_parts (is_too_long tail) false ends_short.1 in
     let linked_free : holds 0 dll.linked ≡ false = linked_free_by_names d machine Gnu named in
     let text_free : holds 0 dll.text ≡ false = text_free_by_names d machine Gnu named in
-    let ends : Ends machine dll (member_of head).bytes (member_of tail).bytes = record {
-      head_read = object_read (head_object machine dll.linked) (Fits-head_object machine dll.linked linked_free) (short_enough head ends_short.0);
-      tail_read = object_read (tail_object machine dll) (layout_of-fits (tail_object machine dll) 1 (IsSound-tail_object machine dll linked_free)) (short_enough tail tail_short.0);
-    } in
+    let ends : Ends machine dll (member_of head).bytes (member_of tail).bytes = grind (arith, object_read, Fits-head_object, short_enough, layout_of-fits, IsSound-tail_object) in
     record {
       exports = map member_of numbered;
       head = member_of head;

@@ -1,5 +1,5 @@
 -- The sizes of the objects of delayed exports.
-use Rattle.std.proofs.Common.{◌≡◌, ℕ, ◌+◌, ◌*◌, ◌-◌, ◌<◌, ◌≤◌, ◌||◌, true, false, Bool, List, [], ◌∷◌, ◌++◌, length, map, take, get_or, refl, sym, ap, ◌∙◌, arith, length-append, if◌then◌else◌, bytes_eq, inl, inr, sum_by}
+use Rattle.std.proofs.Common.{◌≡◌, ℕ, ◌+◌, ◌*◌, ◌-◌, ◌<◌, ◌≤◌, ◌||◌, true, false, Bool, List, [], ◌∷◌, ◌++◌, length, map, take, get_or, refl, sym, ap, ◌∙◌, arith, length-append, if◌then◌else◌, bytes_eq, sum_by}
 use Rattle.std.specs.Prelude.{min}
 use Rattle.std.specs.List.{fold, list_any}
 use Rattle.std.proofs.lemmas.Bool.{cases_Bool, le-ltb, lt-ltb}
@@ -30,60 +30,18 @@ use Rattle.implib_delay.specs.Sizes.{added_size, long_name_size}
 with_long_name-long : (names : List (List ℕ)) (name : List ℕ) →
     sum_by string_size (with_long_name names name) ≡ sum_by string_size names + (if list_any (bytes_eq name) names then 0 else long_name_size name)
 unfolding with_long_name with_name
-with_long_name-long names name = by_tests (is_long name) (list_any (bytes_eq name) names)
-  where
-    by_tests : (long there : Bool) → sum_by string_size (if long then (if there then names else names ++ name ∷ []) else names) ≡ sum_by string_size names + (if there then 0 else (if long then string_size name else 0))
-    by_tests false false = omega arith
-    by_tests false true = omega arith
-    by_tests true true = omega arith
-    by_tests true false = omega (arith, sum_by-append string_size names (name ∷ []))
+with_long_name-long names name = grind (arith, sum_by-append)
 
 -- a long name is among them with one name more where it was, or is that name
 among_more : (x name : List ℕ) (names : List (List ℕ)) → is_long x ≡ true → list_any (bytes_eq x) (with_long_name names name) ≡ (list_any (bytes_eq x) names || bytes_eq x name)
 unfolding with_long_name with_name
-among_more x name names long = elim (cases_Bool (bytes_eq x name)) [
-  | inl same ↦
-      let is : x ≡ name = (bytes_eq-Decides x name).0 same in
-      rw same (when_same (is_long name) (list_any (bytes_eq name) names) (sym (ap is_long is) ∙ long) (ap (λ n. list_any (bytes_eq n) names) is) same)
-  | inr differs ↦ rw differs (when_different (is_long name) (list_any (bytes_eq name) names) differs)
-]
-  where
-    or_true : (b : Bool) → (b || true) ≡ true
-    or_true true = refl
-    or_true false = refl
-
-    or_false : (b : Bool) → (b || false) ≡ b
-    or_false true = refl
-    or_false false = refl
-
-    when_same : (is there : Bool) → is ≡ true → list_any (bytes_eq x) names ≡ there → bytes_eq x name ≡ true
-        → list_any (bytes_eq x) (if is then (if there then names else names ++ name ∷ []) else names) ≡ (list_any (bytes_eq x) names || true)
-    when_same false there is among same = cc
-    when_same true true is among same = among ∙ sym (or_true (list_any (bytes_eq x) names))
-    when_same true false is among same = list_any-append (bytes_eq x) names (name ∷ []) ∙ ap (λ b. list_any (bytes_eq x) names || (b || false)) same
-
-    when_different : (is there : Bool) → bytes_eq x name ≡ false
-        → list_any (bytes_eq x) (if is then (if there then names else names ++ name ∷ []) else names) ≡ (list_any (bytes_eq x) names || false)
-    when_different false there differs = sym (or_false (list_any (bytes_eq x) names))
-    when_different true true differs = sym (or_false (list_any (bytes_eq x) names))
-    when_different true false differs = list_any-append (bytes_eq x) names (name ∷ []) ∙ ap (λ b. list_any (bytes_eq x) names || (b || false)) differs
+among_more x name names long = grind (arith, cases_Bool, bytes_eq-Decides, list_any-append)
 
 -- a long name is among the long names of symbols where it is that of one of them
 among_from : (x : List ℕ) → is_long x ≡ true → (symbols : List AddedSymbol) (names : List (List ℕ)) →
     list_any (bytes_eq x) (fold with_long_name names (map (λ s. s.name) symbols)) ≡ (list_any (bytes_eq x) names || list_any (λ s. bytes_eq x s.name) symbols)
-among_from x long [] names = none (list_any (bytes_eq x) names)
-  where
-    none : (b : Bool) → b ≡ (b || false)
-    none true = refl
-    none false = refl
-among_from x long (s ∷ symbols) names =
-    among_from x long symbols (with_long_name names s.name)
-    ∙ (ap (λ b. b || list_any (λ t. bytes_eq x t.name) symbols) (among_more x s.name names long)
-    ∙ joined (list_any (bytes_eq x) names) (bytes_eq x s.name) (list_any (λ t. bytes_eq x t.name) symbols))
-  where
-    joined : (a b c : Bool) → ((a || b) || c) ≡ (a || (b || c))
-    joined true b c = refl
-    joined false b c = refl
+among_from x long [] names = grind arith
+among_from x long (s ∷ symbols) names = grind (arith, among_from x long symbols (with_long_name names s.name), among_more)
 
 among_long : (x : List ℕ) → is_long x ≡ true → (symbols : List AddedSymbol) → list_any (bytes_eq x) (long_names symbols) ≡ list_any (λ s. bytes_eq x s.name) symbols
 unfolding long_names
@@ -91,26 +49,11 @@ among_long x long symbols = among_from x long symbols []
 
 -- what a name adds
 adds : (name : List ℕ) (symbols : List AddedSymbol) → (if list_any (bytes_eq name) (long_names symbols) then 0 else long_name_size name) ≡ added_size name symbols
-adds name symbols = elim (cases_Bool (is_long name)) [
-  | inl long ↦ rw (among_long name long symbols) refl
-  | inr short ↦ rw short (nothing 0 (list_any (bytes_eq name) (long_names symbols)) (list_any (λ s. bytes_eq name s.name) symbols))
-]
-  where
-    nothing : (n : ℕ) (a b : Bool) → (if a then n else n) ≡ (if b then n else n)
-    nothing n true true = refl
-    nothing n true false = refl
-    nothing n false true = refl
-    nothing n false false = refl
+adds name symbols = grind (arith, cases_Bool, among_long)
 
 -- a short name adds nothing
 pub adds_short : (name : List ℕ) (others : List AddedSymbol) → length name ≤ 8 → 0 ≡ added_size name others
-adds_short name others short =
-    let is : is_long name ≡ false = le-ltb 8 (length name) short in
-    rw is (nothing 0 (list_any (λ s. bytes_eq name s.name) others))
-  where
-    nothing : (n : ℕ) (b : Bool) → n ≡ (if b then n else n)
-    nothing n true = refl
-    nothing n false = refl
+adds_short name others short = grind (arith, le-ltb)
 
 -- nor does one that is there
 pub adds_again : (name : List ℕ) (others : List SymbolRow) → list_any (λ row. bytes_eq name row.name.now) others ≡ true → 0 ≡ added_size name (map symbol_row others)
@@ -128,9 +71,7 @@ adds_first name others long absent =
 
 pub names_more : (symbols : List AddedSymbol) (s : AddedSymbol) →
     sum_by string_size (long_names (symbols ++ s ∷ [])) ≡ sum_by string_size (long_names symbols) + added_size s.name symbols
-names_more symbols s =
-    ap (sum_by string_size) (long_names-push symbols s)
-    ∙ (with_long_name-long (long_names symbols) s.name ∙ ap (λ n. sum_by string_size (long_names symbols) + n) (adds s.name symbols))
+names_more symbols s = grind (arith, long_names-push, with_long_name-long, adds)
 
 -- the names of rows and of the next one
 pub next_name : (rows : List SymbolRow) (i : ℕ) (d : SymbolRow) → i < length rows →
@@ -173,15 +114,7 @@ pub contents_long : (machine : MachineType) (e : ExportView) →
     sum_by contents_size (export_sections machine e)
     ≡ length (stub_code (mode_of machine)) + 40 + 72 + 2 * thunk_width machine + 10 + (if e.no_name then 0 else 13 + length (name_asked machine e))
 unfolding contents_size thunk hint_name
-contents_long machine e = parts (length (stub_code (mode_of machine))) (thunk_width machine) (length (name_asked machine e)) e.no_name
-    (entry_long machine)
-    (thunk_long machine e.no_name e.ordinal)
-    (hint_name_long e.no_name e.ordinal (name_asked machine e))
-  where
-    parts : {entry thunk hint : ℕ} (stub width asked : ℕ) (no_name : Bool) → entry ≡ width → thunk ≡ width + (if no_name then 0 else 10) → hint ≡ (if no_name then 0 else asked + 3) →
-        0 + (stub + 40) + 72 + (entry + 10) + thunk + (hint + 0) ≡ stub + 40 + 72 + 2 * width + 10 + (if no_name then 0 else 13 + asked)
-    parts stub width asked true a b c = omega (arith, a, b, c)
-    parts stub width asked false a b c = omega (arith, a, b, c)
+contents_long machine e = grind (arith, entry_long, thunk_long, hint_name_long)
 
 -- The size of an object.
 

@@ -1,5 +1,5 @@
 -- The calls that were worked by hand.
-use Rattle.std.proofs.Common.{◌≡◌, ◌≢◌, ℕ, ◌+◌, refl, arith, ◌∙◌}
+use Rattle.std.proofs.Common.{◌≡◌, ◌≢◌, ℕ, refl, arith, ◌∙◌}
 use Rattle.implib.specs.Worked.Digits.{bytes_of_digits}
 use Rattle.implib_delay.specs.Processor.{with_value}
 use Rattle.implib_delay.specs.Code.{tail_code}
@@ -33,35 +33,11 @@ worked_calls = record {
 }
 
 pub worked_premises : WorkedPremises
-worked_premises = record {
-  program64_leads = record { jump = refl; entry = refl; descriptor = refl; tail = refl; helper = refl };
-  program32_leads = record { jump = refl; entry = refl; descriptor = refl; tail = refl; helper = refl };
-  program64_begins = record { pointer = refl; room = omega arith; within = omega arith; aligned = refl; unbound = refl; sound = refl };
-  program32_begins = record { pointer = refl; room = omega arith; within = omega arith; aligned = refl; unbound = refl; sound = refl };
-}
+worked_premises = grind arith
 
 -- a word that is neither the entry nor the one above the return address stays
 stays : (words : ℕ → ℕ) (above entry address q : ℕ) → q ≢ entry → q ≢ above → with_value (with_value words above 0) entry address q ≡ words q
 stays words above entry address q first second = value_elsewhere (with_value words above 0) entry address q first ∙ value_elsewhere words above 0 q second
 
 pub worked_answers : WorkedAnswers
-worked_answers = record {
-  program64_answers = λ s pointer. record {
-    answer = refl;
-    written = refl;
-    pointer = refl;
-    registers = (refl, (refl, (refl, (refl, (refl, (refl, (refl, (refl, tt))))))));
-    vectors = (refl, (refl, (refl, (refl, (refl, (refl, (refl, (refl, (refl, (refl, tt))))))))));
-    stack = λ q above below. stays s.words (s.registers 4 + 8) 0x14000A100 0x7FFE0000 q (λ e. omega arith) (λ e. omega arith);
-    sound = refl;
-  };
-  program32_answers = λ s pointer. record {
-    answer = refl;
-    written = refl;
-    pointer = refl;
-    registers = (refl, (refl, (refl, (refl, tt))));
-    vectors = tt;
-    stack = λ q above below. stays s.words (s.registers 4 + 8) 0x40A0E0 0x6B001234 q (λ e. omega arith) (λ e. omega arith);
-    sound = refl;
-  };
-}
+worked_answers = grind (arith, stays)

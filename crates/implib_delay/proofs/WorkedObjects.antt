@@ -1,5 +1,5 @@
 -- The objects that were worked by hand, by computing.
-use Rattle.std.proofs.Common.{refl}
+use Rattle.std.proofs.Common.{arith, refl}
 use Rattle.std.specs.Fmt.{digits}
 use Rattle.implib.specs.Formats.Bytes.{u16_bytes, u32_bytes}
 use Rattle.implib.specs.Formats.Writer.{long_names, name_location, layout_of, symbol_written, with_long_name, with_name}
@@ -19,16 +19,7 @@ opened = tt
 
 pub worked_objects : WorkedObjects
 unfolding opened
-worked_objects = record {
-  head_on_amd64 = refl;
-  head_on_i386 = refl;
-  tail_on_amd64 = refl;
-  tail_on_i386 = refl;
-  name_on_amd64 = refl;
-  name_on_i386 = refl;
-  ordinal_on_amd64 = refl;
-  ordinal_on_i386 = refl;
-}
+worked_objects = grind arith
 
 pub worked_names : WorkedNames
 unfolding opened
@@ -36,9 +27,4 @@ worked_names = record { head = refl; tail = refl; first = refl; later = refl }
 
 pub worked_refusals : WorkedRefusals
 unfolding input_refusal
-worked_refusals = record {
-  arm64 = refl;
-  armnt = refl;
-  nul = refl;
-  alias = refl;
-}
+worked_refusals = grind arith

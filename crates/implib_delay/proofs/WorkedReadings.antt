@@ -1,5 +1,5 @@
 -- The readings that were worked by hand, by computing.
-use Rattle.std.proofs.Common.{refl}
+use Rattle.std.proofs.Common.{arith}
 use Rattle.implib.specs.Formats.Layout.{entries_of, name_text, object_of}
 use Rattle.implib.specs.Formats.Object.{before_nul, u16_at, u32_at}
 use Rattle.implib.specs.Worked.Digits.{bytes_of_digits}
@@ -9,15 +9,4 @@ use Rattle.implib_delay.specs.WorkedReadings.{WorkedReadings}
 
 pub worked_readings : WorkedReadings
 unfolding bytes_of_digits object_of entries_of name_text before_nul u16_at u32_at delayed_ask delayed_dll delayed_symbols is_delayed by_name64 by_ordinal32 head32 head64 tail32 tail64
-worked_readings = record {
-  name_on_amd64 = refl;
-  ordinal_on_i386 = refl;
-  of_addresses = refl;
-  bound_entry = refl;
-  other_code = refl;
-  loose_descriptor = refl;
-  loose_entry = refl;
-  loose_stub = refl;
-  other_head = refl;
-  other_tail = refl;
-}
+worked_readings = grind arith

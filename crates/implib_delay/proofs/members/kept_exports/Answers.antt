@@ -35,10 +35,8 @@ loop-export-preserved c =
     elim c.if-not-export.branch [
       | then-not-export+in_ok-push w ↦
           let pushed = (w.in_ok-push.ensures {u = tt}).pushed in
-          let extended : w.push.new.self.members ≡ members ++ map member_of (export_spec machine dll number e ∷ []) =
-          rw (invariant.same_machine, invariant.same_library) at (ap (λ (x : DelayedExportsView). x.members) pushed.ok) in
-          let short : list_any is_too_long (export_spec machine dll number e ∷ []) ≡ false =
-          rw (invariant.same_machine, invariant.same_library) at pushed.fit in
+          let extended : w.push.new.self.members ≡ members ++ map member_of (export_spec machine dll number e ∷ []) = grind arith in
+          let short : list_any is_too_long (export_spec machine dll number e ∷ []) ≡ false = grind arith in
           let after : Left machine numbered all long sound (index + 1) c.if-not-export.number c.if-not-export.exports.members others =
           subst (λ (n : ℕ). Left machine numbered all long sound (index + 1) n c.if-not-export.exports.members others) (sym w.number-is)
           (subst (λ (x : DelayedExportsView). Left machine numbered all long sound (index + 1) (number + 1) x.members others) (sym w.exports-is)
@@ -54,10 +52,7 @@ loop-export-preserved c =
             ordinals = after.ordinals;
           }
       | else-not-export w ↦
-          let after : Left machine numbered all long sound (index + 1) c.if-not-export.number c.if-not-export.exports.members others =
-          subst (λ (n : ℕ). Left machine numbered all long sound (index + 1) n c.if-not-export.exports.members others) (sym w.number-is)
-          (subst (λ (x : DelayedExportsView). Left machine numbered all long sound (index + 1) number x.members others) (sym w.exports-is)
-          (left_private machine numbered all long sound index number members e others w.if-not-export.false before)) in
+          let after : Left machine numbered all long sound (index + 1) c.if-not-export.number c.if-not-export.exports.members others = grind (arith, left_private) in
           record {
             same_machine = ap (λ (x : DelayedExportsView). x.machine) w.exports-is ∙ invariant.same_machine;
             same_library = ap (λ (x : DelayedExportsView). x.linked) w.exports-is ∙ invariant.same_library;

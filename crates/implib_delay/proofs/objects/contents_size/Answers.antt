@@ -1,4 +1,4 @@
-use Rattle.std.proofs.Common.{◌≡◌, ◌+◌, List, ℕ, if◌then◌else◌, length, ap, arith, refl}
+use Rattle.std.proofs.Common.{◌≡◌, ◌+◌, if◌then◌else◌, length, arith}
 use Rattle.implib.specs.Definition.{export_view}
 use Rattle.implib.specs.Import.{name_asked}
 use Rattle.implib_delay.proofs.Sizes.{contents_long}
@@ -9,9 +9,5 @@ pub returns : goal.returns
 returns c =
     let machine = c.args.machine in
     let e = export_view c.args.export.now in
-    let by_name : c.if-export.by_name ≡ (if e.no_name then 0 else 13 + length (name_asked machine e)) =
-    elim c.if-export.branch [
-      | then-export w ↦ rw (w.by_name-is, w.if-export.true) refl
-      | else-export w ↦ rw (w.by_name-is, w.if-export.false) (let is = ap (λ (n : List ℕ). length n) w.asked_by_hint_name.ensures in omega (arith, is))
-    ] in
+    let by_name : c.if-export.by_name ≡ (if e.no_name then 0 else 13 + length (name_asked machine e)) = grind (arith, then-export, else-export, c.if-export.branch) in
     rw (contents_long machine e, by_name, c.thunk_width.ensures, c.stub_code.ensures) (omega arith)

@@ -1,6 +1,5 @@
-use Rattle.std.proofs.Common.{refl}
+use Rattle.std.proofs.Common.{arith, refl}
 use Rattle.implib.specs.Formats.Writer.{long_names}
-use Rattle.implib.proofs.Formats.Defaults.{no_symbol_row}
 use Rattle.implib_delay.proofs.Sizes.{next_name, saturated_more}
 use Rattle.implib_delay.proofs.string_table.names_size.Goals as goal
 
@@ -9,6 +8,4 @@ unfolding long_names
 loop-index-init c = refl
 
 pub loop-index-preserved : goal.loop-index-preserved
-loop-index-preserved c =
-    saturated_more _ _ c.saturating_add-size.ensures c.added_size.ensures c.loop-index.invariant
-    (next_name c.args.symbols.now c.loop-index.index no_symbol_row c.loop-index-test.true)
+loop-index-preserved c = grind (arith, saturated_more, next_name, c.saturating_add-size.ensures, c.added_size.ensures, c.loop-index.invariant, c.loop-index-test.true)
