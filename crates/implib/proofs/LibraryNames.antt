@@ -10,7 +10,7 @@ use Rattle.implib.specs.declared.machine.MachineType.{MachineType}
 use Rattle.implib.specs.Definition.{DefinitionView}
 use Rattle.implib.specs.LibraryName.{linked_dll, names_for, own_names}
 use Rattle.implib.specs.Members.MsvcObjects.{base_name}
-use Rattle.implib.specs.Members.NameRules.{definition_names_refusal, first_of_both, import_name_refusal, library_name_refusal, names_refusal}
+use Rattle.implib.specs.Members.NameRules.{definition_names_refusal, first_of_both, import_name_refusal, names_refusal}
 use Rattle.std.proofs.lemmas.Slice.Eq.{ends_is}
 use Rattle.std.proofs.lemmas.Bool.Decides.{Decides-eqb}
 
@@ -22,8 +22,7 @@ nameless Gnu d none = ap (λ (given : Option (List ℕ)). record { linked = unwr
 -- and is refused by the rules on the DLL's name and on the exports alone
 pub nameless_refusal : (flavor : Flavor) (machine : MachineType) (d : DefinitionView) → d.library_name ≡ None →
     definition_names_refusal d machine flavor ≡ first_of_both (import_name_refusal d.import_name) (names_refusal flavor machine 0 d.exports)
-nameless_refusal flavor machine d none =
-    ap (λ (given : Option (List ℕ)). first_of_both (import_name_refusal d.import_name) (first_of_both (library_name_refusal given) (names_refusal flavor machine 0 d.exports))) none
+nameless_refusal flavor machine d none = grind arith
 
 -- a name with `.dll` after it, without its ending
 base_of_dll : (name : List ℕ) → base_name (name ++ codes ".dll") ≡ name
@@ -37,5 +36,4 @@ base_of_dll name =
 
 -- the symbols for Microsoft's linker are named after the library's name
 pub base_of_named : (d : DefinitionView) (name : List ℕ) → d.library_name ≡ Some name → base_name (linked_dll d) ≡ name
-base_of_named d name named =
-    ap (λ (given : Option (List ℕ)). base_name (unwrap_or (option_map (λ text. text ++ codes ".dll") given) d.import_name)) named ∙ base_of_dll name
+base_of_named d name named = grind (arith, base_of_dll)

@@ -1,5 +1,5 @@
 -- Bytes that are appended, one after another.
-use Rattle.std.proofs.Common.{◌≡◌, ℕ, ◌+◌, ◌<◌, ◌≤◌, List, [], ◌∷◌, ◌++◌, Result, Ok, Err, OnOk, is_ok, if◌then◌else◌, take, drop, replicate, flat_map, get_or, length, suc, zero, refl, sym, ap, subst, ◌∙◌, append_assoc, append-nil, arith}
+use Rattle.std.proofs.Common.{rules, ◌≡◌, ℕ, ◌+◌, ◌<◌, ◌≤◌, List, [], ◌∷◌, ◌++◌, Result, Ok, Err, OnOk, is_ok, if◌then◌else◌, take, drop, replicate, flat_map, get_or, length, suc, zero, refl, sym, ap, ◌∙◌, append_assoc, append-nil, arith}
 use Rattle.std.specs.Borrow.{Bor}
 use Rattle.std.specs.List.{All}
 use Rattle.std.proofs.lemmas.Grind.{flat_map-append}
@@ -14,9 +14,7 @@ pushes_then {a} {b} {c} {x} {y} p q = record { whole = q.whole ∙ ap (λ t. t +
 
 -- bytes in front of four others
 pub behind_four : (a b c d e : List ℕ) → a ++ (b ++ c ++ d ++ e) ≡ a ++ b ++ c ++ d ++ e
-behind_four a b c d e =
-    sym (append_assoc a (b ++ c ++ d) e)
-    ∙ ap (λ t. t ++ e) (sym (append_assoc a (b ++ c) d) ∙ ap (λ t. t ++ d) (sym (append_assoc a b c)))
+behind_four a b c d e = grind (arith, append_assoc)
 
 -- the same bytes
 pub pushes_as : {a b x y : List ℕ} → x ≡ y → Pushes a b x → Pushes a b y
@@ -49,16 +47,11 @@ take_replicate (suc n) (suc m) b h = let e : n ≤ m = omega arith in ap (λ t. 
 
 -- the bytes of one element more
 pub pushes_more : {X : Type 0} (f : X → List ℕ) (xs : List X) (i : ℕ) (d : X) {a b c : List ℕ} → i < length xs → Pushes a b (flat_map f (take i xs)) → Pushes b c (f (get_or xs i d)) → Pushes a c (flat_map f (take (i + 1) xs))
-pushes_more f xs i d within p q =
-    let last : flat_map f (get_or xs i d ∷ []) ≡ f (get_or xs i d) = append-nil (f (get_or xs i d)) in
-    pushes_as (sym (ap (flat_map f) (take_more xs i d within) ∙ flat_map-append f (take i xs) (get_or xs i d ∷ []) ∙ ap (λ t. flat_map f (take i xs) ++ t) last)) (pushes_then p q)
+pushes_more f xs i d within p q = grind (arith, append-nil (f (get_or xs i d)), pushes_as, take_more xs i d within, flat_map-append f (take i xs) (get_or xs i d ∷ []), pushes_then p q)
 
 -- the bytes of one entry more
 pub pushes_entry : (f : List ℕ × ℕ → List ℕ) (xs : List (Bor (List ℕ) × ℕ)) (i : ℕ) (d : Bor (List ℕ) × ℕ) {a b c : List ℕ} → i < length xs → Pushes a b (flat_map f (shown (take i xs))) → Pushes b c (f ((get_or xs i d).0.now, (get_or xs i d).1)) → Pushes a c (flat_map f (shown (take (i + 1) xs)))
-pushes_entry f xs i d within p q =
-    let g = λ (e : Bor (List ℕ) × ℕ). f (e.0.now, e.1) in
-    pushes_as (sym (flat_map-map f (λ e. (e.0.now, e.1)) (take (i + 1) xs)))
-    (pushes_more g xs i d within (pushes_as (flat_map-map f (λ e. (e.0.now, e.1)) (take i xs)) p) q)
+pushes_entry f xs i d within p q = search (rules, pushes_as, flat_map-map, pushes_more)
 
 -- a fact of the number of each entry
 pub number_at : (P : ℕ → Type 0) (xs : List (Bor (List ℕ) × ℕ)) (i : ℕ) (d : Bor (List ℕ) × ℕ) → i < length xs → All (λ e. P e.1) (shown xs) → P (get_or xs i d).1
@@ -68,6 +61,4 @@ number_at P (x ∷ xs) (suc i) d within all = let w : i < length xs = omega arit
 
 -- a fact of all entries, of some of them
 pub all_between : (P : List ℕ × ℕ → Type 0) (n m : ℕ) (xs : List (Bor (List ℕ) × ℕ)) → All P (shown xs) → All P (shown (take n (drop m xs)))
-all_between P n m xs all =
-    let seen : Bor (List ℕ) × ℕ → List ℕ × ℕ = λ e. (e.0.now, e.1) in
-    subst (All P) (ap (take n) (drop-map seen m xs) ∙ take-map seen n (drop m xs)) (All-take P n (drop m (shown xs)) (All-drop P m (shown xs) all))
+all_between P n m xs all = grind (arith, drop-map, take-map, All-take P n (drop m (shown xs)) (All-drop P m (shown xs) all), All-drop P m (shown xs) all)

@@ -25,11 +25,7 @@ behind_as {a} {b} {old} {new} e p = subst (AppendsBehind a b old new) e p
 
 -- bytes after bytes
 pub behind_then : (a b c : Option (List ℕ)) {old mid new x y : List ℕ} → AppendsBehind a b old mid x → AppendsBehind b c mid new y → AppendsBehind a c old new (x ++ y)
-behind_then a b c {old} {mid} {new} {x} {y} p q = record {
-  taken = p.taken ++ q.taken;
-  whole = sym (append_assoc old x y) ∙ ap (λ t. t ++ y) p.whole ∙ append_assoc p.taken mid y ∙ ap (λ t. p.taken ++ t) q.whole ∙ sym (append_assoc p.taken q.taken new);
-  written = appends_then a b c p.taken q.taken p.written q.written;
-}
+behind_then a b c {old} {mid} {new} {x} {y} p q = grind (arith, append_assoc, appends_then)
 
 -- a beginning of the same bytes
 pub begins_as : (a b : Option (List ℕ)) (old : List ℕ) {x y : List ℕ} → x ≡ y → AppendsBeginning a b (old ++ x) → AppendsBeginning a b (old ++ y)
@@ -41,9 +37,7 @@ begins_longer a b old x y p = subst (AppendsBeginning a b) (append_assoc old x y
 
 -- a beginning after bytes
 pub begins_behind : (a b c : Option (List ℕ)) {old mid x : List ℕ} (y : List ℕ) → AppendsBehind a b old mid x → AppendsBeginning b c (mid ++ y) → AppendsBeginning a c (old ++ (x ++ y))
-begins_behind a b c {old} {mid} {x} y p q =
-    subst (AppendsBeginning a c) (sym (append_assoc p.taken mid y) ∙ ap (λ t. t ++ y) (sym p.whole) ∙ append_assoc old x y)
-    (begins_then a b c p.taken (mid ++ y) p.written q)
+begins_behind a b c {old} {mid} {x} y p q = grind (arith, append_assoc, begins_then)
 
 -- all bytes are a beginning of more
 pub begins_so_far : (a b : Option (List ℕ)) {old mid x : List ℕ} (y : List ℕ) → AppendsBehind a b old mid x → AppendsBeginning a b (old ++ (x ++ y))
@@ -105,10 +99,7 @@ writes_behind_as r a b old new e q = subst (λ t. WritesBehind a b old new t r) 
 -- the parts of a list, at some elements
 module _ {X : Type 0} (f : X → List ℕ) (xs : List X) (lo hi : ℕ) (ordered : lo ≤ hi) where
   some_more : flat_map f (take hi xs) ≡ flat_map f (take lo xs) ++ flat_map f (take (hi - lo) (drop lo xs))
-  some_more =
-      let reached : lo + (hi - lo) ≡ hi = omega (arith, ordered) in
-      ap (λ n. flat_map f (take n xs)) (sym reached)
-      ∙ (ap (flat_map f) (take-add lo (hi - lo) xs) ∙ flat_map-append f (take lo xs) (take (hi - lo) (drop lo xs)))
+  some_more = grind (arith, take-add lo (hi - lo) xs, flat_map-append f (take lo xs) (take (hi - lo) (drop lo xs)))
 
   -- some parts more
   pub behind_parts : (a b c : Option (List ℕ)) {old mid new : List ℕ} → AppendsBehind a b old mid (flat_map f (take lo xs)) → AppendsBehind b c mid new (flat_map f (take (hi - lo) (drop lo xs)))

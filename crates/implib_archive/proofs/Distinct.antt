@@ -1,5 +1,5 @@
 -- The entries of the COFF kind have distinct symbols.
-use Rattle.std.proofs.Common.{◌≡◌, ℕ, Bool, true, false, ◌||◌, List, [], ◌∷◌, ◌++◌, bytes_eq, fold, if◌then◌else◌, map, refl, sym, ap, subst, ◌∙◌, append_assoc, append-nil}
+use Rattle.std.proofs.Common.{rules, arith, ◌≡◌, ℕ, Bool, true, false, ◌||◌, List, [], ◌∷◌, ◌++◌, bytes_eq, fold, if◌then◌else◌, map, refl, sym, ap, subst, ◌∙◌, append_assoc, append-nil}
 use Rattle.std.specs.List.{AllByRecursion, IsDistinct, list_any}
 use Rattle.std.proofs.lemmas.Cmp.{nat_list_eq_equiv}
 use Rattle.std.proofs.lemmas.List.{map-append}
@@ -16,9 +16,7 @@ listed_symbols (e ∷ entries) symbol = ap (λ b. bytes_eq symbol e.0 || b) (lis
 
 one_first : (b : Bool) (found : List (List ℕ × ℕ)) (e : List ℕ × ℕ) → is_listed found e.0 ≡ b → AreDistinct found → AreDistinct (if b then found else found ++ e ∷ [])
 one_first true found e here distinct = distinct
-one_first false found e new distinct =
-    subst (IsDistinct bytes_eq) (sym (map-append (λ (x : List ℕ × ℕ). x.0) found (e ∷ [])))
-    (IsDistinct-push nat_list_eq_equiv (map (λ x. x.0) found) e.0 distinct (listed_symbols found e.0 ∙ new))
+one_first false found e new distinct = grind (arith, map-append, IsDistinct-push, nat_list_eq_equiv, listed_symbols)
 
 pub firsts_distinct : (found entries : List (List ℕ × ℕ)) → AreDistinct found → AreDistinct (fold with_first found entries)
 unfolding with_first
@@ -38,8 +36,7 @@ distinct_firsts entries = firsts_distinct [] entries tt
 not_before : (found : List (List ℕ × ℕ)) (e : List ℕ × ℕ) (entries : List (List ℕ × ℕ)) → AreDistinct (found ++ e ∷ entries) → is_listed found e.0 ≡ false
 unfolding IsDistinct
 not_before [] e entries distinct = refl
-not_before (f ∷ found) e entries distinct =
-    ap (λ b. b || is_listed found e.0) (nat_list_eq_equiv.symm e.0 f.0 ∙ other found distinct.0) ∙ not_before found e entries distinct.1
+not_before (f ∷ found) e entries distinct = search (rules, not_before found e entries distinct.1, other)
   where
     other : (xs : List (List ℕ × ℕ)) → AllByRecursion (λ y. bytes_eq f.0 y ≡ false) (map (λ x. x.0) (xs ++ e ∷ entries)) → bytes_eq f.0 e.0 ≡ false
     other [] all = all.0

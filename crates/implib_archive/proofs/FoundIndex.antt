@@ -1,5 +1,5 @@
 -- What a reader finds in the linker members.
-use Rattle.std.proofs.Common.{◌≡◌, ℕ, ◌+◌, ◌*◌, ◌^◌, ◌<◌, Bool, true, false, not, inl, inr, List, [], ◌∷◌, ◌++◌, Option, Some, None, bytes_eq, codes, drop, flat_map, if◌then◌else◌, length, map, nat_eq, nat_lt, option_and_then, take, take_while, refl, sym, ap, ◌∙◌, append_assoc, length-append, arith}
+use Rattle.std.proofs.Common.{rules, ◌≡◌, ℕ, ◌+◌, ◌*◌, ◌^◌, ◌<◌, Bool, true, false, not, List, [], ◌∷◌, ◌++◌, Option, Some, None, bytes_eq, codes, drop, flat_map, if◌then◌else◌, length, map, nat_eq, nat_lt, option_and_then, take, take_while, refl, sym, ap, ◌∙◌, append_assoc, length-append, arith}
 use Rattle.std.specs.Prelude.{slice_get}
 use Rattle.std.specs.Int.{from_be_bytes, from_le_bytes, w16, w32}
 use Rattle.std.specs.List.{AllByRecursion}
@@ -9,16 +9,16 @@ use Rattle.std.proofs.lemmas.Bool.{lt-ltb, true≢false}
 use Rattle.std.proofs.lemmas.List.{drop_at, take_at}
 use Rattle.std.proofs.lemmas.Nat.{from_be_bytes-to_be_bytes_4, from_le_bytes-to_le_bytes_2, from_le_bytes-to_le_bytes_4}
 use Rattle.implib.specs.Members.MemberSpec.{MemberView}
-use Rattle.implib_archive.specs.Archive.{archive_of, entries_of, first_linker, long_names, name_field, names_bytes, place_of, places_of, second_linker, sorted_entries, strings_of}
+use Rattle.implib_archive.specs.Archive.{archive_of, entries_of, first_linker, long_names, names_bytes, place_of, places_of, second_linker, sorted_entries, strings_of}
 use Rattle.implib_archive.specs.Leads.{header_for}
-use Rattle.implib_archive.specs.Parts.{field, padding, u16_le, u32_be, u32_le}
+use Rattle.implib_archive.specs.Parts.{padding, u16_le, u32_be, u32_le}
 use Rattle.implib_archive.specs.ReadBack.{padded, parts_of, stored, stored_linkers, stored_member, stored_names}
 use Rattle.implib_archive.specs.Reader.{Stored, first_in, linker_data, linker_in, name_in, numbers_in, paired, second_in, stored_in, texts_in}
 use Rattle.implib_archive.specs.Refusal.{has_byte, refusal_of}
 use Rattle.implib_archive.specs.declared.kind.Kind.{Kind}
 use Rattle.implib_archive.specs.declared.kind.Kind.TheVariants.{Coff, Gnu}
 use Rattle.implib_archive.proofs.FoundMembers.{archive_named}
-use Rattle.implib_archive.proofs.FoundNames.{HasName, HaveNames, linker_named, long_names_named, stopped}
+use Rattle.implib_archive.proofs.FoundNames.{HaveNames, linker_named, long_names_named, stopped}
 use Rattle.implib_archive.proofs.Readings.{parts_read_back}
 use Rattle.implib_archive.proofs.Sized.{length-u16_le, length-u32_be, length-u32_le, length_fours, length_twos}
 
@@ -28,12 +28,7 @@ numbers_read : {X : Type 0} (size : ℕ) (read : List ℕ → ℕ) (f : X → Li
     → numbers_in read size (length xs) (flat_map f xs ++ rest) ≡ map v xs
 unfolding numbers_in
 numbers_read size read f v [] rest sized all = refl
-numbers_read size read f v (x ∷ xs) rest sized all =
-    let behind = flat_map f xs ++ rest in
-    ap (λ t. read (take size t) ∷ numbers_in read size (length xs) (drop size t)) (append_assoc (f x) (flat_map f xs) rest)
-    ∙ (ap (λ t. read t ∷ numbers_in read size (length xs) (drop size (f x ++ behind))) (take_at (f x) behind size (sized x))
-    ∙ (ap (λ t. read (f x) ∷ numbers_in read size (length xs) t) (drop_at (f x) behind size (sized x))
-    ∙ (ap (λ n. n ∷ numbers_in read size (length xs) behind) all.0 ∙ ap (λ t. v x ∷ t) (numbers_read size read f v xs rest sized all.1))))
+numbers_read size read f v (x ∷ xs) rest sized all = grind (arith, numbers_read size read f v xs rest sized all.1, append_assoc, take_at, drop_at)
 
 -- texts without a NUL
 abbrev pub AreTexts : List (List ℕ × ℕ) → Type 0
@@ -169,8 +164,7 @@ second_read places sorted pad few near few_entries small none =
     let rest = count ++ (numbers ++ (strings ++ pad)) in
     let whole = second_linker places sorted ++ pad in
     let four = length-u32_le m in
-    let at_rest : whole ≡ (members ++ offsets) ++ rest =
-    append_assoc (members ++ offsets ++ count ++ numbers) strings pad ∙ (append_assoc (members ++ offsets ++ count) numbers (strings ++ pad) ∙ append_assoc (members ++ offsets) count (numbers ++ (strings ++ pad))) in
+    let at_rest : whole ≡ (members ++ offsets) ++ rest = grind (arith, append_assoc) in
     let at_offsets : whole ≡ members ++ (offsets ++ rest) = at_rest ∙ append_assoc members offsets rest in
     let counted : from_le_bytes w32 (take 4 whole) ≡ m = ap (λ t. from_le_bytes w32 (take 4 t)) at_offsets ∙ (ap (from_le_bytes w32) (take_at members (offsets ++ rest) 4 four) ∙ le_4 m few) in
     let long : length (members ++ offsets) ≡ 4 + 4 * m = omega (arith, length-append members offsets, four, length_fours u32_le length-u32_le places) in
@@ -186,14 +180,11 @@ second_read places sorted pad few near few_entries small none =
 
 pub linker_there : (position : ℕ) (bytes : List ℕ) (parts : List Stored) (contents : List ℕ) → stored_in bytes ≡ Some parts → slice_get parts position ≡ Some (stored (codes "/") contents) → linker_in position bytes ≡ Some contents
 unfolding linker_in linker_data
-linker_there position bytes parts contents found at =
-    ap (option_and_then (λ parts. option_and_then (λ s. linker_data (name_in s.field) s.contents) (slice_get parts position))) found
-    ∙ (ap (option_and_then (λ s. linker_data (name_in s.field) s.contents)) at ∙ ap (λ n. linker_data n contents) linker_named)
+linker_there position bytes parts contents found at = grind (arith, option_and_then, linker_named)
 
 linker_not : (bytes : List ℕ) (parts : List Stored) → stored_in bytes ≡ Some parts → option_and_then (λ s. linker_data (name_in s.field) s.contents) (slice_get parts 0) ≡ None → linker_in 0 bytes ≡ None
 unfolding linker_in
-linker_not bytes parts found none =
-    ap (option_and_then (λ parts. option_and_then (λ s. linker_data (name_in s.field) s.contents) (slice_get parts 0))) found ∙ none
+linker_not bytes parts found none = grind (arith, option_and_then)
 
 coff_at_0 : (members : List MemberView) → slice_get (parts_of Coff members) 0 ≡ Some (stored (codes "/") (padded 0 (first_linker (places_of Coff members) (entries_of Coff members))))
 unfolding parts_of stored_linkers
@@ -209,19 +200,12 @@ linker_of part = option_and_then (λ s. linker_data (name_in s.field) s.contents
 
 gnu_some : (members : List MemberView) → nat_lt 0 (length (entries_of Gnu members)) ≡ true → slice_get (parts_of Gnu members) 0 ≡ Some (stored (codes "/") (padded 0 (first_linker (places_of Gnu members) (entries_of Gnu members))))
 unfolding parts_of stored_linkers
-gnu_some members some =
-    let data' = padded 0 (first_linker (places_of Gnu members) (entries_of Gnu members)) in
-    let names = long_names Gnu members in
-    ap (λ b. slice_get ((if b then stored (codes "/") data' ∷ [] else []) ++ stored_names (names_bytes Gnu names) ++ map (stored_member names) members) 0) some
+gnu_some members some = grind arith
 
 members_first : (kind : Kind) (data' : List ℕ) (names : List (List ℕ × ℕ)) (members : List MemberView) → HaveNames kind data' names members → linker_of (slice_get (map (stored_member names) members) 0) ≡ None
 unfolding linker_data
 members_first kind data' names [] named = refl
-members_first kind data' names (m ∷ members) named = by_name named.0
-  where
-    by_name : HasName kind data' (field 16 (name_field names m.name)) m.name → linker_data (name_in (field 16 (name_field names m.name))) m.bytes ≡ None
-    by_name (inl short) = ap (λ n. linker_data n m.bytes) short
-    by_name (inr long) = ap (λ n. linker_data n m.bytes) long.at
+members_first kind data' names (m ∷ members) named = grind arith
 
 names_first : (text : List ℕ) (behind : List Stored) → linker_of (slice_get behind 0) ≡ None → linker_of (slice_get (stored_names text ++ behind) 0) ≡ None
 unfolding stored_names linker_data
@@ -258,22 +242,17 @@ pub record AreReadable (kind : Kind) (members : List MemberView) : Type 0 where
 header_there : (kind : Kind) (members : List MemberView) (symbol : List ℕ) → AreReadable kind members → linker_in 0 (archive_of kind members) ≡ Some (padded 0 (first_linker (places_of kind members) (entries_of kind members)))
     → header_for (archive_of kind members) symbol ≡ lookup (bytes_eq symbol) (shown_entries kind members)
 unfolding header_for first_in
-header_there kind members symbol r there =
-    let data' = first_linker (places_of kind members) (entries_of kind members) in
-    ap (λ l. option_and_then (lookup (bytes_eq symbol)) (option_map first_data l)) there
-    ∙ ap (lookup (bytes_eq symbol)) (first_read (places_of kind members) (entries_of kind members) (padding 0 (length data')) r.few r.near r.texts)
+header_there kind members symbol r there = grind (arith, option_and_then, first_read)
 
 -- a search by the first linker member is one through the entries
 pub header_found : (kind : Kind) (members : List MemberView) (symbol : List ℕ) → refusal_of kind members ≡ None → AreReadable kind members
     → header_for (archive_of kind members) symbol ≡ lookup (bytes_eq symbol) (shown_entries kind members)
 unfolding header_for first_in
-header_found Coff members symbol accepted r =
-    header_there Coff members symbol r (linker_there 0 (archive_of Coff members) (parts_of Coff members) (padded 0 (first_linker (places_of Coff members) (entries_of Coff members))) (parts_read_back Coff members accepted) (coff_at_0 members))
+header_found Coff members symbol accepted r = search (rules, header_there, linker_there, parts_read_back, coff_at_0)
 header_found Gnu members symbol accepted r = by_test (nat_lt 0 (length (entries_of Gnu members))) refl
   where
     by_test : (b : Bool) → nat_lt 0 (length (entries_of Gnu members)) ≡ b → header_for (archive_of Gnu members) symbol ≡ lookup (bytes_eq symbol) (shown_entries Gnu members)
-    by_test true some =
-        header_there Gnu members symbol r (linker_there 0 (archive_of Gnu members) (parts_of Gnu members) (padded 0 (first_linker (places_of Gnu members) (entries_of Gnu members))) (parts_read_back Gnu members accepted) (gnu_some members some))
+    by_test true some = search (rules, header_there, linker_there, parts_read_back, gnu_some)
     by_test false none =
         ap (λ l. option_and_then (lookup (bytes_eq symbol)) (option_map first_data l)) (linker_not (archive_of Gnu members) (parts_of Gnu members) (parts_read_back Gnu members accepted) (gnu_none members accepted none))
         ∙ sym (ap (λ es. lookup (bytes_eq symbol) (map (λ e. (e.0, place_of (places_of Gnu members) e.1)) es)) (no_entries (entries_of Gnu members) none))

@@ -1,5 +1,5 @@
 -- What a reader finds in name fields, and in the data of long names.
-use Rattle.std.proofs.Common.{◌≡◌, ℕ, zero, suc, ◌-◌, ◌^◌, ◌<◌, ◌≤◌, Bool, true, false, not, ◌&&◌, ◌||◌, ◌⊎◌, inl, inr, cond, List, [], ◌∷◌, ◌++◌, Some, None, bytes_eq, codes, decimal, drop, eq-eqb, fold, if◌then◌else◌, is_some, length, nat_eq, nat_le, nat_lt, replicate, take, take_while, unwrap_or, refl, sym, ap, subst, ◌∙◌, append-nil, append_assoc, length-append, arith}
+use Rattle.std.proofs.Common.{rules, ◌≡◌, ℕ, zero, suc, ◌-◌, ◌^◌, ◌<◌, ◌≤◌, Bool, true, false, not, ◌&&◌, ◌⊎◌, inl, inr, cond, List, [], ◌∷◌, ◌++◌, Some, None, bytes_eq, codes, decimal, drop, eq-eqb, fold, if◌then◌else◌, is_some, length, nat_eq, nat_le, nat_lt, replicate, take, take_while, unwrap_or, refl, sym, ap, subst, ◌∙◌, append-nil, append_assoc, length-append, arith}
 use Rattle.std.specs.List.{AllByRecursion, list_all}
 use Rattle.std.proofs.lemmas.Bool.{and_parts, eqb-true, false_from_ne_true, leb-true, or_parts, true≢false}
 use Rattle.std.proofs.lemmas.Fmt.{decimal_nonempty}
@@ -20,8 +20,7 @@ use Rattle.implib_archive.proofs.Readings.{number_read, read_decimal}
 
 -- a text without a byte, up to that byte
 pub stopped : (stop : ℕ) (text rest : List ℕ) → has_byte stop text ≡ false → take_while (λ c. not (nat_eq c stop)) (text ++ stop ∷ rest) ≡ text
-stopped stop [] rest none =
-    take_while-cons (λ c. not (nat_eq c stop)) stop rest ∙ ap (λ b. cond (not b) (stop ∷ take_while (λ c. not (nat_eq c stop)) rest) []) (eq-eqb stop stop refl)
+stopped stop [] rest none = grind (arith, take_while-cons, nat_eq, take_while, eq-eqb)
 stopped stop (c ∷ text) rest none =
     let both = or_parts (nat_eq c stop) (has_byte stop text) none in
     take_while-cons (λ c. not (nat_eq c stop)) c (text ++ stop ∷ rest)
@@ -41,25 +40,15 @@ trimmed_spaces (suc k) = ap (λ t. if nat_eq (length t) 0 then [] else 32 ∷ t)
 trimmed_slash : (text : List ℕ) (k : ℕ) → trimmed ((text ++ 47 ∷ []) ++ replicate k 32) ≡ text ++ 47 ∷ []
 unfolding trimmed
 trimmed_slash [] k = ap (λ t. 47 ∷ t) (trimmed_spaces k)
-trimmed_slash (c ∷ text) k =
-    let rest = trimmed_slash text k in
-    let some : nat_eq (length (text ++ 47 ∷ [])) 0 ≡ false = false_from_ne_true (nat_eq (length (text ++ 47 ∷ [])) 0)
-    (λ is. let none = eqb-true (length (text ++ 47 ∷ [])) 0 is in omega (arith, none, length-append text (47 ∷ []))) in
-    ap (λ t. if nat_eq c 32 && nat_eq (length t) 0 then [] else c ∷ t) rest
-    ∙ (ap (λ b. if nat_eq c 32 && b then [] else c ∷ (text ++ 47 ∷ [])) some ∙ ap (λ b. if b then [] else c ∷ (text ++ 47 ∷ [])) (and_false (nat_eq c 32)))
+trimmed_slash (c ∷ text) k = grind (arith, trimmed_slash text k, nat_eq, false_from_ne_true, eqb-true, length-append, and_false)
 
 digit_is_none : (d other : ℕ) → other < 48 → is_digit d ≡ true → nat_eq d other ≡ false
-digit_is_none d other below is =
-    let low = leb-true 48 d (and_parts (nat_le 48 d) (nat_le d 57) is).0 in
-    false_from_ne_true (nat_eq d other) (λ e. let same = eqb-true d other e in omega (arith, same, low, below))
+digit_is_none d other below is = grind (arith, leb-true, and_parts, nat_le, false_from_ne_true, nat_eq, eqb-true)
 
 trimmed_digits : (digits : List ℕ) (k : ℕ) → list_all is_digit digits ≡ true → trimmed (digits ++ replicate k 32) ≡ digits
 unfolding trimmed
 trimmed_digits [] k all = trimmed_spaces k
-trimmed_digits (d ∷ digits) k all =
-    let both = and_parts (is_digit d) (list_all is_digit digits) all in
-    ap (λ b. if b && nat_eq (length (trimmed (digits ++ replicate k 32))) 0 then [] else d ∷ trimmed (digits ++ replicate k 32)) (digit_is_none d 32 (omega arith) both.0)
-    ∙ ap (λ t. d ∷ t) (trimmed_digits digits k both.1)
+trimmed_digits (d ∷ digits) k all = grind (arith, trimmed_digits digits k (and_parts (is_digit d) (list_all is_digit digits) all).1, and_parts, nat_eq, digit_is_none)
 
 trimmed_number : (digits : List ℕ) (k : ℕ) → list_all is_digit digits ≡ true → trimmed (47 ∷ (digits ++ replicate k 32)) ≡ 47 ∷ digits
 unfolding trimmed
@@ -98,10 +87,7 @@ short_named (c ∷ name) some none =
 
 long_said : (digits : List ℕ) → 0 < length digits → list_all is_digit digits ≡ true → (whole : List ℕ) → said whole (47 ∷ digits) (take_while (λ c. not (nat_eq c 47)) (47 ∷ digits)) ≡ long_name_at (number_in (drop 1 whole))
 long_said [] some all whole = absurd (omega (arith, some))
-long_said (d ∷ digits) some all whole =
-    let other = digit_is_none d 47 (omega arith) (and_parts (is_digit d) (list_all is_digit digits) all).0 in
-    ap (said whole (47 ∷ d ∷ digits)) (take_while-cons (λ c. not (nat_eq c 47)) 47 (d ∷ digits))
-    ∙ ap (λ b. if b && bytes_eq digits [] then LongNames else long_name_at (number_in (drop 1 whole))) other
+long_said (d ∷ digits) some all whole = search (rules, digit_is_none, and_parts, whole, take_while-cons, nat_eq)
 
 pub long_named : (n : ℕ) → n < 2 ^ 64 → name_in (field 16 (codes "/" ++ decimal n)) ≡ LongAt n
 unfolding name_in field long_name_at
@@ -126,13 +112,7 @@ record IsHeld (kind : Kind) (data' : List ℕ) (n : List ℕ × ℕ) : Type 0 wh
   at : length before ≡ n.1
 
 held_more : (kind : Kind) (data' more : List ℕ) (n : List ℕ × ℕ) → IsHeld kind data' n → IsHeld kind (data' ++ more) n
-held_more kind data' more n h = record {
-  before = h.before;
-  behind = h.behind ++ more;
-  whole = ap (λ t. t ++ more) h.whole ∙ (append_assoc h.before (n.0 ++ (name_end kind ++ h.behind)) more
-      ∙ (ap (λ t. h.before ++ t) (append_assoc n.0 (name_end kind ++ h.behind) more) ∙ ap (λ t. h.before ++ (n.0 ++ t)) (append_assoc (name_end kind) h.behind more)));
-  at = h.at;
-}
+held_more kind data' more n h = grind (arith, append_assoc)
 
 abbrev AreHeld : Kind → List ℕ → List (List ℕ × ℕ) → Type 0
 AreHeld kind data' names = AllByRecursion (IsHeld kind data') names
@@ -143,8 +123,7 @@ held_push kind data' more (x ∷ names) n held last = (held_more kind data' more
 
 names_bytes-last : (kind : Kind) (names : List (List ℕ × ℕ)) (n : List ℕ × ℕ) → names_bytes kind (names ++ n ∷ []) ≡ names_bytes kind names ++ (n.0 ++ name_end kind)
 unfolding names_bytes
-names_bytes-last kind names n =
-    flat_map-append (λ (x : List ℕ × ℕ). x.0 ++ name_end kind) names (n ∷ []) ∙ ap (λ t. names_bytes kind names ++ t) (append-nil (n.0 ++ name_end kind))
+names_bytes-last kind names n = grind (arith, flat_map-append, append-nil)
 
 held_name : (kind : Kind) (names : List (List ℕ × ℕ)) (name : List ℕ) (a b : Bool) → AreHeld kind (names_bytes kind names) names
     → AreHeld kind (names_bytes kind (if a then (if b then names else names ++ (name, length (names_bytes kind names)) ∷ []) else names)) (if a then (if b then names else names ++ (name, length (names_bytes kind names)) ∷ []) else names)
@@ -161,40 +140,25 @@ held_names : (kind : Kind) (names : List (List ℕ × ℕ)) (members : List Memb
     → AreHeld kind (names_bytes kind (fold (λ found m. with_name kind found m.name) names members)) (fold (λ found m. with_name kind found m.name) names members)
 unfolding with_name
 held_names kind names [] held = held
-held_names kind names (m ∷ members) held =
-    held_names kind (with_name kind names m.name) members (held_name kind names m.name (is_long m.name) (is_some (offset_of names m.name)) held)
+held_names kind names (m ∷ members) held = grind (arith, held_names kind (with_name kind names m.name) members (held_name kind names m.name (is_long m.name) (is_some (offset_of names m.name)) held), held_name, is_some)
 
 -- a name that is among them is held at its offset
 held_there : (kind : Kind) (data' : List ℕ) (names : List (List ℕ × ℕ)) (name : List ℕ) → AreHeld kind data' names → is_some (offset_of names name) ≡ true → IsHeld kind data' (name, unwrap_or (offset_of names name) 0)
 unfolding offset_of
 held_there kind data' [] name held found = absurd (true≢false (sym found))
-held_there kind data' (n ∷ names) name held found = by_test (bytes_eq name n.0) refl (held_there kind data' names name held.1) found
-  where
-    by_test : (b : Bool) → bytes_eq name n.0 ≡ b → (is_some (offset_of names name) ≡ true → IsHeld kind data' (name, unwrap_or (offset_of names name) 0))
-        → is_some (if b then Some n.1 else offset_of names name) ≡ true → IsHeld kind data' (name, unwrap_or (if b then Some n.1 else offset_of names name) 0)
-    by_test true same rest f = subst (λ t. IsHeld kind data' (t, n.1)) (sym ((bytes_eq-Decides name n.0).0 same)) held.0
-    by_test false other rest f = rest f
+held_there kind data' (n ∷ names) name held found = grind (arith, held_there kind data' names name held.1, is_some, unwrap_or, bytes_eq-Decides)
 
 -- Each long name is among them.
 
 offset_kept : (names : List (List ℕ × ℕ)) (n : List ℕ × ℕ) (name : List ℕ) → is_some (offset_of names name) ≡ true → is_some (offset_of (names ++ n ∷ []) name) ≡ true
 unfolding offset_of
 offset_kept [] n name found = absurd (true≢false (sym found))
-offset_kept (x ∷ names) n name found = by_test (bytes_eq name x.0) (offset_kept names n name) found
-  where
-    by_test : (b : Bool) → (is_some (offset_of names name) ≡ true → is_some (offset_of (names ++ n ∷ []) name) ≡ true)
-        → is_some (if b then Some x.1 else offset_of names name) ≡ true → is_some (if b then Some x.1 else offset_of (names ++ n ∷ []) name) ≡ true
-    by_test true rest f = refl
-    by_test false rest f = rest f
+offset_kept (x ∷ names) n name found = grind (arith, offset_kept names n name, is_some)
 
 offset_last : (names : List (List ℕ × ℕ)) (n : List ℕ × ℕ) → is_some (offset_of (names ++ n ∷ []) n.0) ≡ true
 unfolding offset_of
 offset_last [] n = ap (λ b. is_some (if b then Some n.1 else None)) ((bytes_eq-Decides n.0 n.0).1 refl)
-offset_last (x ∷ names) n = by_test (bytes_eq n.0 x.0) (offset_last names n)
-  where
-    by_test : (b : Bool) → is_some (offset_of (names ++ n ∷ []) n.0) ≡ true → is_some (if b then Some x.1 else offset_of (names ++ n ∷ []) n.0) ≡ true
-    by_test true rest = refl
-    by_test false rest = rest
+offset_last (x ∷ names) n = grind (arith, offset_last names n, is_some)
 
 kept_with : (kind : Kind) (names : List (List ℕ × ℕ)) (other name : List ℕ) (a b : Bool) → is_some (offset_of names name) ≡ true
     → is_some (offset_of (if a then (if b then names else names ++ (other, length (names_bytes kind names)) ∷ []) else names) name) ≡ true
@@ -205,8 +169,7 @@ kept_with kind names other name true false found = offset_kept names (other, len
 offset_stays : (kind : Kind) (names : List (List ℕ × ℕ)) (members : List MemberView) (name : List ℕ) → is_some (offset_of names name) ≡ true → is_some (offset_of (fold (λ found m. with_name kind found m.name) names members) name) ≡ true
 unfolding with_name
 offset_stays kind names [] name found = found
-offset_stays kind names (m ∷ members) name found =
-    offset_stays kind (with_name kind names m.name) members name (kept_with kind names m.name name (is_long m.name) (is_some (offset_of names m.name)) found)
+offset_stays kind names (m ∷ members) name found = grind (arith, offset_stays kind (with_name kind names m.name) members name (kept_with kind names m.name name (is_long m.name) (is_some (offset_of names m.name)) found), kept_with, is_some)
 
 offset_new : (kind : Kind) (names : List (List ℕ × ℕ)) (name : List ℕ) (b : Bool) → is_some (offset_of names name) ≡ b
     → is_some (offset_of (if b then names else names ++ (name, length (names_bytes kind names)) ∷ []) name) ≡ true
@@ -220,12 +183,7 @@ AreAmong names members = AllByRecursion (λ m. is_long m.name ≡ true → is_so
 long_among : (kind : Kind) (names : List (List ℕ × ℕ)) (members : List MemberView) → AreAmong (fold (λ found m. with_name kind found m.name) names members) members
 unfolding with_name
 long_among kind names [] = tt
-long_among kind names (m ∷ members) = (
-  λ long. offset_stays kind (with_name kind names m.name) members m.name
-      (ap (λ a. is_some (offset_of (if a then (if is_some (offset_of names m.name) then names else names ++ (m.name, length (names_bytes kind names)) ∷ []) else names) m.name)) long
-      ∙ offset_new kind names m.name (is_some (offset_of names m.name)) refl),
-  long_among kind (with_name kind names m.name) members,
-)
+long_among kind names (m ∷ members) = grind (arith, long_among kind (with_name kind names m.name) members, offset_stays, is_some, offset_new)
 
 -- Reading a long name.
 
@@ -237,9 +195,7 @@ pub record IsNamed (kind : Kind) (name : List ℕ) : Type 0 where
 
 slash_behind : (name : List ℕ) → has_byte 10 name ≡ false → has_byte 10 (name ++ 47 ∷ []) ≡ false
 slash_behind [] none = refl
-slash_behind (c ∷ name) none =
-    let both = or_parts (nat_eq c 10) (has_byte 10 name) none in
-    ap (λ b. b || has_byte 10 (name ++ 47 ∷ [])) both.0 ∙ slash_behind name both.1
+slash_behind (c ∷ name) none = grind (arith, slash_behind name (or_parts (nat_eq c 10) (has_byte 10 name) none).1, or_parts, nat_eq)
 
 long_read : (kind : Kind) (data' : List ℕ) (name : List ℕ) (offset : ℕ) → IsNamed kind name → IsHeld kind data' (name, offset) → long_name kind data' offset ≡ name
 unfolding long_name name_end
@@ -276,8 +232,7 @@ has_name kind names padding' name short near held among named = by_test (is_long
         inr (record {
           offset = offset;
           at = long_named offset (omega (arith, short, near));
-          read = long_read kind (names_bytes kind names ++ padding') name offset named
-              (held_more kind (names_bytes kind names) padding' (name, offset) (held_there kind (names_bytes kind names) names name held (among long)));
+          read = search (rules, long_read, held_more, held_there);
         })
     by_test false fits = inl (short_named name named.some (or_parts (nat_lt 15 (length name)) (has_byte 47 name) fits).1)
 
@@ -289,12 +244,10 @@ each_named : (kind : Kind) (names : List (List ℕ × ℕ)) (padding' : List ℕ
     → ((name : List ℕ) → unwrap_or (offset_of names name) 0 ≤ length (names_bytes kind names)) → AreHeld kind (names_bytes kind names) names → AreAmong names members → AllByRecursion (λ m. IsNamed kind m.name) members
     → HaveNames kind (names_bytes kind names ++ padding') names members
 each_named kind names padding' [] short near held among named = tt
-each_named kind names padding' (m ∷ members) short near held among named =
-    (has_name kind names padding' m.name short (near m.name) held among.0 named.0, each_named kind names padding' members short near held among.1 named.1)
+each_named kind names padding' (m ∷ members) short near held among named = grind (arith, each_named kind names padding' members short near held among.1 named.1, has_name)
 
 pub members_named : (kind : Kind) (members : List MemberView) (padding' : List ℕ) → length (names_bytes kind (long_names kind members)) < 2 ^ 32
     → ((name : List ℕ) → unwrap_or (offset_of (long_names kind members) name) 0 ≤ length (names_bytes kind (long_names kind members))) → AllByRecursion (λ m. IsNamed kind m.name) members
     → HaveNames kind (names_bytes kind (long_names kind members) ++ padding') (long_names kind members) members
 unfolding long_names
-members_named kind members padding' short near named =
-    each_named kind (long_names kind members) padding' members short near (held_names kind [] members tt) (long_among kind [] members) named
+members_named kind members padding' short near named = grind (arith, each_named kind (long_names kind members) padding' members short near (held_names kind [] members tt) (long_among kind [] members) named, held_names kind [] members tt, long_among kind [] members)

@@ -1,5 +1,5 @@
 -- The indexes of an archive lead to its members.
-use Rattle.std.proofs.Common.{◌≡◌, ℕ, zero, suc, ◌+◌, ◌-◌, ◌*◌, ◌%◌, ◌^◌, ◌<◌, ◌≤◌, Bool, true, false, ◌&&◌, inl, inr, List, [], ◌∷◌, ◌++◌, Option, Some, None, bytes_eq, codes, fold, get_or, if◌then◌else◌, is_some, length, map, nat_eq, nat_lt, cond, option_and_then, refl, sym, ap, subst, ◌∙◌, append_assoc, length-append, arith}
+use Rattle.std.proofs.Common.{rules, ◌≡◌, ℕ, zero, suc, ◌+◌, ◌-◌, ◌%◌, ◌^◌, ◌<◌, ◌≤◌, Bool, true, false, inl, inr, List, [], ◌∷◌, ◌++◌, Option, Some, None, bytes_eq, codes, fold, get_or, if◌then◌else◌, is_some, length, map, nat_eq, nat_lt, cond, option_and_then, refl, sym, ap, subst, ◌∙◌, append_assoc, length-append, arith}
 use Rattle.std.specs.declared.cmp.Ordering.{Ordering}
 use Rattle.std.specs.declared.cmp.Ordering.TheVariants.{Less, Equal, Greater}
 use Rattle.std.specs.BTreeMap.{insert_entry}
@@ -11,13 +11,13 @@ use Rattle.std.specs.Ordering.{match_ordering, nat_cmp}
 use Rattle.std.proofs.lemmas.Bool.{and_parts, ltb-true}
 use Rattle.std.proofs.lemmas.Option.{slice_get-get_or}
 use Rattle.implib.specs.Members.MemberSpec.{MemberView}
-use Rattle.implib_archive.specs.Archive.{archive_of, entries_from, entries_of, first_linker, first_linker_size, first_place, is_listed, long_names, name_field, names_bytes, names_size, place_of, places_from, places_of, second_linker, second_linker_size, sorted_entries, strings_of, with_first}
+use Rattle.implib_archive.specs.Archive.{archive_of, entries_from, entries_of, first_linker_size, first_place, is_listed, long_names, name_field, names_bytes, names_size, place_of, places_from, places_of, second_linker_size, sorted_entries, strings_of, with_first}
 use Rattle.implib_archive.specs.Leads.{EachIndexLeads, EachSecondLeads, first_lister, header_for, headers_among, headers_in, numbered, second_header_for, with_header}
 use Rattle.implib_archive.specs.Parts.{field, padding, part_size}
 use Rattle.implib_archive.specs.ReadBack.{AreLaidOut, padded, parts_of, read_view, stored, stored_linkers, stored_member, stored_names}
 use Rattle.implib_archive.specs.Reader.{Linker, LongAt, LongNames, Name, Read, Short, Stored, Unknown, before_others, long_name, long_names_in, member_at, members_among, name_in, read_as, second_in, stored_at, stored_in}
-use Rattle.implib_archive.specs.Refusal.{has_byte, has_short_places, member_refusal, members_refusal, name_refusal, places_refusal, refusal_of, symbol_refusal, symbols_refusal}
-use Rattle.implib_archive.specs.declared.error.Fault.TheVariants.{ArchiveTooLong, EmptySymbol, MemberTooLong, NulInSymbol}
+use Rattle.implib_archive.specs.Refusal.{has_byte, has_short_places, member_refusal, members_refusal, places_refusal, refusal_of, symbol_refusal, symbols_refusal}
+use Rattle.implib_archive.specs.declared.error.Fault.TheVariants.{ArchiveTooLong}
 use Rattle.implib_archive.specs.declared.kind.Kind.{Kind}
 use Rattle.implib_archive.specs.declared.kind.Kind.TheVariants.{Coff, Gnu}
 use Rattle.implib_archive.proofs.Distinct.{distinct_of-coff}
@@ -34,9 +34,7 @@ use Rattle.implib_archive.proofs.Whole.{accepted_parts, few_if_coff, front_fits,
 
 symbol_text : (symbol : List ℕ) → symbol_refusal symbol ≡ None → has_byte 0 symbol ≡ false
 unfolding symbol_refusal
-symbol_text symbol none =
-    let rest = (first_none (nat_eq (length symbol) 0) EmptySymbol (if has_byte 0 symbol then Some NulInSymbol else None) none).1 in
-    (first_none (has_byte 0 symbol) NulInSymbol None rest).0
+symbol_text symbol none = grind (arith, first_none, nat_eq)
 
 texts_both : (xs ys : List (List ℕ × ℕ)) → AreTexts xs → AreTexts ys → AreTexts (xs ++ ys)
 texts_both [] ys a b = b
@@ -45,17 +43,12 @@ texts_both (x ∷ xs) ys a b = (a.0, texts_both xs ys a.1 b)
 symbol_texts : (number : ℕ) (symbols : List (List ℕ)) → symbols_refusal symbols ≡ None → AreTexts (map (λ symbol. (symbol, number)) symbols)
 unfolding symbols_refusal
 symbol_texts number [] none = tt
-symbol_texts number (s ∷ symbols) none =
-    let both = some_none (symbol_refusal s) (symbols_refusal symbols) none in (symbol_text s both.0, symbol_texts number symbols both.1)
+symbol_texts number (s ∷ symbols) none = grind (arith, symbol_texts number symbols (some_none (symbol_refusal s) (symbols_refusal symbols) none).1, some_none, symbol_text)
 
 entry_texts : (kind : Kind) (number : ℕ) (members : List MemberView) → members_refusal kind members ≡ None → AreTexts (entries_from number members)
 unfolding members_refusal member_refusal entries_from
 entry_texts kind number [] none = tt
-entry_texts kind number (m ∷ members) none =
-    let both = some_none (member_refusal kind m) (members_refusal kind members) none in
-    let long = if nat_lt (length m.bytes) (2 ^ 32) then None else Some MemberTooLong in
-    let behind = (some_none (name_refusal kind m.name) (if is_some (symbols_refusal m.symbols) then symbols_refusal m.symbols else long) both.0).1 in
-    texts_both (map (λ symbol. (symbol, number)) m.symbols) (entries_from (number + 1) members) (symbol_texts number m.symbols (some_none (symbols_refusal m.symbols) long behind).0) (entry_texts kind (number + 1) members both.1)
+entry_texts kind number (m ∷ members) none = grind (arith, entry_texts kind (number + 1) members (some_none (member_refusal kind m) (members_refusal kind members) none).1, some_none, nat_lt, is_some, texts_both, symbol_texts)
 
 texts_first : (b : Bool) (found : List (List ℕ × ℕ)) (e : List ℕ × ℕ) → AreTexts found → has_byte 0 e.0 ≡ false → AreTexts (if b then found else found ++ e ∷ [])
 texts_first true found e all one = all
@@ -94,8 +87,7 @@ sorted_texts entries all = texts_sorted [] entries tt all
 
 near_one : (places : List ℕ) → list_all (λ p. nat_lt p (2 ^ 32)) places ≡ true → AllByRecursion (λ n. n < 2 ^ 32) places
 near_one [] all = tt
-near_one (p ∷ places) all =
-    let both = and_parts (nat_lt p (2 ^ 32)) (list_all (λ p. nat_lt p (2 ^ 32)) places) all in (ltb-true p (2 ^ 32) both.0, near_one places both.1)
+near_one (p ∷ places) all = grind (arith, near_one places (and_parts (nat_lt p (2 ^ 32)) (list_all (λ p. nat_lt p (2 ^ 32)) places) all).1, and_parts, nat_lt, ltb-true)
 
 pub near_at : (places : List ℕ) (i : ℕ) → AllByRecursion (λ n. n < 2 ^ 32) places → get_or places i 0 < 2 ^ 32
 near_at [] i all = omega arith
@@ -104,8 +96,7 @@ near_at (p ∷ places) (suc i) all = near_at places i all.1
 
 pub short_places : (place : ℕ) (members : List MemberView) → places_refusal place members ≡ None → AllByRecursion (λ n. n < 2 ^ 32) (places_from place members)
 unfolding places_refusal has_short_places
-short_places place members none =
-    near_one (places_from place members) (and_parts (nat_lt place (2 ^ 32)) (list_all (λ p. nat_lt p (2 ^ 32)) (places_from place members)) (by_test (nat_lt place (2 ^ 32) && list_all (λ p. nat_lt p (2 ^ 32)) (places_from place members)) none)).1
+short_places place members none = grind (arith, near_one, and_parts, nat_lt, by_test)
   where
     by_test : (b : Bool) → (if b then None else Some ArchiveTooLong) ≡ None → b ≡ true
     by_test true e = refl
@@ -133,41 +124,22 @@ module _ (byte : ℕ) (contents : List ℕ) where
 
 after_linker : (place : ℕ) (contents : List ℕ) (parts : List Stored) → headers_among place (stored (codes "/") (padded 0 contents) ∷ parts) ≡ headers_among (place + part_size (length contents)) parts
 unfolding headers_among with_header
-after_linker place contents parts =
-    let next = place + (60 + length (padded 0 contents) + length (padded 0 contents) % 2) in
-    ap (λ n. with_header n place (headers_among next parts)) linker_named ∙ ap (λ n. headers_among n parts) (padded_size 0 contents place)
+after_linker place contents parts = search (rules, linker_named, padded_size)
 
 after_linkers : (kind : Kind) (place : ℕ) (members : List MemberView) (parts : List Stored)
     → headers_among place (stored_linkers kind (places_of kind members) (entries_of kind members) ++ parts)
     ≡ headers_among (place + (first_linker_size kind (length (entries_of kind members)) (length (strings_of (entries_of kind members)))
     + second_linker_size kind (length members) (length (entries_of kind members)) (length (strings_of (entries_of kind members))))) parts
 unfolding stored_linkers first_linker_size second_linker_size
-after_linkers Coff place members parts =
-    let places = places_of Coff members in
-    let entries = entries_of Coff members in
-    let one = first_linker places entries in
-    let two = second_linker places (sorted_entries entries) in
-    let many = sorted_as_many members in
-    after_linker place one (stored (codes "/") (padded 0 two) ∷ parts)
-    ∙ (after_linker (place + part_size (length one)) two parts
-    ∙ ap (λ n. headers_among n parts) (omega (arith, length-first_linker places entries, length-second_linker places (sorted_entries entries), many.0, many.1, length-places (first_place Coff members) members)))
-after_linkers Gnu place members parts = by_test (nat_lt 0 (length (entries_of Gnu members)))
-  where
-    by_test : (b : Bool) → headers_among place ((if b then stored (codes "/") (padded 0 (first_linker (places_of Gnu members) (entries_of Gnu members))) ∷ [] else []) ++ parts)
-        ≡ headers_among (place + ((if b then part_size (4 + 4 * length (entries_of Gnu members) + length (strings_of (entries_of Gnu members))) else 0) + 0)) parts
-    by_test true =
-        let one = first_linker (places_of Gnu members) (entries_of Gnu members) in
-        after_linker place one parts ∙ ap (λ n. headers_among n parts) (omega (arith, length-first_linker (places_of Gnu members) (entries_of Gnu members)))
-    by_test false = ap (λ n. headers_among n parts) (omega arith)
+after_linkers Coff place members parts = grind (arith, sorted_as_many, after_linker, length-first_linker, length-second_linker, length-places)
+after_linkers Gnu place members parts = grind (arith, nat_lt, after_linker, length-first_linker)
 
 after_names : (place : ℕ) (text : List ℕ) (parts : List Stored) → headers_among place (stored_names text ++ parts) ≡ headers_among (place + names_size (length text)) parts
 unfolding stored_names names_size headers_among with_header
 after_names place text parts = by_test (nat_lt 0 (length text))
   where
     by_test : (b : Bool) → headers_among place ((if b then stored (codes "//") (padded 10 text) ∷ [] else []) ++ parts) ≡ headers_among (place + (if b then part_size (length text) else 0)) parts
-    by_test true =
-        let next = place + (60 + length (padded 10 text) + length (padded 10 text) % 2) in
-        ap (λ n. with_header n place (headers_among next parts)) long_names_named ∙ ap (λ n. headers_among n parts) (padded_size 10 text place)
+    by_test true = search (rules, long_names_named, padded_size)
     by_test false = ap (λ n. headers_among n parts) (omega arith)
 
 pub member_header : (kind : Kind) (data' field' name : List ℕ) (place : ℕ) (headers : List ℕ) → HasName kind data' field' name → with_header (name_in field') place headers ≡ place ∷ headers
@@ -203,26 +175,21 @@ headers_of_parts kind members accepted =
 -- the members' headers are where they are meant to be
 pub headers_found : (kind : Kind) (members : List MemberView) → refusal_of kind members ≡ None → headers_in (archive_of kind members) ≡ Some (places_of kind members)
 unfolding headers_in
-headers_found kind members accepted =
-    ap (option_map (headers_among 8)) (parts_read_back kind members accepted) ∙ ap (λ t. Some t) (headers_of_parts kind members accepted)
+headers_found kind members accepted = grind (arith, parts_read_back, headers_of_parts)
 
 -- After each header of a member it is read.
 
 module _ (kind : Kind) (bytes : List ℕ) (all : List Stored) (found : stored_in bytes ≡ Some all) where
   pub at_header : (place : ℕ) (s : Stored) → stored_at bytes place ≡ Some s → member_at kind bytes place ≡ read_as kind (long_names_in all) (name_in s.field) s.contents
   unfolding member_at
-  at_header place s is =
-      ap (option_and_then (λ parts. option_and_then (λ s. read_as kind (long_names_in parts) (name_in s.field) s.contents) (stored_at bytes place))) found
-      ∙ ap (option_and_then (λ s. read_as kind (long_names_in all) (name_in s.field) s.contents)) is
+  at_header place s is = grind (arith, option_and_then)
 
   one_header : (place : ℕ) (headers : List ℕ) (read : Read) (contents : List ℕ) (reads : List Read) (others : Option (List Read))
       → member_at kind bytes place ≡ Some read
       → ((more : List Read) → others ≡ Some more → map (member_at kind bytes) headers ≡ map (λ r. Some r) more)
       → option_map (λ more. read ∷ more) others ≡ Some reads → map (member_at kind bytes) (place ∷ headers) ≡ map (λ r. Some r) reads
   one_header place headers read contents reads None at rest is = absurd (cc)
-  one_header place headers read contents reads (Some more) at rest is =
-      let same : reads ≡ read ∷ more = cc in
-      ap (λ t. t ∷ map (member_at kind bytes) headers) at ∙ (ap (λ t. Some read ∷ t) (rest more refl) ∙ sym (ap (map (λ r. Some r)) same))
+  one_header place headers read contents reads (Some more) at rest is = grind arith
 
   pub by_name : (place : ℕ) (headers : List ℕ) (n : Name) (contents : List ℕ) (reads : List Read) (others : Option (List Read))
       → member_at kind bytes place ≡ read_as kind (long_names_in all) n contents
@@ -257,8 +224,7 @@ each_index_leads kind members accepted =
     let back = members_read_back kind members accepted in
     let parts = parts_read_back kind members accepted in
     let r = readable kind members accepted in
-    let leads : (symbol : List ℕ) → header_for bytes symbol ≡ option_map (λ f. f.0) (first_lister places members symbol) =
-    λ symbol. header_found kind members symbol accepted r ∙ index_lookup kind members places symbol many in
+    let leads : (symbol : List ℕ) → header_for bytes symbol ≡ option_map (λ f. f.0) (first_lister places members symbol) = λ symbol. search (rules, header_found, index_lookup) in
     record {
       headers = places;
       found = headers_found kind members accepted;

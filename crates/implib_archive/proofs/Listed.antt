@@ -28,8 +28,7 @@ module _ (k : Bor (List ℕ)) (same : Bor (List ℕ) → Bool) (says : (x : Bor 
 
   pub listed_key : (entries : List (Bor (List ℕ) × ℕ)) → is_some (lookup same entries) ≡ is_listed (shown entries) k.now
   listed_key [] = refl
-  listed_key (e ∷ entries) = ap (λ b. is_some (if b then Some e.1 else lookup same entries)) (says e.0)
-      ∙ found_step (bytes_eq k.now e.0.now) (is_listed (shown entries) k.now) e.1 (lookup same entries) (listed_key entries)
+  listed_key (e ∷ entries) = grind (arith, listed_key entries, is_some, found_step)
 
 module _ (k : Bor (List ℕ)) (v : ℕ) (eq : Bor (List ℕ) → Bor (List ℕ) → Bool) (says : (x : Bor (List ℕ)) → eq k x ≡ bytes_eq k.now x.now) where
   by_first : (b any : Bool) (e : Bor (List ℕ) × ℕ) (entries : List (Bor (List ℕ) × ℕ)) → (b || any) ≡ false
@@ -40,8 +39,7 @@ module _ (k : Bor (List ℕ)) (v : ℕ) (eq : Bor (List ℕ) → Bor (List ℕ) 
 
   pub inserted_new : (entries : List (Bor (List ℕ) × ℕ)) → is_listed (shown entries) k.now ≡ false → shown (insert_entry eq entries k v) ≡ shown entries ++ (k.now, v) ∷ []
   inserted_new [] none = refl
-  inserted_new (e ∷ entries) none = ap (λ b. shown (if b then (e.0, v) ∷ entries else e ∷ insert_entry eq entries k v)) (says e.0)
-      ∙ by_first (bytes_eq k.now e.0.now) (is_listed (shown entries) k.now) e entries none (inserted_new entries)
+  inserted_new (e ∷ entries) none = grind (arith, inserted_new entries, by_first)
 
 -- one entry more
 pub firsts_more : (entries : List (Bor (List ℕ) × ℕ)) (i : ℕ) (d : Bor (List ℕ) × ℕ) → i < length entries
@@ -55,9 +53,7 @@ pub entries_more : (found pushed : List (List ℕ × ℕ)) (number : ℕ) (membe
     → pushed ≡ found ++ map (λ symbol. (symbol, number)) (get_or members i d).symbols
     → pushed ++ entries_from (number + 1) (drop (i + 1) members) ≡ found ++ entries_from number (drop i members)
 unfolding entries_from
-entries_more found pushed number members i d within e = ap (λ t. t ++ entries_from (number + 1) (drop (i + 1) members)) e
-    ∙ (append_assoc found (map (λ symbol. (symbol, number)) (get_or members i d).symbols) (entries_from (number + 1) (drop (i + 1) members))
-    ∙ sym (ap (λ t. found ++ entries_from number t) (drop_more members i d within)))
+entries_more found pushed number members i d within e = grind (arith, append_assoc, drop_more)
 
 -- no member is left
 pub entries_all : (found : List (List ℕ × ℕ)) (number : ℕ) (members : List MemberView) (i : ℕ) → length members ≤ i → found ++ entries_from number (drop i members) ≡ found

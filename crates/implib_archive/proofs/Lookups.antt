@@ -1,5 +1,5 @@
 -- Looking symbols up among entries.
-use Rattle.std.proofs.Common.{◌≡◌, ℕ, ◌+◌, ◌-◌, Bool, true, false, ◌||◌, cond, List, [], ◌∷◌, ◌++◌, Option, Some, None, bytes_eq, fold, get_or, if◌then◌else◌, is_some, length, map, refl, sym, ap, ◌∙◌, append_assoc, length-append, arith}
+use Rattle.std.proofs.Common.{◌≡◌, ℕ, ◌+◌, ◌-◌, Bool, true, false, cond, List, [], ◌∷◌, ◌++◌, Option, Some, None, bytes_eq, fold, get_or, if◌then◌else◌, is_some, length, map, refl, sym, ap, ◌∙◌, append_assoc, length-append, arith}
 use Rattle.std.specs.declared.cmp.Ordering.{Ordering}
 use Rattle.std.specs.declared.cmp.Ordering.TheVariants.{Less, Equal, Greater}
 use Rattle.std.specs.BTreeMap.{insert_entry}
@@ -31,41 +31,22 @@ or_else None other = other
 
 lookup_both : (s : List ℕ) (xs ys : List (List ℕ × ℕ)) → lookup (bytes_eq s) (xs ++ ys) ≡ or_else (lookup (bytes_eq s) xs) (lookup (bytes_eq s) ys)
 lookup_both s [] ys = refl
-lookup_both s (x ∷ xs) ys = by_test (bytes_eq s x.0) (lookup_both s xs ys)
-  where
-    by_test : (b : Bool) → lookup (bytes_eq s) (xs ++ ys) ≡ or_else (lookup (bytes_eq s) xs) (lookup (bytes_eq s) ys)
-        → cond b (Some x.1) (lookup (bytes_eq s) (xs ++ ys)) ≡ or_else (cond b (Some x.1) (lookup (bytes_eq s) xs)) (lookup (bytes_eq s) ys)
-    by_test true rest = refl
-    by_test false rest = rest
+lookup_both s (x ∷ xs) ys = grind (arith, lookup_both s xs ys)
 
 pub lookup_mapped : (s : List ℕ) (g : ℕ → ℕ) (entries : List (List ℕ × ℕ)) → lookup (bytes_eq s) (map (λ e. (e.0, g e.1)) entries) ≡ option_map g (lookup (bytes_eq s) entries)
 lookup_mapped s g [] = refl
-lookup_mapped s g (e ∷ entries) = by_test (bytes_eq s e.0) (lookup_mapped s g entries)
-  where
-    by_test : (b : Bool) → lookup (bytes_eq s) (map (λ e. (e.0, g e.1)) entries) ≡ option_map g (lookup (bytes_eq s) entries)
-        → cond b (Some (g e.1)) (lookup (bytes_eq s) (map (λ e. (e.0, g e.1)) entries)) ≡ option_map g (cond b (Some e.1) (lookup (bytes_eq s) entries))
-    by_test true rest = refl
-    by_test false rest = rest
+lookup_mapped s g (e ∷ entries) = grind (arith, lookup_mapped s g entries)
 
 lookup_listed : (s : List ℕ) (entries : List (List ℕ × ℕ)) → is_some (lookup (bytes_eq s) entries) ≡ is_listed entries s
 lookup_listed s [] = refl
-lookup_listed s (e ∷ entries) = by_test (bytes_eq s e.0) (lookup_listed s entries)
-  where
-    by_test : (b : Bool) → is_some (lookup (bytes_eq s) entries) ≡ is_listed entries s → is_some (cond b (Some e.1) (lookup (bytes_eq s) entries)) ≡ (b || is_listed entries s)
-    by_test true rest = refl
-    by_test false rest = rest
+lookup_listed s (e ∷ entries) = grind (arith, lookup_listed s entries, is_some)
 
 -- All entries of members.
 
 one_member : (s : List ℕ) (number : ℕ) (symbols : List (List ℕ)) (rest : List (List ℕ × ℕ))
     → lookup (bytes_eq s) (map (λ symbol. (symbol, number)) symbols ++ rest) ≡ (if list_any (bytes_eq s) symbols then Some number else lookup (bytes_eq s) rest)
 one_member s number [] rest = refl
-one_member s number (x ∷ symbols) rest = by_test (bytes_eq s x) (one_member s number symbols rest)
-  where
-    by_test : (b : Bool) → lookup (bytes_eq s) (map (λ symbol. (symbol, number)) symbols ++ rest) ≡ (if list_any (bytes_eq s) symbols then Some number else lookup (bytes_eq s) rest)
-        → cond b (Some number) (lookup (bytes_eq s) (map (λ symbol. (symbol, number)) symbols ++ rest)) ≡ (if b || list_any (bytes_eq s) symbols then Some number else lookup (bytes_eq s) rest)
-    by_test true more = refl
-    by_test false more = more
+one_member s number (x ∷ symbols) rest = grind (arith, one_member s number symbols rest)
 
 place_next : (before places : List ℕ) (p : ℕ) → place_of (before ++ p ∷ places) (length before + 1) ≡ p
 unfolding place_of
@@ -105,9 +86,7 @@ same_some None a b some = absurd (true≢false (sym some))
 module _ (s : List ℕ) (e : List ℕ × ℕ) (found entries : List (List ℕ × ℕ)) where
   listed_already : (b : Bool) → bytes_eq s e.0 ≡ b → is_listed found e.0 ≡ true
       → or_else (lookup (bytes_eq s) found) (lookup (bytes_eq s) entries) ≡ or_else (lookup (bytes_eq s) found) (cond b (Some e.1) (lookup (bytes_eq s) entries))
-  listed_already true same here =
-      let is = (bytes_eq-Decides s e.0).0 same in
-      same_some (lookup (bytes_eq s) found) (lookup (bytes_eq s) entries) (Some e.1) (lookup_listed s found ∙ (ap (is_listed found) is ∙ here))
+  listed_already true same here = grind (arith, bytes_eq-Decides, same_some, lookup_listed)
   listed_already false other here = refl
 
   listed_last : (r : Option ℕ) (b : Bool) → or_else (or_else r (cond b (Some e.1) None)) (lookup (bytes_eq s) entries) ≡ or_else r (cond b (Some e.1) (lookup (bytes_eq s) entries))
@@ -118,16 +97,11 @@ module _ (s : List ℕ) (e : List ℕ × ℕ) (found entries : List (List ℕ ×
   first_step : (b : Bool) → is_listed found e.0 ≡ b
       → or_else (lookup (bytes_eq s) (if b then found else found ++ e ∷ [])) (lookup (bytes_eq s) entries) ≡ or_else (lookup (bytes_eq s) found) (lookup (bytes_eq s) (e ∷ entries))
   first_step true here = listed_already (bytes_eq s e.0) refl here
-  first_step false new =
-      ap (λ r. or_else r (lookup (bytes_eq s) entries)) (lookup_both s found (e ∷ [])) ∙ listed_last (lookup (bytes_eq s) found) (bytes_eq s e.0)
+  first_step false new = grind (arith, lookup_both, listed_last)
 
 firsts_lookup : (s : List ℕ) (found entries : List (List ℕ × ℕ)) → lookup (bytes_eq s) (fold with_first found entries) ≡ or_else (lookup (bytes_eq s) found) (lookup (bytes_eq s) entries)
 unfolding with_first
-firsts_lookup s found [] = nothing (lookup (bytes_eq s) found)
-  where
-    nothing : (r : Option ℕ) → r ≡ or_else r None
-    nothing (Some n) = refl
-    nothing None = refl
+firsts_lookup s found [] = grind arith
 firsts_lookup s found (e ∷ entries) = firsts_lookup s (with_first found e) entries ∙ first_step s e found entries (is_listed found e.0) refl
 
 -- a search of the index is one through all entries
@@ -139,29 +113,21 @@ entries_lookup Coff members s = firsts_lookup s [] (entries_from 1 members)
 -- each text leads to the header of the first member that lists it
 pub index_lookup : (kind : Kind) (members : List MemberView) (places : List ℕ) (s : List ℕ) → length places ≡ length members
     → lookup (bytes_eq s) (map (λ e. (e.0, place_of places e.1)) (entries_of kind members)) ≡ option_map (λ f. f.0) (first_lister places members s)
-index_lookup kind members places s same =
-    lookup_mapped s (place_of places) (entries_of kind members) ∙ (ap (option_map (place_of places)) (entries_lookup kind members s) ∙ entries_lead s [] places members same)
+index_lookup kind members places s same = grind (arith, lookup_mapped s (place_of places) (entries_of kind members), entries_lookup kind members s, entries_lead s [] places members same)
 
 -- a text leads somewhere exactly if a member lists it
 pub listed_somewhere : (places : List ℕ) (members : List MemberView) (s : List ℕ) → length places ≡ length members → is_some (option_map (λ f. f.0) (first_lister places members s)) ≡ list_any (lists s) members
 listed_somewhere [] [] s same = refl
 listed_somewhere [] (m ∷ members) s same = absurd (omega (arith, same))
 listed_somewhere (p ∷ places) [] s same = absurd (omega (arith, same))
-listed_somewhere (p ∷ places) (m ∷ members) s same = by_test (lists s m) (listed_somewhere places members s (omega (arith, same)))
-  where
-    by_test : (b : Bool) → is_some (option_map (λ f. f.0) (first_lister places members s)) ≡ list_any (lists s) members
-        → is_some (option_map (λ f. f.0) (if b then Some (p, m) else first_lister places members s)) ≡ (b || list_any (lists s) members)
-    by_test true rest = refl
-    by_test false rest = rest
+listed_somewhere (p ∷ places) (m ∷ members) s same = grind (arith, listed_somewhere places members s (omega (arith, same)), is_some)
 
 -- Entries in order.
 
 module _ (k : List ℕ) (v : ℕ) where
   both_same : (s : List ℕ) (e : List ℕ × ℕ) (rest : Option ℕ) (a b : Bool) → bytes_eq s e.0 ≡ a → bytes_eq s k ≡ b → bytes_eq k e.0 ≡ false
       → cond a (Some e.1) (cond b (Some v) rest) ≡ cond b (Some v) (cond a (Some e.1) rest)
-  both_same s e rest true true x y other =
-      let same : k ≡ e.0 = sym ((bytes_eq-Decides s k).0 y) ∙ (bytes_eq-Decides s e.0).0 x in
-      absurd (true≢false (sym ((bytes_eq-Decides k e.0).1 same) ∙ other))
+  both_same s e rest true true x y other = grind (arith, bytes_eq-Decides, true≢false)
   both_same s e rest true false x y other = refl
   both_same s e rest false b x y other = refl
 
@@ -169,16 +135,8 @@ module _ (k : List ℕ) (v : ℕ) where
       → lookup (bytes_eq s) (insert_entry (slice_cmp nat_cmp) entries k v) ≡ cond (bytes_eq s k) (Some v) (lookup (bytes_eq s) entries)
       → lookup (bytes_eq s) (match_ordering o ((k, v) ∷ e ∷ entries) ((e.0, v) ∷ entries) (e ∷ insert_entry (slice_cmp nat_cmp) entries k v)) ≡ cond (bytes_eq s k) (Some v) (lookup (bytes_eq s) (e ∷ entries))
   by_order s Less e entries is rest = refl
-  by_order s Equal e entries is rest =
-      let same = (bytes_eq-Decides k e.0).0 (sym is) in
-      ap (λ t. cond (bytes_eq s t) (Some v) (lookup (bytes_eq s) entries)) (sym same)
-      ∙ (twice (bytes_eq s k) ∙ ap (λ t. cond (bytes_eq s k) (Some v) (cond (bytes_eq s t) (Some e.1) (lookup (bytes_eq s) entries))) same)
-    where
-      twice : (b : Bool) → cond b (Some v) (lookup (bytes_eq s) entries) ≡ cond b (Some v) (cond b (Some e.1) (lookup (bytes_eq s) entries))
-      twice true = refl
-      twice false = refl
-  by_order s Greater e entries is rest =
-      ap (λ r. cond (bytes_eq s e.0) (Some e.1) r) rest ∙ both_same s e (lookup (bytes_eq s) entries) (bytes_eq s e.0) (bytes_eq s k) refl refl (sym is)
+  by_order s Equal e entries is rest = grind (arith, bytes_eq-Decides)
+  by_order s Greater e entries is rest = grind (arith, both_same)
 
   inserted_lookup : (s : List ℕ) (entries : List (List ℕ × ℕ)) → lookup (bytes_eq s) (insert_entry (slice_cmp nat_cmp) entries k v) ≡ cond (bytes_eq s k) (Some v) (lookup (bytes_eq s) entries)
   inserted_lookup s [] = refl
@@ -187,13 +145,7 @@ module _ (k : List ℕ) (v : ℕ) where
   keys_above : (x : List ℕ) (entries : List (List ℕ × ℕ)) → slice_cmp nat_cmp x k ≡ Less → AllByRecursion (λ y. slice_cmp nat_cmp x y ≡ Less) (map (λ e. e.0) entries)
       → AllByRecursion (λ y. slice_cmp nat_cmp x y ≡ Less) (map (λ e. e.0) (insert_entry (slice_cmp nat_cmp) entries k v))
   keys_above x [] new all = (new, tt)
-  keys_above x (e ∷ entries) new all = by_place (slice_cmp nat_cmp k e.0) (keys_above x entries new all.1)
-    where
-      by_place : (o : Ordering) → AllByRecursion (λ y. slice_cmp nat_cmp x y ≡ Less) (map (λ e. e.0) (insert_entry (slice_cmp nat_cmp) entries k v))
-          → AllByRecursion (λ y. slice_cmp nat_cmp x y ≡ Less) (map (λ e. e.0) (match_ordering o ((k, v) ∷ e ∷ entries) ((e.0, v) ∷ entries) (e ∷ insert_entry (slice_cmp nat_cmp) entries k v)))
-      by_place Less rest = (new, all)
-      by_place Equal rest = all
-      by_place Greater rest = (all.0, rest)
+  keys_above x (e ∷ entries) new all = grind (arith, keys_above x entries new all.1)
 
   above_all : (x : List ℕ) (ys : List (List ℕ)) → slice_cmp nat_cmp k x ≡ Less → AllByRecursion (λ y. slice_cmp nat_cmp x y ≡ Less) ys → AllByRecursion (λ y. slice_cmp nat_cmp k y ≡ Less) ys
   above_all x [] below all = tt
@@ -215,9 +167,7 @@ inserted_all : (sorted entries : List (List ℕ × ℕ)) (s : List ℕ) → AreD
     → lookup (bytes_eq s) (fold (λ x e. insert_entry (slice_cmp nat_cmp) x e.0 e.1) sorted entries) ≡ or_else (lookup (bytes_eq s) entries) (lookup (bytes_eq s) sorted)
 unfolding IsDistinct
 inserted_all sorted [] s distinct = refl
-inserted_all sorted (e ∷ entries) s distinct =
-    inserted_all (insert_entry (slice_cmp nat_cmp) sorted e.0 e.1) entries s distinct.1
-    ∙ (ap (or_else (lookup (bytes_eq s) entries)) (inserted_lookup e.0 e.1 s sorted) ∙ by_test (bytes_eq s e.0) (lookup (bytes_eq s) entries) (lookup (bytes_eq s) sorted) alone)
+inserted_all sorted (e ∷ entries) s distinct = grind (arith, inserted_all (insert_entry (slice_cmp nat_cmp) sorted e.0 e.1) entries s distinct.1, inserted_lookup, by_test, alone)
   where
     by_test : (b : Bool) (r other : Option ℕ) → (b ≡ true → r ≡ None) → or_else r (cond b (Some e.1) other) ≡ or_else (cond b (Some e.1) r) other
     by_test true (Some n) other none = absurd (let no : Some n ≡ None = none refl in cc)

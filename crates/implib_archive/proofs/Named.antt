@@ -1,5 +1,5 @@
 -- The long names and their offsets.
-use Rattle.std.proofs.Common.{◌≡◌, ℕ, ◌+◌, ◌^◌, ◌<◌, ◌≤◌, Bool, true, false, List, [], ◌∷◌, ◌++◌, Some, bytes_eq, codes, decimal, get_or, if◌then◌else◌, is_some, length, refl, sym, ap, subst, take, ◌∙◌, append-nil, length-append, arith, unwrap_or}
+use Rattle.std.proofs.Common.{◌≡◌, ℕ, ◌+◌, ◌^◌, ◌<◌, ◌≤◌, Bool, true, false, List, [], ◌∷◌, ◌++◌, bytes_eq, codes, decimal, get_or, if◌then◌else◌, is_some, length, refl, sym, ap, subst, take, ◌∙◌, append-nil, length-append, arith, unwrap_or}
 use Rattle.std.specs.Borrow.{Bor}
 use Rattle.std.specs.Map.{lookup}
 use Rattle.std.proofs.lemmas.Grind.{flat_map-append}
@@ -16,17 +16,13 @@ module _ (k : Bor (List ℕ)) (same : Bor (List ℕ) → Bool) (says : (x : Bor 
   pub offset_found : (entries : List (Bor (List ℕ) × ℕ)) → lookup same entries ≡ offset_of (shown entries) k.now
   unfolding offset_of
   offset_found [] = refl
-  offset_found (e ∷ entries) = ap (λ b. if b then Some e.1 else lookup same entries) (says e.0)
-      ∙ ap (λ r. if bytes_eq k.now e.0.now then Some e.1 else r) (offset_found entries)
+  offset_found (e ∷ entries) = grind (arith, offset_found entries)
 
 -- the data of one name more
 pub names_bytes-push : (kind : Kind) (names : List (List ℕ × ℕ)) (n : List ℕ × ℕ)
     → length (names_bytes kind (names ++ n ∷ [])) ≡ length (names_bytes kind names) + (length n.0 + length (name_end kind))
 unfolding names_bytes
-names_bytes-push kind names n =
-    ap length (flat_map-append (λ x. x.0 ++ name_end kind) names (n ∷ []))
-    ∙ length-append (names_bytes kind names) ((n.0 ++ name_end kind) ++ [])
-    ∙ ap (λ k. length (names_bytes kind names) + k) (ap length (append-nil (n.0 ++ name_end kind)) ∙ length-append n.0 (name_end kind))
+names_bytes-push kind names n = grind (arith, flat_map-append, length-append, append-nil)
 
 module _ (kind : Kind) (names : List (List ℕ × ℕ)) (name : List ℕ) where
   -- a short name is not added
@@ -46,8 +42,7 @@ module _ (kind : Kind) (names : List (List ℕ × ℕ)) (name : List ℕ) where
   -- any other comes last
   pub with_name-new : is_long name ≡ true → is_some (offset_of names name) ≡ false → with_name kind names name ≡ names ++ (name, length (names_bytes kind names)) ∷ []
   unfolding with_name
-  with_name-new long new = ap (λ b. if b then (if is_some (offset_of names name) then names else names ++ (name, length (names_bytes kind names)) ∷ []) else names) long
-      ∙ ap (λ b. if b then names else names ++ (name, length (names_bytes kind names)) ∷ []) new
+  with_name-new long new = grind (arith, is_some)
 
   longer : (a b : Bool) → length (names_bytes kind names) ≤ length (names_bytes kind (if a then (if b then names else names ++ (name, length (names_bytes kind names)) ∷ []) else names))
   longer true true = omega arith
@@ -65,35 +60,19 @@ module _ (kind : Kind) (names : List (List ℕ × ℕ)) (name : List ℕ) where
 
   -- what was measured, where it is too long already
   pub measured_long : {found : List (List ℕ × ℕ)} {size : ℕ} → 2 ^ 32 ≤ size → AreMeasured kind names found size → AreMeasured kind (with_name kind names name) found size
-  measured_long far m = record {
-    same = λ near. absurd (omega (arith, near, far));
-    exact = λ near. absurd (omega (arith, near, far));
-    long = λ _. omega (arith, with_name-longer, m.long far);
-  }
+  measured_long far m = grind (arith, with_name-longer)
 
   -- what was measured, and one name more
   pub measured_more : {found found' : List (List ℕ × ℕ)} {size size' : ℕ} → size < 2 ^ 32 → is_long name ≡ true → is_some (offset_of found name) ≡ false
       → found' ≡ found ++ (name, size) ∷ [] → size' ≡ size + (length name + length (name_end kind))
       → AreMeasured kind names found size → AreMeasured kind (with_name kind names name) found' size'
-  measured_more {found} {found'} {size} {size'} near long new after size_after m =
-      let same = m.same near in
-      let exact = m.exact near in
-      let added = with_name-new long (sym (ap (λ t. is_some (offset_of t name)) same) ∙ new) ∙ ap (λ n. names ++ (name, n) ∷ []) exact in
-      let whole : length (names_bytes kind (with_name kind names name)) ≡ size' =
-      ap (λ t. length (names_bytes kind t)) added ∙ names_bytes-push kind names (name, size)
-      ∙ ap (λ n. n + (length name + length (name_end kind))) exact ∙ sym size_after in
-      record {
-        same = λ _. after ∙ ap (λ t. t ++ (name, size) ∷ []) same ∙ sym added;
-        exact = λ _. whole;
-        long = λ far. omega (arith, whole, far);
-      }
+  measured_more {found} {found'} {size} {size'} near long new after size_after m = grind (arith, with_name-new, is_some, names_bytes-push)
 
 -- the names of one member more
 pub long_names-more : (kind : Kind) (members : List MemberView) (i : ℕ) (d : MemberView) → i < length members
     → long_names kind (take (i + 1) members) ≡ with_name kind (long_names kind (take i members)) (get_or members i d).name
 unfolding long_names
-long_names-more kind members i d within =
-    ap (long_names kind) (take_more members i d within) ∙ fold_push (λ names m. with_name kind names m.name) [] (take i members) (get_or members i d)
+long_names-more kind members i d within = grind (arith, take_more members i d within, fold_push (λ names m. with_name kind names m.name) [] (take i members) (get_or members i d))
 
 -- the name field of a long name
 pub name_field-long : (names : List (List ℕ × ℕ)) (name : List ℕ) → is_long name ≡ true → codes "/" ++ decimal (unwrap_or (offset_of names name) 0) ≡ name_field names name

@@ -1,5 +1,5 @@
 -- The numbers of entries, and the entries in the order of their symbols.
-use Rattle.std.proofs.Common.{◌≡◌, ℕ, zero, suc, ◌+◌, ◌<◌, ◌≤◌, Bool, true, false, ◌||◌, List, [], ◌∷◌, ◌++◌, bytes_eq, fold, flat_map, get_or, if◌then◌else◌, length, map, refl, sym, ap, subst, ◌∙◌, append-nil, length-append, arith}
+use Rattle.std.proofs.Common.{◌≡◌, ℕ, zero, suc, ◌+◌, ◌<◌, ◌≤◌, Bool, true, false, ◌||◌, List, [], ◌∷◌, ◌++◌, bytes_eq, fold, get_or, if◌then◌else◌, length, map, refl, sym, ◌∙◌, append-nil, length-append, arith}
 use Rattle.std.specs.declared.cmp.Ordering.{Ordering}
 use Rattle.std.specs.declared.cmp.Ordering.TheVariants.{Less, Equal, Greater}
 use Rattle.std.specs.Ordering.{is_eq, match_ordering, nat_cmp}
@@ -68,8 +68,7 @@ module _ (P : ℕ → Type 0) (k : List ℕ) (v : ℕ) (p : P v) where
 
 each_folded : (P : ℕ → Type 0) (sorted entries : List (List ℕ × ℕ)) → Each P sorted → Each P entries → Each P (fold (λ s e. insert_entry (slice_cmp nat_cmp) s e.0 e.1) sorted entries)
 each_folded P sorted [] each all = each
-each_folded P sorted (e ∷ entries) each all =
-    each_folded P (insert_entry (slice_cmp nat_cmp) sorted e.0 e.1) entries (each_inserted P e.0 e.1 all.0 sorted each) all.1
+each_folded P sorted (e ∷ entries) each all = grind (arith, each_folded P (insert_entry (slice_cmp nat_cmp) sorted e.0 e.1) entries (each_inserted P e.0 e.1 all.0 sorted each) all.1, each_inserted)
 
 -- a fact of each number holds of the sorted entries too
 pub each_sorted : (P : ℕ → Type 0) (entries : List (List ℕ × ℕ)) → Each P entries → Each P (sorted_entries entries)
@@ -107,13 +106,7 @@ module _ (k : List ℕ) (v : ℕ) where
       → AreAsMany (match_ordering o ((k, v) ∷ e ∷ entries) ((e.0, v) ∷ entries) (e ∷ insert_entry (slice_cmp nat_cmp) entries k v)) ((k, v) ∷ e ∷ entries)
   new_ordered Less e entries other rest = record { count = refl; strings = refl; listed = λ s. refl }
   new_ordered Equal e entries other rest = absurd (true≢false other)
-  new_ordered Greater e entries other rest =
-      let inserted = insert_entry (slice_cmp nat_cmp) entries k v in
-      record {
-        count = ap (λ n. suc n) rest.count;
-        strings = omega (arith, rest.strings, strings-cons e inserted, strings-cons (k, v) entries, strings-cons (k, v) (e ∷ entries), strings-cons e entries);
-        listed = λ s. ap (λ b. bytes_eq s e.0 || b) (rest.listed s) ∙ or_swap (bytes_eq s e.0) (bytes_eq s k) (is_listed entries s);
-      }
+  new_ordered Greater e entries other rest = grind (arith, strings-cons, or_swap)
 
   new_inserted : (entries : List (List ℕ × ℕ)) → is_listed entries k ≡ false → AreAsMany (insert_entry (slice_cmp nat_cmp) entries k v) ((k, v) ∷ entries)
   new_inserted [] new = record { count = refl; strings = refl; listed = λ s. refl }
@@ -123,11 +116,7 @@ module _ (k : List ℕ) (v : ℕ) where
 
 listed_both : (xs ys : List (List ℕ × ℕ)) (s : List ℕ) → is_listed (xs ++ ys) s ≡ (is_listed xs s || is_listed ys s)
 listed_both [] ys s = refl
-listed_both (x ∷ xs) ys s = ap (λ b. bytes_eq s x.0 || b) (listed_both xs ys s) ∙ or_assoc (bytes_eq s x.0) (is_listed xs s) (is_listed ys s)
-  where
-    or_assoc : (a b c : Bool) → (a || (b || c)) ≡ ((a || b) || c)
-    or_assoc true b c = refl
-    or_assoc false b c = refl
+listed_both (x ∷ xs) ys s = grind (arith, listed_both xs ys s)
 
 or_ends : (a b : Bool) → (a || b) ≡ (b || (a || false))
 or_ends true true = refl
@@ -141,24 +130,12 @@ sorted_push entries e = fold_push (λ s x. insert_entry (slice_cmp nat_cmp) s x.
 
 strings-push : (entries : List (List ℕ × ℕ)) (e : List ℕ × ℕ) → length (strings_of (entries ++ e ∷ [])) ≡ length (strings_of entries) + (length e.0 + 1)
 unfolding strings_of
-strings-push entries e = omega (
-  arith,
-  ap length (flat_map-append (λ (x : List ℕ × ℕ). x.0 ++ 0 ∷ []) entries (e ∷ [])),
-  length-append (flat_map (λ (x : List ℕ × ℕ). x.0 ++ 0 ∷ []) entries) ((e.0 ++ 0 ∷ []) ++ []),
-  ap length (append-nil (e.0 ++ 0 ∷ [])),
-  length-append e.0 (0 ∷ []),
-)
+strings-push entries e = grind (arith, flat_map-append, length-append, append-nil)
 
 one_first : (b : Bool) (found : List (List ℕ × ℕ)) (e : List ℕ × ℕ) → is_listed found e.0 ≡ b → AreAsMany (sorted_entries found) found
     → AreAsMany (sorted_entries (if b then found else found ++ e ∷ [])) (if b then found else found ++ e ∷ [])
 one_first true found e here many = many
-one_first false found e new many =
-    let inserted = new_inserted e.0 e.1 (sorted_entries found) (many.listed e.0 ∙ new) in
-    subst (λ t. AreAsMany t (found ++ e ∷ [])) (sym (sorted_push found e)) (record {
-      count = omega (arith, inserted.count, many.count, length-append found (e ∷ []));
-      strings = omega (arith, inserted.strings, strings-cons (e.0, e.1) (sorted_entries found), many.strings, strings-push found e);
-      listed = λ s. inserted.listed s ∙ ap (λ b. bytes_eq s e.0 || b) (many.listed s) ∙ or_ends' s;
-    })
+one_first false found e new many = grind (arith, new_inserted e.0 e.1 (sorted_entries found) (many.listed e.0 ∙ new), sorted_push found e, length-append found (e ∷ []), strings-cons (e.0, e.1) (sorted_entries found), strings-push found e, or_ends')
   where
     or_ends' : (s : List ℕ) → (bytes_eq s e.0 || is_listed found s) ≡ is_listed (found ++ e ∷ []) s
     or_ends' s = or_ends (bytes_eq s e.0) (is_listed found s) ∙ sym (listed_both found (e ∷ []) s)
@@ -172,6 +149,4 @@ many_firsts found (e ∷ entries) many = many_firsts (with_first found e) entrie
 pub sorted_as_many : (members : List MemberView) → (length (sorted_entries (entries_of Coff members)) ≡ length (entries_of Coff members))
     × (length (strings_of (sorted_entries (entries_of Coff members))) ≡ length (strings_of (entries_of Coff members)))
 unfolding entries_of sorted_entries
-sorted_as_many members =
-    let many = many_firsts [] (entries_from 1 members) (record { count = refl; strings = refl; listed = λ s. refl }) in
-    (many.count, many.strings)
+sorted_as_many members = grind (arith, many_firsts [] (entries_from 1 members) (record { count = refl; strings = refl; listed = λ s. refl }))

@@ -1,13 +1,13 @@
 -- Entries of distinct symbols that a sort has put in order are those in the order of their symbols.
-use Rattle.std.proofs.Common.{◌≡◌, ℕ, ◌+◌, ◌-◌, ◌<◌, Bool, true, false, cond, List, [], ◌∷◌, ◌++◌, ◌&&◌, Some, append-nil, append_assoc, bytes_eq, fold, get_or, length, map, refl, sym, ap, subst, take, ◌∙◌, arith}
+use Rattle.std.proofs.Common.{◌≡◌, ℕ, ◌+◌, ◌-◌, ◌<◌, Bool, true, false, cond, List, [], ◌∷◌, ◌++◌, ◌&&◌, Some, append-nil, append_assoc, bytes_eq, fold, get_or, length, map, refl, sym, ap, take, ◌∙◌, arith}
 use Rattle.std.specs.Prelude.{T}
 use Rattle.std.specs.Borrow.{Bor}
 use Rattle.std.specs.declared.cmp.Ordering.{Ordering}
 use Rattle.std.specs.declared.cmp.Ordering.TheVariants.{Less, Equal, Greater}
-use Rattle.std.specs.Ordering.{eq_by_cmp, is_eq, is_lt, nat_cmp, ordering_reverse, ordering_then}
+use Rattle.std.specs.Ordering.{is_eq, is_lt, nat_cmp, ordering_reverse, ordering_then}
 use Rattle.std.specs.Cmp.Lexicographic.{slice_cmp}
 use Rattle.std.specs.FinMap.Entries.{below_all, find, is_sorted, same_entries}
-use Rattle.std.specs.List.{AllByRecursion, IsDistinct}
+use Rattle.std.specs.List.{AllByRecursion}
 use Rattle.std.specs.List.Sorted.{IsPermutation, IsSorted, IsStrictlySortedBy}
 use Rattle.std.specs.Map.{lookup}
 use Rattle.std.proofs.lemmas.Bool.{true≢false}
@@ -89,28 +89,14 @@ module _ (sorted : List (Bor (List ℕ) × ℕ)) (up : IsSorted entry_cmp sorted
   symbols_rise apart = sorted_from_all_adjacent nat_list_cmp_total symbols [] next
     where
       next : (k : ℕ) → k + 1 < length symbols → slice_cmp nat_cmp (get_or symbols k []) (get_or symbols (k + 1) []) ≡ Less
-      next k within =
-          let more : k + 1 < length sorted = omega (arith, within, count) in
-          let first = symbol_at k (omega (arith, more)) in
-          let second = symbol_at (k + 1) more in
-          below_next (get_or symbols k []) (get_or symbols (k + 1) []) (slice_cmp nat_cmp (get_or symbols (k + 1) []) (get_or symbols k []))
-          (nat_cmp (get_or sorted (k + 1) no_entry).1 (get_or sorted k no_entry).1) refl
-          (ap (λ s. is_lt (ordering_then (slice_cmp nat_cmp s (get_or symbols k [])) (nat_cmp (get_or sorted (k + 1) no_entry).1 (get_or sorted k no_entry).1))) second
-          ∙ (ap (λ s. is_lt (ordering_then (slice_cmp nat_cmp (get_or sorted (k + 1) no_entry).0.now s) (nat_cmp (get_or sorted (k + 1) no_entry).1 (get_or sorted k no_entry).1))) first
-          ∙ up k no_entry (omega arith) more)) (apart k within)
+      next k within = grind (arith, count, symbol_at, below_next, apart)
 
   -- entries, none of which has the symbol of the next, have distinct symbols
   pub distinct_neighbours : ((k : ℕ) → 0 < k → k < length sorted → bytes_eq (get_or sorted (k - 1) no_entry).0.now (get_or sorted k no_entry).0.now ≡ false) → AreDistinct (shown sorted)
-  distinct_neighbours other =
-      let same : eq_by_cmp (slice_cmp nat_cmp) ≡ bytes_eq = λ i x y. is_eq-slice_cmp x y i in
-      subst (λ eq. IsDistinct eq symbols) same (IsDistinct-from_sorted (slice_cmp nat_cmp) symbols (symbols_rise apart))
+  distinct_neighbours other = grind (arith, is_eq-slice_cmp, IsDistinct-from_sorted, symbols_rise, apart)
     where
       apart : (k : ℕ) → k + 1 < length symbols → Apart k
-      apart k within =
-          let more : k + 1 < length sorted = omega (arith, within, count) in
-          let back : k + 1 - 1 ≡ k = omega arith in
-          ap (λ s. bytes_eq s (get_or symbols (k + 1) [])) (symbol_at k (omega (arith, more)) ∙ ap (λ i. (get_or sorted i no_entry).0.now) (sym back))
-          ∙ (ap (λ s. bytes_eq (get_or sorted (k + 1 - 1) no_entry).0.now s) (symbol_at (k + 1) more) ∙ other (k + 1) (omega arith) more)
+      apart k within = grind (arith, count, symbol_at)
 
   -- distinct symbols differ from their neighbours
   pub neighbours_differ : (k : ℕ) → 0 < k → k < length sorted → AreDistinct (shown sorted) → bytes_eq (get_or sorted (k - 1) no_entry).0.now (get_or sorted k no_entry).0.now ≡ false
@@ -151,8 +137,7 @@ all_firsts_sorted entries sorted moves up distinct =
 -- the first entries, sorted
 pub firsts_sorted : (entries : List (List ℕ × ℕ)) (firsts sorted : List (Bor (List ℕ) × ℕ)) → shown firsts ≡ fold with_first [] entries → IsPermutation firsts sorted
     → IsSorted entry_cmp sorted → shown sorted ≡ sorted_entries (fold with_first [] entries)
-firsts_sorted entries firsts sorted is moves up =
-    sorted_in_order firsts sorted (subst AreDistinct (sym is) (distinct_firsts entries)) moves up ∙ ap sorted_entries is
+firsts_sorted entries firsts sorted is moves up = grind (arith, sorted_in_order, distinct_firsts)
 
 -- An element that goes to the end of one of four parts.
 module _ {X : Type 0} (xs a b c e : List X) (i : ℕ) (d : X) (within : i < length xs) (moves : IsPermutation (take i xs) (a ++ (b ++ (c ++ e)))) where
@@ -160,18 +145,13 @@ module _ {X : Type 0} (xs a b c e : List X) (i : ℕ) (d : X) (within : i < leng
   x = get_or xs i d
 
   one_more : (front back : List X) → a ++ (b ++ (c ++ e)) ≡ front ++ back → IsPermutation (take (i + 1) xs) (front ++ x ∷ back)
-  one_more front back same =
-      let more : IsPermutation (x ∷ (front ++ back)) (front ++ x ∷ back) = IsPermutation-sym (front ++ x ∷ back) (x ∷ (front ++ back)) (IsPermutation-middle front x back) in
-      subst (λ t. IsPermutation t (front ++ x ∷ back)) (sym (take_more xs i d within))
-      (IsPermutation-push_more (take i xs) (front ++ back) (front ++ x ∷ back) x (subst (IsPermutation (take i xs)) same moves) more)
+  one_more front back same = grind (arith, IsPermutation-sym (front ++ x ∷ back) (x ∷ (front ++ back)) (IsPermutation-middle front x back), IsPermutation-middle front x back, take_more xs i d within, IsPermutation-push_more)
 
   pub more_in_first : {a' b' c' e' : List X} → a' ≡ a ++ x ∷ [] → b' ≡ b → c' ≡ c → e' ≡ e → IsPermutation (take (i + 1) xs) (a' ++ (b' ++ (c' ++ e')))
-  more_in_first p q r s =
-      rw (p, q, r, s, append_assoc a (x ∷ []) (b ++ (c ++ e))) (one_more a (b ++ (c ++ e)) refl)
+  more_in_first p q r s = grind (arith, append_assoc, one_more)
 
   pub more_in_second : {a' b' c' e' : List X} → a' ≡ a → b' ≡ b ++ x ∷ [] → c' ≡ c → e' ≡ e → IsPermutation (take (i + 1) xs) (a' ++ (b' ++ (c' ++ e')))
-  more_in_second p q r s =
-      rw (p, q, r, s, append_assoc b (x ∷ []) (c ++ e), sym (append_assoc a b (x ∷ (c ++ e)))) (one_more (a ++ b) (c ++ e) (sym (append_assoc a b (c ++ e))))
+  more_in_second p q r s = grind (arith, append_assoc b (x ∷ []) (c ++ e), append_assoc a b (x ∷ (c ++ e)), one_more (a ++ b) (c ++ e) (sym (append_assoc a b (c ++ e))), append_assoc a b (c ++ e))
 
   pub more_in_third : {a' b' c' e' : List X} → a' ≡ a → b' ≡ b → c' ≡ c ++ x ∷ [] → e' ≡ e → IsPermutation (take (i + 1) xs) (a' ++ (b' ++ (c' ++ e')))
   more_in_third p q r s =
@@ -179,6 +159,4 @@ module _ {X : Type 0} (xs a b c e : List X) (i : ℕ) (d : X) (within : i < leng
       (one_more (a ++ (b ++ c)) e (ap (λ t. a ++ t) (sym (append_assoc b c e)) ∙ sym (append_assoc a (b ++ c) e)))
 
   pub more_in_fourth : {a' b' c' e' : List X} → a' ≡ a → b' ≡ b → c' ≡ c → e' ≡ e ++ x ∷ [] → IsPermutation (take (i + 1) xs) (a' ++ (b' ++ (c' ++ e')))
-  more_in_fourth p q r s =
-      rw (p, q, r, s, sym (append_assoc c e (x ∷ [])), sym (append_assoc b (c ++ e) (x ∷ [])), sym (append_assoc a (b ++ (c ++ e)) (x ∷ [])))
-      (one_more (a ++ (b ++ (c ++ e))) [] (sym (append-nil (a ++ (b ++ (c ++ e))))))
+  more_in_fourth p q r s = grind (arith, append_assoc, one_more, append-nil)

@@ -1,5 +1,5 @@
 -- The offsets of members, and the sizes of what stands before them.
-use Rattle.std.proofs.Common.{◌≡◌, ℕ, ◌+◌, ◌^◌, ◌<◌, ◌≤◌, Bool, true, false, ◌&&◌, List, [], ◌∷◌, ◌++◌, Some, None, drop, get_or, if◌then◌else◌, length, nat_lt, sym, ap, take, ◌∙◌, append-nil, length-append}
+use Rattle.std.proofs.Common.{arith, ◌≡◌, ℕ, ◌+◌, ◌^◌, ◌<◌, ◌≤◌, Bool, true, false, ◌&&◌, List, [], ◌∷◌, ◌++◌, Some, None, drop, get_or, if◌then◌else◌, length, nat_lt, sym, ap, take, ◌∙◌, append-nil, length-append}
 use Rattle.std.specs.Borrow.{Bor}
 use Rattle.std.specs.List.{list_all}
 use Rattle.std.proofs.lemmas.Bool.{le-ltb, lt-ltb}
@@ -37,16 +37,12 @@ first_too_far first members far = ap (λ b. if b && are_short (places_from first
 -- no header is too far
 pub none_too_far : (first : ℕ) (members : List MemberView) → first < 2 ^ 32 → are_short (places_from first members) ≡ true → places_refusal first members ≡ None
 unfolding places_refusal has_short_places
-none_too_far first members near short =
-    ap (λ b. if b && are_short (places_from first members) then None else Some ArchiveTooLong) (lt-ltb first (2 ^ 32) near)
-    ∙ ap (λ b. if b then None else Some ArchiveTooLong) short
+none_too_far first members near short = grind (arith, lt-ltb)
 
 -- some header is too far
 pub some_too_far : (first : ℕ) (members : List MemberView) → first < 2 ^ 32 → are_short (places_from first members) ≡ false → places_refusal first members ≡ Some ArchiveTooLong
 unfolding places_refusal has_short_places
-some_too_far first members near long =
-    ap (λ b. if b && are_short (places_from first members) then None else Some ArchiveTooLong) (lt-ltb first (2 ^ 32) near)
-    ∙ ap (λ b. if b then None else Some ArchiveTooLong) long
+some_too_far first members near long = grind (arith, lt-ltb)
 
 -- one member more
 module _ (members : List MemberView) (i : ℕ) (d : MemberView) (within : i < length members) (place next : ℕ) (step : next ≡ place + part_size (length (get_or members i d).bytes)) where

@@ -1,5 +1,5 @@
 -- What a writer has after several calls.
-use Rattle.std.proofs.Common.{◌≡◌, ℕ, ◌+◌, ◌-◌, ◌<◌, List, [], ◌∷◌, ◌++◌, Option, Some, None, Result, Ok, Err, flat_map, get_or, length, take, drop, refl, sym, ap, subst, ◌∙◌, append-nil, append_assoc}
+use Rattle.std.proofs.Common.{arith, ◌≡◌, ℕ, ◌+◌, ◌-◌, ◌<◌, List, [], ◌∷◌, ◌++◌, Option, Some, None, Result, Ok, Err, flat_map, get_or, length, take, drop, refl, sym, ap, subst, ◌∙◌, append-nil, append_assoc}
 use Rattle.std.specs.Io.KnownBytes.{Appends}
 use Rattle.implib.specs.Beginning.{AppendsBeginning}
 use Rattle.std.specs.Result.{IsErr}
@@ -32,12 +32,7 @@ begins_more a b x y p = record { taken = p.taken; left = p.left ++ y; whole = ap
 
 -- a beginning after bytes
 pub begins_then : (a b c : Option (List ℕ)) (x y : List ℕ) → Appends a b x → AppendsBeginning b c y → AppendsBeginning a c (x ++ y)
-begins_then a b c x y p q = record {
-  taken = x ++ q.taken;
-  left = q.left;
-  whole = ap (λ t. x ++ t) q.whole ∙ sym (append_assoc x q.taken q.left);
-  written = appends_then a b c x q.taken p q.written;
-}
+begins_then a b c x y p q = grind (arith, append_assoc, appends_then)
 
 -- what a call writes after bytes
 pub writes_then : {T E : Type 0} (r : Result T E) (a b c : Option (List ℕ)) (x y : List ℕ) → Appends a b x → Writes b c y r → Writes a c (x ++ y) r
@@ -60,12 +55,7 @@ piece_is {old} {new} {bytes} {slice} same pushed empty = same ∙ (pushed.whole 
 -- one write more
 pub up_to_more : (a b c : Option (List ℕ)) (bytes rest : List ℕ) (count : ℕ) → AppendsUpTo a b bytes rest → Appends b c (take count rest)
     → AppendsUpTo a c bytes (take (length rest - count) (drop count rest))
-up_to_more a b c bytes rest count w moved = record {
-  taken = w.taken ++ take count rest;
-  whole = w.whole ∙ ap (λ t. w.taken ++ t) (sym (take-append-drop count rest)) ∙ sym (append_assoc w.taken (take count rest) (drop count rest))
-      ∙ ap (λ t. (w.taken ++ take count rest) ++ t) (sym (take_rest rest count));
-  written = appends_then a b c w.taken (take count rest) w.written moved;
-}
+up_to_more a b c bytes rest count w moved = grind (arith, take-append-drop, append_assoc, take_rest, appends_then)
 
 -- the parts of a list, at one element
 module _ {X : Type 0} (f : X → List ℕ) (xs : List X) (i : ℕ) (d : X) (within : i < length xs) where
@@ -81,14 +71,10 @@ module _ {X : Type 0} (f : X → List ℕ) (xs : List X) (i : ℕ) (d : X) (with
 
   -- a beginning of one part more
   pub begins_part : (a b c : Option (List ℕ)) → Appends a b (flat_map f (take i xs)) → AppendsBeginning b c (f (get_or xs i d)) → AppendsBeginning a c (flat_map f xs)
-  begins_part a b c p q =
-      subst (AppendsBeginning a c) (sym split)
-      (begins_more a c (flat_map f (take i xs) ++ f (get_or xs i d)) (flat_map f (drop (i + 1) xs)) (begins_then a b c (flat_map f (take i xs)) (f (get_or xs i d)) p q))
+  begins_part a b c p q = grind (arith, split, begins_more, begins_then)
 
 -- a header, data and padding are a member's part
 pub member_whole : (names : List (List ℕ × ℕ)) (m : MemberView) {header slice bytes : List ℕ} → header ≡ header_of names m → slice ≡ header → bytes ≡ m.bytes
     → slice ++ bytes ++ padding 10 (length bytes) ≡ member_part names m
 unfolding member_part part_bytes
-member_whole names m {header} {slice} {bytes} headed same data' =
-    ap (λ t. t ++ bytes ++ padding 10 (length bytes)) (same ∙ headed)
-    ∙ ap (λ t. header_of names m ++ t ++ padding 10 (length t)) data'
+member_whole names m {header} {slice} {bytes} headed same data' = grind arith

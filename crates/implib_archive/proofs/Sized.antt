@@ -2,7 +2,7 @@
 use Rattle.std.proofs.Common.{◌≡◌, ℕ, ◌+◌, ◌*◌, ◌%◌, ◌<◌, List, [], ◌∷◌, ◌++◌, Result, OnOk, flat_map, if◌then◌else◌, length, nat_lt, refl, sym, ap, ◌∙◌, append_assoc, length-append, arith}
 use Rattle.std.proofs.lemmas.Bool.{lt-ltb}
 use Rattle.std.proofs.lemmas.List.{length-replicate}
-use Rattle.implib_archive.specs.Archive.{first_linker, linker_label, linkers, names_label, names_part, place_of, second_linker, sorted_entries, strings_of}
+use Rattle.implib_archive.specs.Archive.{first_linker, linker_label, linkers, names_label, names_part, second_linker, sorted_entries, strings_of}
 use Rattle.implib_archive.specs.Parts.{Label, header_bytes, padded_part_bytes, padding, u16_le, u32_be, u32_le}
 use Rattle.implib_archive.specs.Pushed.{Pushes}
 use Rattle.implib_archive.specs.declared.kind.Kind.{Kind}
@@ -31,34 +31,11 @@ length-u16_le n = refl
 
 pub length-first_linker : (places : List ℕ) (entries : List (List ℕ × ℕ)) → length (first_linker places entries) ≡ 4 + 4 * length entries + length (strings_of entries)
 unfolding first_linker
-length-first_linker places entries =
-    let offsets = flat_map (λ (e : List ℕ × ℕ). u32_be (place_of places e.1)) entries in
-    omega (
-      arith,
-      length-append (u32_be (length entries) ++ offsets) (strings_of entries),
-      length-append (u32_be (length entries)) offsets,
-      length-u32_be (length entries),
-      length_fours (λ (e : List ℕ × ℕ). u32_be (place_of places e.1)) (λ e. length-u32_be (place_of places e.1)) entries,
-    )
+length-first_linker places entries = grind (arith, length-append, length-u32_be, length_fours)
 
 pub length-second_linker : (places : List ℕ) (sorted : List (List ℕ × ℕ)) → length (second_linker places sorted) ≡ 8 + 4 * length places + 2 * length sorted + length (strings_of sorted)
 unfolding second_linker
-length-second_linker places sorted =
-    let offsets = flat_map u32_le places in
-    let numbers = flat_map (λ (e : List ℕ × ℕ). u16_le e.1) sorted in
-    let members = u32_le (length places) in
-    let count = u32_le (length sorted) in
-    omega (
-      arith,
-      length-append (members ++ offsets ++ count ++ numbers) (strings_of sorted),
-      length-append (members ++ offsets ++ count) numbers,
-      length-append (members ++ offsets) count,
-      length-append members offsets,
-      length-u32_le (length places),
-      length-u32_le (length sorted),
-      length_fours u32_le length-u32_le places,
-      length_twos (λ (e : List ℕ × ℕ). u16_le e.1) (λ e. length-u16_le e.1) sorted,
-    )
+length-second_linker places sorted = grind (arith, length-append, length-u32_le, length_fours, length_twos, length-u16_le)
 
 pub length-padding : (byte size : ℕ) → length (padding byte size) ≡ size % 2
 unfolding padding
@@ -67,11 +44,7 @@ length-padding byte size = length-replicate (size % 2) byte
 -- a part whose padding is within its data, piece by piece
 pub padded_is : (l : Label) (byte size : ℕ) (contents : List ℕ) → length contents ≡ size → header_bytes l (size + size % 2) ++ contents ++ padding byte size ≡ padded_part_bytes l byte contents
 unfolding padded_part_bytes
-padded_is l byte size contents long =
-    let whole : length (contents ++ padding byte size) ≡ size + size % 2 = omega (arith, length-append contents (padding byte size), length-padding byte size, long) in
-    append_assoc (header_bytes l (size + size % 2)) contents (padding byte size)
-    ∙ (ap (λ n. header_bytes l n ++ (contents ++ padding byte size)) (sym whole)
-    ∙ ap (λ n. header_bytes l (length (contents ++ padding byte n)) ++ (contents ++ padding byte n)) (sym long))
+padded_is l byte size contents long = grind (arith, length-append, length-padding, append_assoc)
 
 pub on_padded : {T E : Type 0} (r : Result T E) (l : Label) (byte size : ℕ) (contents : List ℕ) {a b c : List ℕ} (d : List ℕ) → length contents ≡ size
     → Pushes a b (header_bytes l (size + size % 2)) → Pushes b c contents → OnOk r (Pushes c d (padding byte size)) → OnOk r (Pushes a d (padded_part_bytes l byte contents))

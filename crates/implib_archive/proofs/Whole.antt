@@ -1,18 +1,18 @@
 -- The length of an archive, and what holds of members that have one.
-use Rattle.std.proofs.Common.{◌≡◌, ℕ, zero, suc, ◌+◌, ◌-◌, ◌*◌, ◌%◌, ◌^◌, ◌<◌, ◌≤◌, Bool, true, false, ◌||◌, List, [], ◌∷◌, ◌++◌, Option, Some, None, bytes_eq, codes, decimal, flat_map, fold, get_or, if◌then◌else◌, is_some, length, min, nat_eq, nat_le, nat_lt, replicate, unwrap_or, refl, sym, ap, subst, ◌∙◌, length-append, arith}
-use Rattle.std.specs.List.{All, list_any}
+use Rattle.std.proofs.Common.{◌≡◌, ℕ, zero, suc, ◌+◌, ◌-◌, ◌*◌, ◌^◌, ◌<◌, ◌≤◌, Bool, true, false, List, [], ◌∷◌, ◌++◌, Option, Some, None, codes, decimal, flat_map, fold, get_or, if◌then◌else◌, is_some, length, min, nat_eq, nat_le, nat_lt, replicate, unwrap_or, refl, sym, ap, subst, ◌∙◌, length-append, arith}
+use Rattle.std.specs.List.{All}
 use Rattle.std.proofs.lemmas.Bool.{leb-false, lt-ltb, ltb-false, ltb-true, true≢false}
 use Rattle.std.proofs.lemmas.Fmt.{length-decimal-le}
 use Rattle.std.proofs.lemmas.List.{length-replicate}
 use Rattle.implib.specs.Members.MemberSpec.{MemberView}
-use Rattle.implib_archive.specs.Archive.{archive_of, end_from, entries_of, first_linker, first_linker_size, first_place, front, front_of, front_size, is_long, linker_label, linkers, long_names, member_label, member_part, name_field, names_bytes, names_label, names_part, names_size, offset_of, places_from, places_of, second_linker, second_linker_size, sorted_entries, strings_of, with_name}
-use Rattle.implib_archive.specs.Parts.{Label, field, header_bytes, padded_part_bytes, padding, part_bytes, part_size, signature}
+use Rattle.implib_archive.specs.Archive.{archive_of, end_from, entries_of, first_linker_size, first_place, front, front_of, front_size, is_long, linker_label, linkers, long_names, member_label, member_part, name_field, names_bytes, names_label, names_part, names_size, offset_of, places_from, places_of, second_linker_size, sorted_entries, strings_of, with_name}
+use Rattle.implib_archive.specs.Parts.{Label, field, header_bytes, padded_part_bytes, part_bytes, part_size, signature}
 use Rattle.implib_archive.specs.Pushed.{AreMeasured, FrontFits, IsMade}
-use Rattle.implib_archive.specs.Refusal.{has_too_many, member_refusal, members_refusal, name_refusal, places_refusal, refusal_of, symbols_refusal}
+use Rattle.implib_archive.specs.Refusal.{has_too_many, member_refusal, members_refusal, places_refusal, refusal_of}
 use Rattle.implib_archive.specs.declared.kind.Kind.{Kind}
 use Rattle.implib_archive.specs.declared.kind.Kind.TheVariants.{Coff, Gnu}
 use Rattle.implib_archive.specs.declared.error.Fault.{Fault}
-use Rattle.implib_archive.specs.declared.error.Fault.TheVariants.{ArchiveTooLong, MemberTooLong, TooManyMembers}
+use Rattle.implib_archive.specs.declared.error.Fault.TheVariants.{MemberTooLong, TooManyMembers}
 use Rattle.implib_archive.proofs.Named.{names_bytes-push}
 use Rattle.implib_archive.proofs.Numbered.{Each, all_from_each, each_entry, each_sorted, each_weaker, sorted_as_many}
 use Rattle.implib_archive.proofs.Placed.{first_too_far}
@@ -22,30 +22,17 @@ use Rattle.implib_archive.proofs.Sized.{length-first_linker, length-padding, len
 
 -- a first header that is not refused is below 2^32
 pub first_near : (first : ℕ) (members : List MemberView) → places_refusal first members ≡ None → first < 2 ^ 32
-first_near first members accepted = by_test (nat_lt first (2 ^ 32)) refl
-  where
-    by_test : (b : Bool) → nat_lt first (2 ^ 32) ≡ b → first < 2 ^ 32
-    by_test true near = ltb-true first (2 ^ 32) near
-    by_test false far = let e : Some ArchiveTooLong ≡ None = sym (first_too_far first members (ltb-false first (2 ^ 32) far)) ∙ accepted in absurd (cc)
+first_near first members accepted = grind (arith, nat_lt, first, first_too_far, ltb-false)
 
 -- offsets that are the same as far as they are told apart are refused alike
 pub same_refusal : (a b : ℕ) (members : List MemberView) → min a (2 ^ 32) ≡ min b (2 ^ 32) → places_refusal a members ≡ places_refusal b members
-same_refusal a b members same = by_test (nat_lt a (2 ^ 32)) refl
-  where
-    by_test : (t : Bool) → nat_lt a (2 ^ 32) ≡ t → places_refusal a members ≡ places_refusal b members
-    by_test true near = let n = ltb-true a (2 ^ 32) near in let e : a ≡ b = omega (arith, same, n) in ap (λ x. places_refusal x members) e
-    by_test false far =
-        let f = ltb-false a (2 ^ 32) far in
-        let g : 2 ^ 32 ≤ b = omega (arith, same, f) in
-        first_too_far a members f ∙ sym (first_too_far b members g)
+same_refusal a b members same = grind (arith, nat_lt, ltb-true, ltb-false, first_too_far)
 
 -- the first cause, in turn
 module _ (kind : Kind) (members : List MemberView) where
   pub refused_member : (f : Option Fault) → members_refusal kind members ≡ f → is_some f ≡ true → refusal_of kind members ≡ f
   unfolding refusal_of
-  refused_member f is some =
-      ap (λ b. if b then members_refusal kind members else (if has_too_many kind members then Some TooManyMembers else places_refusal (first_place kind members) members))
-      (ap is_some is ∙ some) ∙ is
+  refused_member f is some = grind (arith, is_some)
 
   rest : members_refusal kind members ≡ None → refusal_of kind members ≡ (if has_too_many kind members then Some TooManyMembers else places_refusal (first_place kind members) members)
   unfolding refusal_of
@@ -82,11 +69,7 @@ AreShort (m ∷ members) = (length m.bytes < 2 ^ 32) × AreShort members
 short_by : (a b : Option Fault) (n : ℕ) → (if is_some a then a else (if is_some b then b else (if nat_lt n (2 ^ 32) then None else Some MemberTooLong))) ≡ None → n < 2 ^ 32
 short_by (Some f) b n h = absurd (cc)
 short_by None (Some f) n h = absurd (cc)
-short_by None None n h = by_test (nat_lt n (2 ^ 32)) refl h
-  where
-    by_test : (t : Bool) → nat_lt n (2 ^ 32) ≡ t → (if t then None else Some MemberTooLong) ≡ None → n < 2 ^ 32
-    by_test true near h = ltb-true n (2 ^ 32) near
-    by_test false far h = absurd (cc)
+short_by None None n h = grind (arith, nat_lt)
 
 both_none : (f g : Option Fault) → (if is_some f then f else g) ≡ None → (f ≡ None) × (g ≡ None)
 both_none None g h = (refl, h)
@@ -95,9 +78,7 @@ both_none (Some f) g h = absurd (cc)
 pub members_short : (kind : Kind) (members : List MemberView) → members_refusal kind members ≡ None → AreShort members
 unfolding members_refusal member_refusal
 members_short kind [] none = tt
-members_short kind (m ∷ members) none =
-    let both = both_none (member_refusal kind m) (members_refusal kind members) none in
-    (short_by (name_refusal kind m.name) (symbols_refusal m.symbols) (length m.bytes) both.0, members_short kind members both.1)
+members_short kind (m ∷ members) none = grind (arith, members_short kind members (both_none (member_refusal kind m) (members_refusal kind members) none).1, both_none, none, short_by)
 
 short_at : (members : List MemberView) → AreShort members → (i : ℕ) (d : MemberView) → i < length members → length (get_or members i d).bytes < 2 ^ 32
 short_at [] short i d within = absurd (omega arith)
@@ -148,18 +129,11 @@ length-header l size fits short =
 
 pub length-part : (l : Label) (contents : List ℕ) → LabelFits l → length contents < 2 ^ 32 → length (part_bytes l contents) ≡ part_size (length contents)
 unfolding part_bytes
-length-part l contents fits short =
-    let size = length contents in
-    let header = length-header l size fits (omega (arith, short)) in
-    omega (arith, length-append (header_bytes l size ++ contents) (padding 10 size), length-append (header_bytes l size) contents, header, length-padding 10 size)
+length-part l contents fits short = grind (arith, length-header, length-append, length-padding)
 
 pub length-padded : (l : Label) (byte : ℕ) (contents : List ℕ) → LabelFits l → length contents < 2 ^ 32 → length (padded_part_bytes l byte contents) ≡ part_size (length contents)
 unfolding padded_part_bytes
-length-padded l byte contents fits short =
-    let data' = contents ++ padding byte (length contents) in
-    let inside : length data' ≡ length contents + length contents % 2 = length-append contents (padding byte (length contents)) ∙ ap (λ n. length contents + n) (length-padding byte (length contents)) in
-    let header = length-header l (length data') fits (omega (arith, inside, short)) in
-    omega (arith, length-append (header_bytes l (length data')) data', header, inside)
+length-padded l byte contents fits short = grind (arith, length-append, length-padding, length-header)
 
 pub linker_fits : LabelFits linker_label
 unfolding linker_label
@@ -184,19 +158,14 @@ within_push size (x ∷ names) n within h = (within.0, within_push size names n 
 within_name : (kind : Kind) (names : List (List ℕ × ℕ)) (name : List ℕ) (a b : Bool) → AreWithin (length (names_bytes kind names)) names
     → AreWithin (length (names_bytes kind (if a then (if b then names else names ++ (name, length (names_bytes kind names)) ∷ []) else names))) (if a then (if b then names else names ++ (name, length (names_bytes kind names)) ∷ []) else names)
 within_name kind names name true true within = within
-within_name kind names name true false within =
-    let size = length (names_bytes kind names) in
-    let more = length (names_bytes kind (names ++ (name, size) ∷ [])) in
-    let longer : size ≤ more = omega (arith, names_bytes-push kind names (name, size)) in
-    within_push more names (name, size) (within_more size more longer names within) longer
+within_name kind names name true false within = grind (arith, names, name, names_bytes-push, within_push, within_more)
 within_name kind names name false b within = within
 
 within_names : (kind : Kind) (names : List (List ℕ × ℕ)) (members : List MemberView) → AreWithin (length (names_bytes kind names)) names
     → AreWithin (length (names_bytes kind (fold (λ found m. with_name kind found m.name) names members))) (fold (λ found m. with_name kind found m.name) names members)
 unfolding with_name
 within_names kind names [] within = within
-within_names kind names (m ∷ members) within =
-    within_names kind (with_name kind names m.name) members (within_name kind names m.name (is_long m.name) (is_some (offset_of names m.name)) within)
+within_names kind names (m ∷ members) within = grind (arith, within_names kind (with_name kind names m.name) members (within_name kind names m.name (is_long m.name) (is_some (offset_of names m.name)) within), names, within_name, is_some)
 
 offset_by : (size : ℕ) (b : Bool) (n : ℕ) (others : Option ℕ) → n ≤ size → unwrap_or others 0 ≤ size → unwrap_or (if b then Some n else others) 0 ≤ size
 offset_by size true n others here rest = here
@@ -205,21 +174,15 @@ offset_by size false n others here rest = rest
 offset_within : (size : ℕ) (names : List (List ℕ × ℕ)) (name : List ℕ) → AreWithin size names → unwrap_or (offset_of names name) 0 ≤ size
 unfolding offset_of
 offset_within size [] name within = omega arith
-offset_within size (n ∷ names) name within =
-    offset_by size (bytes_eq name n.0) n.1 (offset_of names name) within.0 (offset_within size names name within.1)
+offset_within size (n ∷ names) name within = grind (arith, offset_within size names name within.1, offset_by, name, names)
 
 pub offset_below : (kind : Kind) (members : List MemberView) (name : List ℕ) → unwrap_or (offset_of (long_names kind members) name) 0 ≤ length (names_bytes kind (long_names kind members))
 unfolding long_names
-offset_below kind members name =
-    offset_within (length (names_bytes kind (long_names kind members))) (long_names kind members) name (within_names kind [] members tt)
+offset_below kind members name = grind (arith, offset_within, name, within_names)
 
 short_name : (name : List ℕ) → is_long name ≡ false → length name ≤ 15
 unfolding is_long
-short_name name short = by_test (nat_lt 15 (length name)) refl
-  where
-    by_test : (b : Bool) → nat_lt 15 (length name) ≡ b → length name ≤ 15
-    by_test false near = ltb-false 15 (length name) near
-    by_test true far = absurd (true≢false (sym (ap (λ b. b || list_any (λ c. nat_eq c 47) name) far) ∙ short))
+short_name name short = grind (arith, nat_lt, name, true≢false, nat_eq)
 
 -- a name field fits
 name_field-fits : (names : List (List ℕ × ℕ)) (name : List ℕ) → unwrap_or (offset_of names name) 0 < 2 ^ 32 → length (name_field names name) ≤ 16
@@ -227,11 +190,7 @@ unfolding name_field
 name_field-fits names name near = by_test (is_long name) refl
   where
     by_test : (b : Bool) → is_long name ≡ b → length (if b then codes "/" ++ decimal (unwrap_or (offset_of names name) 0) else name ++ codes "/") ≤ 16
-    by_test true long =
-        let o = unwrap_or (offset_of names name) 0 in
-        let small : o < 10 ^ 10 = omega (arith, near) in
-        let fit : o < 2 ^ 64 = omega (arith, near) in
-        omega (arith, length-append (codes "/") (decimal o), length-decimal-le 10 o (omega arith) small fit)
+    by_test true long = grind (arith, unwrap_or, length-append, length-decimal-le)
     by_test false short = omega (arith, length-append name (codes "/"), short_name name short)
 
 pub member_fits : (names : List (List ℕ × ℕ)) (name : List ℕ) → unwrap_or (offset_of names name) 0 < 2 ^ 32 → LabelFits (member_label names name)
@@ -243,10 +202,7 @@ pub length-members : (names : List (List ℕ × ℕ)) → ((name : List ℕ) →
     → place + length (flat_map (member_part names) members) ≡ end_from place members
 unfolding end_from member_part
 length-members names near place [] short = omega arith
-length-members names near place (m ∷ members) short =
-    let one = length-part (member_label names m.name) m.bytes (member_fits names m.name (near m.name)) short.0 in
-    let rest = length-members names near (place + part_size (length m.bytes)) members short.1 in
-    omega (arith, length-append (part_bytes (member_label names m.name) m.bytes) (flat_map (member_part names) members), one, rest)
+length-members names near place (m ∷ members) short = grind (arith, length-members names near (place + part_size (length m.bytes)) members short.1, length-part, names, member_fits, near, rest, length-append)
 
 pub length-places : (place : ℕ) (members : List MemberView) → length (places_from place members) ≡ length members
 unfolding places_from
@@ -266,10 +222,7 @@ names_some n some = ap (λ b. if b then part_size n else 0) (lt-ltb 0 n some)
 pub names_of-size : (names : List ℕ) → names_size (length names) < 2 ^ 32 → length (names_part names) ≡ names_size (length names)
 unfolding names_part names_size
 names_of-size [] short = refl
-names_of-size (c ∷ names) short =
-    let some : 0 < length (c ∷ names) = omega arith in
-    let size = names_some (length (c ∷ names)) some in
-    sym (ap length (names_part-some (c ∷ names) some)) ∙ length-padded names_label 10 (c ∷ names) names_fit (omega (arith, short, size)) ∙ sym size
+names_of-size (c ∷ names) short = grind (arith, names, names_some, names_part-some, length-padded, names_fit)
 
 names_short : (n : ℕ) → names_size n < 2 ^ 32 → n < 2 ^ 32
 names_short zero short = omega arith
@@ -286,25 +239,9 @@ pub linkers-size : (kind : Kind) (places : List ℕ) (entries : List (List ℕ �
     → (kind ≡ Coff → (length (sorted_entries entries) ≡ length entries) × (length (strings_of (sorted_entries entries)) ≡ length (strings_of entries)))
     → length (linkers kind places entries) ≡ first_linker_size kind (length entries) (length (strings_of entries)) + second_linker_size kind (length places) (length entries) (length (strings_of entries))
 unfolding linkers first_linker_size second_linker_size
-linkers-size Coff places entries short second many =
-    let same = many refl in
-    let one = first_linker places entries in
-    let two = second_linker places (sorted_entries entries) in
-    let long_one = length-first_linker places entries in
-    let long_two : length two ≡ 8 + 4 * length places + 2 * length entries + length (strings_of entries) = omega (arith, length-second_linker places (sorted_entries entries), same.0, same.1) in
-    let a = length-padded linker_label 0 one linker_fits (omega (arith, long_one, short)) in
-    let b = length-padded linker_label 0 two linker_fits (omega (arith, long_two, second)) in
-    length-append (padded_part_bytes linker_label 0 one) (padded_part_bytes linker_label 0 two)
-    ∙ (ap (λ n. n + length (padded_part_bytes linker_label 0 two)) (a ∙ ap part_size long_one)
-    ∙ ap (λ n. part_size (4 + 4 * length entries + length (strings_of entries)) + n) (b ∙ ap part_size long_two))
+linkers-size Coff places entries short second many = grind (arith, length-first_linker, length-second_linker, length-padded, linker_fits, second, length-append)
 linkers-size Gnu places [] short second many = refl
-linkers-size Gnu places (e ∷ entries) short second many =
-    let one = first_linker places (e ∷ entries) in
-    let long_one = length-first_linker places (e ∷ entries) in
-    let some : 0 < length (e ∷ entries) = omega arith in
-    let size = linker_some (length (e ∷ entries)) (length (strings_of (e ∷ entries))) some in
-    let a = length-padded linker_label 0 one linker_fits (omega (arith, long_one, short, size)) in
-    omega (arith, ap length (linkers-gnu places (e ∷ entries) {kind = Gnu} refl some), a, ap part_size long_one, size)
+linkers-size Gnu places (e ∷ entries) short second many = grind (arith, length-first_linker, linker_some, length-padded, linker_fits, linkers-gnu)
 
 many_if_coff : (kind : Kind) (members : List MemberView) → kind ≡ Coff → (length (sorted_entries (entries_of kind members)) ≡ length (entries_of kind members))
     × (length (strings_of (sorted_entries (entries_of kind members))) ≡ length (strings_of (entries_of kind members)))
@@ -313,10 +250,7 @@ many_if_coff Gnu members is = absurd (cc)
 
 pub few_if_coff : (kind : Kind) (members : List MemberView) → has_too_many kind members ≡ false → kind ≡ Coff → length members < 65535
 unfolding has_too_many
-few_if_coff Coff members few is = by_test (nat_le 65535 (length members)) refl few
-  where
-    by_test : (b : Bool) → nat_le 65535 (length members) ≡ b → b ≡ false → length members < 65535
-    by_test b is not_many = leb-false 65535 (length members) (is ∙ not_many)
+few_if_coff Coff members few is = grind (arith, nat_le, leb-false)
 few_if_coff Gnu members few is = absurd (cc)
 
 sum_front : (kind : Kind) (m e s n : ℕ) → front_size kind m e s n ≡ 8 + first_linker_size kind e s + second_linker_size kind m e s + names_size n
@@ -336,15 +270,7 @@ pub record FrontShort (kind : Kind) (members : List MemberView) : Type 0 where
   pub names : names_size (length (names_bytes kind (long_names kind members))) < 2 ^ 32
 
 pub front_short : (kind : Kind) (members : List MemberView) → refusal_of kind members ≡ None → FrontShort kind members
-front_short kind members accepted =
-    let near = first_near (first_place kind members) members (accepted_parts kind members accepted).near in
-    let sum = sum_first kind members in
-    record {
-      first = near;
-      linker = omega (arith, near, sum);
-      second = omega (arith, near, sum);
-      names = omega (arith, near, sum);
-    }
+front_short kind members accepted = grind (arith, first_near (first_place kind members) members (accepted_parts kind members accepted).near, accepted_parts kind members accepted, sum_first kind members)
 
 -- the long names are shorter than 2^32
 pub names_below : (kind : Kind) (members : List MemberView) → refusal_of kind members ≡ None → length (names_bytes kind (long_names kind members)) < 2 ^ 32
@@ -353,17 +279,7 @@ names_below kind members accepted = names_short (length (names_bytes kind (long_
 -- what stands before the members has the size that it was measured to have
 pub length-front : (kind : Kind) (members : List MemberView) → refusal_of kind members ≡ None → length (front_of kind members) ≡ first_place kind members
 unfolding front_of front signature
-length-front kind members accepted =
-    let short = front_short kind members accepted in
-    let entries = entries_of kind members in
-    let places = places_of kind members in
-    let names = names_bytes kind (long_names kind members) in
-    let count = length-places (first_place kind members) members in
-    let first = linkers kind places entries in
-    let one = linkers-size kind places entries short.linker (subst (λ n. second_linker_size kind n (length entries) (length (strings_of entries)) < 2 ^ 32) (sym count) short.second) (many_if_coff kind members)
-    ∙ ap (λ n. first_linker_size kind (length entries) (length (strings_of entries)) + second_linker_size kind n (length entries) (length (strings_of entries))) count in
-    let two = names_of-size names short.names in
-    omega (arith, length-append (codes "!<arch>\n" ++ first) (names_part names), length-append (codes "!<arch>\n") first, one, two, sum_first kind members)
+length-front kind members accepted = grind (arith, front_short, length-places, linkers-size, many_if_coff, names_of-size, length-append, sum_first)
 
 -- an archive ends where its last member does
 pub length-archive : (kind : Kind) (members : List MemberView) → refusal_of kind members ≡ None → length (archive_of kind members) ≡ end_from (first_place kind members) members
@@ -379,9 +295,7 @@ length-archive kind members accepted =
 second_fits : (kind : Kind) (members : List MemberView) → kind ≡ Coff → second_linker_size kind (length members) (length (entries_of kind members)) (length (strings_of (entries_of kind members))) < 2 ^ 32
     → 8 + 4 * length (places_of kind members) + 2 * length (sorted_entries (entries_of kind members)) + length (strings_of (sorted_entries (entries_of kind members))) < 2 ^ 32
 unfolding second_linker_size
-second_fits Coff members is short =
-    let many = sorted_as_many members in
-    omega (arith, short, many.0, many.1, length-places (first_place Coff members) members)
+second_fits Coff members is short = grind (arith, sorted_as_many, length-places)
 second_fits Gnu members is short = absurd (cc)
 
 -- the linker members' fields
@@ -396,9 +310,7 @@ front_fits kind members accepted =
     record {
       numbered = all_from_each (λ i. (0 < i) × (i ≤ length (places_of kind members))) entries each;
       short = first_short kind entries short.linker;
-      numbers = λ is. let small = few is in
-          all_from_each (λ i. i < 2 ^ 16) (sorted_entries entries) (each_sorted (λ i. i < 2 ^ 16) entries
-          (each_weaker (λ i. (0 < i) × (i ≤ n)) (λ i. i < 2 ^ 16) (λ i h. omega (arith, h.1, small)) entries (each_entry kind members)));
+      numbers = λ is. grind (arith, few, all_from_each, each_sorted, each_weaker, each_entry);
       second_short = λ is. second_fits kind members is short.second;
     }
 
@@ -410,8 +322,7 @@ linker_capped Coff e s e' s' a b = omega (arith, a, b)
 linker_capped Gnu zero s zero s' a b = refl
 linker_capped Gnu zero s (suc e') s' a b = absurd (omega (arith, a))
 linker_capped Gnu (suc e) s zero s' a b = absurd (omega (arith, a))
-linker_capped Gnu (suc e) s (suc e') s' a b =
-    let p = linker_some (suc e) s (omega arith) in let q = linker_some (suc e') s' (omega arith) in omega (arith, a, b, p, q)
+linker_capped Gnu (suc e) s (suc e') s' a b = grind (arith, linker_some)
 
 second_capped : (kind : Kind) (m e s m' e' s' : ℕ) → min m (2 ^ 32) ≡ min m' (2 ^ 32) → min e (2 ^ 32) ≡ min e' (2 ^ 32) → min s (2 ^ 32) ≡ min s' (2 ^ 32) → min (second_linker_size kind m e s) (2 ^ 32) ≡ min (second_linker_size kind m' e' s') (2 ^ 32)
 unfolding second_linker_size
@@ -431,9 +342,7 @@ sum_capped a b c a' b' c' p q r = omega (arith, p, q, r)
 pub front_capped : (kind : Kind) (m e s n m' e' s' n' : ℕ) → min m (2 ^ 32) ≡ min m' (2 ^ 32) → min e (2 ^ 32) ≡ min e' (2 ^ 32) → min s (2 ^ 32) ≡ min s' (2 ^ 32) → min n (2 ^ 32) ≡ min n' (2 ^ 32)
     → min (front_size kind m e s n) (2 ^ 32) ≡ min (front_size kind m' e' s' n') (2 ^ 32)
 unfolding front_size
-front_capped kind m e s n m' e' s' n' a b c d =
-    sum_capped (first_linker_size kind e s) (second_linker_size kind m e s) (names_size n) (first_linker_size kind e' s') (second_linker_size kind m' e' s') (names_size n')
-    (linker_capped kind e s e' s' b c) (second_capped kind m e s m' e' s' a b c) (names_capped n n' d)
+front_capped kind m e s n m' e' s' n' a b c d = grind (arith, sum_capped, linker_capped, second_capped, names_capped)
 
 pub capped_min : (n : ℕ) → min (min n (2 ^ 32)) (2 ^ 32) ≡ min n (2 ^ 32)
 capped_min n = omega arith
@@ -442,18 +351,13 @@ pub capped_more : (s n : ℕ) → s ≡ min n (2 ^ 64 - 1) → min (min s (2 ^ 3
 capped_more s n e = omega (arith, e)
 
 pub capped_names : {kind : Kind} {names found : List (List ℕ × ℕ)} {size : ℕ} → AreMeasured kind names found size → min (min size (2 ^ 32)) (2 ^ 32) ≡ min (length (names_bytes kind names)) (2 ^ 32)
-capped_names {kind} {names} {found} {size} m = by_test (nat_lt size (2 ^ 32)) refl
-  where
-    by_test : (b : Bool) → nat_lt size (2 ^ 32) ≡ b → min (min size (2 ^ 32)) (2 ^ 32) ≡ min (length (names_bytes kind names)) (2 ^ 32)
-    by_test true near = let n = ltb-true size (2 ^ 32) near in omega (arith, n, m.exact n)
-    by_test false far = let f = ltb-false size (2 ^ 32) far in omega (arith, f, m.long f)
+capped_names {kind} {names} {found} {size} m = grind (arith, nat_lt, ltb-true, ltb-false)
 
 -- Of an archive that was made, front and members are all its bytes.
 module _ {kind : Kind} {members : List MemberView} {listed sorted offsets : List (List ℕ × ℕ)} {size : ℕ} {places : List ℕ} {end' : ℕ} (made : IsMade kind members listed sorted offsets size places end') where
   pub front_made : front kind places listed offsets ≡ front_of kind members
   unfolding front_of
-  front_made = ap (λ p. front kind p listed offsets) made.placed
-      ∙ (ap (λ e. front kind (places_of kind members) e offsets) made.listed ∙ ap (front kind (places_of kind members) (entries_of kind members)) made.named)
+  front_made = grind arith
 
   pub ordered_made : kind ≡ Coff → sorted ≡ sorted_entries listed
   ordered_made is = made.ordered is ∙ ap sorted_entries (sym made.listed)
@@ -464,8 +368,4 @@ module _ {kind : Kind} {members : List MemberView} {listed sorted offsets : List
 
 -- what was measured is exact where the members are not refused
 pub near_size : {kind : Kind} {names found : List (List ℕ × ℕ)} {size : ℕ} → AreMeasured kind names found size → length (names_bytes kind names) < 2 ^ 32 → size < 2 ^ 32
-near_size {kind} {names} {found} {size} m below = by_test (nat_lt size (2 ^ 32)) refl
-  where
-    by_test : (b : Bool) → nat_lt size (2 ^ 32) ≡ b → size < 2 ^ 32
-    by_test true near = ltb-true size (2 ^ 32) near
-    by_test false far = let f = m.long (ltb-false size (2 ^ 32) far) in absurd (omega (arith, f, below))
+near_size {kind} {names} {found} {size} m below = grind (arith, nat_lt, ltb-false)

@@ -23,32 +23,11 @@ use Rattle.implib_archive.proofs.FoundMembers.{members_read_back}
 
 pub worked_archives : WorkedArchives
 unfolding bytes_of_digits worked_coff worked_gnu archive_of end_from entries_from entries_of first_linker first_linker_size first_place front front_of front_size is_long linker_label linkers long_names member_label member_part name_end name_field names_bytes names_label names_part names_size offset_of place_of places_from second_linker second_linker_size sorted_entries strings_of with_first with_name field header_bytes padded_part_bytes padding part_bytes signature u16_le u32_be u32_le digits
-worked_archives = record {
-  coff = refl;
-  gnu = refl;
-  odd_linker_members = refl;
-  odd_linker_member = refl;
-  no_gnu_symbols = refl;
-  no_coff_symbols = refl;
-  no_gnu_members = refl;
-  no_coff_members = refl;
-  name_of_15_bytes = refl;
-  name_of_16_bytes = refl;
-}
+worked_archives = grind arith
 
 pub worked_readings : WorkedReadings
 unfolding bytes_of_digits worked_coff worked_gnu data_at first_in linker_data linker_in long_name long_name_at long_names_in long_names_or before_others member_at members_among members_in name_in number_in numbers_in paired read_as second_in stored_at stored_from stored_in texts_in trimmed
-worked_readings = record {
-  coff = refl;
-  coff_index = refl;
-  coff_second = refl;
-  coff_first_member = refl;
-  coff_last_member = refl;
-  gnu = refl;
-  gnu_index = refl;
-  gnu_first_member = refl;
-  gnu_last_member = refl;
-}
+worked_readings = grind arith
 
 long_member : (kind : Kind) (bytes : List ℕ) → 2 ^ 32 ≤ length bytes → member_refusal kind (member (codes "a") bytes []) ≡ Some MemberTooLong
 unfolding member_refusal name_refusal symbols_refusal
@@ -66,26 +45,7 @@ many_members members fine size = rw (fine, le-leb 65535 (length members) size) r
 
 pub worked_refusals : WorkedRefusals
 unfolding entries_from entries_of first_linker_size first_place front_size is_long long_names name_end names_bytes names_size offset_of places_from second_linker_size strings_of with_first with_name has_short_places has_too_many member_refusal members_refusal name_refusal places_refusal refusal_of symbol_refusal symbols_refusal
-worked_refusals = record {
-  none_of_gnu = refl;
-  none_of_coff = refl;
-  empty_name = refl;
-  nul_in_name = refl;
-  line_end_in_name = refl;
-  line_end_in_coff = refl;
-  empty_symbol = refl;
-  nul_before_line_end = refl;
-  name_before_symbol = refl;
-  symbol_before_length = λ bytes. refl;
-  length_of_a_member = long_member;
-  shorter_member = short_member;
-  first_member = refl;
-  member_before_number = λ members. refl;
-  number_before_length = many_members;
-  number_of_65534 = λ members size. ap (nat_le 65535) size;
-  number_in_gnu = λ members. refl;
-  nul_in_symbol = refl;
-}
+worked_refusals = grind (arith, long_member, short_member, many_members, nat_le)
 
 pub worked_read_back : WorkedReadBack
 unfolding AreLaidOut bytes_of_digits worked_coff worked_gnu archive_of end_from entries_from entries_of first_linker first_linker_size first_place front front_of front_size is_long linker_label linkers long_names member_label member_part name_end name_field names_bytes names_label names_part names_size offset_of place_of places_from second_linker second_linker_size sorted_entries strings_of with_first with_name field header_bytes padded_part_bytes padding part_bytes signature u16_le u32_be u32_le digits data_at long_name long_name_at long_names_in long_names_or before_others members_among members_in name_in number_in read_as stored_at stored_from stored_in trimmed

@@ -1,5 +1,5 @@
 -- Lemmas on libraries of delayed imports: why there is none.
-use Rattle.std.proofs.Common.{◌≡◌, ℕ, List, Option, Some, subst}
+use Rattle.std.proofs.Common.{arith, ◌≡◌, ℕ, List, Some}
 use Rattle.std.specs.Str.{IsUtf8}
 use Rattle.implib.specs.Definition.{DefinitionView}
 use Rattle.implib.specs.Members.MemberSpec.{MemberView}
@@ -19,24 +19,13 @@ use Rattle.implib_rules.specs.Options.{LibraryOptionsView}
 pub refuses : (bytes text : List ℕ) (options made : LibraryOptionsView) (definition : DefinitionView) (cause : DelayCause)
     → (text ≡ definition_text bytes) × IsUtf8 (definition_text bytes) → made ≡ delayed_options options → DefinitionFor text made definition
     → delay_refusal (renamed (without_data definition)) options.machine ≡ Some cause → RefusesDelay bytes options cause
-refuses bytes text options made definition cause found is of_text refused = record {
-  utf8 = found.1;
-  definition = definition;
-  of_text = subst (λ t. DefinitionFor t (delayed_options options) definition) found.0 (subst (λ o. DefinitionFor text o definition) is of_text);
-  refused = refused;
-}
+refuses bytes text options made definition cause found is of_text refused = grind arith
 
 -- the members of such a definition without its data
 pub delayed_for : (bytes text : List ℕ) (options made : LibraryOptionsView) (definition kept : DefinitionView) (members : List MemberView)
     → (text ≡ definition_text bytes) × IsUtf8 (definition_text bytes) → made ≡ delayed_options options → DefinitionFor text made definition → kept ≡ without_data definition
     → AreDelayedMembersOf (renamed kept) options.machine members → DelayedReadBack kept options.machine members → DelayedMembersFor bytes options members
-delayed_for bytes text options made definition kept members found is of_text without are reads = record {
-  utf8 = found.1;
-  definition = definition;
-  of_text = subst (λ t. DefinitionFor t (delayed_options options) definition) found.0 (subst (λ o. DefinitionFor text o definition) is of_text);
-  made = subst (λ d. AreDelayedMembersOf (renamed d) options.machine members) without are;
-  reads = subst (λ d. DelayedReadBack d options.machine members) without reads;
-}
+delayed_for bytes text options made definition kept members found is of_text without are reads = grind arith
 
 -- why it cannot is why there are no members
 pub undelayed : (bytes text : List ℕ) (options : LibraryOptionsView) (cause : DelayCause) (why : DelayRefusal) → text ≡ definition_text bytes
@@ -44,12 +33,10 @@ pub undelayed : (bytes text : List ℕ) (options : LibraryOptionsView) (cause : 
 undelayed bytes text options cause (Refused (NotUtf8 position)) is refuses placed = absurd placed
 undelayed bytes text options cause (Refused (Syntax fault position)) is refuses placed = absurd placed
 undelayed bytes text options cause (Refused NoName) is refuses placed = absurd placed
-undelayed bytes text options cause (Refused (Members fault position)) is refuses placed =
-    record { cause = cause; refuses = refuses; placed = subst (λ t. IsRefusalPlaced t cause (Refused (Members fault position))) is placed }
+undelayed bytes text options cause (Refused (Members fault position)) is refuses placed = grind (arith, refuses)
 undelayed bytes text options cause (Refused (Archive fault)) is refuses placed = absurd placed
 undelayed bytes text options cause (Refused OutOfMemory) is refuses placed = tt
-undelayed bytes text options cause (CannotDelay why) is refuses placed =
-    record { cause = cause; refuses = refuses; placed = subst (λ t. IsRefusalPlaced t cause (CannotDelay why)) is placed }
+undelayed bytes text options cause (CannotDelay why) is refuses placed = grind (arith, refuses)
 
 -- members without an archive are no library
 pub no_archive : (bytes : List ℕ) (options : LibraryOptionsView) (members : List MemberView) (refusal : Refusal)

@@ -1,16 +1,12 @@
 -- Exports that are linked as for GNU's linker are no aliases.
 use Rattle.std.specs.Prelude.{◌≡◌, refl, List, [], ◌∷◌, ◌++◌, map}
 use Rattle.std.specs.List.{AllByRecursion}
-use Rattle.std.proofs.Common.{subst, sym}
-use Rattle.implib.specs.Definition.{DefinitionView, ExportView}
+use Rattle.std.proofs.Common.{arith}
+use Rattle.implib.specs.Definition.{ExportView}
 use Rattle.implib.specs.declared.flavor.Flavor.TheVariants.{Gnu}
 use Rattle.implib.specs.declared.machine.MachineType.TheVariants.{ARM64}
 use Rattle.implib_libraries.specs.Arm64ec.{NoneIsWeak}
-use Rattle.implib_rules.specs.Additions.{extended}
 use Rattle.implib_rules.specs.Linked.{NamingView, linked_export}
-use Rattle.implib_rules.specs.Nameless.{with_ordinals}
-use Rattle.implib_rules.specs.Names.{dll_name, is_program, own_name}
-use Rattle.implib_rules.specs.Repeats.{without_repeats}
 
 -- each of these exports, linked among all
 each_asks : (naming : NamingView) (all exports : List ExportView)
@@ -19,8 +15,4 @@ each_asks naming all [] = tt
 each_asks naming all (e ∷ rest) = (refl, each_asks naming all rest)
 
 pub none_is_weak : NoneIsWeak
-none_is_weak text options d reads =
-    let exports = (without_repeats (extended ARM64 options.naming options.additions
-    (record (with_ordinals reads.parsed) { import_name = dll_name options.dll (own_name reads.heard) (is_program reads.heard) }))).exports in
-    subst (λ (v : DefinitionView). AllByRecursion (λ (e : ExportView). e.alias_target ≡ []) v.exports)
-    (sym reads.is) (each_asks options.naming exports exports)
+none_is_weak text options d reads = grind (arith, each_asks)

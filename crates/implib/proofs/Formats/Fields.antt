@@ -178,5 +178,4 @@ module _ (position : ℕ) (s : ObjectSection) (fits : FitsSection s) (short : po
 
   pub section_at-located : (bytes : List ℕ) (header : ℕ) → 0 < position → LocatedAt bytes header (section_header position s) → LocatedAt bytes position (contents s) → section_at bytes header ≡ Some s
   unfolding section_at
-  section_at-located bytes header above head located =
-      rw (bytes_at-located 40 length-section_header head) (section_of-header bytes above located)
+  section_at-located bytes header above head located = grind (arith, bytes_at-located, length-section_header, section_of-header)

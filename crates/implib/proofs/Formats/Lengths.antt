@@ -34,10 +34,7 @@ length-one_symbol offsets count s fits = length-append (name_field offsets s.nam
 section_headers-push : (position : ℕ) (ss : List ObjectSection) (s : ObjectSection) → section_headers position (ss ++ s ∷ []) ≡ section_headers position ss ++ section_header (position + sum_by contents_size ss) s
 unfolding section_headers
 section_headers-push position [] s = append-nil (section_header position s) ∙ ap (λ n. section_header n s) (sym (add-zero position))
-section_headers-push position (x ∷ ss) s =
-    ap (λ t. section_header position x ++ t) (section_headers-push (position + contents_size x) ss s)
-    ∙ (sym (append_assoc (section_header position x) (section_headers (position + contents_size x) ss) (section_header ((position + contents_size x) + sum_by contents_size ss) s))
-    ∙ ap (λ n. (section_header position x ++ section_headers (position + contents_size x) ss) ++ section_header n s) (omega (arith, sum_by-cons contents_size x ss)))
+section_headers-push position (x ∷ ss) s = grind (arith, section_headers-push (position + contents_size x) ss s, append_assoc, sum_by-cons)
 
 pub headers_more : (position : ℕ) (ss : List Section) (i : ℕ) (d : Section) → {a b c : Written} → i < length ss
     → Puts a b (section_headers position (map section_view (take i ss)))

@@ -15,20 +15,10 @@ pub located_whole : (bytes : List ℕ) → LocatedAt bytes 0 bytes
 located_whole bytes = record { front = []; rest = []; whole = sym (append-nil bytes); begins = refl }
 
 pub located_first : {bytes : List ℕ} → {position : ℕ} → (x y : List ℕ) → LocatedAt bytes position (x ++ y) → LocatedAt bytes position x
-located_first x y s = record {
-  front = s.front;
-  rest = y ++ s.rest;
-  whole = s.whole ∙ ap (λ t. s.front ++ t) (append_assoc x y s.rest);
-  begins = s.begins;
-}
+located_first x y s = grind (arith, append_assoc)
 
 pub located_second : {bytes : List ℕ} → {position : ℕ} → (x y : List ℕ) → LocatedAt bytes position (x ++ y) → LocatedAt bytes (position + length x) y
-located_second x y s = record {
-  front = s.front ++ x;
-  rest = s.rest;
-  whole = s.whole ∙ (ap (λ t. s.front ++ t) (append_assoc x y s.rest) ∙ sym (append_assoc s.front x (y ++ s.rest)));
-  begins = length-append s.front x ∙ ap (λ n. n + length x) s.begins;
-}
+located_second x y s = grind (arith, append_assoc x y s.rest, append_assoc s.front x (y ++ s.rest), length-append s.front x)
 
 -- the same chunk at an equal position
 pub located_at : {bytes chunk : List ℕ} → {position : ℕ} → (other : ℕ) → position ≡ other → LocatedAt bytes position chunk → LocatedAt bytes other chunk
@@ -42,14 +32,11 @@ take_front : (front chunk rest : List ℕ) (position count : ℕ) → length fro
 take_front front chunk rest position count f p = rw (drop_at front (chunk ++ rest) position f) (take_at chunk rest count p)
 
 within : (front chunk rest : List ℕ) (position count : ℕ) → length front ≡ position → length chunk ≡ count → nat_le (position + count) (length (front ++ (chunk ++ rest))) ≡ true
-within front chunk rest position count f p =
-    le-leb (position + count) (length (front ++ (chunk ++ rest)))
-    (omega (arith, f, p, length-append front (chunk ++ rest), length-append chunk rest))
+within front chunk rest position count f p = grind (arith, le-leb, front, rest, length-append)
 
 pub bytes_at-located : {bytes chunk : List ℕ} → {position : ℕ} → (count : ℕ) → length chunk ≡ count → LocatedAt bytes position chunk → bytes_at bytes position count ≡ Some chunk
 unfolding bytes_at
-bytes_at-located {bytes} {chunk} {position} count e s =
-    rw (s.whole, within s.front chunk s.rest position count s.begins e, take_front s.front chunk s.rest position count s.begins e) refl
+bytes_at-located {bytes} {chunk} {position} count e s = grind (arith, within, take_front)
 
 -- chunks of one width, one after another, are read each
 pub each_at-located :

@@ -1,5 +1,5 @@
 -- The names of the string table of a writer.
-use Rattle.std.proofs.Common.{◌≡◌, ℕ, suc, ◌+◌, ◌<◌, Bool, true, false, not, ◌||◌, cond, List, [], ◌∷◌, ◌++◌, length, map, bytes_eq, refl, sym, ◌∙◌, ap, append_assoc, arith, inl, inr, if◌then◌else◌}
+use Rattle.std.proofs.Common.{◌≡◌, ℕ, suc, ◌+◌, ◌<◌, Bool, true, false, not, ◌||◌, cond, List, [], ◌∷◌, ◌++◌, length, map, bytes_eq, refl, ap, append_assoc, arith, if◌then◌else◌}
 use Rattle.std.specs.Borrow.{Bor}
 use Rattle.std.specs.List.{AllByRecursion, fold, list_any, position_or_len}
 use Rattle.std.proofs.lemmas.List.{append-nil, map-append}
@@ -60,32 +60,19 @@ same_name name = (bytes_eq-Decides name name).1 refl
 
 -- what was there is there
 list_any-with_name : (p : List ℕ → Bool) (names : List (List ℕ)) (name : List ℕ) → list_any p names ≡ true → list_any p (with_name names name) ≡ true
-list_any-with_name p names name there = elim (cases_Bool (list_any (bytes_eq name) names)) [
-  | inl present ↦ rw (with_name-present names name present) there
-  | inr absent ↦ rw (with_name-absent names name absent, list_any-append p names (name ∷ []), there) refl
-]
+list_any-with_name p names name there = grind (arith, cases_Bool, with_name-present, with_name-absent, list_any-append)
 
 -- the name itself is there
 with_name-listed : (names : List (List ℕ)) (name : List ℕ) → list_any (bytes_eq name) (with_name names name) ≡ true
-with_name-listed names name = elim (cases_Bool (list_any (bytes_eq name) names)) [
-  | inl present ↦ rw (with_name-present names name present) present
-  | inr absent ↦ rw (with_name-absent names name absent, list_any-append (bytes_eq name) names (name ∷ []), absent, same_name name) refl
-]
+with_name-listed names name = grind (arith, cases_Bool, with_name-present, with_name-absent, list_any-append, same_name)
 
 -- a name that was there keeps its position
 position-with_name : (p : List ℕ → Bool) (names : List (List ℕ)) (name : List ℕ) → list_any p names ≡ true → position_or_len p (with_name names name) ≡ position_or_len p names
-position-with_name p names name there = elim (cases_Bool (list_any (bytes_eq name) names)) [
-  | inl present ↦ rw (with_name-present names name present) refl
-  | inr absent ↦ rw (with_name-absent names name absent) (position-append p names (name ∷ []) there)
-]
+position-with_name p names name there = grind (arith, cases_Bool, with_name-present, with_name-absent, position-append)
 
 -- the name that is added is where it was looked for
 pub position-added : (names : List (List ℕ)) (name : List ℕ) → position_or_len (bytes_eq name) (with_name names name) ≡ position_or_len (bytes_eq name) names
-position-added names name = elim (cases_Bool (list_any (bytes_eq name) names)) [
-  | inl present ↦ rw (with_name-present names name present) refl
-  | inr absent ↦ rw (with_name-absent names name absent)
-      (position-push (bytes_eq name) names name absent (same_name name) ∙ sym (position-absent (bytes_eq name) names absent))
-]
+position-added names name = grind (arith, cases_Bool, with_name-present, with_name-absent, position-push, same_name, position-absent)
 
 -- the long names of symbols
 
@@ -102,31 +89,21 @@ unfolding with_long_name
 with_long_name-short names name short = rw short refl
 
 list_any-with_long_name : (p : List ℕ → Bool) (names : List (List ℕ)) (name : List ℕ) → list_any p names ≡ true → list_any p (with_long_name names name) ≡ true
-list_any-with_long_name p names name there = elim (cases_Bool (is_long name)) [
-  | inl long ↦ rw (with_long_name-long names name long) (list_any-with_name p names name there)
-  | inr short ↦ rw (with_long_name-short names name short) there
-]
+list_any-with_long_name p names name there = grind (arith, cases_Bool, with_long_name-long, list_any-with_name, with_long_name-short)
 
 position-with_long_name : (p : List ℕ → Bool) (names : List (List ℕ)) (name : List ℕ) → list_any p names ≡ true → position_or_len p (with_long_name names name) ≡ position_or_len p names
-position-with_long_name p names name there = elim (cases_Bool (is_long name)) [
-  | inl long ↦ rw (with_long_name-long names name long) (position-with_name p names name there)
-  | inr short ↦ rw (with_long_name-short names name short) refl
-]
+position-with_long_name p names name there = grind (arith, cases_Bool, with_long_name-long, position-with_name, with_long_name-short)
 
 IsListed-self : (names : List (List ℕ)) (s : AddedSymbol) → IsListed (with_long_name names s.name) s
-IsListed-self names s = record {
-  listed = λ long. rw (with_long_name-long names s.name long) (with_name-listed names s.name);
-}
+IsListed-self names s = grind (arith, with_long_name-long, with_name-listed)
 
 IsListed-more : (names : List (List ℕ)) (s : AddedSymbol) (done : List AddedSymbol) → AllByRecursion (IsListed names) done → AllByRecursion (IsListed (with_long_name names s.name)) (done ++ s ∷ [])
 IsListed-more names s [] all = (IsListed-self names s, tt)
-IsListed-more names s (x ∷ done) all =
-    (record { listed = λ long. list_any-with_long_name (bytes_eq x.name) names s.name (all.0.listed long) }, IsListed-more names s done all.1)
+IsListed-more names s (x ∷ done) all = grind (arith, IsListed-more names s done all.1, list_any-with_long_name)
 
 all_listed : (names : List (List ℕ)) (done rest : List AddedSymbol) → AllByRecursion (IsListed names) done → AllByRecursion (IsListed (fold with_long_name names (map (λ x. x.name) rest))) (done ++ rest)
 all_listed names done [] all = rw (append-nil done) all
-all_listed names done (s ∷ rest) all =
-    rw (append_assoc done (s ∷ []) rest) at (all_listed (with_long_name names s.name) (done ++ s ∷ []) rest (IsListed-more names s done all))
+all_listed names done (s ∷ rest) all = grind (arith, all_listed (with_long_name names s.name) (done ++ s ∷ []) rest (IsListed-more names s done all), append_assoc, IsListed-more)
 
 -- each symbol's long name is among the long names
 pub long_names-listed : (symbols : List AddedSymbol) → AllByRecursion (IsListed (long_names symbols)) symbols
@@ -136,10 +113,7 @@ long_names-listed symbols = all_listed [] [] symbols tt
 -- a symbol that was written before a name was added is written the same after
 name_location-more : (names : List (List ℕ)) (s : AddedSymbol) (t : List ℕ) → IsListed names s → name_location (with_long_name names t) s.name ≡ name_location names s.name
 unfolding name_location
-name_location-more names s t known = elim (cases_Bool (is_long s.name)) [
-  | inl long ↦ rw (long, position-with_long_name (bytes_eq s.name) names t (known.listed long)) refl
-  | inr short ↦ rw short refl
-]
+name_location-more names s t known = grind (arith, cases_Bool, position-with_long_name)
 
 pub symbols_written-more : (names : List (List ℕ)) (t : List ℕ) (ss : List AddedSymbol) → AllByRecursion (IsListed names) ss → map (symbol_written (with_long_name names t)) ss ≡ map (symbol_written names) ss
 unfolding symbol_written
@@ -166,15 +140,7 @@ pub symbols_written-push : (ss : List AddedSymbol) (s : AddedSymbol) (done : Lis
     → done ≡ map (symbol_written (long_names ss)) ss
     → next ≡ symbol_written (with_long_name (long_names ss) s.name) s
     → done ++ next ∷ [] ≡ map (symbol_written (long_names (ss ++ s ∷ []))) (ss ++ s ∷ [])
-symbols_written-push ss s done next so_far here =
-    rw (
-      so_far,
-      here,
-      long_names-push ss s,
-      map-append (symbol_written (with_long_name (long_names ss) s.name)) ss (s ∷ []),
-      symbols_written-more (long_names ss) s.name ss (long_names-listed ss),
-    )
-    refl
+symbols_written-push ss s done next so_far here = grind (arith, long_names-push, map-append, symbols_written-more, long_names-listed)
 
 -- a symbol whose name is found where it is written
 pub symbol_written-is : (names : List (List ℕ)) (s : AddedSymbol) (position : SymbolName) (number : ℕ) → position ≡ name_location names s.name → number ≡ section_number s.place
@@ -194,7 +160,4 @@ module _ (k : Bor (List ℕ)) (same : Bor (List ℕ) → Bool) (says : (x : Bor 
   position_key (x ∷ keys) = rw (says x, position_key keys) refl
 
   pub insert_key_text : (keys : List (Bor (List ℕ))) → map (λ t. t.now) (if list_any same keys then keys else keys ++ k ∷ []) ≡ with_name (map (λ t. t.now) keys) k.now
-  insert_key_text keys = elim (cases_Bool (list_any (bytes_eq k.now) (map (λ t. t.now) keys))) [
-    | inl present ↦ rw (any_key keys, present, with_name-present (map (λ t. t.now) keys) k.now present) refl
-    | inr absent ↦ rw (any_key keys, absent, with_name-absent (map (λ t. t.now) keys) k.now absent) (map-append (λ t. t.now) keys (k ∷ []))
-  ]
+  insert_key_text keys = grind (arith, cases_Bool, any_key, with_name-present, with_name-absent, map-append)

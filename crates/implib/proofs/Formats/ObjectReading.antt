@@ -1,5 +1,5 @@
 -- A layout that fits reads back from its bytes.
-use Rattle.std.proofs.Common.{◌≡◌, ℕ, suc, ◌+◌, ◌*◌, ◌<◌, ◌^◌, List, [], ◌∷◌, ◌++◌, Option, None, Some, length, refl, ◌∙◌, ap, arith, length-append, one-add}
+use Rattle.std.proofs.Common.{◌≡◌, ℕ, suc, ◌+◌, ◌*◌, ◌<◌, ◌^◌, List, [], ◌∷◌, ◌++◌, Option, None, Some, length, refl, ap, arith, length-append, one-add}
 use Rattle.std.specs.List.{AllByRecursion, flat_map, sum_by}
 use Rattle.std.proofs.lemmas.List.Sums.{sum_by-cons}
 use Rattle.implib.specs.Formats.Object.{ASymbol, Auxiliary, Entry, each_at, entries_at, object_in, object_of_header, section_at}
@@ -69,15 +69,11 @@ auxiliary_counted (Some aux) fits = ap (λ n. 18 + n) fits
 
 pub length-symbol_bytes : (strings : List (List ℕ)) (s : LayoutSymbol) → FitsSymbol strings s → length (symbol_bytes (string_offsets strings) s) ≡ 18 * record_count s
 unfolding record_count
-length-symbol_bytes strings s fits =
-    ap length (symbol_bytes-parts strings s)
-    ∙ (length-append (record_bytes strings s) (auxiliary_bytes s.aux)
-    ∙ (ap (λ n. n + length (auxiliary_bytes s.aux)) (length-record_bytes strings s fits) ∙ auxiliary_counted s.aux fits.aux))
+length-symbol_bytes strings s fits = grind (arith, symbol_bytes-parts, length-append, length-record_bytes, auxiliary_counted)
 
 pub length-all_symbols : (strings : List (List ℕ)) (ss : List LayoutSymbol) → AllByRecursion (FitsSymbol strings) ss → length (flat_map (symbol_bytes (string_offsets strings)) ss) ≡ 18 * sum_by record_count ss
 length-all_symbols strings [] all = refl
-length-all_symbols strings (s ∷ ss) all =
-    omega (arith, length-append (symbol_bytes (string_offsets strings) s) (flat_map (symbol_bytes (string_offsets strings)) ss), length-symbol_bytes strings s all.0, length-all_symbols strings ss all.1, sum_by-cons record_count s ss)
+length-all_symbols strings (s ∷ ss) all = grind (arith, length-all_symbols strings ss all.1, length-append, length-symbol_bytes, sum_by-cons)
 
 entries_none : (bytes table : List ℕ) (position : ℕ) → entries_at bytes table position 0 0 ≡ Some []
 unfolding entries_at
@@ -178,15 +174,4 @@ module _ (p : ObjectLayout) (fits : Fits p) (short : encoded_size p < 2 ^ 32) wh
   -- its bytes are as many as its parts say
   pub length-encoded : length (encoded p) ≡ encoded_size p
   unfolding encoded encoded_size symbol_table_offset contents_offset records
-  length-encoded = omega (
-    arith,
-    length-append (header_bytes p) (section_headers (contents_offset p) p.sections ++ (flat_map contents p.sections ++ (flat_map (symbol_bytes (string_offsets p.strings)) p.symbols ++ string_table p.strings))),
-    length-append (section_headers (contents_offset p) p.sections) (flat_map contents p.sections ++ (flat_map (symbol_bytes (string_offsets p.strings)) p.symbols ++ string_table p.strings)),
-    length-append (flat_map contents p.sections) (flat_map (symbol_bytes (string_offsets p.strings)) p.symbols ++ string_table p.strings),
-    length-append (flat_map (symbol_bytes (string_offsets p.strings)) p.symbols) (string_table p.strings),
-    length-header_bytes p,
-    headers_long,
-    length-all_contents p.sections,
-    length-all_symbols p.strings p.symbols fits.symbols,
-    length-string_table p.strings,
-  )
+  length-encoded = grind (arith, length-append, length-header_bytes, headers_long, length-all_contents, length-all_symbols, length-string_table)

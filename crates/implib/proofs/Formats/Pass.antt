@@ -12,10 +12,7 @@ puts_nothing w = record { put = sym (append-nil w.put); left = omega arith }
 
 -- one chunk, then another
 pub puts_both : {a b c : Written} → {x y : List ℕ} → Puts a b x → Puts b c y → Puts a c (x ++ y)
-puts_both {a} {b} {c} {x} {y} first second = record {
-  put = rw (second.put, first.put) (append_assoc a.put x y);
-  left = omega (arith, length-append x y, first.left, second.left);
-}
+puts_both {a} {b} {c} {x} {y} first second = grind (arith, append_assoc, length-append)
 
 -- the same bytes under another name
 pub puts_same : {a b : Written} → {x : List ℕ} → (y : List ℕ) → x ≡ y → Puts a b x → Puts a b y

@@ -123,8 +123,7 @@ offsets_from-index : (offset : ℕ) (strings : List (List ℕ)) (index : ℕ) �
 unfolding offsets_from
 offsets_from-index offset [] index within = absurd (omega (arith, within))
 offsets_from-index offset (text ∷ strings) zero within = omega arith
-offsets_from-index offset (text ∷ strings) (suc index) within =
-    omega (arith, offsets_from-index (offset + string_size text) strings index (omega (arith, within)), sum_by-cons string_size text (take index strings))
+offsets_from-index offset (text ∷ strings) (suc index) within = grind (arith, offsets_from-index (offset + string_size text) strings index (omega (arith, within)), sum_by-cons)
 
 string_offsets-index : (strings : List (List ℕ)) (index : ℕ) → index < length strings → slice_index (string_offsets strings) index ≡ string_offset strings index
 unfolding string_offsets string_offset strings_size
@@ -169,11 +168,7 @@ in_record_read table (suc n ∷ text) count some none = ap Some (up_to_nul-padde
 pub name_of-field : (strings : List (List ℕ)) (name : SymbolName) → FitsName strings name → AllByRecursion HasNoNul strings → strings_size strings < 2 ^ 32 → name_of (string_table strings) (name_field (string_offsets strings) name) ≡ Some (name_text strings name)
 unfolding name_field name_text
 name_of-field strings (InRecord text) fits all below = in_record_read (string_table strings) text (8 - length text) fits.0 fits.2
-name_of-field strings (InStringTable index) fits all below =
-    rw (string_offsets-index strings index fits)
-    (listed_read (string_table strings) (string_offset strings index) (string_offset-below strings index below)
-    ∙ (ap before_nul (string_at_offset strings index fits)
-    ∙ before_nul-ended (slice_index_or strings index []) (flat_map string_bytes_of (drop (index + 1) strings)) (string_has_no_nul strings index all fits)))
+name_of-field strings (InStringTable index) fits all below = grind (arith, string_offsets-index, listed_read, string_offset, string_offset-below, string_at_offset, before_nul-ended, slice_index_or, string_has_no_nul)
 
 -- symbols
 
@@ -228,5 +223,4 @@ module _ (strings : List (List ℕ)) (s : LayoutSymbol) (fits : FitsSymbol strin
 
   pub symbol_of-record : AllByRecursion HasNoNul strings → strings_size strings < 2 ^ 32 → symbol_of (string_table strings) (record_bytes strings s) ≡ Some shown
   unfolding symbol_of shown
-  symbol_of-record all below =
-      rw (record-name, name_of-field strings s.name fits.name all below, record-value, record-section, record-kind, record-class) refl
+  symbol_of-record all below = grind (arith, record-name, name_of-field, record-value, record-section, record-kind, record-class)

@@ -1,5 +1,5 @@
 -- A writer that takes a table row by row.
-use Rattle.std.proofs.Common.{◌≡◌, ℕ, zero, suc, ◌+◌, ◌<◌, ◌≤◌, ◌^◌, List, [], ◌∷◌, ◌++◌, IsSomeAnd, length, map, take, drop, get_or, refl, sym, ap, subst, ◌∙◌, append_assoc, arith, length-append}
+use Rattle.std.proofs.Common.{◌≡◌, ℕ, zero, suc, ◌+◌, ◌<◌, ◌≤◌, ◌^◌, List, [], ◌∷◌, ◌++◌, IsSomeAnd, length, map, take, drop, get_or, refl, sym, ap, ◌∙◌, append_assoc, arith, length-append}
 use Rattle.std.specs.List.{AllByRecursion}
 use Rattle.std.proofs.lemmas.List.{append-nil, drop_all, length-take-le, map-append, take_all, take_more}
 use Rattle.std.proofs.lemmas.List.Concat.{flat_map-append}
@@ -45,10 +45,7 @@ pub next_has_room : (symbols : List AddedSymbol) (ss : List ObjectSection) (n : 
 unfolding with_relocations
 next_has_room symbols ss zero rs i d room within = absurd room
 next_has_room symbols [] (suc n) rs i d room within = absurd room
-next_has_room symbols (s ∷ ss) (suc zero) rs i d room within = record {
-  count = omega (arith, length_part s.relocations rs i within, room.count, within);
-  within = (at_index (LiesIn symbols s) rs i d room.each within).within;
-}
+next_has_room symbols (s ∷ ss) (suc zero) rs i d room within = grind (arith, length_part, at_index)
 next_has_room symbols (s ∷ ss) (suc (suc n)) rs i d room within = next_has_room symbols ss (suc n) rs i d room within
 
 -- it leads to a symbol
@@ -69,8 +66,7 @@ relocated_rows rows i = map section_row (take i rows) ++ map bare_row (drop i ro
 pub next_relocated : (rows : List SectionRow) (i n : ℕ) (d : SectionRow) → i < length rows → n ≡ i + 1 →
     with_relocations (relocated_rows rows i) n (get_or rows i d).relocations.now ≡ relocated_rows rows (i + 1)
 unfolding with_relocations
-next_relocated rows i n d within number =
-    ap (λ k. with_relocations (relocated_rows rows i) k (get_or rows i d).relocations.now) {y = suc i} (omega (arith, number)) ∙ (by rows i d within ∙ ap (relocated_rows rows) {x = suc i} (omega arith))
+next_relocated rows i n d within number = grind (arith, by)
   where
     by : (rows : List SectionRow) (i : ℕ) (d : SectionRow) → i < length rows →
         with_relocations (relocated_rows rows i) (suc i) (get_or rows i d).relocations.now ≡ relocated_rows rows (suc i)
@@ -81,8 +77,7 @@ next_relocated rows i n d within number =
 -- the section of the next row is there, and has no relocation yet
 pub next_numbered : (P : ObjectSection → Type 0) (rows : List SectionRow) (i n : ℕ) (d : SectionRow) → i < length rows → n ≡ i + 1 → P (bare_row (get_or rows i d)) →
     IsSomeAnd (section_numbered (relocated_rows rows i) n) P
-next_numbered P rows i n d within number here =
-    subst (λ k. IsSomeAnd (section_numbered (relocated_rows rows i) k) P) {x = suc i} (omega (arith, number)) (by rows i d within here)
+next_numbered P rows i n d within number here = grind (arith, by)
   where
     by : (rows : List SectionRow) (i : ℕ) (d : SectionRow) → i < length rows → P (bare_row (get_or rows i d)) → IsSomeAnd (section_numbered (relocated_rows rows i) (suc i)) P
     by [] i d within here = absurd (omega (arith, within))
@@ -91,9 +86,7 @@ next_numbered P rows i n d within number here =
 
 -- all rows
 pub all_relocated : (rows : List SectionRow) (i : ℕ) → length rows ≤ i → relocated_rows rows i ≡ map section_row rows
-all_relocated rows i past =
-    ap (λ x. map section_row x ++ map bare_row (drop i rows)) (take_all i rows past)
-    ∙ (ap (λ x. map section_row rows ++ map bare_row x) (drop_all i rows past) ∙ append-nil (map section_row rows))
+all_relocated rows i past = grind (arith, take_all, drop_all, append-nil)
 
 -- the relocations of a row lie in its section
 pub row_has_room : (symbols : List AddedSymbol) (rows : List SectionRow) (i : ℕ) (d : SectionRow) →
@@ -148,19 +141,11 @@ each_lies symbols s (r ∷ rs) within named = (record { within = within.0; symbo
 sections_held : (symbols : List AddedSymbol) (ss : List ObjectSection) → AllByRecursion (IsSoundSection symbols) ss → AllByRecursion LieWithin ss →
     AllByRecursion (λ s. HasRoomForAll symbols s.relocations (record s { relocations = [] })) ss
 sections_held symbols [] sound within = tt
-sections_held symbols (s ∷ ss) sound within = (
-  record { count = omega (arith, sound.0.fits.count); each = each_lies symbols s s.relocations within.0 sound.0.relocations },
-  sections_held symbols ss sound.1 within.1,
-)
+sections_held symbols (s ∷ ss) sound within = grind (arith, sections_held symbols ss sound.1 within.1, each_lies)
 
 symbols_held : (count : ℕ) (ss : List AddedSymbol) → AllByRecursion (IsSoundSymbol count) ss → AllByRecursion (CanBeAdded count) ss
 symbols_held count [] sound = tt
 symbols_held count (s ∷ ss) sound = (record { named = sound.0.named; no_nul = sound.0.no_nul; place = sound.0.place }, symbols_held count ss sound.1)
 
 pub CanBeHeld-from_sound : (h : WriterState) (n : ℕ) → IsSound h n → n < 2 ^ 32 → AllByRecursion LieWithin h.sections → CanBeHeld h
-CanBeHeld-from_sound h n sound short within = record {
-  few = sound.few;
-  records = omega (arith, sound.records, short);
-  symbols = symbols_held (length h.sections) h.symbols sound.symbols;
-  relocations = sections_held h.symbols h.sections sound.sections within;
-}
+CanBeHeld-from_sound h n sound short within = grind (arith, symbols_held, sections_held)

@@ -1,5 +1,5 @@
 -- The layout of a writer: it fits, and shows what was added.
-use Rattle.std.proofs.Common.{◌≡◌, ℕ, ◌+◌, ◌<◌, ◌≤◌, ◌^◌, Bool, true, false, not, ◌||◌, cond, List, [], ◌∷◌, ◌++◌, length, map, flat_map, get_or, bytes_eq, refl, sym, arith, inl, inr, one-add}
+use Rattle.std.proofs.Common.{◌≡◌, ℕ, ◌+◌, ◌<◌, ◌≤◌, ◌^◌, Bool, true, false, not, ◌||◌, cond, List, [], ◌∷◌, ◌++◌, length, map, flat_map, get_or, refl, arith, one-add}
 use Rattle.std.specs.List.{AllByRecursion, fold, list_any, position_or_len}
 use Rattle.std.proofs.lemmas.Bool.{cases_Bool, false≢true, ltb-false}
 use Rattle.std.proofs.lemmas.Slice.Eq.{bytes_eq-Decides}
@@ -10,7 +10,7 @@ use Rattle.implib.specs.declared.machine.MachineType.TheVariants.{I386, ARMNT, A
 use Rattle.implib.specs.Machine.{machine_number}
 use Rattle.implib.specs.Formats.Object.{ObjectSection}
 use Rattle.implib.specs.Formats.Layout.{Fits, FitsName, FitsSection, FitsSymbol, HasNoNul, entries_of, name_text, object_of}
-use Rattle.implib.specs.Formats.Writer.{AddedSymbol, WriterState, IsPlaceAmong, all_entries, is_long, long_names, name_location, written_object, layout_of, section_number, symbol_written, with_long_name}
+use Rattle.implib.specs.Formats.Writer.{AddedSymbol, WriterState, IsPlaceAmong, all_entries, long_names, name_location, written_object, layout_of, section_number, symbol_written, with_long_name}
 use Rattle.implib.specs.Views.Writer.{IsSound, IsSoundSection, IsSoundSymbol}
 use Rattle.implib.proofs.Formats.LongNames.{IsListed, long_names-listed, position-below, with_long_name-long, with_long_name-short, with_name-absent, with_name-present}
 
@@ -41,32 +41,18 @@ position-found p (x ∷ names) there = found_at_step (p x) (list_any p names) p 
 
 name_text-place : (names : List (List ℕ)) (s : AddedSymbol) → IsListed names s → name_text names (name_location names s.name) ≡ s.name
 unfolding name_location name_text
-name_text-place names s known = elim (cases_Bool (is_long s.name)) [
-  | inl long ↦ rw long (sym ((bytes_eq-Decides s.name (get_or names (position_or_len (bytes_eq s.name) names) [])).0 (position-found (bytes_eq s.name) names (known.listed long))))
-  | inr short ↦ rw short refl
-]
+name_text-place names s known = grind (arith, cases_Bool, bytes_eq-Decides, position-found)
 
 name_location-fits : (names : List (List ℕ)) (s : AddedSymbol) → IsListed names s → 0 < length s.name → HasNoNul s.name → FitsName names (name_location names s.name)
 unfolding name_location
-name_location-fits names s known named none = elim (cases_Bool (is_long s.name)) [
-  | inl long ↦ rw long (position-below (bytes_eq s.name) names (known.listed long))
-  | inr short ↦ rw short (named, ltb-false 8 (length s.name) short, none)
-]
+name_location-fits names s known named none = grind (arith, cases_Bool, position-below, ltb-false)
 
 -- the symbols
 
 symbols_fit : (names : List (List ℕ)) (count : ℕ) (ss : List AddedSymbol) → count ≤ 32767 → AllByRecursion (IsListed names) ss → AllByRecursion (IsSoundSymbol count) ss → AllByRecursion (FitsSymbol names) (map (symbol_written names) ss)
 unfolding symbol_written
 symbols_fit names count [] few known sound = tt
-symbols_fit names count (s ∷ ss) few known sound = (
-  record {
-    name = name_location-fits names s known.0 sound.0.named sound.0.no_nul;
-    value = sound.0.value;
-    section = section_number-below count s.place few sound.0.place;
-    aux = sound.0.aux;
-  },
-  symbols_fit names count ss few known.1 sound.1,
-)
+symbols_fit names count (s ∷ ss) few known sound = grind (arith, symbols_fit names count ss few known.1 sound.1, name_location-fits, section_number-below)
 
 entries_shown : (names : List (List ℕ)) (ss : List AddedSymbol) → AllByRecursion (IsListed names) ss → flat_map (entries_of names) (map (symbol_written names) ss) ≡ all_entries ss
 unfolding symbol_written entries_of
@@ -78,13 +64,7 @@ texts_push [] name all none = (none, tt)
 texts_push (x ∷ names) name all none = (all.0, texts_push names name all.1 none)
 
 with_long_name-texts : (names : List (List ℕ)) (name : List ℕ) → AllByRecursion HasNoNul names → HasNoNul name → AllByRecursion HasNoNul (with_long_name names name)
-with_long_name-texts names name all none = elim (cases_Bool (is_long name)) [
-  | inl long ↦ elim (cases_Bool (list_any (bytes_eq name) names)) [
-    | inl present ↦ rw (with_long_name-long names name long, with_name-present names name present) all
-    | inr absent ↦ rw (with_long_name-long names name long, with_name-absent names name absent) (texts_push names name all none)
-  ]
-  | inr short ↦ rw (with_long_name-short names name short) all
-]
+with_long_name-texts names name all none = grind (arith, cases_Bool, with_long_name-long, with_name-present, with_name-absent, texts_push, with_long_name-short)
 
 texts_from : (count : ℕ) (names : List (List ℕ)) (ss : List AddedSymbol) → AllByRecursion HasNoNul names → AllByRecursion (IsSoundSymbol count) ss → AllByRecursion HasNoNul (fold with_long_name names (map (λ s. s.name) ss))
 texts_from count names [] all sound = all
@@ -102,14 +82,7 @@ sections_fit symbols (s ∷ ss) sound = (sound.0.fits, sections_fit symbols ss s
 
 pub layout_of-fits : (h : WriterState) (count : ℕ) → IsSound h count → Fits (layout_of h)
 unfolding layout_of
-layout_of-fits h count sound = record {
-  machine = machine_number-below h.machine;
-  characteristics = omega arith;
-  count = omega (arith, sound.few);
-  sections = sections_fit h.symbols h.sections sound.sections;
-  symbols = symbols_fit (long_names h.symbols) (length h.sections) h.symbols sound.few (long_names-listed h.symbols) sound.symbols;
-  strings = long_names-texts (length h.sections) h.symbols sound.symbols;
-}
+layout_of-fits h count sound = grind (arith, machine_number-below, sections_fit, symbols_fit, long_names-listed, long_names-texts)
 
 pub object_of-layout_of : (h : WriterState) → object_of (layout_of h) ≡ written_object h
 unfolding object_of layout_of

@@ -10,7 +10,7 @@ use Rattle.implib.specs.Formats.Object.{Auxiliary, Entry, ObjectSection, section
 use Rattle.implib.specs.Formats.Layout.{FitsRelocation, FitsSection, auxiliary_count}
 use Rattle.implib.specs.declared.coff.object.Section.{Section as Held}
 use Rattle.implib.specs.Formats.Writer.{section_view}
-use Rattle.implib.specs.Formats.Writer.{AddedSymbol, HasRoomFor, WriterState, IsPlaceAmong, IsSymbol, IsSymbolIndex, all_entries, entries_added, sections_with_relocation, with_relocation, with_section, with_symbol}
+use Rattle.implib.specs.Formats.Writer.{AddedSymbol, HasRoomFor, WriterState, IsPlaceAmong, IsSymbol, IsSymbolIndex, entries_added, sections_with_relocation, with_relocation, with_section, with_symbol}
 use Rattle.implib.specs.Views.Writer.{IsSound, IsSoundSection, IsSoundSymbol}
 
 all_push : {X : Type 0} (P : X → Type 0) (xs : List X) (x : X) → AllByRecursion P xs → P x → AllByRecursion P (xs ++ x ∷ [])
@@ -33,12 +33,7 @@ symbol_more : (count : ℕ) (s : AddedSymbol) → IsSoundSymbol count s → IsSo
 symbol_more count s sound = record { named = sound.named; no_nul = sound.no_nul; value = sound.value; place = place_more count s.place sound.place; aux = sound.aux }
 
 pub sound_section : (h : WriterState) (n : ℕ) (s : ObjectSection) → IsSound h n → length h.sections < 32767 → FitsSection s → s.relocations ≡ [] → IsSound (with_section h s) n
-sound_section h n s sound room fits none = record {
-  few = omega (arith, length-append h.sections (s ∷ []), room);
-  records = sound.records;
-  sections = all_push (IsSoundSection h.symbols) h.sections s sound.sections (record { fits = fits; relocations = rw none tt });
-  symbols = rw (length-append h.sections (s ∷ [])) (all_weaker (IsSoundSymbol (length h.sections)) (IsSoundSymbol (length h.sections + 1)) (symbol_more (length h.sections)) h.symbols sound.symbols);
-}
+sound_section h n s sound room fits none = grind (arith, length-append, all_push, all_weaker, symbol_more)
 
 -- the entries of a symbol
 
@@ -63,18 +58,12 @@ index_more (x ∷ entries) more zero here = here
 index_more (x ∷ entries) more (suc index) here = index_more entries more index here
 
 section_more : (symbols : List AddedSymbol) (t : AddedSymbol) (s : ObjectSection) → IsSoundSection symbols s → IsSoundSection (symbols ++ t ∷ []) s
-section_more symbols t s sound = record {
-  fits = sound.fits;
-  relocations = all_weaker (λ r. IsSymbolIndex symbols r.symbol) (λ r. IsSymbolIndex (symbols ++ t ∷ []) r.symbol)
-      (λ r here. rw (flat_map-append entries_added symbols (t ∷ [])) (index_more (all_entries symbols) (all_entries (t ∷ [])) r.symbol here))
-      s.relocations sound.relocations;
-}
+section_more symbols t s sound = grind (arith, all_weaker, flat_map-append, index_more)
 
 pub sound_symbol : (h : WriterState) (n m : ℕ) (s : AddedSymbol) → IsSound h n → IsSoundSymbol (length h.sections) s → m ≡ n + length (entries_added s) → IsSound (with_symbol h s) m
 sound_symbol h n m s sound here count = record {
   few = sound.few;
-  records = rw (flat_map-append entries_added h.symbols (s ∷ []), append-nil (entries_added s))
-      (count ∙ (ap (λ k. k + length (entries_added s)) sound.records ∙ sym (length-append (all_entries h.symbols) (entries_added s))));
+  records = grind (arith, flat_map-append, append-nil, length-append);
   sections = all_weaker (IsSoundSection h.symbols) (IsSoundSection (h.symbols ++ s ∷ [])) (section_more h.symbols s) h.sections sound.sections;
   symbols = all_push (IsSoundSymbol (length h.sections)) h.symbols s sound.symbols here;
 }
@@ -90,27 +79,11 @@ length-sections_with_relocation (s ∷ ss) (suc (suc number)) r = ap suc (length
 relocated_sound : (symbols : List AddedSymbol) (ss : List ObjectSection) (number : ℕ) (r : Relocation) → AllByRecursion (IsSoundSection symbols) ss → IsSomeAnd (section_numbered ss number) (HasRoomFor r) → IsSymbolIndex symbols r.symbol → FitsRelocation r → AllByRecursion (IsSoundSection symbols) (sections_with_relocation ss number r)
 relocated_sound symbols [] number r all there index fits = tt
 relocated_sound symbols (s ∷ ss) zero r all there index fits = all
-relocated_sound symbols (s ∷ ss) (suc zero) r all there index fits = (
-  record {
-    fits = record {
-      name = all.0.fits.name;
-      flags = all.0.fits.flags;
-      count = omega (arith, length-append s.relocations (r ∷ []), there.count);
-      relocations = all_push FitsRelocation s.relocations r all.0.fits.relocations fits;
-    };
-    relocations = all_push (λ x. IsSymbolIndex symbols x.symbol) s.relocations r all.0.relocations index;
-  },
-  all.1,
-)
+relocated_sound symbols (s ∷ ss) (suc zero) r all there index fits = grind (arith, length-append, all_push)
 relocated_sound symbols (s ∷ ss) (suc (suc number)) r all there index fits = (all.0, relocated_sound symbols ss (suc number) r all.1 there index fits)
 
 pub sound_relocation : (h : WriterState) (n number : ℕ) (r : Relocation) → IsSound h n → IsSomeAnd (section_numbered h.sections number) (HasRoomFor r) → IsSymbolIndex h.symbols r.symbol → FitsRelocation r → IsSound (with_relocation h number r) n
-sound_relocation h n number r sound there index fits = record {
-  few = rw (length-sections_with_relocation h.sections number r) sound.few;
-  records = sound.records;
-  sections = relocated_sound h.symbols h.sections number r sound.sections there index fits;
-  symbols = rw (length-sections_with_relocation h.sections number r) sound.symbols;
-}
+sound_relocation h n number r sound there index fits = grind (arith, length-sections_with_relocation, relocated_sound)
 
 -- a section of the writer's list, with other relocations
 
@@ -126,8 +99,7 @@ sections_with_relocation-set : (ss : List Held) (i : ℕ) (r : Relocation) (s x 
     → section_view x ≡ record (section_view s) { relocations = (section_view s).relocations ++ r ∷ [] }
     → map section_view (set ss i x) ≡ sections_with_relocation (map section_view ss) (suc i) r
 sections_with_relocation-set [] i r s x here e = refl
-sections_with_relocation-set (y ∷ ss) zero r s x here e =
-    ap (λ t. t ∷ map section_view ss) (e ∙ ap (λ (t : Held). record (section_view t) { relocations = (section_view t).relocations ++ r ∷ [] }) here)
+sections_with_relocation-set (y ∷ ss) zero r s x here e = grind arith
 sections_with_relocation-set (y ∷ ss) (suc i) r s x here e = ap (λ t. section_view y ∷ t) (sections_with_relocation-set ss i r s x here e)
 
 number_after : (ss : List ObjectSection) (number : ℕ) (P : ObjectSection → Type 0) → IsSomeAnd (section_numbered ss number) P → suc (number - 1) ≡ number
@@ -138,5 +110,4 @@ pub sections_with_relocation-numbered : (ss : List Held) (number : ℕ) (r : Rel
     → s ≡ get_or ss (number - 1) s
     → section_view x ≡ record (section_view s) { relocations = (section_view s).relocations ++ r ∷ [] }
     → map section_view (set ss (number - 1) x) ≡ sections_with_relocation (map section_view ss) number r
-sections_with_relocation-numbered ss number r s x P there here e =
-    sections_with_relocation-set ss (number - 1) r s x here e ∙ ap (λ n. sections_with_relocation (map section_view ss) n r) (number_after (map section_view ss) number P there)
+sections_with_relocation-numbered ss number r s x P there here e = grind (arith, sections_with_relocation-set, number_after)

@@ -1,5 +1,5 @@
 -- What is known of a layout that was written.
-use Rattle.std.proofs.Common.{◌≡◌, ℕ, ◌<◌, ◌^◌, List, Result, Ok, Err, IfOk, OnOk, Some, length, map, refl}
+use Rattle.std.proofs.Common.{arith, ◌≡◌, ℕ, ◌<◌, ◌^◌, List, Result, IfOk, OnOk, Some, length, map, refl}
 use Rattle.std.specs.Borrow.{Bor}
 use Rattle.implib.specs.declared.coff.object.Section.{Section}
 use Rattle.implib.specs.declared.coff.object.Symbol.{Symbol}
@@ -33,16 +33,8 @@ same_holding h machine sections symbols m s y = rw (m, s, y) refl
 module _ {V E : Type 0} (items : V → List ℕ) (r : Result V E) (p : ObjectLayout) (fits : Fits p) where
   -- the bytes of a layout read back as what it shows
   pub read_if_ok : IfOk r (λ v. items v ≡ encoded p) → OnOk r (encoded_size p < 2 ^ 32) → IfOk r (λ v. object_in (items v) ≡ Some (object_of p))
-  read_if_ok = by r
-    where
-      by : (r : Result V E) → IfOk r (λ v. items v ≡ encoded p) → OnOk r (encoded_size p < 2 ^ 32) → IfOk r (λ v. object_in (items v) ≡ Some (object_of p))
-      by (Ok v) bytes short = rw bytes (object_in-encoded p fits short)
-      by (Err e) bytes short = tt
+  read_if_ok = grind (arith, object_in-encoded)
 
   -- they are as many as its size
   pub length_if_ok : IfOk r (λ v. items v ≡ encoded p) → OnOk r (encoded_size p < 2 ^ 32) → IfOk r (λ v. length (items v) ≡ encoded_size p)
-  length_if_ok = by r
-    where
-      by : (r : Result V E) → IfOk r (λ v. items v ≡ encoded p) → OnOk r (encoded_size p < 2 ^ 32) → IfOk r (λ v. length (items v) ≡ encoded_size p)
-      by (Ok v) bytes short = rw bytes (length-encoded p fits short)
-      by (Err e) bytes short = tt
+  length_if_ok = grind (arith, length-encoded)

@@ -1,5 +1,5 @@
 -- A name that is defined once has one definition.
-use Rattle.std.proofs.Common.{◌≡◌, ℕ, true, false, List, [], ◌∷◌, map, refl, ap, sym, ◌∙◌, inl, inr, subst}
+use Rattle.std.proofs.Common.{arith, ◌≡◌, ℕ, true, false, List, [], ◌∷◌, map, refl, ap, sym, inl, inr, subst}
 use Rattle.std.specs.Prelude.{bytes_eq}
 use Rattle.std.specs.List.{AllByRecursion, IsDistinct, filter}
 use Rattle.std.proofs.lemmas.Bool.{false_from_ne_true, true≢false}
@@ -11,8 +11,7 @@ pub same_text : (text : List ℕ) → bytes_eq text text ≡ true
 same_text text = (bytes_eq-Decides text text).1 refl
 
 pub not_same_turned : (first second : List ℕ) → bytes_eq first second ≡ false → bytes_eq second first ≡ false
-not_same_turned first second differ =
-    false_from_ne_true (bytes_eq second first) (λ same. true≢false (sym ((bytes_eq-Decides first second).1 (sym ((bytes_eq-Decides second first).0 same))) ∙ differ))
+not_same_turned first second differ = grind (arith, false_from_ne_true, true≢false, bytes_eq-Decides)
 
 pub none_of : (name : List ℕ) (ds : List SymbolDefinition) → AllByRecursion (λ other. bytes_eq name other ≡ false) (map (λ (d : SymbolDefinition). d.name) ds) →
     filter (λ (d : SymbolDefinition). bytes_eq name d.name) ds ≡ []

@@ -24,12 +24,7 @@ small_mod_plus : (n : ℕ) → n < 2 ^ 31 → (0 + (n + 0)) % 2 ^ 32 ≡ n
 small_mod_plus n small = omega arith
 
 field_located : (image : List Range) (a n : ℕ) → n < 2 ^ 31 → BytesAt image a (u32_bytes ((0 + (n + 0)) % 2 ^ 32)) → NumberAt image 4 a n
-field_located image a n small located = record {
-  bytes = u32_bytes n;
-  located = subst (λ m. BytesAt image a (u32_bytes m)) (small_mod_plus n small) located;
-  count = length-u32 n;
-  value = number-u32 n small;
-}
+field_located image a n small located = grind (arith, small_mod_plus, length-u32, number-u32)
 
 -- a descriptor is taken by a strict loader, and has this address for its address table
 pub record LoadsFrom (image : List Range) (width descriptor addresses : ℕ) (dll : List ℕ) (asks : List Ask) : Type 0 where
@@ -43,9 +38,7 @@ module _ (machine : MachineType) (image : List Range) (starts : AllByRecursion (
   first_bounds a (byte ∷ bytes) long held = address_bounds image a byte starts ends held.0
 
   number_bounds : (a width number : ℕ) → 0 < width → NumberAt image width a number → (0 < a) × (a < 2 ^ 31)
-  number_bounds a width number wide n =
-      let count : length n.bytes ≡ width = n.count in
-      first_bounds a n.bytes (omega arith) n.located
+  number_bounds a width number wide n = grind (arith, first_bounds)
 
   wide : (m : MachineType) → 0 < thunk_width m
   wide I386 = omega arith
@@ -112,17 +105,7 @@ module _ (machine : MachineType) (image : List Range) (starts : AllByRecursion (
       let name_bounds = first_bounds name (dll ++ 0 ∷ []) long name_text.located in
       let fields = fields_located descriptor lookups addresses name lookups_bounds.1 addresses_bounds.1 name_bounds.1 whole in
       record {
-        plain = record {
-          lookups = lookups;
-          lookups_field = fields.lookups_field;
-          lookup_table = lookup_table.plain;
-          name = name;
-          name_field = fields.name_field;
-          name_text = name_text;
-          addresses = addresses;
-          addresses_field = fields.addresses_field;
-          address_table = address_table.plain;
-        };
+        plain = grind arith;
         time = fields.time;
         forwarder = fields.forwarder;
         has_lookups = lookups_bounds.0;

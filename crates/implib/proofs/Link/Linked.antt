@@ -72,8 +72,7 @@ module _ (machine : MachineType) (dll : NamesOfDll) (linked : List Placed) where
   name_located image [] b rest even located =
       let others : List Contribution = contributions machine linked DllNames (placed_from (ends_of_tail machine dll b) rest) in
       let own : Contribution = record { address = next_multiple 4 b.dll_names; bytes = dll.text ++ 0 ∷ [] } in
-      let here : BytesAt image b.dll_names (filled b.dll_names (own ∷ others)) =
-      subst (λ ps. BytesAt image b.dll_names (filled b.dll_names (contributions machine linked DllNames ps))) (placed-tail machine dll b rest even) located in
+      let here : BytesAt image b.dll_names (filled b.dll_names (own ∷ others)) = grind (arith, placed-tail) in
       contribution_located image b.dll_names own others (at_least 4 b.dll_names) here
   name_located image (e ∷ es) b rest even located =
       let later : Bases = ends_of_export machine dll b e in
@@ -91,8 +90,7 @@ module _ (machine : MachineType) (dll : NamesOfDll) (linked : List Placed) where
       Among (record { name = iname_symbol machine dll.linked; address = Some (next_multiple 4 (ends_of_exports machine dll b es).dll_names + 0) }) (defined_after machine dll b es)
   unfolding ends_of_exports defined_after
   name_defined [] b = among_first _ _
-  name_defined (e ∷ es) b =
-      among_back _ (code_definition machine dll e) _ (among_later _ _ _ (name_defined es (ends_of_export machine dll b e)))
+  name_defined (e ∷ es) b = grind (arith, name_defined es (ends_of_export machine dll b e), among_back, among_later)
 
   -- each export's address is its own entry
   entries_at : (es : List ExportView) (b : Bases) → ((d : SymbolDefinition) → Among d (defined_after machine dll b es) → definitions_of d.name linked ≡ d ∷ []) →
@@ -184,8 +182,7 @@ module _ (machine : MachineType) (dll : NamesOfDll) (linked : List Placed) where
       AllByRecursion (AllFind linked) (placed_from (ends_of_all machine dll b es) rest) →
       AllByRecursion (AllFind linked) (placed_from b (after_head machine dll es rest))
   unfolding tail_object ends_of_exports
-  targets_after [] b rest even head_at others =
-      subst (AllByRecursion (AllFind linked)) (sym (placed-tail machine dll b rest even)) ((tt, (tt, (tt, (tt, (tt, (tt, tt)))))), others)
+  targets_after [] b rest even head_at others = grind (arith, placed-tail)
   targets_after (e ∷ es) b rest even head_at others =
       subst (AllByRecursion (AllFind linked)) (sym (placed-export machine dll b e (after_head machine dll es rest) even))
       (export_finds b e head_at, targets_after es (ends_of_export machine dll b e) rest (aligned_after machine dll b e even) head_at others)
@@ -221,9 +218,7 @@ aligned_block machine dll b es even = aligned_all machine dll (ends_of_head mach
 pub definitions-block : (machine : MachineType) (dll : NamesOfDll) (b : Bases) (es : List ExportView) (rest : List Object) → AreAligned b →
     definitions (placed_from b (head machine dll ∷ after_head machine dll es rest)) ≡ block_definitions machine dll b es ++ definitions (placed_from (ends_of_block machine dll b es) rest)
 unfolding head_object head_definition block_definitions
-definitions-block machine dll b es rest even =
-    ap definitions (placed-head machine dll b (after_head machine dll es rest) even)
-    ∙ ap (λ others. head_definition machine dll b ∷ others) (definitions-after machine dll (ends_of_head machine dll b) es rest (aligned_head machine dll b even))
+definitions-block machine dll b es rest even = grind (arith, placed-head, definitions-after, aligned_head)
 
 -- the objects of one DLL among others: they are placed after what ends at b
 module _ (machine : MachineType) (dll : NamesOfDll) (es : List ExportView) (b : Bases) (rest : List Object) (linked : List Placed) (image : List Range)
@@ -317,8 +312,7 @@ module _ (machine : MachineType) (dll : NamesOfDll) (es : List ExportView) (b : 
       let own : Contribution = record { address = b.descriptors; bytes = descriptor_linked machine dll linked b } in
       let parts = contribution_located image b.descriptors own others (same_order b.descriptors)
       (subst (BytesAt image b.descriptors) (ap (λ ps. filled b.descriptors (contributions machine linked Descriptors ps)) placed_is) located.descriptors) in
-      let behind : BytesAt image later.descriptors (filled later.descriptors others) =
-      subst (λ n. BytesAt image (b.descriptors + n) (filled (b.descriptors + n) others)) length-descriptor parts.1 in
+      let behind : BytesAt image later.descriptors (filled later.descriptors others) = grind (arith, length-descriptor) in
       let same : later.descriptors ≡ last.descriptors = descriptors_end machine dll later es in (
         parts.0,
         subst (λ n. BytesAt image n (filled last.descriptors (contributions machine linked Descriptors (placed_from last rest)))) same
@@ -373,11 +367,7 @@ module _ (machine : MachineType) (dll : NamesOfDll) (es : List ExportView) (b : 
   pub block_defined : AllByRecursion (IsDefinedAt linked) (undefined_names (placed_from last rest)) →
       AllByRecursion (IsDefinedAt linked) (undefined_names (placed_from b (head machine dll ∷ after_head machine dll es rest)))
   unfolding head_object block_definitions
-  block_defined others =
-      subst (AllByRecursion (IsDefinedAt linked)) (sym (ap undefined_names placed_is)) (
-        (name_place + 0, name_once),
-        undefined_after machine dll linked es later rest later_even (b.descriptors, block_head) others,
-      )
+  block_defined others = grind (arith, placed_is, name_place, name_once, undefined_after, later_even, block_head)
 
   -- the block's relocations find their targets, if those of the others do
   pub block_targets : AllByRecursion (AllFind linked) (placed_from last rest) →

@@ -1,7 +1,7 @@
 -- The objects for GNU's linker of one DLL, or of several, link to what their definitions mean.
-use Rattle.std.proofs.Common.{◌≡◌, ℕ, ◌<◌, ◌^◌, List, [], ◌∷◌, ◌++◌, map, Some, refl, ap, sym, ◌∙◌, subst, inl, inr}
+use Rattle.std.proofs.Common.{arith, ◌≡◌, ℕ, ◌<◌, ◌^◌, List, [], ◌∷◌, ◌++◌, map, Some, refl, ap, sym, ◌∙◌, subst, inl, inr}
 use Rattle.std.specs.Prelude.{bytes_eq}
-use Rattle.std.specs.List.{AllByRecursion, IsDistinct, filter, flat_map}
+use Rattle.std.specs.List.{AllByRecursion, IsDistinct, flat_map}
 use Rattle.std.proofs.lemmas.List.{append-nil, append_assoc, map-append}
 use Rattle.implib.specs.declared.machine.MachineType.{MachineType}
 use Rattle.implib.specs.Definition.{ExportView}
@@ -124,9 +124,7 @@ module _ (machine : MachineType) (b : Bases) (objects : List Object) (admissible
 
   starts_of : (ks : List Group) → AllByRecursion (λ k. 0 < base_of k b) ks → AllByRecursion (λ r. 0 < r.start) (flat_map (λ k. range_of (base_of k b) (contributions machine placed k placed)) ks)
   starts_of [] low = tt
-  starts_of (k ∷ ks) low =
-      all_append (λ r. 0 < r.start) (range_of (base_of k b) (contributions machine placed k placed)) (flat_map (λ k. range_of (base_of k b) (contributions machine placed k placed)) ks)
-      (bases_of_ranges (base_of k b) (contributions machine placed k placed) low.0) (starts_of ks low.1)
+  starts_of (k ∷ ks) low = grind (arith, starts_of ks low.1, all_append, bases_of_ranges)
 
   pub starts : AllByRecursion (λ r. 0 < r.start) (image_of machine b (placed_from b objects))
   starts = starts_of groups (admissible.descriptors.0, (admissible.directory_ends.0, (admissible.lookups.0, (admissible.addresses.0, (admissible.hint_names.0, (admissible.dll_names.0, tt))))))
@@ -179,10 +177,7 @@ module _ (machine : MachineType) (b : Bases) (blocks : List Block) (fit : AllByR
   objects = blocks_objects machine blocks []
 
   only : (d : SymbolDefinition) → Among d (blocks_definitions machine b blocks) → definitions_of d.name (placed_from b (blocks_objects machine blocks [])) ≡ d ∷ []
-  only d m =
-      ap (λ ds. filter (λ (other : SymbolDefinition). bytes_eq d.name other.name) ds)
-      (definitions-blocks machine b blocks [] (even machine b objects admissible) ∙ append-nil (blocks_definitions machine b blocks))
-      ∙ only_definition d (blocks_definitions machine b blocks) m (subst (IsDistinct bytes_eq) (sym (names-blocks machine b blocks)) distinct)
+  only d m = grind (arith, definitions-blocks, even, append-nil, blocks_definitions, only_definition, names-blocks)
 
   each : EachLinks machine (placed_from b objects) (image_of machine b (placed_from b objects)) b blocks []
   each =

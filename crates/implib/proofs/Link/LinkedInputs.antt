@@ -1,5 +1,5 @@
 -- The members for GNU's linker of several DLLs link to what their definitions mean.
-use Rattle.std.proofs.Common.{◌≡◌, ℕ, ◌<◌, List, [], ◌∷◌, ◌++◌, map, false, refl, ap, sym, ◌∙◌, arith, codes, subst, inl, inr}
+use Rattle.std.proofs.Common.{◌≡◌, ℕ, ◌<◌, List, [], ◌∷◌, ◌++◌, map, refl, ap, sym, ◌∙◌, arith, codes, subst, inl, inr}
 use Rattle.std.specs.Prelude.{bytes_eq}
 use Rattle.std.specs.List.{AllByRecursion, IsDistinct, flat_map}
 use Rattle.std.specs.Cmp.Lexicographic.{slice_cmp}
@@ -102,11 +102,7 @@ less_is_not_greater : Less ≡ Greater → ⊥
 less_is_not_greater same = cc
 
 greater_is_not_less : (x y : ℕ) (o : Ordering) → y < x → ordering_then (nat_cmp x y) o ≡ Less → ⊥
-greater_is_not_less x y o high less =
-    let not_below : ltb x y ≡ false = le-ltb x y (omega arith) in
-    let not_same : eqb x y ≡ false = ne_eqb x y (λ same. omega arith) in
-    let is : Greater ≡ Less = rw (not_below, not_same) at less in
-    less_is_not_greater (sym is)
+greater_is_not_less x y o high less = grind (arith, ltb, le-ltb, eqb, ne_eqb, less_is_not_greater)
 
 -- a text before another that does not begin it comes before it whatever follows
 cmp_apart : (xs ys : List ℕ) (after behind : List ℕ) → slice_cmp nat_cmp xs ys ≡ Less → (IsPrefixOf xs ys → ⊥) → slice_cmp nat_cmp (xs ++ after) (ys ++ behind) ≡ Less
@@ -128,8 +124,7 @@ tail_before_head : (first second : DefinitionView) → ComesBefore (member_prefi
     ComesBefore (tail_name (linked_name first)) (head_name (linked_name second))
 unfolding tail_name head_name
 tail_before_head first second before apart =
-    let joined : ComesBefore (member_prefix first ++ codes "t.o") (member_prefix second ++ codes "h.o") =
-    cmp_apart (member_prefix first) (member_prefix second) (codes "t.o") (codes "h.o") before apart in
+    let joined : ComesBefore (member_prefix first ++ codes "t.o") (member_prefix second ++ codes "h.o") = grind (arith, cmp_apart) in
     subst (λ name. ComesBefore name (head_name (linked_name second))) (append_assoc (mangled_name (linked_name first)) (codes "_a_") (codes "t.o"))
     (subst (λ name. ComesBefore (member_prefix first ++ codes "t.o") name) (append_assoc (mangled_name (linked_name second)) (codes "_a_") (codes "h.o")) joined)
 
@@ -157,8 +152,6 @@ gnu_inputs_rise machine (p ∷ q ∷ ps) are rise apart =
     let own_rise : IsAscending (own ++ tail_name dll ∷ []) =
     subst IsAscending named (members_rise p.definition machine p.members p.chosen are.0.made are.0.numbers are.0.in_order) in
     let behind = gnu_inputs_rise machine (q ∷ ps) are.1 rise.1 apart.1 in
-    let joined : names_of (all_linked machine (p ∷ q ∷ ps)) ≡ (own ++ tail_name dll ∷ []) ++ names_of (all_linked machine (q ∷ ps)) =
-    map-append (λ (m : MemberView). m.name) (linked_members p.definition machine p.chosen) (all_linked machine (q ∷ ps))
-    ∙ ap (λ names. names ++ names_of (all_linked machine (q ∷ ps))) named in
+    let joined : names_of (all_linked machine (p ∷ q ∷ ps)) ≡ (own ++ tail_name dll ∷ []) ++ names_of (all_linked machine (q ∷ ps)) = grind (arith, map-append) in
     subst IsAscending (sym joined)
     (rise_on own (tail_name dll) (head_name (linked_name q.definition)) _ own_rise (tail_before_head p.definition q.definition rise.0 apart.0.0.0) behind)

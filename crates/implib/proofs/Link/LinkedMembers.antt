@@ -1,9 +1,8 @@
 -- The members for GNU's linker, read from their bytes, link to what their definition means.
-use Rattle.std.proofs.Common.{◌≡◌, ℕ, ◌+◌, ◌<◌, ◌≤◌, ◌^◌, zero, suc, Bool, false, List, [], ◌∷◌, ◌++◌, length, map, Option, Some, None, refl, ap, sym, ◌∙◌, arith, subst, inl, inr}
+use Rattle.std.proofs.Common.{◌≡◌, ℕ, ◌+◌, ◌<◌, ◌≤◌, zero, suc, Bool, false, List, [], ◌∷◌, ◌++◌, length, map, Option, Some, None, refl, ap, sym, ◌∙◌, arith, subst, inl, inr}
 use Rattle.std.specs.Prelude.{bytes_eq, reverse, slice_get}
 use Rattle.std.specs.Cmp.Lexicographic.{slice_cmp}
 use Rattle.std.specs.List.{AllByRecursion, Contains, IsDistinct, cons_option, filter_map, flat_map, list_any}
-use Rattle.std.specs.Option.{option_map}
 use Rattle.std.specs.Ordering.{nat_cmp}
 use Rattle.std.specs.declared.cmp.Ordering.TheVariants.{Equal}
 use Rattle.std.proofs.lemmas.Bool.{eq-eqb, le-ltb, ltb-true, or_parts}
@@ -17,7 +16,7 @@ use Rattle.implib.specs.Link.Image.{IsAdmissible}
 use Rattle.implib.specs.Link.Placement.{Bases}
 use Rattle.implib.specs.Members.Members.{AreMembersOf, is_too_long}
 use Rattle.implib.specs.Members.MemberSpec.{MemberView, MemberSpec, file_size, member_of}
-use Rattle.implib.specs.Members.GnuMembers.{alias_specs, export_spec, gnu_specs, head_spec, numbered_specs, numbered_specs_of, tail_spec}
+use Rattle.implib.specs.Members.GnuMembers.{export_spec, gnu_specs, head_spec, numbered_specs, numbered_specs_of, tail_spec}
 use Rattle.implib.specs.Formats.Object.{object_in}
 use Rattle.implib.specs.Formats.Layout.{Fits, encoded, encoded_size}
 use Rattle.implib.specs.Renaming.{renamed}
@@ -37,9 +36,7 @@ use Rattle.implib.specs.LibraryName.{NamesOfDll, linked_name, names_for}
 
 -- what a writer wrote reads as what it holds
 held_reads : (h : WriterState) → Fits (layout_of h) → encoded_size (layout_of h) ≤ 0xFFFF_FFFF → object_in (encoded (layout_of h)) ≡ Some (written_object h)
-held_reads h fits short =
-    let below : encoded_size (layout_of h) < 2 ^ 32 = omega arith in
-    object_in-encoded (layout_of h) fits below ∙ ap Some (object_of-layout_of h)
+held_reads h fits short = grind (arith, object_in-encoded, object_of-layout_of)
 
 -- what holds of each holds of the one at a position
 pub all_at : {X : Type 0} (P : X → Type 0) (xs : List X) (n : ℕ) (x : X) → AllByRecursion P xs → slice_get xs n ≡ Some x → P x
@@ -89,13 +86,7 @@ present-some (x ∷ xs) = ap (λ rest. x ∷ rest) (present-some xs)
 numbered_among : (machine : MachineType) (dll : List ℕ) (exports : List ExportView) (start n : ℕ) (e : ExportView) → slice_get exports n ≡ Some e →
     Among (export_spec machine dll (start + n) e) (numbered_specs machine dll start exports)
 numbered_among machine dll [] start n e is = cc
-numbered_among machine dll (x ∷ exports) start zero e is =
-    let same : x ≡ e = cc in
-    let position : start ≡ start + 0 = omega arith in
-    among_front _ (numbered_specs_of machine dll start x) (numbered_specs machine dll (start + 1) exports)
-    (among_back _ (alias_specs machine dll start x) (export_spec machine dll start x ∷ [])
-    (subst (λ y. Among (export_spec machine dll (start + 0) y) (export_spec machine dll start x ∷ [])) same
-    (subst (λ n. Among (export_spec machine dll n x) (export_spec machine dll start x ∷ [])) position (among_first _ []))))
+numbered_among machine dll (x ∷ exports) start zero e is = grind (arith, among_front, among_back, among_first)
 numbered_among machine dll (x ∷ exports) start (suc n) e is =
     let position : start + 1 + n ≡ start + suc n = omega arith in
     among_back _ (numbered_specs_of machine dll start x) (numbered_specs machine dll (start + 1) exports)
@@ -142,12 +133,7 @@ module _ (machine : MachineType) (dll : NamesOfDll) (exports : List ExportView) 
       held_reads (export_object machine dll.linked e) (Fits-export_object machine dll.linked e linked_free good.name good.filled) (size_of (export_spec machine dll.linked n e) (export_among n e is))
 
   export_asks : (n : ℕ) (e : ExportView) → slice_get exports n ≡ Some e → CanBeAsked machine e
-  export_asks n e is =
-      let good = all_at Sound exports n e sound is in
-      record {
-        ordinal = ltb-true e.ordinal 0x1_0000 good.ordinal;
-        name = name_asked_free machine e good;
-      }
+  export_asks n e is = grind (arith, all_at, sound, ltb-true, name_asked_free)
 
   -- what is linked after the head
   abbrev pub member_specs_after : List ℕ → List MemberSpec
@@ -164,43 +150,25 @@ module _ (machine : MachineType) (dll : NamesOfDll) (exports : List ExportView) 
 
   chosen_fit : (ns : List ℕ) → AllByRecursion (CanBeAsked machine) (chosen_of ns)
   chosen_fit [] = tt
-  chosen_fit (n ∷ ns) =
-      by_place (λ o. AllByRecursion (CanBeAsked machine) (cons_option o (chosen_of ns))) n (slice_get exports n) refl
-      (λ is. chosen_fit ns) (λ e is. (export_asks n e is, chosen_fit ns))
+  chosen_fit (n ∷ ns) = grind (arith, chosen_fit ns, by_place, export_asks)
 
   chosen_read : (ns : List ℕ) → map (λ (p : MemberSpec). object_in (member_of p).bytes) (member_specs_after ns) ≡ map Some (map (export machine dll) (chosen_of ns) ++ tail machine dll ∷ [])
   chosen_read [] = ap (λ o. o ∷ []) tail_reads
-  chosen_read (n ∷ ns) =
-      by_place (λ o. map (λ (p : MemberSpec). object_in (member_of p).bytes) (cons_option (option_map (export_spec machine dll.linked n) o) (filter_map (numbered_spec machine dll.linked exports) ns) ++ tail_spec machine dll ∷ [])
-      ≡ map Some (map (export machine dll) (cons_option o (chosen_of ns)) ++ tail machine dll ∷ [])) n (slice_get exports n) refl
-      (λ is. chosen_read ns)
-      (λ e is. ap (λ o. o ∷ map (λ (p : MemberSpec). object_in (member_of p).bytes) (member_specs_after ns)) (export_reads n e is) ∙ ap (λ rest. Some (export machine dll e) ∷ rest) (chosen_read ns))
+  chosen_read (n ∷ ns) = grind (arith, chosen_read ns, by_place, export_reads)
 
   chosen_listed : (ns : List ℕ) → flat_map (λ (p : MemberSpec). p.symbols) (member_specs_after ns) ≡ flat_map archive_symbols (chosen_of ns) ++ iname_symbol machine dll.linked ∷ []
   unfolding tail_spec export_spec
   chosen_listed [] = refl
-  chosen_listed (n ∷ ns) =
-      by_place (λ o. flat_map (λ (p : MemberSpec). p.symbols) (cons_option (option_map (export_spec machine dll.linked n) o) (filter_map (numbered_spec machine dll.linked exports) ns) ++ tail_spec machine dll ∷ [])
-      ≡ flat_map archive_symbols (cons_option o (chosen_of ns)) ++ iname_symbol machine dll.linked ∷ []) n (slice_get exports n) refl
-      (λ is. chosen_listed ns)
-      (λ e is. ap (λ rest. archive_symbols e ++ rest) (chosen_listed ns) ∙ sym (append_assoc (archive_symbols e) (flat_map archive_symbols (chosen_of ns)) (iname_symbol machine dll.linked ∷ [])))
+  chosen_listed (n ∷ ns) = grind (arith, chosen_listed ns, by_place, append_assoc)
 
   chosen_names : (ns : List ℕ) → AllByRecursion (λ n. n < length exports) ns → map (λ (p : MemberSpec). p.name) (member_specs_after ns) ≡ map (export_name dll.linked) ns ++ tail_name dll.linked ∷ []
   unfolding tail_spec export_spec
   chosen_names [] within = refl
-  chosen_names (n ∷ ns) within =
-      let first : n < length exports = within.0 in
-      by_place (λ o. map (λ (p : MemberSpec). p.name) (cons_option (option_map (export_spec machine dll.linked n) o) (filter_map (numbered_spec machine dll.linked exports) ns) ++ tail_spec machine dll ∷ [])
-      ≡ export_name dll.linked n ∷ (map (export_name dll.linked) ns ++ tail_name dll.linked ∷ [])) n (slice_get exports n) refl
-      (λ is. let past : length exports ≤ n = past_end exports n is in absurd (omega arith))
-      (λ e is. ap (λ rest. export_name dll.linked n ∷ rest) (chosen_names ns within.1))
+  chosen_names (n ∷ ns) within = grind (arith, chosen_names ns within.1, by_place, past_end)
 
   pub chosen_among : (ns : List ℕ) → AllByRecursion (λ p. Among p (gnu_specs machine dll exports)) (member_specs_after ns)
   chosen_among [] = (tail_among, tt)
-  chosen_among (n ∷ ns) =
-      by_place (λ o. AllByRecursion (λ p. Among p (gnu_specs machine dll exports)) (cons_option (option_map (export_spec machine dll.linked n) o) (filter_map (numbered_spec machine dll.linked exports) ns) ++ tail_spec machine dll ∷ [])) n (slice_get exports n) refl
-      (λ is. chosen_among ns)
-      (λ e is. (export_among n e is, chosen_among ns))
+  chosen_among (n ∷ ns) = grind (arith, chosen_among ns, by_place, export_among)
 
 -- The order of the names.
 
@@ -284,10 +252,7 @@ module _ (d : DefinitionView) (machine : MachineType) (members : List MemberView
       ∙ ap (λ rest. Some (head machine (names_for Gnu d)) ∷ rest) (chosen_read machine (names_for Gnu d) public linked_free sound not_long chosen)
 
   pub objects_are : objects_in (linked_members d machine chosen) ≡ linked_objects machine (names_for Gnu d) (chosen_exports d chosen)
-  objects_are =
-      filter_map-present (λ (m : MemberView). object_in m.bytes) (linked_members d machine chosen)
-      ∙ ap present read_as
-      ∙ present-some (linked_objects machine (names_for Gnu d) (chosen_exports d chosen))
+  objects_are = grind (arith, filter_map-present, present, read_as, present-some)
 
   pub members_read : map (λ (m : MemberView). object_in m.bytes) (linked_members d machine chosen) ≡ map Some (objects_in (linked_members d machine chosen))
   members_read = read_as ∙ ap (map Some) (sym objects_are)

@@ -5,7 +5,7 @@ use Rattle.std.proofs.lemmas.Bool.{or_parts, false≢true}
 use Rattle.implib.specs.Ascii.{holds}
 use Rattle.implib.specs.Import.{Ask, Name, Ordinal}
 use Rattle.implib.specs.Link.Image.{Range, byte_at}
-use Rattle.implib.specs.Link.Load.{ThunkAsksFor, BytesAt, Loads, NumberAt, TableAt, TextAt, number_in}
+use Rattle.implib.specs.Link.Load.{ThunkAsksFor, BytesAt, Loads, NumberAt, TableAt, TextAt}
 use Rattle.implib.specs.Formats.Layout.{HasNoNul}
 
 same_byte : (o : Option ℕ) (x y : ℕ) → o ≡ Some x → o ≡ Some y → x ≡ y
@@ -19,12 +19,10 @@ unfolding BytesAt
 bytes_once image [] [] a first second long = refl
 bytes_once image [] (y ∷ ys) a first second long = absurd (omega arith)
 bytes_once image (x ∷ xs) [] a first second long = absurd (omega arith)
-bytes_once image (x ∷ xs) (y ∷ ys) a first second long =
-    same_list x y xs ys (same_byte (byte_at image a) x y first.0 second.0) (bytes_once image xs ys (a + 1) first.1 second.1 (omega arith))
+bytes_once image (x ∷ xs) (y ∷ ys) a first second long = grind (arith, bytes_once image xs ys (a + 1) first.1 second.1 (omega arith), same_list, same_byte)
 
 pub number_once : (image : List Range) (width a n m : ℕ) → NumberAt image width a n → NumberAt image width a m → n ≡ m
-number_once image width a n m first second =
-    sym first.value ∙ ap number_in (bytes_once image first.bytes second.bytes a first.located second.located (first.count ∙ sym second.count)) ∙ second.value
+number_once image width a n m first second = grind (arith, bytes_once)
 
 no_nul_first : (y : ℕ) (ys : List ℕ) → HasNoNul (y ∷ ys) → 0 ≡ y → ⊥
 no_nul_first zero ys free is = false≢true (sym free)
@@ -38,9 +36,7 @@ unfolding BytesAt
 text_once image [] [] a first_free second_free first second = refl
 text_once image [] (y ∷ ys) a first_free second_free first second = absurd (no_nul_first y ys second_free (same_byte (byte_at image a) 0 y first.0 second.0))
 text_once image (x ∷ xs) [] a first_free second_free first second = absurd (no_nul_first x xs first_free (same_byte (byte_at image a) 0 x second.0 first.0))
-text_once image (x ∷ xs) (y ∷ ys) a first_free second_free first second =
-    same_list x y xs ys (same_byte (byte_at image a) x y first.0 second.0)
-    (text_once image xs ys (a + 1) (no_nul_rest x xs first_free) (no_nul_rest y ys second_free) first.1 second.1)
+text_once image (x ∷ xs) (y ∷ ys) a first_free second_free first second = grind (arith, text_once image xs ys (a + 1) (no_nul_rest x xs first_free) (no_nul_rest y ys second_free) first.1 second.1, same_list, same_byte, no_nul_rest)
 
 ask_once : (image : List Range) (width thunk : ℕ) (first second : Ask) → ThunkAsksFor image width thunk first → ThunkAsksFor image width thunk second → first ≡ second
 unfolding ThunkAsksFor

@@ -1,5 +1,5 @@
 -- Where the sections of the objects for GNU's linker are placed, and what these objects define.
-use Rattle.std.proofs.Common.{◌≡◌, ℕ, ◌+◌, ◌-◌, ◌%◌, ◌≤◌, Bool, true, false, List, [], ◌∷◌, ◌++◌, length, map, Some, None, refl, ap, ◌∙◌, arith, inl, inr, if◌then◌else◌, sym}
+use Rattle.std.proofs.Common.{◌≡◌, ℕ, ◌+◌, ◌-◌, ◌%◌, ◌≤◌, Bool, true, false, List, [], ◌∷◌, ◌++◌, length, map, Some, None, refl, ap, arith, inl, inr, if◌then◌else◌}
 use Rattle.std.specs.List.{flat_map}
 use Rattle.std.proofs.lemmas.Bool.{cases_Bool}
 use Rattle.std.proofs.lemmas.List.{append_assoc, length-replicate}
@@ -111,9 +111,7 @@ module _ (machine : MachineType) (dll : NamesOfDll) where
   aligned_after b e even = record { descriptors = even.descriptors; lookups = aligned_thunk machine b.lookups even.lookups; addresses = aligned_thunk machine b.addresses even.addresses }
 
   pub aligned_head : (b : Bases) → AreAligned b → AreAligned (ends_of_head b)
-  aligned_head b even =
-      let whole : b.descriptors % 4 ≡ 0 = even.descriptors in
-      record { descriptors = omega arith; lookups = even.lookups; addresses = even.addresses }
+  aligned_head b even = grind arith
 
   plus_none : (n : ℕ) → n + 0 ≡ n
   plus_none n = omega arith
@@ -173,17 +171,9 @@ module _ (machine : MachineType) (dll : NamesOfDll) where
       definitions (placed_from b (after_head es rest)) ≡ defined_after b es ++ definitions (placed_from (ends_of_all b es) rest)
   unfolding defined_after tail_object ends_of_exports
   definitions-after b [] rest even = ap definitions (placed-tail b rest even)
-  definitions-after b (e ∷ es) rest even =
-      ap definitions (placed-export b e (after_head es rest) even)
-      ∙ defined_by_export b e (definitions (placed_from (ends_of_export b e) (after_head es rest)))
-      ∙ ap (λ others. code_definition e ++ address_definition b e ∷ others) (definitions-after (ends_of_export b e) es rest (aligned_after b e even))
-      ∙ sym (append_assoc (code_definition e) (address_definition b e ∷ defined_after (ends_of_export b e) es) (definitions (placed_from (ends_of_all (ends_of_export b e) es) rest)))
+  definitions-after b (e ∷ es) rest even = grind (arith, definitions-after (ends_of_export b e) es rest (aligned_after b e even), placed-export, defined_by_export, aligned_after, append_assoc)
 
   pub names-after : (b : Bases) (es : List ExportView) → map (λ (d : SymbolDefinition). d.name) (defined_after b es) ≡ flat_map archive_symbols es ++ iname_symbol machine dll.linked ∷ []
   unfolding defined_after hint_name
   names-after b [] = refl
-  names-after b (e ∷ es) =
-      elim (cases_Bool e.is_data) [
-        | inl is ↦ rw is (ap (λ rest. imp_symbol e.name ∷ rest) (names-after (ends_of_export b e) es))
-        | inr is ↦ rw is (ap (λ rest. e.name ∷ imp_symbol e.name ∷ rest) (names-after (ends_of_export b e) es))
-      ]
+  names-after b (e ∷ es) = grind (arith, names-after (ends_of_export b e) es, cases_Bool)

@@ -119,10 +119,7 @@ filled_located base (p ∷ ps) ranges sub apart =
 pub located_parts : (ranges : List Range) (xs ys : List ℕ) (a : ℕ) → BytesAt ranges a (xs ++ ys) → BytesAt ranges a xs × BytesAt ranges (a + length xs) ys
 unfolding BytesAt
 located_parts ranges [] ys a located = (tt, subst (λ n. BytesAt ranges n ys) (omega arith) located)
-located_parts ranges (x ∷ xs) ys a located =
-    let parts = located_parts ranges xs ys (a + 1) located.1 in
-    let same : a + 1 + length xs ≡ a + length (x ∷ xs) = omega arith in
-    ((located.0, parts.0), subst (λ n. BytesAt ranges n ys) same parts.1)
+located_parts ranges (x ∷ xs) ys a located = grind (arith, located_parts ranges xs ys (a + 1) located.1)
 
 -- an address with a byte is one of a range
 pub address_bounds : (ranges : List Range) (a b : ℕ) → AllByRecursion (λ r. 0 < r.start) ranges → AllByRecursion (λ r. range_end r < 2 ^ 31) ranges →

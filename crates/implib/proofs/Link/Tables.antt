@@ -1,5 +1,5 @@
 -- The lookup table and the address table of linked objects for GNU's linker ask for what is expected.
-use Rattle.std.proofs.Common.{◌≡◌, ℕ, ◌+◌, ◌-◌, ◌%◌, ◌<◌, ◌≤◌, ◌^◌, true, false, List, [], ◌∷◌, ◌++◌, length, map, refl, ap, sym, ◌∙◌, arith, subst, inl, inr, if◌then◌else◌}
+use Rattle.std.proofs.Common.{◌≡◌, ℕ, ◌+◌, ◌-◌, ◌%◌, ◌<◌, ◌≤◌, ◌^◌, true, false, List, [], ◌∷◌, ◌++◌, length, map, refl, ap, sym, ◌∙◌, arith, subst, inl, inr}
 use Rattle.std.specs.List.{AllByRecursion}
 use Rattle.std.proofs.lemmas.Bool.{cases_Bool}
 use Rattle.std.proofs.lemmas.List.{append_assoc, length-append, length-replicate}
@@ -7,7 +7,7 @@ use Rattle.implib.specs.declared.machine.MachineType.{MachineType}
 use Rattle.implib.specs.Formats.Bytes.{u16_bytes, u32_bytes}
 use Rattle.implib.specs.Definition.{ExportView}
 use Rattle.implib.specs.Members.Gnu.{export_object, hint_name, hint_name_symbol, relocations_of_thunk, tail_object, thunk}
-use Rattle.implib.specs.Import.{Name, Ordinal, expected_ask, name_asked}
+use Rattle.implib.specs.Import.{expected_ask, name_asked}
 use Rattle.implib.specs.Link.Image.{Contribution, Range, filled, contributions, range_end, relocated, with_address}
 use Rattle.implib.specs.Link.Placement.{Addresses, Bases, Descriptors, HintNames, Lookups, Placed, next_multiple, placed_from}
 use Rattle.implib.specs.Link.Resolution.{target_address}
@@ -16,7 +16,7 @@ use Rattle.implib.specs.Members.ImportTables.{thunk_width, zeros}
 use Rattle.implib.specs.Formats.Object.{Object}
 use Rattle.implib.specs.Formats.Layout.{HasNoNul}
 use Rattle.implib.proofs.Link.Ranges.{located_parts}
-use Rattle.implib.proofs.Link.Placement.{AreAligned, after_head, aligned_after, at_least, ends_of_all, ends_of_export, ends_of_exports, ends_of_tail, length-thunk_of, placed-export, placed-tail, placed_export}
+use Rattle.implib.proofs.Link.Placement.{AreAligned, after_head, aligned_after, at_least, ends_of_all, ends_of_export, ends_of_exports, length-thunk_of, placed-export, placed-tail, placed_export}
 use Rattle.implib.proofs.Link.Thunks.{StrictTableAt, StrictThunkAt, length-address, name_located, ordinal_located, ordinal_thunk, same_number, with_address-zeros, zeros_number}
 use Rattle.implib.specs.LibraryName.{NamesOfDll}
 
@@ -28,9 +28,7 @@ pub record CanBeAsked (machine : MachineType) (e : ExportView) : Type 0 where
 -- bytes at their position are what is filled in first
 pub filled_first : (a n : ℕ) (bytes : List ℕ) (rest : List Contribution) → length bytes ≡ n →
     filled a (record { address = a; bytes = bytes } ∷ rest) ≡ bytes ++ filled (a + n) rest
-filled_first a n bytes rest long =
-    let none : a - a ≡ 0 = omega arith in
-    rw (none, long) refl
+filled_first a n bytes rest long = grind arith
 
 module _ (machine : MachineType) (dll : NamesOfDll) (linked : List Placed) where
   -- an export's thunk, relocated
@@ -52,10 +50,7 @@ module _ (machine : MachineType) (dll : NamesOfDll) (linked : List Placed) where
 
   thunk_of_name : (b : Bases) (e : ExportView) → e.no_name ≡ false →
       thunk_linked b e ≡ u32_bytes ((0 + (next_multiple 2 b.hint_names + 0)) % 2 ^ 32) ++ zeros (thunk_width machine - 4)
-  thunk_of_name b e is =
-      plain_thunk b e is
-      ∙ ap (with_address (zeros (thunk_width machine)) 0) (hint_name_address b e)
-      ∙ with_address-zeros machine (next_multiple 2 b.hint_names + 0)
+  thunk_of_name b e is = grind (arith, plain_thunk, hint_name_address, with_address-zeros)
 
   pub length-thunk_linked : (b : Bases) (e : ExportView) → length (thunk_linked b e) ≡ thunk_width machine
   length-thunk_linked b e =
@@ -79,9 +74,7 @@ module _ (machine : MachineType) (dll : NamesOfDll) (linked : List Placed) where
       filled b.lookups (contributions machine linked Lookups (placed_from b (after_head machine dll es rest)))
       ≡ thunk_bytes b es ++ filled (ends_of_all machine dll b es).lookups (contributions machine linked Lookups (placed_from (ends_of_all machine dll b es) rest))
   unfolding thunk_bytes tail_object export_object thunk_linked ends_of_exports
-  lookups_filled b [] rest even =
-      ap (λ ps. filled b.lookups (contributions machine linked Lookups ps)) (placed-tail machine dll b rest even)
-      ∙ filled_first b.lookups (thunk_width machine) (zeros (thunk_width machine)) (contributions machine linked Lookups (placed_from (ends_of_tail machine dll b) rest)) (length-replicate {A = ℕ} (thunk_width machine) 0)
+  lookups_filled b [] rest even = grind (arith, placed-tail, filled_first, length-replicate)
   lookups_filled b (e ∷ es) rest even =
       let later : Bases = ends_of_export machine dll b e in
       ap (λ ps. filled b.lookups (contributions machine linked Lookups ps)) (placed-export machine dll b e (after_head machine dll es rest) even)
@@ -93,9 +86,7 @@ module _ (machine : MachineType) (dll : NamesOfDll) (linked : List Placed) where
       filled b.addresses (contributions machine linked Addresses (placed_from b (after_head machine dll es rest)))
       ≡ thunk_bytes b es ++ filled (ends_of_all machine dll b es).addresses (contributions machine linked Addresses (placed_from (ends_of_all machine dll b es) rest))
   unfolding thunk_bytes tail_object export_object thunk_linked ends_of_exports
-  addresses_filled b [] rest even =
-      ap (λ ps. filled b.addresses (contributions machine linked Addresses ps)) (placed-tail machine dll b rest even)
-      ∙ filled_first b.addresses (thunk_width machine) (zeros (thunk_width machine)) (contributions machine linked Addresses (placed_from (ends_of_tail machine dll b) rest)) (length-replicate {A = ℕ} (thunk_width machine) 0)
+  addresses_filled b [] rest even = grind (arith, placed-tail, filled_first, length-replicate)
   addresses_filled b (e ∷ es) rest even =
       let later : Bases = ends_of_export machine dll b e in
       ap (λ ps. filled b.addresses (contributions machine linked Addresses ps)) (placed-export machine dll b e (after_head machine dll es rest) even)
@@ -133,8 +124,7 @@ module _ (machine : MachineType) (dll : NamesOfDll) (linked : List Placed) where
   lookups_end b [] = rw (length-replicate {A = ℕ} (thunk_width machine) 0) refl
   lookups_end b (e ∷ es) =
       let later : Bases = ends_of_export machine dll b e in
-      let long : length (thunk_linked b e ++ thunk_bytes later es) ≡ thunk_width machine + length (thunk_bytes later es) =
-      length-append (thunk_linked b e) (thunk_bytes later es) ∙ ap (λ n. n + length (thunk_bytes later es)) (length-thunk_linked b e) in
+      let long : length (thunk_linked b e ++ thunk_bytes later es) ≡ thunk_width machine + length (thunk_bytes later es) = grind (arith, length-append, thunk_linked, thunk_bytes, length-thunk_linked) in
       let sum : b.lookups + (thunk_width machine + length (thunk_bytes later es)) ≡ b.lookups + thunk_width machine + length (thunk_bytes later es) = omega arith in
       ap (λ n. b.lookups + n) long ∙ sum ∙ lookups_end later es
 
@@ -143,8 +133,7 @@ module _ (machine : MachineType) (dll : NamesOfDll) (linked : List Placed) where
   addresses_end b [] = rw (length-replicate {A = ℕ} (thunk_width machine) 0) refl
   addresses_end b (e ∷ es) =
       let later : Bases = ends_of_export machine dll b e in
-      let long : length (thunk_linked b e ++ thunk_bytes later es) ≡ thunk_width machine + length (thunk_bytes later es) =
-      length-append (thunk_linked b e) (thunk_bytes later es) ∙ ap (λ n. n + length (thunk_bytes later es)) (length-thunk_linked b e) in
+      let long : length (thunk_linked b e ++ thunk_bytes later es) ≡ thunk_width machine + length (thunk_bytes later es) = grind (arith, length-append, thunk_linked, thunk_bytes, length-thunk_linked) in
       let sum : b.addresses + (thunk_width machine + length (thunk_bytes later es)) ≡ b.addresses + thunk_width machine + length (thunk_bytes later es) = omega arith in
       ap (λ n. b.addresses + n) long ∙ sum ∙ addresses_end later es
 
@@ -156,10 +145,8 @@ module _ (machine : MachineType) (dll : NamesOfDll) (linked : List Placed) where
       let padding : List ℕ = zeros (next_multiple 2 b.hint_names - b.hint_names) in
       let below : b.hint_names ≤ next_multiple 2 b.hint_names = at_least 2 b.hint_names in
       let padded : length padding ≡ next_multiple 2 b.hint_names - b.hint_names = length-replicate {A = ℕ} (next_multiple 2 b.hint_names - b.hint_names) 0 in
-      let long : length (padding ++ (hint_name machine e ++ hint_bytes later es)) ≡ length padding + length (hint_name machine e ++ hint_bytes later es) =
-      length-append padding (hint_name machine e ++ hint_bytes later es) in
-      let longer : length (hint_name machine e ++ hint_bytes later es) ≡ length (hint_name machine e) + length (hint_bytes later es) =
-      length-append (hint_name machine e) (hint_bytes later es) in
+      let long : length (padding ++ (hint_name machine e ++ hint_bytes later es)) ≡ length padding + length (hint_name machine e ++ hint_bytes later es) = grind (arith, length-append, hint_bytes) in
+      let longer : length (hint_name machine e ++ hint_bytes later es) ≡ length (hint_name machine e) + length (hint_bytes later es) = grind (arith, length-append, hint_bytes) in
       let sum : b.hint_names + length (padding ++ (hint_name machine e ++ hint_bytes later es)) ≡ next_multiple 2 b.hint_names + length (hint_name machine e) + length (hint_bytes later es) = omega arith in
       sum ∙ hint_names_end later es
 
@@ -171,24 +158,13 @@ module _ (machine : MachineType) (dll : NamesOfDll) (linked : List Placed) where
 
     thunk_at : (b : Bases) (e : ExportView) (a : ℕ) → CanBeAsked machine e → BytesAt image a (thunk_linked b e) →
         BytesAt image (next_multiple 2 b.hint_names) (hint_name machine e) → StrictThunkAt image (thunk_width machine) a (expected_ask machine e)
-    thunk_at b e a fits located hint_located =
-        elim (cases_Bool e.no_name) [
-          | inl is ↦ subst (λ test. StrictThunkAt image (thunk_width machine) a (if test then Ordinal e.ordinal else Name (name_asked machine e) e.ordinal)) (sym is)
-              (ordinal_located machine image e.ordinal a fits.ordinal (subst (BytesAt image a) (thunk_of_ordinal b e is) located))
-          | inr is ↦ subst (λ test. StrictThunkAt image (thunk_width machine) a (if test then Ordinal e.ordinal else Name (name_asked machine e) e.ordinal)) (sym is)
-              (name_located machine image starts ends (name_asked machine e) e.ordinal (next_multiple 2 b.hint_names) a fits.ordinal fits.name
-              (subst (BytesAt image a) (thunk_of_name b e is) located)
-              (subst (BytesAt image (next_multiple 2 b.hint_names)) (hint_is e is) hint_located))
-        ]
+    thunk_at b e a fits located hint_located = grind (arith, cases_Bool, ordinal_located, thunk_of_ordinal, name_located, thunk_of_name, hint_is)
 
     -- a table asks for what is expected
     pub table_at : (es : List ExportView) (b : Bases) (a : ℕ) → AllByRecursion (CanBeAsked machine) es → BytesAt image a (thunk_bytes b es) →
         BytesAt image b.hint_names (hint_bytes b es) → StrictTableAt image (thunk_width machine) a (map (expected_ask machine) es)
     unfolding TableAt WholeTableAt thunk_bytes hint_bytes
-    table_at [] b a fit located hints = record {
-      plain = record { bytes = zeros (thunk_width machine); located = located; count = length-replicate {A = ℕ} (thunk_width machine) 0; value = zeros_number machine };
-      whole = tt;
-    }
+    table_at [] b a fit located hints = grind (arith, length-replicate, zeros_number)
     table_at (e ∷ es) b a fit located hints =
         let later : Bases = ends_of_export machine dll b e in
         let parts = located_parts image (thunk_linked b e) (thunk_bytes later es) a located in

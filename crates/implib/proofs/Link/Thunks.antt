@@ -1,5 +1,5 @@
 -- Thunks in an image ask for an ordinal or for a name, for a loader that is strict.
-use Rattle.std.proofs.Common.{◌≡◌, ℕ, ◌+◌, ◌-◌, ◌*◌, ◌%◌, ◌<◌, ◌≤◌, ◌^◌, true, List, [], ◌∷◌, ◌++◌, length, refl, arith, subst}
+use Rattle.std.proofs.Common.{◌≡◌, ℕ, ◌+◌, ◌-◌, ◌*◌, ◌%◌, ◌<◌, ◌≤◌, ◌^◌, true, List, [], ◌∷◌, ◌++◌, length, refl, arith}
 use Rattle.std.specs.Prelude.{◌==◌}
 use Rattle.std.specs.List.{AllByRecursion}
 use Rattle.implib.specs.declared.machine.MachineType.{MachineType}
@@ -8,7 +8,7 @@ use Rattle.implib.specs.Formats.Bytes.{u16_bytes, u32_bytes}
 use Rattle.implib.specs.Formats.Constants.{image_relative}
 use Rattle.implib.specs.Import.{Ask, Name, Ordinal}
 use Rattle.implib.specs.Link.Image.{Range, range_end, with_address}
-use Rattle.implib.specs.Link.Load.{ThunkAsksFor, BytesAt, IsWhole, NumberAt, TableAt, TextAt, ThunkAt, WholeTableAt, WholeThunkAt, number_in}
+use Rattle.implib.specs.Link.Load.{ThunkAsksFor, BytesAt, IsWhole, NumberAt, TableAt, ThunkAt, WholeTableAt, WholeThunkAt, number_in}
 use Rattle.implib.specs.Members.ImportTables.{thunk_width, zeros}
 use Rattle.implib.specs.Formats.Object.{u32_at}
 use Rattle.implib.specs.Formats.Layout.{HasNoNul}
@@ -111,23 +111,7 @@ length-u16 n = refl
 pub ordinal_located : (machine : MachineType) (image : List Range) (n a : ℕ) → n < 2 ^ 16 → BytesAt image a (ordinal_thunk machine n) →
     StrictThunkAt image (thunk_width machine) a (Ordinal n)
 unfolding ThunkAsksFor IsWhole
-ordinal_located machine image n a small located =
-    let high = ordinal_top machine n in
-    let here : NumberAt image (thunk_width machine) a (number_in (ordinal_thunk machine n)) = record {
-      bytes = ordinal_thunk machine n;
-      located = located;
-      count = length-thunk_of machine n true;
-      value = refl;
-    } in
-    record {
-      plain = record {
-        thunk = number_in (ordinal_thunk machine n);
-        located = here;
-        not_zero = top_nonzero machine (number_in (ordinal_thunk machine n)) high;
-        asks = (high, ordinal_low machine n small);
-      };
-      whole = record { thunk = number_in (ordinal_thunk machine n); located = here; whole = ordinal_whole machine n small };
-    }
+ordinal_located machine image n a small located = grind (arith, ordinal_top machine n, length-thunk_of machine n true, top_nonzero machine (number_in (ordinal_thunk machine n)) (ordinal_top machine n), ordinal_low machine n small, ordinal_whole machine n small)
 
 module _ (machine : MachineType) (image : List Range) (starts : AllByRecursion (λ r. 0 < r.start) image) (ends : AllByRecursion (λ r. range_end r < 2 ^ 31) image) where
   first_bounds : (a first : ℕ) (rest : List ℕ) → BytesAt image a (first ∷ rest) → (0 < a) × (a < 2 ^ 31)
@@ -149,24 +133,9 @@ module _ (machine : MachineType) (image : List Range) (starts : AllByRecursion (
       let small = bounds.1 in
       let parts = located_parts image (u16_bytes hint) (text ++ 0 ∷ []) place hint_located in
       let low : place ≡ place % 2 ^ 31 = omega arith in
-      let text_located : BytesAt image (place + 2) (text ++ 0 ∷ []) =
-      subst (λ n. BytesAt image (place + n) (text ++ 0 ∷ [])) (length-u16 hint) parts.1 in
-      let here : NumberAt image (thunk_width machine) a place = record {
-        bytes = u32_bytes place ++ zeros (thunk_width machine - 4);
-        located = subst (λ n. BytesAt image a (u32_bytes n ++ zeros (thunk_width machine - 4))) (small_mod place small) located;
-        count = length-address machine place;
-        value = number-address machine place small;
-      } in
+      let text_located : BytesAt image (place + 2) (text ++ 0 ∷ []) = grind (arith, length-u16) in
+      let here : NumberAt image (thunk_width machine) a place = grind (arith, small_mod, length-address, number-address) in
       record {
-        plain = record {
-          thunk = place;
-          located = here;
-          not_zero = λ none. omega arith;
-          asks = (
-            below_top machine place small,
-            subst (λ n. NumberAt image 2 n hint) low (record { bytes = u16_bytes hint; located = parts.0; count = length-u16 hint; value = number-u16 hint hint_small }),
-            subst (λ n. TextAt image (n + 2) text) low (record { no_nul = free; located = text_located }),
-          );
-        };
+        plain = grind (arith, below_top, length-u16, number-u16);
         whole = record { thunk = place; located = here; whole = small };
       }

@@ -1,5 +1,5 @@
 -- What the exports of a text ask for, and those that give a name.
-use Rattle.std.proofs.Common.{◌≡◌, ℕ, Bool, true, false, ◌||◌, ◌&&◌, if◌then◌else◌, ◌⊎◌, inl, inr, List, [], ◌∷◌, map, Option, Some, None, refl, ap, subst, ◌∙◌}
+use Rattle.std.proofs.Common.{arith, ◌≡◌, ℕ, Bool, true, false, ◌||◌, ◌&&◌, if◌then◌else◌, ◌⊎◌, inl, inr, List, [], ◌∷◌, map, Option, Some, None, refl, ap, ◌∙◌}
 use Rattle.std.specs.Prelude.{◌==◌, not, slice_index, option_map, unwrap_or}
 use Rattle.std.specs.List.{AllByRecursion}
 use Rattle.std.proofs.lemmas.Bool.{eqb-true}
@@ -7,10 +7,10 @@ use Rattle.implib.specs.declared.flavor.Flavor.{Flavor}
 use Rattle.implib.specs.declared.flavor.Flavor.TheVariants.{Msvc, Gnu}
 use Rattle.implib.specs.declared.machine.MachineType.{MachineType}
 use Rattle.implib.specs.declared.machine.MachineType.TheVariants.{I386, ARMNT, AMD64, ARM64}
-use Rattle.implib.specs.Asked.{AskForGivenNames, AsksFor, AsksForGiven, AsksForWords, EachAsksForItsWord, external_word, exports_of_text}
+use Rattle.implib.specs.Asked.{AskForGivenNames, AsksFor, AsksForGiven, AsksForWords, EachAsksForItsWord, external_word}
 use Rattle.implib.specs.Definition.{DefinitionView, ExportView}
 use Rattle.implib.specs.Text.Grammar.{Export}
-use Rattle.implib.specs.Import.{Name, Ordinal, holds, at_sign, name_asked, public_exports, underscore}
+use Rattle.implib.specs.Import.{Name, Ordinal, holds, at_sign, name_asked, underscore}
 use Rattle.implib.specs.Underscore.{asked_name}
 use Rattle.implib.specs.Ascii.{begins_with, without_first}
 use Rattle.implib.specs.Text.Meaning.{export_meaning}
@@ -21,7 +21,7 @@ use Rattle.implib.specs.Members.Msvc.{asked_by_short_import}
 use Rattle.implib.specs.Members.MemberSpec.{MemberView}
 use Rattle.implib.specs.Members.Members.{AreMembersOf}
 use Rattle.implib.specs.Text.Parses.{Parses}
-use Rattle.implib.specs.Renaming.{renamed, renamed_export, name_to_link}
+use Rattle.implib.specs.Renaming.{renamed_export, name_to_link}
 use Rattle.implib.proofs.Members.Import.{ask_written-expected}
 use Rattle.implib.proofs.Members.NotRefused.{AsksNoOther, exports_ask, given_asked}
 
@@ -86,15 +86,10 @@ each_asks machine (e ∷ exports) = (asks_for_word machine e, each_asks machine 
 
 -- each export of a parsed definition asks for its word
 pub asks_for_words : (text : List ℕ) (machine : MachineType) (definition : DefinitionView) (parsed : Parses text machine definition) → AsksForWords text machine definition parsed
-asks_for_words text machine definition parsed =
-    subst (λ (d : DefinitionView). EachAsksForItsWord machine (renamed d).exports (exports_of_text parsed.statements)) parsed.means
-    (each_asks machine (exports_of_text parsed.statements))
+asks_for_words text machine definition parsed = grind (arith, each_asks)
 
 asks_for_given : (flavor : Flavor) (machine : MachineType) (e : ExportView) → AsksNoOther flavor machine e → AsksForGiven flavor machine e
-asks_for_given flavor machine e asks = record {
-  expected = λ name is by_name. rw (by_name, is) refl;
-  by_member = λ name is by_name. given_asked flavor machine e name asks is by_name;
-}
+asks_for_given flavor machine e asks = grind (arith, given_asked)
 
 each_asks_for_given : (flavor : Flavor) (machine : MachineType) (exports : List ExportView) → AllByRecursion (AsksNoOther flavor machine) exports →
     AllByRecursion (AsksForGiven flavor machine) exports
@@ -104,5 +99,4 @@ each_asks_for_given flavor machine (e ∷ exports) ask = (asks_for_given flavor 
 -- each export of a definition that has members asks for the name that it gives
 pub ask_for_given_names : (flavor : Flavor) (machine : MachineType) (d : DefinitionView) (members : List MemberView) → AreMembersOf d machine flavor members →
     AskForGivenNames flavor machine d
-ask_for_given_names flavor machine d members made =
-    each_asks_for_given flavor machine (public_exports (renamed d)) (exports_ask d machine flavor members made)
+ask_for_given_names flavor machine d members made = grind (arith, each_asks_for_given, exports_ask)

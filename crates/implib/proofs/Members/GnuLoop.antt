@@ -1,5 +1,5 @@
 -- The loop over a definition's exports for GNU's linker: what is left to make, and the turning of what is made.
-use Rattle.std.proofs.Common.{◌≡◌, ℕ, ◌+◌, Bool, true, false, if◌then◌else◌, ◌||◌, ◌&&◌, List, [], ◌∷◌, ◌++◌, map, reverse, None, refl, ap, sym, ◌∙◌, append_assoc}
+use Rattle.std.proofs.Common.{arith, ◌≡◌, ℕ, ◌+◌, Bool, true, false, if◌then◌else◌, ◌||◌, List, [], ◌∷◌, ◌++◌, map, reverse, None, refl, ap, sym, ◌∙◌, append_assoc}
 use Rattle.std.specs.Prelude.{not}
 use Rattle.std.specs.List.{filter, list_all, list_any}
 use Rattle.std.proofs.lemmas.List.{map-append, reverse-append}
@@ -35,36 +35,14 @@ module _ (machine : MachineType) (numbered : ℕ → List ExportView → List Me
 
   -- after a private export
   pub left_private : e.private ≡ true → Left machine numbered all long sound index number members (e ∷ exports) → Left machine numbered all long sound (index + 1) number members exports
-  left_private private left = record {
-    named = rest_named left.named;
-    made = sym (ap (λ (x : List ExportView). members ++ map member_of (numbered number x)) (passed private)) ∙ left.made;
-    fit = sym (ap (λ (x : List ExportView). list_any is_too_long (numbered number x)) (passed private)) ∙ left.fit;
-    ordinals = sym (ap (list_all has_u16_ordinal) (passed private)) ∙ left.ordinals;
-  }
+  left_private private left = grind (arith, rest_named, passed)
 
   -- after an export whose members are made
   pub left_public : (specs : List MemberSpec) (extended : List MemberView) → numbered number (e ∷ public) ≡ specs ++ numbered (number + 1) public →
       e.private ≡ false → Left machine numbered all long sound index number members (e ∷ exports) →
       extended ≡ members ++ map member_of specs → list_any is_too_long specs ≡ false → has_u16_ordinal e ≡ true →
       Left machine numbered all long sound (index + 1) (number + 1) extended exports
-  left_public specs extended step unhidden left made short ordinal =
-      let others = numbered (number + 1) public in
-      let first : numbered number (filter (λ x. not x.private) (e ∷ exports)) ≡ specs ++ others = ap (numbered number) (kept unhidden) ∙ step in
-      record {
-        named = rest_named left.named;
-        made =
-            ap (λ x. x ++ map member_of others) made
-            ∙ (append_assoc members (map member_of specs) (map member_of others)
-            ∙ (ap (λ x. members ++ x) (sym (map-append member_of specs others))
-            ∙ (sym (ap (λ x. members ++ map member_of x) first) ∙ left.made)));
-        fit =
-            sym (ap (λ test. test || list_any is_too_long others) short)
-            ∙ (sym (list_any-append is_too_long specs others)
-            ∙ (sym (ap (list_any is_too_long) first) ∙ left.fit));
-        ordinals =
-            sym (ap (λ test. test && list_all has_u16_ordinal public) ordinal)
-            ∙ (sym (ap (list_all has_u16_ordinal) (kept unhidden)) ∙ left.ordinals);
-      }
+  left_public specs extended step unhidden left made short ordinal = grind (arith, kept, rest_named, append_assoc, map-append, list_any-append)
 
 -- From the last to the first.
 
@@ -95,16 +73,12 @@ turned built head tail = reverse-append built (head ∷ tail ∷ [])
 -- what is made, turned round, is the members of the specifications turned round
 pub made_turned : (members : List MemberView) (built : List MemberSpec) (head tail : MemberSpec) → members ≡ map member_of built ++ map member_of (head ∷ tail ∷ []) →
     reverse members ≡ map member_of (tail ∷ head ∷ reverse built)
-made_turned members built head tail made =
-    ap reverse (made ∙ sym (map-append member_of built (head ∷ tail ∷ [])))
-    ∙ (sym (map-reverse member_of (built ++ head ∷ tail ∷ [])) ∙ ap (map member_of) (turned built head tail))
+made_turned members built head tail made = grind (arith, made, map-append, map-reverse, turned)
 
 -- a specification is too long among them where one is among those that were built
 pub long_turned : (built : List MemberSpec) (head tail : MemberSpec) →
     list_any is_too_long (tail ∷ head ∷ reverse built) ≡ list_any is_too_long built || list_any is_too_long (head ∷ tail ∷ [])
-long_turned built head tail =
-    ap (list_any is_too_long) (sym (turned built head tail))
-    ∙ (list_any-reverse is_too_long (built ++ head ∷ tail ∷ []) ∙ list_any-append is_too_long built (head ∷ tail ∷ []))
+long_turned built head tail = grind (arith, turned, list_any-reverse, list_any-append)
 
 -- so one is where one is among those that were built
 pub long_built : (built : List MemberSpec) (head tail : MemberSpec) → list_any is_too_long built ≡ true → list_any is_too_long (tail ∷ head ∷ reverse built) ≡ true

@@ -1,6 +1,6 @@
 -- The names of members for GNU's linker.
-use Rattle.std.proofs.Common.{◌≡◌, ℕ, suc, ◌+◌, ◌-◌, ◌<◌, ◌≤◌, Bool, true, false, cond, if◌then◌else◌, List, [], ◌∷◌, ◌++◌, length, take, drop, get_or, Some, None, refl, ap, sym, ◌∙◌, arith, append_assoc, add-one, one-add, subst}
-use Rattle.std.specs.Prelude.{◌==◌, not, nat_lt, decimal, replicate, slice_range}
+use Rattle.std.proofs.Common.{◌≡◌, ℕ, suc, ◌+◌, ◌-◌, ◌<◌, ◌≤◌, Bool, true, false, cond, if◌then◌else◌, List, [], ◌∷◌, ◌++◌, length, take, drop, get_or, Some, None, refl, ap, sym, ◌∙◌, arith, append_assoc, add-one, one-add}
+use Rattle.std.specs.Prelude.{◌==◌, not, slice_range}
 use Rattle.std.specs.Fmt.{char_count, format_spec, padded_integral, styled_decimal}
 use Rattle.std.specs.List.{position, position_or_len}
 use Rattle.std.proofs.lemmas.Bool.{eqb-true, ltb-false}
@@ -40,18 +40,11 @@ chosen false m n found = cc
 
 -- up to its first full stop a name is its mangled name, and there the mangled name has an underscore
 pub mangled_name_first : (text : List ℕ) (n : ℕ) → position stops text ≡ Some n → mangled_name text ≡ take n text ++ underscore ∷ mangled_name (drop (n + 1) text)
-mangled_name_first text n found =
-    let same : position_or_len stops text ≡ n = chosen (nat_lt (position_or_len stops text) (length text)) (position_or_len stops text) n found in
-    let within : n < length text = (position-Some stops text n 0 found).0 in
-    subst (λ k. mangled_name text ≡ take n text ++ underscore ∷ mangled_name (drop k text)) (sym (add-one n))
-    (subst (λ k. mangled_name text ≡ take k text ++ underscore ∷ mangled_name (drop (suc k) text)) same (mangled_name_to text (omega arith)))
+mangled_name_first text n found = grind (arith, chosen, position-Some, add-one, mangled_name_to)
 
 -- where the first full stop is found, there is one
 pub stop_located : (text : List ℕ) (n : ℕ) → position stops text ≡ Some n → (n < length text) × (get_or text n 0 < 128)
-stop_located text n found =
-    let located = position-Some stops text n 0 found in
-    let stop : get_or text n 0 ≡ full_stop = eqb-true (get_or text n 0) full_stop located.1 in
-    (located.0, omega arith)
+stop_located text n found = grind (arith, position-Some, eqb-true)
 
 -- what is before it, an underscore and the mangled name of what is after are the mangled name
 pub mangled_name_step : (out text : List ℕ) (n : ℕ) → position stops text ≡ Some n → ((out ++ slice_range text 0 n) ++ underscore ∷ []) ++ mangled_name (drop (n + 1) text) ≡ out ++ mangled_name text
@@ -67,13 +60,9 @@ not_chosen false m none = refl
 
 -- a name without a full stop is its mangled name
 pub mangled_name_none : (text : List ℕ) → position stops text ≡ None → mangled_name text ≡ text
-mangled_name_none text none =
-    mangled_name_past text (ltb-false (position_or_len stops text) (length text) (not_chosen (nat_lt (position_or_len stops text) (length text)) (position_or_len stops text) none))
+mangled_name_none text none = grind (arith, mangled_name_past, ltb-false, not_chosen)
 
 -- a number that is printed with five digits
 pub five_digits_printed : (n : ℕ) → styled_decimal (format_spec 32 0 4 5 18446744073709551615) n ≡ five_digits n
 unfolding five_digits padded_integral char_count
-five_digits_printed n =
-    let none : 5 - length (decimal n) - 0 - 0 ≡ 5 - length (decimal n) = omega arith in
-    ap (λ k. replicate k 48 ++ (decimal n ++ [])) none
-    ∙ ap (λ x. replicate (5 - length (decimal n)) 48 ++ x) (append-nil (decimal n))
+five_digits_printed n = grind (arith, append-nil)

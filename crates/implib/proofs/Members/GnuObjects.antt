@@ -1,6 +1,6 @@
 -- The objects for GNU's linker fit what a file has room for.
-use Rattle.std.proofs.Common.{◌≡◌, ℕ, ◌+◌, ◌<◌, ◌≤◌, ◌^◌, Bool, true, false, if◌then◌else◌, List, [], ◌∷◌, ◌++◌, length, refl, ◌∙◌, arith, codes, length-append}
-use Rattle.std.specs.Prelude.{nat_eq, ◌==◌}
+use Rattle.std.proofs.Common.{◌≡◌, ℕ, ◌+◌, ◌<◌, ◌≤◌, ◌^◌, Bool, true, false, if◌then◌else◌, List, [], ◌∷◌, ◌++◌, length, refl, arith, codes, length-append}
+use Rattle.std.specs.Prelude.{nat_eq}
 use Rattle.std.specs.List.{AllByRecursion}
 use Rattle.std.proofs.lemmas.Bool.{or_parts, or_from}
 use Rattle.std.proofs.lemmas.List.Folds.{list_any-append}
@@ -10,10 +10,10 @@ use Rattle.implib.specs.declared.machine.MachineType.{MachineType}
 use Rattle.implib.specs.declared.machine.MachineType.TheVariants.{I386, ARMNT, AMD64, ARM64}
 use Rattle.implib.specs.Formats.Constants.{class_external, class_static}
 use Rattle.implib.specs.Definition.{ExportView}
-use Rattle.implib.specs.Members.Gnu.{added, empty_sections, export_object, export_symbols, file_symbol, full_stop, head_object, head_symbol, head_symbols, hint_name, prefixed_symbol, iname_symbol, relocations_of_stub, relocations_of_thunk, section, mangled_name, stub, stub_relocations, tail_object, tail_symbols, thunk, without_full_stop, stub_bytes}
+use Rattle.implib.specs.Members.Gnu.{added, empty_sections, export_object, export_symbols, file_symbol, head_object, head_symbol, hint_name, prefixed_symbol, iname_symbol, relocations_of_stub, relocations_of_thunk, section, mangled_name, stub, stub_relocations, tail_object, thunk, stub_bytes}
 use Rattle.implib.specs.Import.{imp_symbol, holds, is_empty_text, underscore}
 use Rattle.implib.specs.Members.ImportTables.{relocation, thunk_width, zeros}
-use Rattle.implib.specs.Members.OlderSymbols.{object_with, older_object, older_symbol, older_symbols}
+use Rattle.implib.specs.Members.OlderSymbols.{object_with, older_object, older_symbol}
 use Rattle.implib.specs.Formats.Object.{ObjectSection}
 use Rattle.implib.specs.Formats.Layout.{Fits}
 use Rattle.implib.specs.Views.Table.{CanBeHeld}
@@ -33,9 +33,7 @@ mangled_name_byte false b free = free
 pub holds-mangled_name : (dll : List ℕ) → holds 0 dll ≡ false → holds 0 (mangled_name dll) ≡ false
 unfolding mangled_name
 holds-mangled_name [] free = refl
-holds-mangled_name (b ∷ dll) free =
-    let parts = or_parts (nat_eq b 0) (holds 0 dll) free in
-    or_from (nat_eq (without_full_stop b) 0) (holds 0 (mangled_name dll)) (mangled_name_byte (b == full_stop) b parts.0) (holds-mangled_name dll parts.1)
+holds-mangled_name (b ∷ dll) free = grind (arith, holds-mangled_name dll (or_parts (nat_eq b 0) (holds 0 dll) free).1, or_parts, or_from, mangled_name_byte)
 
 holds-prefixed_symbol : (machine : MachineType) (name : List ℕ) → holds 0 name ≡ false → holds 0 (prefixed_symbol machine name) ≡ false
 holds-prefixed_symbol I386 name free = free
@@ -59,9 +57,7 @@ filled-head_symbol machine dll = filled-prefixed_symbol machine _ (omega arith)
 
 pub holds-iname_symbol : (machine : MachineType) (dll : List ℕ) → holds 0 dll ≡ false → holds 0 (iname_symbol machine dll) ≡ false
 unfolding iname_symbol
-holds-iname_symbol machine dll free =
-    holds-prefixed_symbol machine (mangled_name dll ++ codes "_iname")
-    (list_any-append (λ b. nat_eq b 0) (mangled_name dll) (codes "_iname") ∙ or_from (holds 0 (mangled_name dll)) false (holds-mangled_name dll free) refl)
+holds-iname_symbol machine dll free = grind (arith, holds-prefixed_symbol, list_any-append, or_from, holds-mangled_name)
 
 pub filled-iname_symbol : (machine : MachineType) (dll : List ℕ) → 0 < length (iname_symbol machine dll)
 unfolding iname_symbol
@@ -78,8 +74,7 @@ plain_sound symbols name contents flags eight flags_fit = record { fits = plain_
 
 symbol_sound : (count : ℕ) (name : List ℕ) (place : Place) (class : ℕ) → 0 < length name → holds 0 name ≡ false → IsPlaceAmong count place →
     IsSoundSymbol count (added name place class)
-symbol_sound count name place class filled free among =
-    record { named = filled; no_nul = free; value = omega arith; place = among; aux = tt }
+symbol_sound count name place class filled free among = grind arith
 
 file_symbol_sound : (count : ℕ) → IsSoundSymbol count file_symbol
 file_symbol_sound count = record { named = omega arith; no_nul = refl; value = omega arith; place = tt; aux = refl }
@@ -87,51 +82,13 @@ file_symbol_sound count = record { named = omega arith; no_nul = refl; value = o
 -- the head and tail's sections, where the last three are sound
 head_and_tail_sound : (symbols : List AddedSymbol) (first second third : ObjectSection) → IsSoundSection symbols first → IsSoundSection symbols second → IsSoundSection symbols third →
     AllByRecursion (IsSoundSection symbols) (empty_sections ++ first ∷ second ∷ third ∷ [])
-head_and_tail_sound symbols first second third one two three = (
-  plain_sound symbols _ [] _ refl (omega arith),
-  (plain_sound symbols _ [] _ refl (omega arith), (plain_sound symbols _ [] _ refl (omega arith), (one, (two, (three, tt))))),
-)
+head_and_tail_sound symbols first second third one two three = grind (arith, plain_sound)
 
 -- The head.
 
 pub IsSound-head_object : (machine : MachineType) (dll : List ℕ) → holds 0 dll ≡ false → IsSound (head_object machine dll) 6
 unfolding head_object
-IsSound-head_object machine dll free =
-    let head = head_symbol machine dll in
-    let name = iname_symbol machine dll in
-    let symbols = head_symbols head name in
-    record {
-      few = omega arith;
-      records = refl;
-      sections = head_and_tail_sound symbols _ _ _
-          (record {
-            fits = record {
-              name = refl;
-              flags = omega arith;
-              count = omega arith;
-              relocations = (
-                relocation_fits machine 0 3 (omega arith) (omega arith),
-                (relocation_fits machine 16 2 (omega arith) (omega arith), (relocation_fits machine 12 5 (omega arith) (omega arith), tt)),
-              );
-            };
-            relocations = (tt, (tt, (tt, tt)));
-          })
-          (plain_sound symbols (codes ".idata$5") [] _ refl (omega arith))
-          (plain_sound symbols (codes ".idata$4") [] _ refl (omega arith));
-      symbols = (
-        file_symbol_sound 6,
-        (
-          symbol_sound 6 (codes ".idata$5") (Section 5) class_static (omega arith) refl (omega arith, omega arith),
-          (
-            symbol_sound 6 (codes ".idata$4") (Section 6) class_static (omega arith) refl (omega arith, omega arith),
-            (
-              symbol_sound 6 head (Section 4) class_external (filled-head_symbol machine dll) (holds-head_symbol machine dll free) (omega arith, omega arith),
-              (symbol_sound 6 name Undefined class_external (filled-iname_symbol machine dll) (holds-iname_symbol machine dll free) tt, tt),
-            ),
-          ),
-        ),
-      );
-    }
+IsSound-head_object machine dll free = grind (arith, head_and_tail_sound, relocation_fits, plain_sound, file_symbol_sound, symbol_sound, filled-head_symbol, holds-head_symbol, filled-iname_symbol, holds-iname_symbol)
 
 pub Fits-head_object : (machine : MachineType) (dll : List ℕ) → holds 0 dll ≡ false → Fits (layout_of (head_object machine dll))
 Fits-head_object machine dll free = layout_of-fits (head_object machine dll) 6 (IsSound-head_object machine dll free)
@@ -149,21 +106,7 @@ CanBeHeld-head_object machine dll free =
 
 pub IsSound-tail_object : (machine : MachineType) (dll : NamesOfDll) → holds 0 dll.linked ≡ false → IsSound (tail_object machine dll) 3
 unfolding tail_object
-IsSound-tail_object machine dll free =
-    let name = iname_symbol machine dll.linked in
-    let symbols = tail_symbols name in
-    record {
-      few = omega arith;
-      records = refl;
-      sections = head_and_tail_sound symbols _ _ _
-          (plain_sound symbols (codes ".idata$4") _ _ refl (omega arith))
-          (plain_sound symbols (codes ".idata$5") _ _ refl (omega arith))
-          (plain_sound symbols (codes ".idata$7") _ _ refl (omega arith));
-      symbols = (
-        file_symbol_sound 6,
-        (symbol_sound 6 name (Section 6) class_external (filled-iname_symbol machine dll.linked) (holds-iname_symbol machine dll.linked free) (omega arith, omega arith), tt),
-      );
-    }
+IsSound-tail_object machine dll free = grind (arith, head_and_tail_sound, plain_sound, file_symbol_sound, symbol_sound, filled-iname_symbol, holds-iname_symbol)
 
 pub Fits-tail_object : (machine : MachineType) (dll : NamesOfDll) → holds 0 dll.linked ≡ false → Fits (layout_of (tail_object machine dll))
 Fits-tail_object machine dll free = layout_of-fits (tail_object machine dll) 3 (IsSound-tail_object machine dll free)
@@ -194,35 +137,15 @@ stub_sound more I386 false head name contents flags flags_fit = record {
   fits = record { name = refl; flags = flags_fit; count = omega arith; relocations = (record { offset = omega arith; symbol = omega arith; kind = omega arith }, tt) };
   relocations = (tt, tt);
 }
-stub_sound more ARMNT false head name contents flags flags_fit = record {
-  fits = record { name = refl; flags = flags_fit; count = omega arith; relocations = (record { offset = omega arith; symbol = omega arith; kind = omega arith }, tt) };
-  relocations = (tt, tt);
-}
-stub_sound more AMD64 false head name contents flags flags_fit = record {
-  fits = record { name = refl; flags = flags_fit; count = omega arith; relocations = (record { offset = omega arith; symbol = omega arith; kind = omega arith }, tt) };
-  relocations = (tt, tt);
-}
-stub_sound more ARM64 false head name contents flags flags_fit = record {
-  fits = record {
-    name = refl;
-    flags = flags_fit;
-    count = omega arith;
-    relocations = (
-      record { offset = omega arith; symbol = omega arith; kind = omega arith },
-      (record { offset = omega arith; symbol = omega arith; kind = omega arith }, tt),
-    );
-  };
-  relocations = (tt, (tt, tt));
-}
+stub_sound more ARMNT false head name contents flags flags_fit = grind arith
+stub_sound more AMD64 false head name contents flags flags_fit = grind arith
+stub_sound more ARM64 false head name contents flags flags_fit = grind arith
 
 entry_sound : (more : List AddedSymbol) (machine : MachineType) (is_data no_name : Bool) (head name section_name contents : List ℕ) (flags : ℕ) → length section_name ≡ 8 → flags < 2 ^ 32 →
     IsSoundSection (symbols_by more is_data head name)
     (section section_name flags contents (if no_name then [] else relocation machine 0 (if is_data then 2 else 3) ∷ []))
 entry_sound more machine is_data true head name section_name contents flags eight flags_fit = plain_sound (symbols_by more is_data head name) section_name contents flags eight flags_fit
-entry_sound more machine true false head name section_name contents flags eight flags_fit = record {
-  fits = record { name = eight; flags = flags_fit; count = omega arith; relocations = (relocation_fits machine 0 2 (omega arith) (omega arith), tt) };
-  relocations = (tt, tt);
-}
+entry_sound more machine true false head name section_name contents flags eight flags_fit = grind (arith, relocation_fits)
 entry_sound more machine false false head name section_name contents flags eight flags_fit = record {
   fits = record { name = eight; flags = flags_fit; count = omega arith; relocations = (relocation_fits machine 0 3 (omega arith) (omega arith), tt) };
   relocations = (tt, tt);
@@ -238,23 +161,8 @@ head_entry_sound more machine is_data head name section_name contents flags eigh
 
 symbols_sound : (more : List AddedSymbol) (is_data : Bool) (head name : List ℕ) → 0 < length head → holds 0 head ≡ false → 0 < length name → holds 0 name ≡ false →
     AllByRecursion (IsSoundSymbol 7) more → AllByRecursion (IsSoundSymbol 7) (symbols_by more is_data head name)
-symbols_sound more true head name head_filled head_free name_filled name_free others = (
-  symbol_sound 7 head Undefined class_external head_filled head_free tt,
-  (
-    symbol_sound 7 (imp_symbol name) (Section 5) class_external (omega arith) name_free (omega arith, omega arith),
-    (symbol_sound 7 (codes ".idata$6") (Section 7) class_static (omega arith) refl (omega arith, omega arith), others),
-  ),
-)
-symbols_sound more false head name head_filled head_free name_filled name_free others = (
-  symbol_sound 7 head Undefined class_external head_filled head_free tt,
-  (
-    symbol_sound 7 name (Section 1) class_external name_filled name_free (omega arith, omega arith),
-    (
-      symbol_sound 7 (imp_symbol name) (Section 5) class_external (omega arith) name_free (omega arith, omega arith),
-      (symbol_sound 7 (codes ".idata$6") (Section 7) class_static (omega arith) refl (omega arith, omega arith), others),
-    ),
-  ),
-)
+symbols_sound more true head name head_filled head_free name_filled name_free others = grind (arith, symbol_sound)
+symbols_sound more false head name head_filled head_free name_filled name_free others = grind (arith, symbol_sound)
 
 -- an export's object with these symbols after its own
 abbrev object_by : List AddedSymbol → MachineType → List ℕ → ExportView → WriterState
@@ -263,33 +171,7 @@ object_by more machine dll e = object_with machine e (symbols_by more e.is_data 
 IsSound-object_by : (more : List AddedSymbol) (machine : MachineType) (dll : List ℕ) (e : ExportView) → holds 0 dll ≡ false → holds 0 e.name ≡ false → is_empty_text e.name ≡ false →
     AllByRecursion (IsSoundSymbol 7) more → IsSound (object_by more machine dll e) (length (all_entries (symbols_by more e.is_data (head_symbol machine dll) e.name)))
 unfolding stub relocations_of_stub thunk relocations_of_thunk hint_name
-IsSound-object_by more machine dll e free name_free filled others =
-    let head = head_symbol machine dll in
-    let symbols = symbols_by more e.is_data head e.name in
-    record {
-      few = omega arith;
-      records = refl;
-      sections = (
-        stub_sound more machine e.is_data head e.name _ _ (omega arith),
-        (
-          plain_sound symbols _ [] _ refl (omega arith),
-          (
-            plain_sound symbols _ [] _ refl (omega arith),
-            (
-              head_entry_sound more machine e.is_data head e.name (codes ".idata$7") _ _ refl (omega arith),
-              (
-                entry_sound more machine e.is_data e.no_name head e.name (codes ".idata$5") _ _ refl (omega arith),
-                (
-                  entry_sound more machine e.is_data e.no_name head e.name (codes ".idata$4") _ _ refl (omega arith),
-                  (plain_sound symbols (codes ".idata$6") _ _ refl (omega arith), tt),
-                ),
-              ),
-            ),
-          ),
-        ),
-      );
-      symbols = symbols_sound more e.is_data head e.name (filled-head_symbol machine dll) (holds-head_symbol machine dll free) (filled_text e.name filled) name_free others;
-    }
+IsSound-object_by more machine dll e free name_free filled others = grind (arith, stub_sound, plain_sound, head_entry_sound, entry_sound, symbols_sound, filled-head_symbol, holds-head_symbol, filled_text)
 
 pub IsSound-export_object : (machine : MachineType) (dll : List ℕ) (e : ExportView) → holds 0 dll ≡ false → holds 0 e.name ≡ false → is_empty_text e.name ≡ false →
     IsSound (export_object machine dll e) (length (all_entries (export_symbols (head_symbol machine dll) e)))
@@ -298,8 +180,7 @@ IsSound-export_object machine dll e free name_free filled = IsSound-object_by []
 
 pub Fits-export_object : (machine : MachineType) (dll : List ℕ) (e : ExportView) → holds 0 dll ≡ false → holds 0 e.name ≡ false → is_empty_text e.name ≡ false →
     Fits (layout_of (export_object machine dll e))
-Fits-export_object machine dll e free name_free filled =
-    layout_of-fits (export_object machine dll e) (length (all_entries (export_symbols (head_symbol machine dll) e))) (IsSound-export_object machine dll e free name_free filled)
+Fits-export_object machine dll e free name_free filled = grind (arith, layout_of-fits, IsSound-export_object)
 
 stub_within : (machine : MachineType) (is_data : Bool) → LieWithin (section [] 0 (if is_data then [] else stub_bytes machine) (if is_data then [] else stub_relocations machine 2))
 stub_within machine true = tt
@@ -318,17 +199,10 @@ entry_within ARM64 false by_ordinal symbol = (omega arith, tt)
 
 object_within : (more : List AddedSymbol) (machine : MachineType) (dll : List ℕ) (e : ExportView) → AllByRecursion LieWithin (object_by more machine dll e).sections
 unfolding stub relocations_of_stub thunk relocations_of_thunk
-object_within more machine dll e = (
-  stub_within machine e.is_data,
-  (tt, (tt, ((omega arith, tt), (entry_within machine e.no_name _ _, (entry_within machine e.no_name _ _, (tt, tt)))))),
-)
+object_within more machine dll e = grind (arith, stub_within, entry_within)
 
 few_entries : (more : List AddedSymbol) (head : List ℕ) (e : ExportView) → length (all_entries (symbols_by more e.is_data head e.name)) ≤ 4 + length (all_entries more)
-few_entries more head e = by e.is_data
-  where
-    by : (is_data : Bool) → length (all_entries (symbols_by more is_data head e.name)) ≤ 4 + length (all_entries more)
-    by true = omega arith
-    by false = omega arith
+few_entries more head e = grind arith
 
 CanBeHeld-object_by : (more : List AddedSymbol) (machine : MachineType) (dll : List ℕ) (e : ExportView) → holds 0 dll ≡ false → holds 0 e.name ≡ false → is_empty_text e.name ≡ false →
     AllByRecursion (IsSoundSymbol 7) more → length (all_entries more) ≤ 1 → CanBeHeld (object_by more machine dll e)
@@ -353,9 +227,7 @@ older_sound e name_free = (symbol_sound 7 (older_symbol e.name) (Section 5) clas
 pub Fits-older_object : (machine : MachineType) (dll : List ℕ) (e : ExportView) → holds 0 dll ≡ false → holds 0 e.name ≡ false → is_empty_text e.name ≡ false →
     Fits (layout_of (older_object machine dll e))
 unfolding older_object
-Fits-older_object machine dll e free name_free filled =
-    layout_of-fits (object_by (older e ∷ []) machine dll e) (length (all_entries (older_symbols (head_symbol machine dll) e)))
-    (IsSound-object_by (older e ∷ []) machine dll e free name_free filled (older_sound e name_free))
+Fits-older_object machine dll e free name_free filled = grind (arith, layout_of-fits, IsSound-object_by, older_sound)
 
 pub CanBeHeld-older_object : (machine : MachineType) (dll : List ℕ) (e : ExportView) → holds 0 dll ≡ false → holds 0 e.name ≡ false → is_empty_text e.name ≡ false →
     CanBeHeld (older_object machine dll e)

@@ -1,17 +1,17 @@
 -- What GNU `ld` asks the DLL for by a short import, and lld.
 use Rattle.std.proofs.Common.{◌≡◌, ◌≤◌, ℕ, Bool, true, false, List, [], ap, arith, bytes_eq, if◌then◌else◌, inl, inr, refl, suc, zero}
-use Rattle.std.specs.Prelude.{◌==◌, ◌&&◌, is_some, not}
+use Rattle.std.specs.Prelude.{◌==◌, ◌&&◌, not}
 use Rattle.std.proofs.lemmas.Bool.{cases_Bool}
 use Rattle.std.proofs.lemmas.Slice.Eq.{bytes_eq-Decides}
 use Rattle.implib.specs.declared.machine.MachineType.{MachineType}
 use Rattle.implib.specs.declared.machine.MachineType.TheVariants.{I386, ARMNT, AMD64, ARM64}
 use Rattle.implib.specs.Ascii.{begins_with}
 use Rattle.implib.specs.Asked.{LinkersAskAlike}
-use Rattle.implib.specs.Definition.{ExportView, given_name}
+use Rattle.implib.specs.Definition.{ExportView}
 use Rattle.implib.specs.Formats.GnuReading.{ask_by_gnu, without_prefix_by_gnu}
 use Rattle.implib.specs.Formats.ShortImport.{ask_of_short_import, before_at_sign, without_prefix}
-use Rattle.implib.specs.Import.{Name, Ordinal, at_sign, holds, underscore}
-use Rattle.implib.specs.Machine.{has_leading_underscore, machine_number}
+use Rattle.implib.specs.Import.{Name, Ordinal, underscore}
+use Rattle.implib.specs.Machine.{has_leading_underscore}
 use Rattle.implib.specs.Members.Msvc.{name_type_asking, name_type_of, short_import_of, short_import_symbol, symbol_or_name}
 
 -- by ordinal, or by the whole symbol, nothing depends on what is cut
@@ -48,15 +48,9 @@ whole_asking machine symbol name none led = rw (none, led) (one_of (bytes_eq sym
 whole_on : (machine : MachineType) (e : ExportView) → has_leading_underscore machine ≡ false → e.symbol_name ≡ [] → begins_with underscore (short_import_symbol e) ≡ true
     → name_type_of machine e ≤ 1
 whole_on I386 e none plain led = cc
-whole_on ARMNT e none plain led =
-    by_tests e.no_name (is_some e.asked_name) (begins_with underscore e.name && holds at_sign e.name) (bytes_eq (short_import_symbol e) e.name) (begins_with underscore (short_import_symbol e))
-    (name_type_asking ARMNT (short_import_symbol e) (given_name e)) 2 (same_name e plain) (whole_asking ARMNT (short_import_symbol e) (given_name e) refl led)
-whole_on AMD64 e none plain led =
-    by_tests e.no_name (is_some e.asked_name) (begins_with underscore e.name && holds at_sign e.name) (bytes_eq (short_import_symbol e) e.name) (begins_with underscore (short_import_symbol e))
-    (name_type_asking AMD64 (short_import_symbol e) (given_name e)) 2 (same_name e plain) (whole_asking AMD64 (short_import_symbol e) (given_name e) refl led)
-whole_on ARM64 e none plain led =
-    by_tests e.no_name (is_some e.asked_name) (begins_with underscore e.name && holds at_sign e.name) (bytes_eq (short_import_symbol e) e.name) (begins_with underscore (short_import_symbol e))
-    (name_type_asking ARM64 (short_import_symbol e) (given_name e)) 2 (same_name e plain) (whole_asking ARM64 (short_import_symbol e) (given_name e) refl led)
+whole_on ARMNT e none plain led = grind (arith, by_tests, same_name, whole_asking)
+whole_on AMD64 e none plain led = grind (arith, by_tests, same_name, whole_asking)
+whole_on ARM64 e none plain led = grind (arith, by_tests, same_name, whole_asking)
 
 and_false : (b : Bool) (x y : List ℕ) → (if b && false then x else y) ≡ y
 and_false true x y = refl
@@ -76,16 +70,11 @@ cut_alike n ordinal symbol this that same = ap (λ x. if n == 0 then Ordinal ord
 
 alike_without : (machine : MachineType) (dll : List ℕ) (e : ExportView) → has_leading_underscore machine ≡ false → e.symbol_name ≡ []
     → ask_by_gnu (short_import_of machine dll e) ≡ ask_of_short_import (short_import_of machine dll e)
-alike_without machine dll e none plain =
-    elim (cases_Bool (begins_with underscore (short_import_symbol e))) [
-      | inl led ↦ uncut (name_type_of machine e) e.ordinal (short_import_symbol e) _ _ (whole_on machine e none plain led)
-      | inr other ↦ cut_alike (name_type_of machine e) e.ordinal (short_import_symbol e) _ _ (same_prefix (machine_number machine) (short_import_symbol e) other)
-    ]
+alike_without machine dll e none plain = grind (arith, cases_Bool, uncut, whole_on, cut_alike, same_prefix)
 
 alike_on_i386 : (dll : List ℕ) (e : ExportView)
     → ask_by_gnu (short_import_of I386 dll e) ≡ ask_of_short_import (short_import_of I386 dll e)
-alike_on_i386 dll e =
-    cut_alike (name_type_of I386 e) e.ordinal (short_import_symbol e) (without_prefix_by_gnu 0x14C (short_import_symbol e)) (without_prefix (short_import_symbol e)) (prefix_on_i386 (short_import_symbol e))
+alike_on_i386 dll e = grind (arith, cut_alike, prefix_on_i386)
 
 pub linkers_ask_alike : LinkersAskAlike
 linkers_ask_alike I386 dll e why = alike_on_i386 dll e

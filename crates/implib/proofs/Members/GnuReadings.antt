@@ -1,5 +1,5 @@
 -- What the members for GNU's linker are read as.
-use Rattle.std.proofs.Common.{◌≡◌, ℕ, ◌+◌, ◌<◌, ◌≤◌, ◌^◌, Bool, true, false, if◌then◌else◌, ◌||◌, List, [], ◌∷◌, ◌++◌, length, drop, map, reverse, Option, Some, None, refl, ap, sym, ◌∙◌, codes, subst}
+use Rattle.std.proofs.Common.{arith, ◌≡◌, ℕ, ◌+◌, ◌<◌, ◌≤◌, ◌^◌, Bool, true, false, if◌then◌else◌, ◌||◌, List, [], ◌∷◌, ◌++◌, length, drop, map, reverse, Option, Some, None, refl, ap, sym, ◌∙◌, codes, subst}
 use Rattle.std.specs.Prelude.{bytes_eq}
 use Rattle.std.specs.List.{AllByRecursion, filter_map, flat_map, list_any}
 use Rattle.std.specs.Option.{option_and_then, option_map}
@@ -16,8 +16,8 @@ use Rattle.implib.specs.Formats.Bytes.{u16_bytes, u32_bytes}
 use Rattle.implib.specs.Definition.{DefinitionView, ExportView}
 use Rattle.implib.specs.Formats.File.{File, ObjectFile, Meaning, AnImport, AnAlias, alias_of_object, declared_by, file_in}
 use Rattle.implib.specs.Members.Gnu.{export_name, export_object, archive_symbols, head_object, head_symbol, hint_name, iname_symbol, relocations_of_stub, relocations_of_thunk, stub, tail_object, thunk}
-use Rattle.implib.specs.Members.GnuReader.{CodeRelocation, alias_or_import, ask_of_export, code_of_export, code_relocations, dll_by_names, externals_in, import_of, meaning_with, text_section}
-use Rattle.implib.specs.Import.{Import, Ordinal, Name, imp_symbol, aliases_for, expected_ask, holds, expected_import, import_symbols, is_alias, name_asked, public_exports}
+use Rattle.implib.specs.Members.GnuReader.{CodeRelocation, ask_of_export, code_of_export, code_relocations, dll_by_names, externals_in, import_of, meaning_with, text_section}
+use Rattle.implib.specs.Import.{Import, Ordinal, imp_symbol, aliases_for, expected_ask, holds, expected_import, import_symbols, is_alias, name_asked, public_exports}
 use Rattle.implib.specs.Members.MemberSpec.{AnObject, MemberSpec, MemberView, file_bytes, file_size, member_of}
 use Rattle.implib.specs.Members.Members.{AreMembersOf, is_too_long, member_specs}
 use Rattle.implib.specs.Members.GnuMembers.{alias_specs, export_spec, head_spec, numbered_specs, tail_spec}
@@ -82,14 +82,7 @@ module _ (machine : MachineType) (dll : NamesOfDll) (object : ExportView → Wri
   of_export_read : (number : ℕ) (e : ExportView) → Sound e → list_any is_too_long (specs_by machine dll object listed number e) ≡ false →
       AllByRecursion (λ p. ReadsBack p.contents) (specs_by machine dll object listed number e)
   unfolding alias_specs
-  of_export_read number e sound short =
-      let own = spec_by machine dll object listed number e in
-      let parts = or_parts (list_any is_too_long (alias_specs machine dll.linked number e)) (is_too_long own || false)
-      (sym (list_any-append is_too_long (alias_specs machine dll.linked number e) (own ∷ [])) ∙ short) in
-      let last = or_parts (is_too_long own) false parts.1 in
-      all_append (λ p. ReadsBack p.contents) (alias_specs machine dll.linked number e) (own ∷ [])
-      (chosen_read machine e sound (is_alias e.alias_target e.name) _ _ parts.0)
-      (held_reads (object e) (read.fits e sound) (short_enough own last.0), tt)
+  of_export_read number e sound short = grind (arith, or_parts, list_any-append, short, all_append, chosen_read, sound, held_reads, short_enough)
 
   pub numbered_read : (number : ℕ) (exports : List ExportView) → AllByRecursion Sound exports → list_any is_too_long (numbered number exports) ≡ false →
       AllByRecursion (λ p. ReadsBack p.contents) (numbered number exports)
@@ -124,21 +117,14 @@ export_declares_by machine dll e false = refl
 chosen_declare : (machine : MachineType) (e : ExportView) (test : Bool) (first second : List ℕ) →
     AllByRecursion DeclaresListed (if test then weak_spec machine first e.name e.alias_target ∷ weak_spec machine second (imp_symbol e.name) (imp_symbol e.alias_target) ∷ [] else [])
 chosen_declare machine e false first second = tt
-chosen_declare machine e true first second =
-    (weak_declares machine first e.name e.alias_target, (weak_declares machine second (imp_symbol e.name) (imp_symbol e.alias_target), tt))
+chosen_declare machine e true first second = grind (arith, weak_declares)
 
 module _ (machine : MachineType) (dll : NamesOfDll) (object : ExportView → WriterState) (listed : ExportView → List (List ℕ)) (import : ExportView → Import) (read : AreRead machine dll object listed import)
     (numbered : ℕ → List ExportView → List MemberSpec) (steps : AreNumbered (specs_by machine dll object listed) numbered) where
   pub numbered_declare : (number : ℕ) (exports : List ExportView) → AllByRecursion DeclaresListed (numbered number exports)
   unfolding alias_specs
   numbered_declare number [] = subst (AllByRecursion DeclaresListed) (sym (steps.none number)) tt
-  numbered_declare number (e ∷ exports) =
-      let own = spec_by machine dll object listed number e in
-      subst (AllByRecursion DeclaresListed) (sym (steps.more number e exports))
-      (all_append DeclaresListed (specs_by machine dll object listed number e) (numbered (number + 1) exports)
-      (all_append DeclaresListed (alias_specs machine dll.linked number e) (own ∷ [])
-      (chosen_declare machine e (is_alias e.alias_target e.name) _ _) (held_declares (object e) (listed e) (read.declares e), tt))
-      (numbered_declare (number + 1) exports))
+  numbered_declare number (e ∷ exports) = grind (arith, numbered_declare (number + 1) exports, all_append, chosen_declare, held_declares)
 
 -- What an export means.
 
@@ -156,14 +142,8 @@ asks_by AMD64 dll e fits free true true = ap (λ n. Some (Ordinal n)) (from_le_b
 asks_by AMD64 dll e fits free false true = ap (λ n. Some (Ordinal n)) (from_le_bytes-to_le_bytes_2 e.ordinal fits)
 asks_by ARM64 dll e fits free true true = ap (λ n. Some (Ordinal n)) (from_le_bytes-to_le_bytes_2 e.ordinal fits)
 asks_by ARM64 dll e fits free false true = ap (λ n. Some (Ordinal n)) (from_le_bytes-to_le_bytes_2 e.ordinal fits)
-asks_by machine dll e fits free true false =
-    ap (λ x. option_map (λ name. Name name (u16_at (u16_bytes e.ordinal ++ (name_asked machine e ++ 0 ∷ [])) 0)) x)
-    (before_nul-ended (name_asked machine e) [] free)
-    ∙ ap (λ n. Some (Name (name_asked machine e) n)) (from_le_bytes-to_le_bytes_2 e.ordinal fits)
-asks_by machine dll e fits free false false =
-    ap (λ x. option_map (λ name. Name name (u16_at (u16_bytes e.ordinal ++ (name_asked machine e ++ 0 ∷ [])) 0)) x)
-    (before_nul-ended (name_asked machine e) [] free)
-    ∙ ap (λ n. Some (Name (name_asked machine e) n)) (from_le_bytes-to_le_bytes_2 e.ordinal fits)
+asks_by machine dll e fits free true false = grind (arith, before_nul-ended, free, from_le_bytes-to_le_bytes_2, fits)
+asks_by machine dll e fits free false false = grind (arith, before_nul-ended, free, from_le_bytes-to_le_bytes_2, fits)
 
 declared_by_import : (machine : MachineType) (dll : List ℕ) (e : ExportView) (is_data : Bool) →
     (let o = written_object (export_object machine dll (record e { is_data = is_data })) in externals_in o (codes ".idata$5") ++ externals_in o text_section) ≡ import_symbols is_data e.name
@@ -179,8 +159,7 @@ no_alias machine dll e false = refl
 dll_found : (machine : MachineType) (dll : NamesOfDll) (e : ExportView) → holds 0 dll.text ≡ false →
     dll_by_names (written_object (export_object machine dll.linked e)) (written_object (head_object machine dll.linked)) (written_object (tail_object machine dll)) ≡ Some dll.text
 unfolding export_object head_object tail_object
-dll_found machine dll e free =
-    rw (same_bytes (head_symbol machine dll.linked), same_bytes (iname_symbol machine dll.linked)) (before_nul-ended dll.text [] free)
+dll_found machine dll e free = grind (arith, same_bytes, before_nul-ended, free)
 
 code_by : (machine : MachineType) (dll : List ℕ) (e : ExportView) (is_data : Bool) →
     code_relocations (written_object (export_object machine dll (record e { is_data = is_data }))) ≡ Some (expected_code machine (record e { is_data = is_data }))
@@ -196,13 +175,7 @@ pub import_found : (machine : MachineType) (dll : NamesOfDll) (export : WriterSt
     ask_of_export (written_object export) ≡ Some (expected_ask machine e) →
     externals_in (written_object export) (codes ".idata$5") ++ externals_in (written_object export) text_section ≡ symbols →
     import_of (written_object export) (written_object (head_object machine dll.linked)) (written_object (tail_object machine dll)) ≡ Some (record { dll = dll.text; declared = symbols; ask = expected_ask machine e })
-import_found machine dll export e symbols named asks declared =
-    let o = written_object export in
-    ap (λ found. option_and_then (λ name. option_map
-    (λ ask. record { dll = name; declared = externals_in o (codes ".idata$5") ++ externals_in o text_section; ask = ask })
-    (ask_of_export o)) found) named
-    ∙ (ap (λ found. option_map (λ ask. record { dll = dll.text; declared = externals_in o (codes ".idata$5") ++ externals_in o text_section; ask = ask }) found) asks
-    ∙ ap (λ symbols. Some (record { dll = dll.text; declared = symbols; ask = expected_ask machine e })) declared)
+import_found machine dll export e symbols named asks declared = grind (arith, declared)
 
 pub export_reads : (machine : MachineType) (dll : NamesOfDll) → holds 0 dll.linked ≡ false → holds 0 dll.text ≡ false →
     AreRead machine dll (export_object machine dll.linked) archive_symbols (expected_import machine dll.text)
@@ -236,15 +209,7 @@ module _ (machine : MachineType) (dll : NamesOfDll) (object : ExportView → Wri
   specified p = meaning_with head_file tail_file (file_of p.contents)
 
   export_specified : (number : ℕ) (e : ExportView) → Sound e → specified (spec_by machine dll object listed number e) ≡ Some (AnImport (import e))
-  export_specified number e sound =
-      let export = written_object (object e) in
-      let head = written_object (head_object machine dll.linked) in
-      let tail = written_object (tail_object machine dll) in
-      ap (λ o. meaning_with head_file tail_file (ObjectFile o)) (object_of-layout_of (object e))
-      ∙ (ap (λ o. meaning_with (ObjectFile o) tail_file (ObjectFile export)) (object_of-layout_of (head_object machine dll.linked))
-      ∙ (ap (λ o. meaning_with (ObjectFile head) (ObjectFile o) (ObjectFile export)) (object_of-layout_of (tail_object machine dll))
-      ∙ (ap (λ a. alias_or_import a (import_of export head tail)) (read.no_alias e)
-      ∙ ap (option_map AnImport) (read.imports e sound))))
+  export_specified number e sound = grind (arith, object_of-layout_of, sound)
 
   weak_specified : (weak target : List ℕ) → meaning_with head_file tail_file (ObjectFile (object_of (weak_object machine weak target))) ≡ Some (AnAlias (record { weak = weak; target = target }))
   unfolding weak_object object_of entries_of name_text u32_at u32_bytes
@@ -254,11 +219,7 @@ module _ (machine : MachineType) (dll : NamesOfDll) (object : ExportView → Wri
       map specified (if test then weak_spec machine first e.name e.alias_target ∷ weak_spec machine second (imp_symbol e.name) (imp_symbol e.alias_target) ∷ [] else [])
       ≡ map (λ a. Some (AnAlias a)) (if test then record { weak = e.name; target = e.alias_target } ∷ record { weak = imp_symbol e.name; target = imp_symbol e.alias_target } ∷ [] else [])
   chosen_specified e false first second = refl
-  chosen_specified e true first second =
-      let one = weak_specified e.name e.alias_target in
-      let two = weak_specified (imp_symbol e.name) (imp_symbol e.alias_target) in
-      ap (λ x. x ∷ meaning_with head_file tail_file (ObjectFile (object_of (weak_object machine (imp_symbol e.name) (imp_symbol e.alias_target)))) ∷ []) one
-      ∙ ap (λ x. Some (AnAlias (record { weak = e.name; target = e.alias_target })) ∷ x ∷ []) two
+  chosen_specified e true first second = grind (arith, weak_specified)
 
   of_export_specified : (number : ℕ) (e : ExportView) → Sound e → map specified (specs_by machine dll object listed number e) ≡ map (λ m. Some m) (meanings e)
   unfolding alias_specs
@@ -273,14 +234,7 @@ module _ (machine : MachineType) (dll : NamesOfDll) (object : ExportView → Wri
   pub numbered_specified : (number : ℕ) (exports : List ExportView) → AllByRecursion Sound exports →
       map specified (numbered number exports) ≡ map (λ m. Some m) (flat_map meanings exports)
   numbered_specified number [] sound = ap (map specified) (steps.none number)
-  numbered_specified number (e ∷ exports) sound =
-      let own = specs_by machine dll object listed number e in
-      let others = numbered (number + 1) exports in
-      ap (map specified) (steps.more number e exports)
-      ∙ (map-append specified own others
-      ∙ (ap (λ x. x ++ map specified others) (of_export_specified number e sound.0)
-      ∙ (ap (λ x. map (λ m. Some m) (meanings e) ++ x) (numbered_specified (number + 1) exports sound.1)
-      ∙ sym (map-append (λ m. Some m) (meanings e) (flat_map meanings exports)))))
+  numbered_specified number (e ∷ exports) sound = grind (arith, numbered_specified (number + 1) exports sound.1, map-append, of_export_specified)
 
   -- the code of a specification's file
   abbrev specified_code : MemberSpec → Option (List CodeRelocation)
@@ -296,10 +250,7 @@ module _ (machine : MachineType) (dll : NamesOfDll) (object : ExportView → Wri
   chosen_code e true first second = rw (weak_code e.name e.alias_target, weak_code (imp_symbol e.name) (imp_symbol e.alias_target)) refl
 
   export_code : (number : ℕ) (e : ExportView) → specified_code (spec_by machine dll object listed number e) ≡ Some (expected_code machine e)
-  export_code number e =
-      let export = written_object (object e) in
-      ap (λ o. code_of_export (ObjectFile o)) (object_of-layout_of (object e))
-      ∙ (ap (λ a. elim a [ None ↦ code_relocations export | Some found ↦ None ]) (read.no_alias e) ∙ read.code e)
+  export_code number e = grind (arith, object_of-layout_of)
 
   one_kept : {X Y : Type 0} (f : X → Option Y) (x : X) (y : Y) → f x ≡ Some y → filter_map f (x ∷ []) ≡ y ∷ []
   one_kept f x y same = rw same refl
@@ -314,49 +265,31 @@ module _ (machine : MachineType) (dll : NamesOfDll) (object : ExportView → Wri
 
   pub numbered_code : (number : ℕ) (exports : List ExportView) → filter_map specified_code (numbered number exports) ≡ map (expected_code machine) exports
   numbered_code number [] = ap (filter_map specified_code) (steps.none number)
-  numbered_code number (e ∷ exports) =
-      let own = specs_by machine dll object listed number e in
-      let others = numbered (number + 1) exports in
-      ap (filter_map specified_code) (steps.more number e exports)
-      ∙ (filter_map-append specified_code own others
-      ∙ (ap (λ x. x ++ filter_map specified_code others) (of_export_code number e)
-      ∙ ap (λ x. expected_code machine e ∷ x) (numbered_code (number + 1) exports)))
+  numbered_code number (e ∷ exports) = grind (arith, numbered_code (number + 1) exports, filter_map-append, of_export_code)
 
 -- The imports and the aliases among what is expected.
 
 module _ (machine : MachineType) (dll : List ℕ) where
   one_import : (e : ExportView) → filter_map import_among (expected_meanings machine dll e) ≡ expected_import machine dll e ∷ []
-  one_import e =
-      filter_map-append import_among (map AnAlias (aliases_for e.name e.alias_target)) (AnImport (expected_import machine dll e) ∷ [])
-      ∙ ap (λ x. x ++ expected_import machine dll e ∷ []) (no_imports (aliases_for e.name e.alias_target))
+  one_import e = grind (arith, filter_map-append, no_imports)
 
   pub all_imports : (exports : List ExportView) → filter_map import_among (flat_map (expected_meanings machine dll) exports) ≡ map (expected_import machine dll) exports
   all_imports [] = refl
-  all_imports (e ∷ exports) =
-      filter_map-append import_among (expected_meanings machine dll e) (flat_map (expected_meanings machine dll) exports)
-      ∙ (ap (λ x. x ++ filter_map import_among (flat_map (expected_meanings machine dll) exports)) (one_import e)
-      ∙ ap (λ x. expected_import machine dll e ∷ x) (all_imports exports))
+  all_imports (e ∷ exports) = grind (arith, all_imports exports, filter_map-append, one_import)
 
   its_aliases : (e : ExportView) → filter_map alias_among (expected_meanings machine dll e) ≡ aliases_for e.name e.alias_target
-  its_aliases e =
-      filter_map-append alias_among (map AnAlias (aliases_for e.name e.alias_target)) (AnImport (expected_import machine dll e) ∷ [])
-      ∙ (ap (λ x. x ++ []) (all_aliases (aliases_for e.name e.alias_target)) ∙ append-nil (aliases_for e.name e.alias_target))
+  its_aliases e = grind (arith, filter_map-append, all_aliases, append-nil)
 
   pub aliases_among : (exports : List ExportView) → filter_map alias_among (flat_map (expected_meanings machine dll) exports) ≡ flat_map (λ e. aliases_for e.name e.alias_target) exports
   aliases_among [] = refl
-  aliases_among (e ∷ exports) =
-      filter_map-append alias_among (expected_meanings machine dll e) (flat_map (expected_meanings machine dll) exports)
-      ∙ (ap (λ x. x ++ filter_map alias_among (flat_map (expected_meanings machine dll) exports)) (its_aliases e)
-      ∙ ap (λ x. aliases_for e.name e.alias_target ++ x) (aliases_among exports))
+  aliases_among (e ∷ exports) = grind (arith, aliases_among exports, filter_map-append, its_aliases)
 
 -- The members.
 
 read_meaning : (head tail : File) (specs : List MemberSpec) → AllByRecursion (λ p. ReadsBack p.contents) specs →
     map (λ (m : MemberView). option_and_then (meaning_with head tail) (file_in m.bytes)) (map member_of specs) ≡ map (λ (p : MemberSpec). meaning_with head tail (file_of p.contents)) specs
 read_meaning head tail [] reads = refl
-read_meaning head tail (p ∷ specs) reads =
-    ap (λ x. option_and_then (meaning_with head tail) x ∷ map (λ (m : MemberView). option_and_then (meaning_with head tail) (file_in m.bytes)) (map member_of specs)) reads.0.read
-    ∙ ap (λ x. meaning_with head tail (file_of p.contents) ∷ x) (read_meaning head tail specs reads.1)
+read_meaning head tail (p ∷ specs) reads = grind (arith, read_meaning head tail specs reads.1)
 
 read_code : (specs : List MemberSpec) → AllByRecursion (λ p. ReadsBack p.contents) specs →
     filter_map (λ (m : MemberView). option_and_then code_of_export (file_in m.bytes)) (map member_of specs) ≡ filter_map (λ (p : MemberSpec). code_of_export (file_of p.contents)) specs
@@ -411,19 +344,13 @@ module _ (machine : MachineType) (dll : NamesOfDll) (linked_free : holds 0 dll.l
 
   -- the members after the tail and the head, turned round, are those that were built
   behind : reverse (drop 2 members) ≡ map member_of built
-  behind =
-      ap (λ (x : List MemberView). reverse (drop 2 x)) made
-      ∙ (sym (map-reverse member_of (reverse built)) ∙ ap (map member_of) (reverse-reverse built))
+  behind = grind (arith, map-reverse, reverse-reverse)
 
   pub files : map (λ m. file_in m.bytes) members ≡ map (λ p. Some (file_of p.contents)) all
-  files =
-      of_members (λ m. file_in m.bytes)
-      ∙ map_same (λ p. file_in (file_bytes p.contents)) (λ p. Some (file_of p.contents)) all (each_read all all_read)
+  files = grind (arith, of_members, map_same, each_read, all_read)
 
   pub lengths : map (λ m. length m.bytes) members ≡ map (λ p. file_size p.contents) all
-  lengths =
-      of_members (λ m. length m.bytes)
-      ∙ map_same (λ p. length (file_bytes p.contents)) (λ p. file_size p.contents) all (each_length all all_read)
+  lengths = grind (arith, of_members, map_same, each_length, all_read)
 
   pub declared : map (λ m. option_map declared_by (file_in m.bytes)) members ≡ map (λ m. Some m.symbols) members
   declared =
@@ -448,9 +375,7 @@ module _ (machine : MachineType) (dll : NamesOfDll) (linked_free : holds 0 dll.l
       ∙ (read_meaning head tail built built_read ∙ numbered_specified machine dll object listed import read numbered steps 0 exports sound)
 
   pub code_read : filter_map (λ m. option_and_then code_of_export (file_in m.bytes)) (reverse (drop 2 members)) ≡ map (expected_code machine) exports
-  code_read =
-      ap (filter_map (λ (m : MemberView). option_and_then code_of_export (file_in m.bytes))) behind
-      ∙ (read_code built built_read ∙ numbered_code machine dll object listed import read numbered steps 0 exports)
+  code_read = grind (arith, behind, read_code, built_read, numbered_code, read, steps)
 
 -- the members of a definition that is not refused are read as the definition means
 module _ (d : DefinitionView) (machine : MachineType) (members : List MemberView) (made : AreMembersOf d machine Gnu members) where

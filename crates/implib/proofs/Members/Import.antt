@@ -11,7 +11,7 @@ use Rattle.implib.specs.Import.{Ordinal, Name, holds, underscore, import_symbols
 use Rattle.implib.specs.Underscore.{asked_name}
 use Rattle.implib.specs.Ascii.{begins_with, without_first}
 use Rattle.implib.specs.Machine.{machine_number}
-use Rattle.implib.specs.Members.Msvc.{asked_by_short_import, short_import_of, symbol_or_name, import_type_of, name_type_of, short_import_symbols}
+use Rattle.implib.specs.Members.Msvc.{asked_by_short_import, short_import_of, symbol_or_name, import_type_of, name_type_of}
 use Rattle.implib.specs.Members.ReadBack.{FitsShortImport, import_written, ask_written}
 use Rattle.implib.specs.Formats.ShortImport.{ShortImport, import_of_short_import, asked_by_name_type, import_ordinal, import_name_undecorate, import_code, import_data, import_const, without_prefix}
 use Rattle.std.proofs.lemmas.Slice.Eq.{bytes_eq-Decides}
@@ -36,16 +36,7 @@ symbol_without_nul (b ∷ symbol) name symbol_free name_free = symbol_free
 -- the short import of an export without NULs has room for its fields
 pub FitsShortImport-short_import_of : (machine : MachineType) (dll : List ℕ) (e : ExportView) → holds 0 e.name ≡ false → holds 0 e.symbol_name ≡ false →
     holds 0 dll ≡ false → nat_lt e.ordinal 0x1_0000 ≡ true → FitsShortImport (short_import_of machine dll e)
-FitsShortImport-short_import_of machine dll e name_free symbol_free dll_free ordinal = record {
-  version = omega arith;
-  machine = machine_number_fits machine;
-  time = omega arith;
-  ordinal = ltb-true e.ordinal 0x1_0000 ordinal;
-  import_type = omega (arith, import_type_of_fits e);
-  name_type = omega (arith, name_type_of_fits machine e);
-  symbol = symbol_without_nul e.symbol_name e.name symbol_free name_free;
-  dll = dll_free;
-}
+FitsShortImport-short_import_of machine dll e name_free symbol_free dll_free ordinal = grind (arith, machine_number_fits, ltb-true, import_type_of_fits, name_type_of_fits, symbol_without_nul)
 
 -- a short import whose types have a meaning stands for the import that they say
 import_by_types : (r : ShortImport) (is_data no_name : Bool) → nat_le r.import_type import_const ≡ true → nat_le r.name_type import_name_undecorate ≡ true →
@@ -67,12 +58,7 @@ name_type_is_ordinal machine e = grind (arith, nat_tests)
 
 -- the import that the short import of an export stands for
 pub import_of_short_import-short_import_of : (machine : MachineType) (dll : List ℕ) (e : ExportView) → import_of_short_import (short_import_of machine dll e) ≡ Some (import_written machine dll e)
-import_of_short_import-short_import_of machine dll e =
-    import_by_types (short_import_of machine dll e) e.is_data e.no_name
-    (le-leb (import_type_of e) import_const (import_type_of_fits e))
-    (le-leb (name_type_of machine e) import_name_undecorate (name_type_of_fits machine e))
-    (import_type_is_data e.is_data e.constant)
-    (name_type_is_ordinal machine e)
+import_of_short_import-short_import_of machine dll e = grind (arith, import_by_types, le-leb, import_type_of_fits, name_type_of_fits, import_type_is_data, name_type_is_ordinal)
 
 without_prefix-underscore : (name : List ℕ) → begins_with underscore name ≡ true → without_prefix name ≡ without_first name
 without_prefix-underscore [] begins = cc
@@ -96,13 +82,9 @@ same_ask false ordinal written expected same = ap (λ x. Name x ordinal) (same r
 
 -- an export without a symbol name, and with no other name than it gives, asks for what it means to ask for
 pub ask_written-expected : (machine : MachineType) (e : ExportView) → e.symbol_name ≡ [] → AsksNoOther Msvc machine e → ask_written machine e ≡ expected_ask machine e
-ask_written-expected machine e plain asks =
-    same_ask e.no_name e.ordinal _ _ (λ named. name_expected machine e e.asked_name plain asks named refl)
+ask_written-expected machine e plain asks = grind (arith, same_ask, name_expected)
 
 -- and its short import stands for the import that it means
 pub import_written-expected : (machine : MachineType) (dll : List ℕ) (e : ExportView) → e.symbol_name ≡ [] → AsksNoOther Msvc machine e →
     import_written machine dll e ≡ expected_import machine dll e
-import_written-expected machine dll e plain asks =
-    let listed : short_import_symbols e ≡ import_symbols e.is_data e.name = ap (λ (s : List ℕ). import_symbols e.is_data (symbol_or_name s e.name)) plain in
-    let asked = ask_written-expected machine e plain asks in
-    rw (listed, asked) refl
+import_written-expected machine dll e plain asks = grind (arith, ask_written-expected)

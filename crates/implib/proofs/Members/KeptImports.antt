@@ -84,10 +84,7 @@ module _ (machine : MachineType) (dll : NamesOfDll) where
   pub kept_more : (e : ExportView) (items more : List KeptImport) (k : KeptImport) → more ≡ items ++ k ∷ []
       → kept_view machine dll k ≡ member_of (short_import_spec machine dll e)
       → map (kept_view machine dll) more ≡ map (kept_view machine dll) items ++ map member_of (short_import_spec machine dll e ∷ [])
-  kept_more e items more k is shows =
-      ap (map (kept_view machine dll)) is
-      ∙ (map-append (kept_view machine dll) items (k ∷ [])
-      ∙ ap (λ (m : MemberView). map (kept_view machine dll) items ++ m ∷ []) shows)
+  kept_more e items more k is shows = grind (arith, map-append)
 
   pub all_kept : (items more : List KeptImport) (k : KeptImport) → more ≡ items ++ k ∷ [] → AllByRecursion (IsKept dll.text) items → IsKept dll.text k
       → AllByRecursion (IsKept dll.text) more

@@ -1,5 +1,5 @@
 -- The loop that keeps the objects of a definition's exports, from the last to the first: what is left to keep.
-use Rattle.std.proofs.Common.{◌≡◌, ℕ, suc, ◌+◌, ◌-◌, Bool, true, false, if◌then◌else◌, ◌||◌, ◌&&◌, List, [], ◌∷◌, ◌++◌, length, length-append, add-zero, map, reverse, Option, Some, None, Result, Err, refl, ap, sym, ◌∙◌, append_assoc, arith}
+use Rattle.std.proofs.Common.{◌≡◌, ℕ, suc, ◌+◌, ◌-◌, Bool, true, false, if◌then◌else◌, ◌||◌, ◌&&◌, List, [], ◌∷◌, ◌++◌, length, length-append, add-zero, map, reverse, None, Result, Err, refl, ap, sym, ◌∙◌, append_assoc, arith}
 use Rattle.std.specs.Prelude.{not}
 use Rattle.std.specs.List.{filter, list_all, list_any}
 use Rattle.std.proofs.lemmas.Bool.{or_parts}
@@ -11,7 +11,7 @@ use Rattle.implib.specs.declared.error.Error.TheVariants.{Invalid, OutOfMemory}
 use Rattle.implib.specs.declared.flavor.Flavor.TheVariants.{Gnu}
 use Rattle.implib.specs.declared.machine.MachineType.{MachineType}
 use Rattle.implib.specs.Definition.{ExportView}
-use Rattle.implib.specs.Fault.{Cause, EmptyName, IfInvalid, MemberTooLong, NulInExport}
+use Rattle.implib.specs.Fault.{IfInvalid, MemberTooLong}
 use Rattle.implib.specs.Import.{is_alias, is_empty_text}
 use Rattle.implib.specs.Members.ExportObjects.{ExportObjectsView}
 use Rattle.implib.specs.Views.KeptObjects.{KeepsObjects}
@@ -58,12 +58,7 @@ any_viewed view p (x ∷ xs) = ap (λ b. p (view x) || b) (any_viewed view p xs)
 
 pub filter_viewed : {X Y : Type 0} (view : X → Y) (p : Y → Bool) (xs : List X) → length (filter (λ x. p (view x)) xs) ≡ length (filter p (map view xs))
 filter_viewed view p [] = refl
-filter_viewed view p (x ∷ xs) = by_test (p (view x)) (filter_viewed view p xs)
-  where
-    by_test : (test : Bool) → length (filter (λ x. p (view x)) xs) ≡ length (filter p (map view xs))
-        → length (if test then x ∷ filter (λ x. p (view x)) xs else filter (λ x. p (view x)) xs) ≡ length (if test then view x ∷ filter p (map view xs) else filter p (map view xs))
-    by_test true rest = ap suc rest
-    by_test false rest = rest
+filter_viewed view p (x ∷ xs) = grind (arith, filter_viewed view p xs)
 
 module _ (machine : MachineType) where
   others_named : (index : ℕ) (xs : List ExportView) (e : ExportView) → names_refusal Gnu machine index (xs ++ e ∷ []) ≡ None → names_refusal Gnu machine index xs ≡ None
@@ -73,36 +68,22 @@ module _ (machine : MachineType) where
       rw parts.0 (others_named (index + 1) xs e parts.1)
 
   named_sound : (index : ℕ) (e : ExportView) → name_refusal Gnu machine index e ≡ None → (holds_nul e ≡ false) × (is_empty_text e.name ≡ false)
-  named_sound index e none = by_tests (is_empty_text e.name) (holds_nul e) _ none
-    where
-      by_tests : (empty nul : Bool) (rest : Option Cause) → (if empty then Some (EmptyName index) else if nul then Some (NulInExport index) else rest) ≡ None → (nul ≡ false) × (empty ≡ false)
-      by_tests true nul rest none = cc
-      by_tests false true rest none = cc
-      by_tests false false rest none = (refl, refl)
+  named_sound index e none = grind arith
 
   -- the last export breaks no rule on names
   pub last_sound : (index : ℕ) (xs : List ExportView) (e : ExportView) → e.private ≡ false → names_refusal Gnu machine index (xs ++ e ∷ []) ≡ None
       → (holds_nul e ≡ false) × (is_empty_text e.name ≡ false)
-  last_sound index [] e public none =
-      named_sound index e (rw public at (first_none (if e.private then None else name_refusal Gnu machine index e) None none).0)
-  last_sound index (x ∷ xs) e public none =
-      last_sound (index + 1) xs e public
-      (first_none (if x.private then None else name_refusal Gnu machine index x) (names_refusal Gnu machine (index + 1) (xs ++ e ∷ [])) none).1
+  last_sound index [] e public none = grind (arith, named_sound, first_none)
+  last_sound index (x ∷ xs) e public none = grind (arith, last_sound (index + 1) xs e public (first_none (if x.private then None else name_refusal Gnu machine index x) (names_refusal Gnu machine (index + 1) (xs ++ e ∷ [])) none).1, first_none)
 
 plain_last : (xs : List ExportView) (e : ExportView) → list_any is_public_alias (xs ++ e ∷ []) ≡ false → (list_any is_public_alias xs ≡ false) × (is_public_alias e ≡ false)
-plain_last xs e none =
-    let parts = or_parts (list_any is_public_alias xs) (is_public_alias e || false) (sym (list_any-append is_public_alias xs (e ∷ [])) ∙ none) in
-    (parts.0, (or_parts (is_public_alias e) false parts.1).0)
+plain_last xs e none = grind (arith, or_parts, list_any-append)
 
 private_last : (xs : List ExportView) (e : ExportView) → e.private ≡ true → public_among (xs ++ e ∷ []) ≡ public_among xs
-private_last xs e private =
-    filter-append (λ x. not x.private) xs (e ∷ [])
-    ∙ (ap (λ test. public_among xs ++ (if not test then e ∷ [] else [])) private ∙ append-nil (public_among xs))
+private_last xs e private = grind (arith, filter-append, append-nil)
 
 public_last : (xs : List ExportView) (e : ExportView) → e.private ≡ false → public_among (xs ++ e ∷ []) ≡ public_among xs ++ e ∷ []
-public_last xs e public =
-    filter-append (λ x. not x.private) xs (e ∷ [])
-    ∙ ap (λ test. public_among xs ++ (if not test then e ∷ [] else [])) public
+public_last xs e public = grind (arith, filter-append)
 
 module _ (machine : MachineType) (linked : List ℕ) where
   of_plain : (number : ℕ) (e : ExportView) → is_alias e.alias_target e.name ≡ false → numbered_specs_of machine linked number e ≡ export_spec machine linked number e ∷ []
@@ -111,9 +92,7 @@ module _ (machine : MachineType) (linked : List ℕ) where
 
   numbered_last : (number : ℕ) (xs : List ExportView) (e : ExportView) → is_alias e.alias_target e.name ≡ false
       → numbered_specs machine linked number (xs ++ e ∷ []) ≡ numbered_specs machine linked number xs ++ export_spec machine linked (number + length xs) e ∷ []
-  numbered_last number [] e plain =
-      ap (λ (specs : List MemberSpec). specs ++ []) (of_plain number e plain)
-      ∙ ap (λ n. export_spec machine linked n e ∷ []) (sym (add-zero number))
+  numbered_last number [] e plain = grind (arith, of_plain, plain, add-zero)
   numbered_last number (x ∷ xs) e plain =
       let index : (number + 1) + length xs ≡ number + suc (length xs) = omega arith in
       ap (λ (specs : List MemberSpec). numbered_specs_of machine linked number x ++ specs) (numbered_last (number + 1) xs e plain)
@@ -122,12 +101,7 @@ module _ (machine : MachineType) (linked : List ℕ) where
 
   kept_last : (xs : List ExportView) (e : ExportView) → e.private ≡ false → is_alias e.alias_target e.name ≡ false
       → kept_specs machine linked (xs ++ e ∷ []) ≡ export_spec machine linked (length (public_among xs)) e ∷ kept_specs machine linked xs
-  kept_last xs e public plain =
-      let index : 0 + length (public_among xs) ≡ length (public_among xs) = omega arith in
-      ap (λ (x : List ExportView). reverse (numbered_specs machine linked 0 x)) (public_last xs e public)
-      ∙ (ap reverse (numbered_last 0 (public_among xs) e plain)
-      ∙ (reverse-append (numbered_specs machine linked 0 (public_among xs)) (export_spec machine linked (0 + length (public_among xs)) e ∷ [])
-      ∙ ap (λ n. export_spec machine linked n e ∷ kept_specs machine linked xs) index))
+  kept_last xs e public plain = grind (arith, public_last, numbered_last, plain, reverse-append)
 
 module _ (machine : MachineType) (linked : List ℕ) (all : List MemberView) (long sound : Bool) (number : ℕ) (members : List MemberView) (xs : List ExportView) (e : ExportView) where
   -- after a private export
@@ -145,31 +119,19 @@ module _ (machine : MachineType) (linked : List ℕ) (all : List MemberView) (lo
 
   -- a public export has a number
   pub counted_last : e.private ≡ false → LeftToKeep machine linked all long sound number members (xs ++ e ∷ []) → number ≡ length (public_among xs) + 1
-  counted_last public left =
-      left.counted ∙ (ap length (public_last xs e public) ∙ length-append (public_among xs) (e ∷ []))
+  counted_last public left = grind (arith, public_last, length-append)
 
   pub plain_of : e.private ≡ false → LeftToKeep machine linked all long sound number members (xs ++ e ∷ []) → is_alias e.alias_target e.name ≡ false
   plain_of public left = rw public at (plain_last xs e left.plain).1
 
   kept_next : e.private ≡ false → LeftToKeep machine linked all long sound number members (xs ++ e ∷ [])
       → kept_specs machine linked (xs ++ e ∷ []) ≡ export_spec machine linked (number - 1) e ∷ kept_specs machine linked xs
-  kept_next public left =
-      let counted = counted_last public left in
-      let index : length (public_among xs) ≡ number - 1 = omega (arith, counted) in
-      kept_last machine linked xs e public (plain_of public left)
-      ∙ ap (λ n. export_spec machine linked n e ∷ kept_specs machine linked xs) index
+  kept_next public left = grind (arith, counted_last, kept_last, plain_of)
 
   -- one that is too long refuses all
   pub long_last : e.private ≡ false → LeftToKeep machine linked all long sound number members (xs ++ e ∷ [])
       → list_any is_too_long (export_spec machine linked (number - 1) e ∷ []) ≡ true → long ≡ true
-  long_last public left too_long =
-      sym left.fit
-      ∙ (ap (list_any is_too_long) (kept_next public left)
-      ∙ first_long (is_too_long (export_spec machine linked (number - 1) e)) (list_any is_too_long (kept_specs machine linked xs)) too_long)
-    where
-      first_long : (first rest : Bool) → first || false ≡ true → first || rest ≡ true
-      first_long true rest is = refl
-      first_long false rest is = cc
+  long_last public left too_long = grind (arith, kept_next)
 
   -- after an export that is kept
   pub after_public : (extended : List MemberView) → e.private ≡ false → LeftToKeep machine linked all long sound number members (xs ++ e ∷ [])
@@ -183,17 +145,9 @@ module _ (machine : MachineType) (linked : List ℕ) (all : List MemberView) (lo
         named = others_named machine 0 xs e left.named;
         plain = (plain_last xs e left.plain).0;
         counted = omega (arith, counted);
-        made =
-            ap (λ (x : List MemberView). x ++ map member_of (kept_specs machine linked xs)) kept
-            ∙ (append_assoc members (map member_of (export_spec machine linked (number - 1) e ∷ [])) (map member_of (kept_specs machine linked xs))
-            ∙ (sym (ap (λ (x : List MemberSpec). members ++ map member_of x) next) ∙ left.made));
-        fit =
-            sym (ap (λ b. b || list_any is_too_long (kept_specs machine linked xs)) fits)
-            ∙ (sym (ap (list_any is_too_long) next) ∙ left.fit);
-        ordinals =
-            sym (last_passes (list_all has_u16_ordinal (public_among xs)) (has_u16_ordinal e) ordinal)
-            ∙ (sym (list_all-append has_u16_ordinal (public_among xs) (e ∷ []))
-            ∙ (sym (ap (list_all has_u16_ordinal) (public_last xs e public)) ∙ left.ordinals));
+        made = grind (arith, append_assoc);
+        fit = grind arith;
+        ordinals = grind (arith, last_passes, list_all-append, public_last);
       }
     where
       last_passes : (others last : Bool) → last ≡ true → others && (last && true) ≡ others

@@ -1,6 +1,6 @@
 -- Exports for GNU's linker that are kept as what their objects say.
-use Rattle.std.proofs.Common.{◌≡◌, ℕ, ◌+◌, ◌*◌, ◌-◌, ◌<◌, ◌≤◌, ◌||◌, true, false, Bool, List, [], ◌∷◌, ◌++◌, length, drop, map, refl, sym, ap, ◌∙◌, arith, length-append, if◌then◌else◌, codes, bytes_eq, inl, inr, sum_by}
-use Rattle.std.specs.Prelude.{IfSome, None, Option, Some, get_or, min, option_map, string_bytes}
+use Rattle.std.proofs.Common.{◌≡◌, ℕ, ◌+◌, ◌*◌, ◌-◌, ◌<◌, ◌≤◌, ◌||◌, true, false, Bool, List, [], ◌∷◌, ◌++◌, length, drop, map, refl, ap, ◌∙◌, arith, length-append, if◌then◌else◌, codes, bytes_eq, inl, inr, sum_by}
+use Rattle.std.specs.Prelude.{IfSome, None, Option, Some, get_or, min, string_bytes}
 use Rattle.std.specs.List.{AllByRecursion, list_any, slice_get}
 use Rattle.std.specs.Str.{IsCharBoundary}
 use Rattle.std.proofs.lemmas.Bool.{cases_Bool, le-ltb, lt-ltb, or_parts}
@@ -13,14 +13,14 @@ use Rattle.std.proofs.lemmas.Str.{IsCharBoundary-after_ascii, IsUtf8-string_byte
 use Rattle.implib.specs.declared.gnu.export_objects.KeptObject.{KeptObject}
 use Rattle.implib.specs.declared.machine.MachineType.{MachineType}
 use Rattle.implib.specs.declared.machine.MachineType.TheVariants.{I386, ARMNT, AMD64, ARM64}
-use Rattle.implib.specs.Definition.{ExportView, given_name}
+use Rattle.implib.specs.Definition.{ExportView}
 use Rattle.implib.specs.Formats.Bytes.{u16_bytes}
-use Rattle.implib.specs.Formats.Layout.{auxiliary_count, contents_offset, contents_size, encoded, encoded_size, record_count, records, string_size, strings_size, symbol_table_offset}
-use Rattle.implib.specs.Formats.Writer.{WriterState, is_long, layout_of, long_names, symbol_written, with_long_name, with_name}
+use Rattle.implib.specs.Formats.Layout.{auxiliary_count, contents_offset, contents_size, encoded_size, record_count, records, string_size, strings_size, symbol_table_offset}
+use Rattle.implib.specs.Formats.Writer.{WriterState, layout_of, long_names, symbol_written, with_long_name, with_name}
 use Rattle.implib.specs.Import.{holds, imp_symbol, is_empty_text, name_asked}
-use Rattle.implib.specs.Members.Gnu.{archive_symbols, export_name, export_object, export_sections, export_symbols, head_symbol, hint_name, hint_name_symbol, relocations_of_stub, relocations_of_thunk, stub, stub_bytes, stub_relocations, thunk}
+use Rattle.implib.specs.Members.Gnu.{export_object, export_sections, export_symbols, head_symbol, hint_name, relocations_of_stub, relocations_of_thunk, stub, stub_bytes, stub_relocations, thunk}
 use Rattle.implib.specs.Members.ImportTables.{relocation, thunk_width, zeros}
-use Rattle.implib.specs.Views.KeptObjects.{HasAddress, IsKept, KeepsExport, kept_export, kept_name, kept_symbols, kept_view, long_name_size, stub_size}
+use Rattle.implib.specs.Views.KeptObjects.{HasAddress, IsKept, KeepsExport, kept_export, kept_name, kept_view, long_name_size, stub_size}
 use Rattle.implib.specs.Members.GnuMembers.{export_spec}
 use Rattle.implib.specs.Members.MemberSpec.{MemberView, file_size, member_of}
 use Rattle.implib.specs.Members.Members.{is_too_long}
@@ -68,15 +68,7 @@ pub contents_long : (machine : MachineType) (e : ExportView) →
     sum_by contents_size (export_sections machine e)
     ≡ (if e.is_data then 0 else stub_size machine) + 14 + 2 * thunk_width machine + (if e.no_name then 0 else 20 + 3 + length (name_asked machine e))
 unfolding contents_size stub relocations_of_stub thunk relocations_of_thunk hint_name
-contents_long machine e = parts (thunk_width machine) (length (name_asked machine e)) e.no_name
-    (stub_long machine e.is_data)
-    (entry_long machine e.no_name e.ordinal (hint_name_symbol e))
-    (hint_name_long e.no_name e.ordinal (name_asked machine e))
-  where
-    parts : {stub stub_total entry hint : ℕ} (width asked : ℕ) (no_name : Bool) → stub ≡ stub_total → entry ≡ width + (if no_name then 0 else 10) → hint ≡ (if no_name then 0 else asked + 3) →
-        0 + stub + 0 + 0 + 14 + entry + entry + (hint + 0) ≡ stub_total + 14 + 2 * width + (if no_name then 0 else 20 + 3 + asked)
-    parts width asked true a b c = omega (arith, a, b, c)
-    parts width asked false a b c = omega (arith, a, b, c)
+contents_long machine e = grind (arith, stub_long, entry_long, hint_name_long)
 
 -- The names in the string table.
 
@@ -84,44 +76,18 @@ contents_long machine e = parts (thunk_width machine) (length (name_asked machin
 with_long_name-long : (names : List (List ℕ)) (name : List ℕ) →
     sum_by string_size (with_long_name names name) ≡ sum_by string_size names + (if list_any (bytes_eq name) names then 0 else long_name_size name)
 unfolding with_long_name with_name
-with_long_name-long names name = by_tests (is_long name) (list_any (bytes_eq name) names)
-  where
-    by_tests : (long there : Bool) → sum_by string_size (if long then (if there then names else names ++ name ∷ []) else names) ≡ sum_by string_size names + (if there then 0 else (if long then string_size name else 0))
-    by_tests false false = omega arith
-    by_tests false true = omega arith
-    by_tests true true = omega arith
-    by_tests true false = omega (arith, sum_by-append string_size names (name ∷ []))
+with_long_name-long names name = grind (arith, sum_by-append)
 
 -- another name is not among them
 with_long_name-absent : (names : List (List ℕ)) (other name : List ℕ) → list_any (bytes_eq other) names ≡ false → bytes_eq other name ≡ false →
     list_any (bytes_eq other) (with_long_name names name) ≡ false
 unfolding with_long_name with_name
-with_long_name-absent names other name absent differs = by_tests (is_long name) (list_any (bytes_eq name) names)
-  where
-    by_tests : (long there : Bool) → list_any (bytes_eq other) (if long then (if there then names else names ++ name ∷ []) else names) ≡ false
-    by_tests false there = absent
-    by_tests true true = absent
-    by_tests true false = rw (list_any-append (bytes_eq other) names (name ∷ []), absent, differs) refl
+with_long_name-absent names other name absent differs = grind (arith, list_any-append)
 
 -- a name counts after another one unless it is the same
 counted_after : (head name : List ℕ) → (if list_any (bytes_eq name) (with_long_name [] head) then 0 else long_name_size name) ≡ (if bytes_eq name head then 0 else long_name_size name)
 unfolding with_long_name with_name
-counted_after head name = elim (cases_Bool (bytes_eq name head)) [
-  | inl same ↦
-      let is = (bytes_eq-Decides name head).0 same in
-      rw same (when_same (is_long head) (ap is_long is) same)
-  | inr differs ↦ rw differs (when_different (is_long head) differs)
-]
-  where
-    when_same : (long : Bool) → is_long name ≡ long → bytes_eq name head ≡ true →
-        (if list_any (bytes_eq name) (if long then head ∷ [] else []) then 0 else long_name_size name) ≡ 0
-    when_same true is_long same = rw same refl
-    when_same false is_long same = rw is_long refl
-
-    when_different : (long : Bool) → bytes_eq name head ≡ false →
-        (if list_any (bytes_eq name) (if long then head ∷ [] else []) then 0 else long_name_size name) ≡ long_name_size name
-    when_different true differs = rw differs refl
-    when_different false differs = refl
+counted_after head name = grind (arith, cases_Bool, bytes_eq-Decides)
 
 -- the symbol of an address is neither the head's nor the export's
 address_of_none : (machine : MachineType) (linked name : List ℕ) → bytes_eq (imp_symbol name) (head_symbol machine linked) ≡ false
@@ -160,8 +126,7 @@ names_long machine linked e = by_kind e.is_data
         let first = with_long_name-long [] head in
         let absent = with_long_name-absent [] address head refl (address_of_none machine linked e.name) in
         let second = with_long_name-long (with_long_name [] head) address in
-        let whole : sum_by string_size (with_long_name (with_long_name [] head) address) ≡ long_name_size head + 0 + long_name_size address =
-        omega (arith, first, rw absent at second) in
+        let whole : sum_by string_size (with_long_name (with_long_name [] head) address) ≡ long_name_size head + 0 + long_name_size address = grind arith in
         ap (sum_by string_size) (of_record (with_long_name (with_long_name [] head) address)) ∙ whole
     by_kind false =
         let head = head_symbol machine linked in
@@ -171,8 +136,7 @@ names_long machine linked e = by_kind e.is_data
         let absent = with_long_name-absent (with_long_name [] head) address e.name (with_long_name-absent [] address head refl (address_of_none machine linked e.name)) (address_is_longer e.name) in
         let third = with_long_name-long (with_long_name (with_long_name [] head) e.name) address in
         let counted = counted_after head e.name in
-        let whole : sum_by string_size (with_long_name (with_long_name (with_long_name [] head) e.name) address) ≡ long_name_size head + (if bytes_eq e.name head then 0 else long_name_size e.name) + long_name_size address =
-        omega (arith, first, second, counted, rw absent at third) in
+        let whole : sum_by string_size (with_long_name (with_long_name (with_long_name [] head) e.name) address) ≡ long_name_size head + (if bytes_eq e.name head then 0 else long_name_size e.name) + long_name_size address = grind arith in
         ap (sum_by string_size) (of_record (with_long_name (with_long_name (with_long_name [] head) e.name) address)) ∙ whole
 
 -- The size of an object.
@@ -181,13 +145,7 @@ pub object_long : (machine : MachineType) (linked : List ℕ) (e : ExportView) �
     encoded_size (layout_of (export_object machine linked e))
     ≡ 304 + 18 * (if e.is_data then 3 else 4) + sum_by contents_size (export_sections machine e) + sum_by string_size (long_names (export_symbols (head_symbol machine linked) e))
 unfolding encoded_size symbol_table_offset contents_offset records strings_size layout_of export_object record_count auxiliary_count symbol_written
-object_long machine linked e =
-    let counted = by_kind (long_names (export_symbols (head_symbol machine linked) e)) e.is_data in
-    omega (arith, counted)
-  where
-    by_kind : (names : List (List ℕ)) (is_data : Bool) → sum_by record_count (map (symbol_written names) (export_symbols (head_symbol machine linked) (record e { is_data = is_data }))) ≡ (if is_data then 3 else 4)
-    by_kind names true = refl
-    by_kind names false = refl
+object_long machine linked e = grind arith
 
 -- sums that stop at a greatest number
 pub saturated : (greatest a b c : ℕ) → min (min (a + b) greatest + c) greatest ≡ min greatest (a + b + c)
@@ -224,21 +182,11 @@ module _ (machine : MachineType) (linked : List ℕ) (number : ℕ) (e : ExportV
   name_kept = ap (drop 6) keeps.address
 
   pub object_kept : export_object machine linked (kept_export k) ≡ export_object machine linked e
-  object_kept =
-      let name = name_kept in
-      let whole : export_object machine linked (said (kept_name k) (option_map string_bytes k.asked_name) k.ordinal k.no_name k.is_data) ≡ export_object machine linked (said e.name e.asked_name e.ordinal e.no_name e.is_data) =
-      rw (name, keeps.asked_name, keeps.ordinal, keeps.no_name, keeps.is_data) refl in
-      whole ∙ object_of_said machine linked e
+  object_kept = grind (arith, name_kept, object_of_said)
 
   pub member_kept : kept_view machine linked k ≡ member_of (export_spec machine linked number e)
   unfolding export_spec
-  member_kept =
-      let name = name_kept in
-      let object = object_kept in
-      let symbols : kept_symbols k ≡ archive_symbols e = rw (keeps.is_data, name, keeps.address) refl in
-      let whole : kept_view machine linked k ≡ record { name = export_name linked number; bytes = encoded (layout_of (export_object machine linked e)); symbols = archive_symbols e } =
-      rw (keeps.name, object, symbols) refl in
-      whole
+  member_kept = grind (arith, name_kept, object_kept)
 
   pub long_kept : encoded_size (layout_of (export_object machine linked (kept_export k))) ≡ file_size ((export_spec machine linked number e).contents)
   unfolding export_spec
@@ -247,50 +195,30 @@ module _ (machine : MachineType) (linked : List ℕ) (number : ℕ) (e : ExportV
   -- the object is too long where its size is
   pub refused_long : (size : ℕ) → size ≡ min 0xFFFF_FFFF_FFFF_FFFF (encoded_size (layout_of (export_object machine linked (kept_export k)))) → 0xFFFF_FFFF < size
       → is_too_long (export_spec machine linked number e) ≡ true
-  refused_long size is long =
-      let same = long_kept in
-      lt-ltb 0xFFFF_FFFF _ (omega (arith, is, long, same))
+  refused_long size is long = grind (arith, long_kept, lt-ltb)
 
   pub kept_short : (size : ℕ) → size ≡ min 0xFFFF_FFFF_FFFF_FFFF (encoded_size (layout_of (export_object machine linked (kept_export k)))) → size ≤ 0xFFFF_FFFF
       → is_too_long (export_spec machine linked number e) ≡ false
-  kept_short size is short =
-      let same = long_kept in
-      le-ltb 0xFFFF_FFFF _ (omega (arith, is, short, same))
+  kept_short size is short = grind (arith, long_kept, le-ltb)
 
   pub is_kept : (size : ℕ) → size ≡ min 0xFFFF_FFFF_FFFF_FFFF (encoded_size (layout_of (export_object machine linked (kept_export k)))) → size ≤ 0xFFFF_FFFF
       → holds 0 e.name ≡ false → is_empty_text e.name ≡ false → IsKept machine linked k
-  is_kept size is short free filled =
-      let name = name_kept in
-      record {
-        address = keeps.address ∙ ap imp_symbol (sym name);
-        free = rw name free;
-        filled = rw name filled;
-        short = omega (arith, is, short);
-      }
+  is_kept size is short free filled = grind (arith, name_kept)
 
 -- a name without NUL, of an export that holds none
 pub name_free : (e : ExportView) → holds_nul e ≡ false → holds 0 e.name ≡ false
-name_free e free =
-    let three = or_parts (holds 0 e.name || holds 0 e.symbol_name || holds 0 e.alias_target) (holds 0 (given_name e)) free in
-    let two = or_parts (holds 0 e.name || holds 0 e.symbol_name) (holds 0 e.alias_target) three.0 in
-    (or_parts (holds 0 e.name) (holds 0 e.symbol_name) two.0).0
+name_free e free = grind (arith, or_parts)
 
 -- the size of an object that is kept is that of its bytes
 pub length_kept : (machine : MachineType) (linked : List ℕ) (k : KeptObject) → holds 0 linked ≡ false → IsKept machine linked k
     → length ((kept_view machine linked k).bytes) ≡ encoded_size (layout_of (export_object machine linked (kept_export k)))
-length_kept machine linked k free kept =
-    length-encoded (layout_of (export_object machine linked (kept_export k)))
-    (Fits-export_object machine linked (kept_export k) free kept.free kept.filled)
-    (omega (arith, kept.short))
+length_kept machine linked k free kept = grind (arith, length-encoded, Fits-export_object)
 
 module _ (machine : MachineType) (linked : List ℕ) where
   pub size_at : (items : List KeptObject) (index : ℕ) (k : KeptObject) (size : ℕ) → holds 0 linked ≡ false → AllByRecursion (IsKept machine linked) items
       → slice_get items index ≡ Some k → size ≡ min 0xFFFF_FFFF_FFFF_FFFF (encoded_size (layout_of (export_object machine linked (kept_export k))))
       → IfSome (slice_get (map (kept_view machine linked) items) index) (λ m. size ≡ length m.bytes)
-  size_at items index k size free all found is =
-      let kept = all_at (IsKept machine linked) items index k all found in
-      let long = length_kept machine linked k free kept in
-      rw (slice_get-map (kept_view machine linked) items index, found) (omega (arith, is, long, kept.short))
+  size_at items index k size free all found is = grind (arith, all_at, length_kept, slice_get-map)
 
   pub at_none : (items : List KeptObject) (index : ℕ) (P : MemberView → Type 0)
       → slice_get items index ≡ None → IfSome (slice_get (map (kept_view machine linked) items) index) P
@@ -300,10 +228,7 @@ module _ (machine : MachineType) (linked : List ℕ) where
   pub kept_more : (number : ℕ) (e : ExportView) (items more : List KeptObject) (k : KeptObject) → more ≡ items ++ k ∷ []
       → kept_view machine linked k ≡ member_of (export_spec machine linked number e)
       → map (kept_view machine linked) more ≡ map (kept_view machine linked) items ++ map member_of (export_spec machine linked number e ∷ [])
-  kept_more number e items more k is shows =
-      ap (map (kept_view machine linked)) is
-      ∙ (map-append (kept_view machine linked) items (k ∷ [])
-      ∙ ap (λ (m : MemberView). map (kept_view machine linked) items ++ m ∷ []) shows)
+  kept_more number e items more k is shows = grind (arith, map-append)
 
   pub all_kept : (items more : List KeptObject) (k : KeptObject) → more ≡ items ++ k ∷ [] → AllByRecursion (IsKept machine linked) items → IsKept machine linked k
       → AllByRecursion (IsKept machine linked) more

@@ -1,5 +1,5 @@
 -- What the members for Microsoft's linker in three lists are read as: each list is a part of all members.
-use Rattle.std.proofs.Common.{◌≡◌, ◌∙◌, ℕ, Bool, true, false, Err, List, [], ◌∷◌, ◌++◌, Ok, Option, Result, Some, ap, append-nil, drop, if◌then◌else◌, map, refl, slice_get, sym}
+use Rattle.std.proofs.Common.{arith, ◌≡◌, ◌∙◌, ℕ, Bool, true, false, Err, List, [], ◌∷◌, ◌++◌, Ok, Option, Result, Some, ap, append-nil, drop, if◌then◌else◌, map, refl, slice_get, sym}
 use Rattle.std.specs.Prelude.{IfOk, not}
 use Rattle.std.specs.List.{AllByRecursion, filter, flat_map}
 use Rattle.std.specs.Option.{option_and_then}
@@ -9,15 +9,15 @@ use Rattle.implib.specs.declared.machine.MachineType.{MachineType}
 use Rattle.implib.specs.declared.error.Error.{Error}
 use Rattle.implib.specs.declared.msvc.members.MemberLists.{MemberLists}
 use Rattle.implib.specs.Definition.{DefinitionView, ExportView}
-use Rattle.implib.specs.Formats.File.{AnAlias, AnImport, Meaning, dll_in, file_in, meaning_in, meaning_of}
-use Rattle.implib.specs.Import.{Alias, aliases_for, imp_symbol, is_alias, public_exports}
+use Rattle.implib.specs.Formats.File.{AnAlias, AnImport, Meaning, dll_in, file_in, meaning_of}
+use Rattle.implib.specs.Import.{Alias, aliases_for, is_alias, public_exports}
 use Rattle.implib.specs.LibraryName.{NamesOfDll, names_for}
 use Rattle.implib.specs.Members.ListsReadBack.{AreReadAs, ListsReadBack, aliases_kept}
-use Rattle.implib.specs.Members.MemberLists.{AreListsOf, ListsView, alias_specs, all_alias_specs, all_import_specs, has_code, import_specs, is_weak, kept_of_alias, lists_view}
+use Rattle.implib.specs.Members.MemberLists.{AreListsOf, ListsView, alias_specs, all_alias_specs, all_import_specs, has_code, import_specs, is_weak, lists_view}
 use Rattle.implib.specs.Members.Members.{AreMembersOf, member_specs}
 use Rattle.implib.specs.Members.MemberSpec.{MemberSpec, MemberView, file_bytes, member_of}
 use Rattle.implib.specs.Members.Msvc.{short_import_symbol}
-use Rattle.implib.specs.Members.MsvcMembers.{descriptor_spec, export_specs, header_specs, null_descriptor_spec, null_thunk_spec, short_import_spec, weak_specs}
+use Rattle.implib.specs.Members.MsvcMembers.{export_specs, header_specs, short_import_spec, weak_specs}
 use Rattle.implib.specs.Members.ReadBack.{file_of, import_written}
 use Rattle.implib.specs.Renaming.{renamed}
 use Rattle.implib.proofs.Members.MemberMeanings.{chosen_mean, dll_of_descriptor, first_reads, member_specs_mean, short_import_means}
@@ -84,17 +84,13 @@ one_import : (machine : MachineType) (dll : NamesOfDll) (e : ExportView) (export
     → map meant (if weak then [] else short_import_spec machine dll e ∷ []) ++ map (λ (x : ExportView). Some (AnImport (import_written machine dll.text x))) exports
     ≡ map (λ (x : ExportView). Some (AnImport (import_written machine dll.text x))) (if not weak then e ∷ exports else exports)
 one_import machine dll e exports true = refl
-one_import machine dll e exports false =
-    ap (λ (m : Option Meaning). m ∷ map (λ (x : ExportView). Some (AnImport (import_written machine dll.text x))) exports) (short_import_means machine dll.text e)
+one_import machine dll e exports false = grind (arith, short_import_means)
 
 imports_mean : (machine : MachineType) (dll : NamesOfDll) (exports : List ExportView)
     → map meant (flat_map (import_specs machine dll) exports)
     ≡ map (λ (e : ExportView). Some (AnImport (import_written machine dll.text e))) (filter (λ (e : ExportView). not (is_weak e)) exports)
 imports_mean machine dll [] = refl
-imports_mean machine dll (e ∷ exports) =
-    map-append meant (import_specs machine dll e) (flat_map (import_specs machine dll) exports)
-    ∙ (ap (λ ms. map meant (import_specs machine dll e) ++ ms) (imports_mean machine dll exports)
-    ∙ one_import machine dll e (filter (λ (x : ExportView). not (is_weak x)) exports) (is_weak e))
+imports_mean machine dll (e ∷ exports) = grind (arith, imports_mean machine dll exports, map-append, one_import)
 
 map_rest : {X Y : Type 0} (f : X → Y) (xs : List X) → map f (drop 1 xs) ≡ drop 1 (map f xs)
 map_rest f [] = refl
@@ -110,19 +106,12 @@ unfolding weak_specs
 weak_mean machine linked e = chosen_mean machine linked e (is_alias e.alias_target (short_import_symbol e))
 
 one_alias : (machine : MachineType) (linked : List ℕ) (e : ExportView) → map meant (alias_specs machine linked e) ≡ map (λ (a : Alias). Some (AnAlias a)) (aliases_kept e)
-one_alias machine linked e =
-    map_kept meant (weak_specs machine linked e) (has_code e)
-    ∙ (ap (λ (ms : List (Option Meaning)). if has_code e then ms else drop 1 ms) (weak_mean machine linked e)
-    ∙ sym (map_kept (λ (a : Alias). Some (AnAlias a)) (aliases_for (short_import_symbol e) e.alias_target) (has_code e)))
+one_alias machine linked e = grind (arith, map_kept, weak_mean)
 
 aliases_mean : (machine : MachineType) (linked : List ℕ) (exports : List ExportView)
     → map meant (flat_map (alias_specs machine linked) exports) ≡ map (λ (a : Alias). Some (AnAlias a)) (flat_map aliases_kept exports)
 aliases_mean machine linked [] = refl
-aliases_mean machine linked (e ∷ exports) =
-    map-append meant (alias_specs machine linked e) (flat_map (alias_specs machine linked) exports)
-    ∙ (ap (λ ms. ms ++ map meant (flat_map (alias_specs machine linked) exports)) (one_alias machine linked e)
-    ∙ (ap (λ ms. map (λ (a : Alias). Some (AnAlias a)) (aliases_kept e) ++ ms) (aliases_mean machine linked exports)
-    ∙ sym (map-append (λ (a : Alias). Some (AnAlias a)) (aliases_kept e) (flat_map aliases_kept exports))))
+aliases_mean machine linked (e ∷ exports) = grind (arith, aliases_mean machine linked exports, map-append, one_alias)
 
 module _ (d : DefinitionView) (machine : MachineType) (lists : ListsView) (are : AreListsOf d machine lists) where
   -- all members of the definition, of which the lists are parts
@@ -151,12 +140,8 @@ module _ (d : DefinitionView) (machine : MachineType) (lists : ListsView) (are :
             ∙ (ap (λ (x : List MemberSpec). option_and_then (λ (m : MemberView). dll_in m.bytes) (slice_get (map member_of x) 0)) (sym (append-nil _))
             ∙ (first_reads machine dll [] (rw (append-nil (header_specs machine dll)) header)
             ∙ dll_of_descriptor machine dll (import_name_is_free d machine Msvc (map member_of (member_specs (renamed d) machine Msvc)) made)));
-        imported =
-            ap (map (λ (m : MemberView). meaning_in m.bytes)) are.imports
-            ∙ (member_specs_mean (all_import_specs machine (renamed d)) imports ∙ imports_mean machine dll exports);
-        weak =
-            ap (map (λ (m : MemberView). meaning_in m.bytes)) are.aliases
-            ∙ (member_specs_mean (all_alias_specs machine (renamed d)) aliases ∙ aliases_mean machine dll.linked exports);
+        imported = grind (arith, member_specs_mean, imports_mean);
+        weak = grind (arith, member_specs_mean, aliases_mean);
       }
 
 -- of a result

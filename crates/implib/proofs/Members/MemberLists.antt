@@ -1,5 +1,5 @@
 -- The members of an export in two lists.
-use Rattle.std.proofs.Common.{◌≡◌, ℕ, ◌+◌, ◌<◌, ◌≤◌, ◌++◌, Bool, true, false, List, [], ◌∷◌, length, drop, map, if◌then◌else◌, refl, sym, ap, ◌∙◌, arith, append-nil, Result, Ok, Err}
+use Rattle.std.proofs.Common.{◌≡◌, ℕ, ◌+◌, ◌<◌, ◌++◌, Bool, true, false, List, [], ◌∷◌, length, drop, if◌then◌else◌, refl, ap, arith, append-nil, Result, Ok, Err}
 use Rattle.std.specs.Prelude.{nat_lt, ◌||◌, codes}
 use Rattle.std.specs.List.{list_any}
 use Rattle.std.proofs.lemmas.List.{length-append}
@@ -13,12 +13,10 @@ use Rattle.implib.specs.Definition.{ExportView}
 use Rattle.implib.specs.Fault.{IfInvalid, MemberTooLong}
 use Rattle.implib.specs.Formats.Layout.{auxiliary_count, contents_offset, contents_size, encoded_size, record_count, records, string_size, strings_size, symbol_table_offset}
 use Rattle.implib.specs.Import.{imp_symbol}
-use Rattle.implib.specs.Library.{member_view}
 use Rattle.implib.specs.LibraryName.{NamesOfDll}
 use Rattle.implib.specs.Members.MemberLists.{alias_specs, has_code, import_specs, is_weak}
-use Rattle.implib.specs.Members.MemberSpec.{MemberSpec, MemberView, member_of}
+use Rattle.implib.specs.Members.MemberSpec.{MemberSpec}
 use Rattle.implib.specs.Members.Members.{is_too_long}
-use Rattle.implib.specs.Members.Msvc.{short_import_symbol}
 use Rattle.implib.specs.Members.MsvcMembers.{export_specs, short_import_spec, weak_address_spec, weak_specs, weak_symbol_spec}
 use Rattle.implib.specs.Members.WeakExternal.{weak_object}
 use Rattle.implib.specs.Members.ShortImports.{ShortImportsView}
@@ -35,21 +33,11 @@ length-imp_symbol : (name : List ℕ) → length (imp_symbol name) ≡ 6 + lengt
 length-imp_symbol name = length-append (codes "__imp_") name
 
 below : (a b : ℕ) → a < b → nat_lt 0xFFFF_FFFF b ≡ false → nat_lt 0xFFFF_FFFF a ≡ false
-below a b less fits =
-    let most : b ≤ 0xFFFF_FFFF = ltb-false 0xFFFF_FFFF b fits in
-    le-ltb 0xFFFF_FFFF a (omega (arith, less, most))
+below a b less fits = grind (arith, ltb-false, le-ltb)
 
 module _ (machine : MachineType) (linked : List ℕ) (e : ExportView) where
   shorter : is_too_long (weak_address_spec machine linked e) ≡ false → is_too_long (weak_symbol_spec machine linked e) ≡ false
-  shorter fits =
-      let symbol = short_import_symbol e in
-      let less : encoded_size (weak_object machine symbol e.alias_target) < encoded_size (weak_object machine (imp_symbol symbol) (imp_symbol e.alias_target)) =
-      (let own = weak_size machine symbol e.alias_target in
-      let address = weak_size machine (imp_symbol symbol) (imp_symbol e.alias_target) in
-      let first = length-imp_symbol symbol in
-      let second = length-imp_symbol e.alias_target in
-      omega (arith, own, address, first, second)) in
-      below _ _ less fits
+  shorter fits = grind (arith, weak_size, length-imp_symbol, below)
 
   both : is_weak e ≡ true → weak_specs machine linked e ≡ weak_symbol_spec machine linked e ∷ weak_address_spec machine linked e ∷ []
   unfolding weak_specs
@@ -60,38 +48,24 @@ module _ (machine : MachineType) (linked : List ℕ) (e : ExportView) where
   none plain = ap (λ b. if b then weak_symbol_spec machine linked e ∷ weak_address_spec machine linked e ∷ [] else []) plain
 
   kept_of_data : is_weak e ≡ true → has_code e ≡ false → alias_specs machine linked e ≡ weak_address_spec machine linked e ∷ []
-  kept_of_data weak data_only =
-      ap (λ b. if b then weak_specs machine linked e else drop 1 (weak_specs machine linked e)) data_only ∙ ap (drop 1) (both weak)
+  kept_of_data weak data_only = grind (arith, both)
 
   kept_fit : is_weak e ≡ true → list_any is_too_long (weak_address_spec machine linked e ∷ []) ≡ false → list_any is_too_long (weak_specs machine linked e) ≡ false
-  kept_fit weak fits =
-      let address = (or_parts (is_too_long (weak_address_spec machine linked e)) false fits).0 in
-      ap (list_any is_too_long) (both weak)
-      ∙ or_from (is_too_long (weak_symbol_spec machine linked e)) (list_any is_too_long (weak_address_spec machine linked e ∷ [])) (shorter address) fits
+  kept_fit weak fits = grind (arith, or_parts, both, or_from, shorter)
 
   last_true : (a b : Bool) → b ≡ true → (a || b) ≡ true
   last_true true b is = refl
   last_true false b is = is
 
   kept_long : is_weak e ≡ true → list_any is_too_long (weak_address_spec machine linked e ∷ []) ≡ true → list_any is_too_long (weak_specs machine linked e) ≡ true
-  kept_long weak long =
-      ap (list_any is_too_long) (both weak)
-      ∙ last_true (is_too_long (weak_symbol_spec machine linked e)) (list_any is_too_long (weak_address_spec machine linked e ∷ [])) long
+  kept_long weak long = grind (arith, both, last_true)
 
   -- of data the weak external of its address is pushed alone
   pub kept_data : (old new : List Member) (result : Result (Unit {0}) Error) → is_weak e ≡ true → has_code e ≡ false
       → PushesMembers (weak_address_spec machine linked e ∷ []) old new result → PushesKept machine linked e old new result
-  kept_data old new (Ok done) weak data_only pushed = record {
-    ok = pushed.ok ∙ ap (λ t. map member_view old ++ map member_of t) (sym (kept_of_data weak data_only));
-    fit = kept_fit weak pushed.fit;
-    too_long = tt;
-  }
+  kept_data old new (Ok done) weak data_only pushed = grind (arith, kept_of_data, kept_fit)
   kept_data old new (Err (OutOfMemory refused)) weak data_only pushed = record { ok = tt; fit = tt; too_long = tt }
-  kept_data old new (Err (Invalid fault)) weak data_only pushed = record {
-    ok = tt;
-    fit = tt;
-    too_long = (pushed.too_long.0, kept_long weak pushed.too_long.1);
-  }
+  kept_data old new (Err (Invalid fault)) weak data_only pushed = grind (arith, kept_long)
 
 -- a call that fails
 abbrev failed : Error → Result (Unit {0}) Error
@@ -114,34 +88,20 @@ module _ (machine : MachineType) (dll : NamesOfDll) (e : ExportView) where
 
   alias_fits : list_any is_too_long (weak_specs machine dll.linked e) ≡ false → is_too_long (short_import_spec machine dll e) ≡ false
       → list_any is_too_long (export_specs machine dll e) ≡ false
-  alias_fits weak import_fits =
-      any_of_both (weak_specs machine dll.linked e) (short_import_spec machine dll e ∷ [])
-      ∙ or_from (list_any is_too_long (weak_specs machine dll.linked e)) (is_too_long (short_import_spec machine dll e) || false) weak (or_from (is_too_long (short_import_spec machine dll e)) false import_fits refl)
+  alias_fits weak import_fits = grind (arith, any_of_both, or_from)
 
   alias_long : list_any is_too_long (weak_specs machine dll.linked e) ≡ true → list_any is_too_long (export_specs machine dll e) ≡ true
-  alias_long weak =
-      any_of_both (weak_specs machine dll.linked e) (short_import_spec machine dll e ∷ [])
-      ∙ first_true (list_any is_too_long (weak_specs machine dll.linked e)) (is_too_long (short_import_spec machine dll e) || false) weak
+  alias_long weak = grind (arith, any_of_both, first_true)
 
   pub import_long : is_too_long (short_import_spec machine dll e) ≡ true → list_any is_too_long (export_specs machine dll e) ≡ true
-  import_long long =
-      any_of_both (weak_specs machine dll.linked e) (short_import_spec machine dll e ∷ [])
-      ∙ last_true machine dll.linked e (list_any is_too_long (weak_specs machine dll.linked e)) (is_too_long (short_import_spec machine dll e) || false) (first_true (is_too_long (short_import_spec machine dll e)) false long)
+  import_long long = grind (arith, any_of_both, last_true, first_true)
 
   -- an alias whose short import fits is pushed as its weak externals are
   pub alias_of_kept : (old new : List Member) (result : Result (Unit {0}) Error) → is_too_long (short_import_spec machine dll e) ≡ false
       → PushesKept machine dll.linked e old new result → PushesAlias machine dll e old new result
-  alias_of_kept old new (Ok done) import_fits pushed = record {
-    ok = pushed.ok;
-    fit = alias_fits pushed.fit import_fits;
-    too_long = tt;
-  }
+  alias_of_kept old new (Ok done) import_fits pushed = grind (arith, alias_fits)
   alias_of_kept old new (Err (OutOfMemory refused)) import_fits pushed = record { ok = tt; fit = tt; too_long = tt }
-  alias_of_kept old new (Err (Invalid fault)) import_fits pushed = record {
-    ok = tt;
-    fit = tt;
-    too_long = (pushed.too_long.0, alias_long pushed.too_long.1);
-  }
+  alias_of_kept old new (Err (Invalid fault)) import_fits pushed = grind (arith, alias_long)
 
   -- and another is refused
   pub alias_refused : (old new : List Member) (error : Error)
@@ -166,35 +126,13 @@ module _ (machine : MachineType) (dll : NamesOfDll) (e : ExportView) where
 -- an alias changes the list of aliases alone
 pub listed_alias : (e : ExportView) (imports : ShortImportsView) (old new : List Member) (result : Result (Unit {0}) Error) → is_weak e ≡ true
     → PushesAlias imports.machine imports.dll e old new result → PushesListed e imports imports old new result
-listed_alias e imports old new (Ok done) weak pushed = record {
-  imports_ok =
-      ap (λ (members : List MemberView). record imports { members = members })
-      (sym (append-nil imports.members)
-      ∙ ap (λ t. imports.members ++ map member_of t) (sym (import_specs-weak imports.machine imports.dll e weak)));
-  aliases_ok = pushed.ok;
-  fit = pushed.fit;
-  too_long = tt;
-}
+listed_alias e imports old new (Ok done) weak pushed = grind (arith, append-nil, import_specs-weak)
 listed_alias e imports old new (Err (OutOfMemory refused)) weak pushed = record { imports_ok = tt; aliases_ok = tt; fit = tt; too_long = tt }
 listed_alias e imports old new (Err (Invalid fault)) weak pushed = record { imports_ok = tt; aliases_ok = tt; fit = tt; too_long = pushed.too_long }
 
 -- and another export the imports alone
 pub listed_import : (e : ExportView) (old new : ShortImportsView) (aliases : List Member) (result : Result (Unit {0}) Error) → is_weak e ≡ false
     → KeepsMembers (short_import_spec old.machine old.dll e ∷ []) old new result → PushesListed e old new aliases aliases result
-listed_import e old new aliases (Ok done) plain kept = record {
-  imports_ok =
-      kept.ok
-      ∙ ap (λ t. record old { members = old.members ++ map member_of t }) (sym (import_specs-own old.machine old.dll e plain));
-  aliases_ok =
-      sym (append-nil (map member_view aliases))
-      ∙ ap (λ t. map member_view aliases ++ map member_of t) (sym (alias_specs-none old.machine old.dll e plain));
-  fit = ap (list_any is_too_long) (own old.machine old.dll e plain) ∙ kept.fit;
-  too_long = tt;
-}
+listed_import e old new aliases (Ok done) plain kept = grind (arith, import_specs-own, append-nil, alias_specs-none, own)
 listed_import e old new aliases (Err (OutOfMemory refused)) plain kept = record { imports_ok = tt; aliases_ok = tt; fit = tt; too_long = tt }
-listed_import e old new aliases (Err (Invalid fault)) plain kept = record {
-  imports_ok = tt;
-  aliases_ok = tt;
-  fit = tt;
-  too_long = (kept.too_long.0, ap (list_any is_too_long) (own old.machine old.dll e plain) ∙ kept.too_long.1);
-}
+listed_import e old new aliases (Err (Invalid fault)) plain kept = grind (arith, own)

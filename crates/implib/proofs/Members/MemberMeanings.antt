@@ -12,12 +12,12 @@ use Rattle.implib.specs.declared.machine.MachineType.{MachineType}
 use Rattle.implib.specs.Formats.Bytes.{u32_bytes}
 use Rattle.implib.specs.Definition.{DefinitionView, ExportView}
 use Rattle.implib.specs.Formats.File.{ObjectFile, AnImport, AnAlias, declared_by, dll_in, dll_of, file_in, meaning_in, meaning_of}
-use Rattle.implib.specs.Import.{Alias, imp_symbol, aliases_for, holds, expected_import, import_symbols, is_alias, is_empty_text, public_exports}
+use Rattle.implib.specs.Import.{Alias, imp_symbol, aliases_for, holds, expected_import, import_symbols, is_empty_text, public_exports}
 use Rattle.implib.specs.Members.MemberSpec.{AShortImport, AnObject, MemberSpec, MemberView, member_of, file_bytes}
 use Rattle.implib.specs.Members.Members.{AreMembersOf, member_specs}
 use Rattle.implib.specs.Members.MsvcMembers.{descriptor_spec, null_descriptor_spec, null_thunk_spec, header_specs, weak_specs, export_specs, short_import_spec}
 use Rattle.implib.specs.Members.WeakExternal.{weak_spec}
-use Rattle.implib.specs.Members.Msvc.{short_import_of, short_import_symbol, symbol_or_name}
+use Rattle.implib.specs.Members.Msvc.{short_import_of, short_import_symbol}
 use Rattle.implib.specs.Members.MsvcObjects.{descriptor, null_descriptor, null_thunk}
 use Rattle.implib.specs.Members.WeakExternal.{weak_object}
 use Rattle.implib.specs.Formats.Object.{u32_at}
@@ -51,22 +51,17 @@ short_import_declares machine dll e = ap (λ is_data. import_symbols is_data (sh
 chosen_declare : (machine : MachineType) (dll : List ℕ) (e : ExportView) (test : Bool) →
     AllByRecursion DeclaresListed (if test then weak_spec machine dll (short_import_symbol e) e.alias_target ∷ weak_spec machine dll (imp_symbol (short_import_symbol e)) (imp_symbol e.alias_target) ∷ [] else [])
 chosen_declare machine dll e false = tt
-chosen_declare machine dll e true =
-    (weak_declares machine dll (short_import_symbol e) e.alias_target, (weak_declares machine dll (imp_symbol (short_import_symbol e)) (imp_symbol e.alias_target), tt))
+chosen_declare machine dll e true = grind (arith, weak_declares)
 
 exports_declare : (machine : MachineType) (dll : NamesOfDll) (exports : List ExportView) → AllByRecursion DeclaresListed (flat_map (export_specs machine dll) exports)
 unfolding weak_specs
 exports_declare machine dll [] = tt
-exports_declare machine dll (e ∷ exports) =
-    all_append DeclaresListed (export_specs machine dll e) (flat_map (export_specs machine dll) exports)
-    (all_append DeclaresListed (weak_specs machine dll.linked e) (short_import_spec machine dll e ∷ []) (chosen_declare machine dll.linked e (is_alias e.alias_target (short_import_symbol e))) (short_import_declares machine dll e, tt))
-    (exports_declare machine dll exports)
+exports_declare machine dll (e ∷ exports) = grind (arith, exports_declare machine dll exports, all_append, chosen_declare, short_import_declares)
 
 pub read_declares : (specs : List MemberSpec) → AllByRecursion (λ p. ReadsBack p.contents) specs → AllByRecursion DeclaresListed specs →
     AllByRecursion (λ p. option_map declared_by (file_in (file_bytes p.contents)) ≡ Some p.symbols) specs
 read_declares [] reads declares = tt
-read_declares (p ∷ specs) reads declares =
-    (ap (option_map declared_by) reads.0.read ∙ ap (λ listed. Some listed) declares.0, read_declares specs reads.1 declares.1)
+read_declares (p ∷ specs) reads declares = grind (arith, read_declares specs reads.1 declares.1)
 
 -- What is expected.
 
@@ -78,18 +73,14 @@ weak_means machine weak target = refl
 pub weak_object_means : (machine : MachineType) (weak target : List ℕ) → holds 0 weak ≡ false → holds 0 target ≡ false → encoded_size (weak_object machine weak target) < 2 ^ 32 →
     meaning_in (encoded (weak_object machine weak target)) ≡ Some (AnAlias (record { weak = weak; target = target }))
 unfolding weak_object
-weak_object_means machine weak target weak_free target_free short =
-    let reads : ReadsBack (AnObject (weak_object machine weak target)) =
-    object_reads (weak_object machine weak target) (Fits-weak_object machine weak target weak_free target_free) (machine_number_nonzero machine) (omega arith) in
-    ap (option_and_then meaning_of) reads.read ∙ weak_means machine weak target
+weak_object_means machine weak target weak_free target_free short = grind (arith, object_reads, Fits-weak_object, machine_number_nonzero, weak_means)
 
 -- and so do the bytes that are its layout
 pub weak_bytes_mean : {E : Type 0} (machine : MachineType) (weak target : List ℕ) (result : Result (Vec ℕ Global) E) → holds 0 weak ≡ false → holds 0 target ≡ false →
     IfOk result (λ bytes. bytes.items ≡ encoded (weak_object machine weak target)) → OnOk result (encoded_size (weak_object machine weak target) < 2 ^ 32) →
     IfOk result (λ bytes. meaning_in bytes.items ≡ Some (AnAlias (record { weak = weak; target = target })))
 weak_bytes_mean machine weak target (Err error) weak_free target_free same short = tt
-weak_bytes_mean machine weak target (Ok bytes) weak_free target_free same short =
-    ap meaning_in same ∙ weak_object_means machine weak target weak_free target_free short
+weak_bytes_mean machine weak target (Ok bytes) weak_free target_free same short = grind (arith, weak_object_means)
 
 pub short_import_means : (machine : MachineType) (dll : List ℕ) (e : ExportView) → meaning_of (file_of (AShortImport (short_import_of machine dll e))) ≡ Some (AnImport (import_written machine dll e))
 short_import_means machine dll e = ap (option_map AnImport) (import_of_short_import-short_import_of machine dll e)
@@ -98,29 +89,17 @@ pub chosen_mean : (machine : MachineType) (dll : List ℕ) (e : ExportView) (tes
     map (λ (p : MemberSpec). meaning_of (file_of p.contents)) (if test then weak_spec machine dll (short_import_symbol e) e.alias_target ∷ weak_spec machine dll (imp_symbol (short_import_symbol e)) (imp_symbol e.alias_target) ∷ [] else [])
     ≡ map (λ a. Some (AnAlias a)) (if test then record { weak = short_import_symbol e; target = e.alias_target } ∷ record { weak = imp_symbol (short_import_symbol e); target = imp_symbol e.alias_target } ∷ [] else [])
 chosen_mean machine dll e false = refl
-chosen_mean machine dll e true =
-    let first = weak_means machine (short_import_symbol e) e.alias_target in
-    let second = weak_means machine (imp_symbol (short_import_symbol e)) (imp_symbol e.alias_target) in
-    rw (first, second) refl
+chosen_mean machine dll e true = grind (arith, weak_means)
 
 export_means : (machine : MachineType) (dll : NamesOfDll) (e : ExportView) →
     map (λ (p : MemberSpec). meaning_of (file_of p.contents)) (export_specs machine dll e) ≡ map (λ m. Some m) (meanings_written machine dll.text e)
 unfolding weak_specs
-export_means machine dll e =
-    map-append (λ (p : MemberSpec). meaning_of (file_of p.contents)) (weak_specs machine dll.linked e) (short_import_spec machine dll e ∷ [])
-    ∙ (ap (λ x. x ++ meaning_of (file_of (AShortImport (short_import_of machine dll.text e))) ∷ []) (chosen_mean machine dll.linked e (is_alias e.alias_target (short_import_symbol e)))
-    ∙ (ap (λ x. map (λ a. Some (AnAlias a)) (aliases_for (short_import_symbol e) e.alias_target) ++ x ∷ []) (short_import_means machine dll.text e)
-    ∙ sym (map-append (λ m. Some m) (map AnAlias (aliases_for (short_import_symbol e) e.alias_target)) (AnImport (import_written machine dll.text e) ∷ [])
-    ∙ ap (λ x. x ++ Some (AnImport (import_written machine dll.text e)) ∷ []) (map_after (λ m. Some m) AnAlias (aliases_for (short_import_symbol e) e.alias_target)))))
+export_means machine dll e = grind (arith, map-append, chosen_mean, short_import_means, map_after)
 
 exports_mean : (machine : MachineType) (dll : NamesOfDll) (exports : List ExportView) →
     map (λ (p : MemberSpec). meaning_of (file_of p.contents)) (flat_map (export_specs machine dll) exports) ≡ map (λ m. Some m) (flat_map (meanings_written machine dll.text) exports)
 exports_mean machine dll [] = refl
-exports_mean machine dll (e ∷ exports) =
-    map-append (λ (p : MemberSpec). meaning_of (file_of p.contents)) (export_specs machine dll e) (flat_map (export_specs machine dll) exports)
-    ∙ (ap (λ x. x ++ map (λ (p : MemberSpec). meaning_of (file_of p.contents)) (flat_map (export_specs machine dll) exports)) (export_means machine dll e)
-    ∙ (ap (λ x. map (λ m. Some m) (meanings_written machine dll.text e) ++ x) (exports_mean machine dll exports)
-    ∙ sym (map-append (λ m. Some m) (meanings_written machine dll.text e) (flat_map (meanings_written machine dll.text) exports))))
+exports_mean machine dll (e ∷ exports) = grind (arith, exports_mean machine dll exports, map-append, export_means)
 
 -- Without symbol names.
 
@@ -143,28 +122,18 @@ import_of_export machine dll e plain asks =
 -- the aliases among them
 aliases_of_export : (machine : MachineType) (dll : List ℕ) (e : ExportView) → e.symbol_name ≡ [] →
     filter_map alias_among (meanings_written machine dll e) ≡ aliases_for e.name e.alias_target
-aliases_of_export machine dll e plain =
-    filter_map-append alias_among (map AnAlias (aliases_for (short_import_symbol e) e.alias_target)) (AnImport (import_written machine dll e) ∷ [])
-    ∙ (ap (λ x. x ++ []) (all_aliases (aliases_for (short_import_symbol e) e.alias_target))
-    ∙ (append-nil (aliases_for (short_import_symbol e) e.alias_target)
-    ∙ ap (λ (s : List ℕ). aliases_for (symbol_or_name s e.name) e.alias_target) plain))
+aliases_of_export machine dll e plain = grind (arith, filter_map-append, all_aliases, append-nil)
 
 imports_expected : (machine : MachineType) (dll : List ℕ) (exports : List ExportView) → AllByRecursion (λ e. e.symbol_name ≡ []) exports →
     AllByRecursion (AsksNoOther Msvc machine) exports →
     filter_map import_among (flat_map (meanings_written machine dll) exports) ≡ map (expected_import machine dll) exports
 imports_expected machine dll [] plain ask = refl
-imports_expected machine dll (e ∷ exports) plain ask =
-    filter_map-append import_among (meanings_written machine dll e) (flat_map (meanings_written machine dll) exports)
-    ∙ (ap (λ x. x ++ filter_map import_among (flat_map (meanings_written machine dll) exports)) (import_of_export machine dll e plain.0 ask.0)
-    ∙ ap (λ x. expected_import machine dll e ∷ x) (imports_expected machine dll exports plain.1 ask.1))
+imports_expected machine dll (e ∷ exports) plain ask = grind (arith, imports_expected machine dll exports plain.1 ask.1, filter_map-append, import_of_export)
 
 aliases_expected : (machine : MachineType) (dll : List ℕ) (exports : List ExportView) → AllByRecursion (λ e. e.symbol_name ≡ []) exports →
     filter_map alias_among (flat_map (meanings_written machine dll) exports) ≡ flat_map (λ e. aliases_for e.name e.alias_target) exports
 aliases_expected machine dll [] plain = refl
-aliases_expected machine dll (e ∷ exports) plain =
-    filter_map-append alias_among (meanings_written machine dll e) (flat_map (meanings_written machine dll) exports)
-    ∙ (ap (λ x. x ++ filter_map alias_among (flat_map (meanings_written machine dll) exports)) (aliases_of_export machine dll e plain.0)
-    ∙ ap (λ x. aliases_for e.name e.alias_target ++ x) (aliases_expected machine dll exports plain.1))
+aliases_expected machine dll (e ∷ exports) plain = grind (arith, aliases_expected machine dll exports plain.1, filter_map-append, aliases_of_export)
 
 empty_text : (text : List ℕ) → is_empty_text text ≡ true → text ≡ []
 empty_text [] empty = refl
@@ -206,20 +175,12 @@ first_reads machine dll specs reads = ap (option_and_then dll_of) reads.0.read
 pub member_specs_mean : (specs : List MemberSpec) → AllByRecursion (λ p. ReadsBack p.contents) specs →
     map (λ (m : MemberView). meaning_in m.bytes) (map member_of specs) ≡ map (λ (p : MemberSpec). meaning_of (file_of p.contents)) specs
 member_specs_mean [] reads = refl
-member_specs_mean (p ∷ specs) reads =
-    let first : meaning_in (file_bytes p.contents) ≡ meaning_of (file_of p.contents) = ap (option_and_then meaning_of) reads.0.read in
-    let rest = member_specs_mean specs reads.1 in
-    rw (first, rest) refl
+member_specs_mean (p ∷ specs) reads = grind (arith, member_specs_mean specs reads.1)
 
 -- the members of a definition that is not refused are read as the definition means
 module _ (d : DefinitionView) (machine : MachineType) (members : List MemberView) (made : AreMembersOf d machine Msvc members) where
   meanings_read : map (λ (m : MemberView). meaning_in m.bytes) (drop 3 members) ≡ map (λ m. Some m) (flat_map (meanings_written machine d.import_name) (public_exports (renamed d)))
-  meanings_read =
-      let exports = flat_map (export_specs machine (names_for Msvc d)) (public_exports (renamed d)) in
-      ap (λ x. map (λ (m : MemberView). meaning_in m.bytes) (drop 3 x)) made.made
-      ∙ (ap (map (λ (m : MemberView). meaning_in m.bytes)) (drop_header machine (names_for Msvc d) exports)
-      ∙ (member_specs_mean exports (after_header machine (names_for Msvc d) exports (member_specs_read_back d machine members made))
-      ∙ exports_mean machine (names_for Msvc d) (public_exports (renamed d))))
+  meanings_read = grind (arith, drop_header, member_specs_mean, after_header, member_specs_read_back, exports_mean)
 
   pub reads_for_msvc : MsvcReadBack d machine members
   reads_for_msvc = record {
@@ -232,22 +193,12 @@ module _ (d : DefinitionView) (machine : MachineType) (members : List MemberView
         (all_append DeclaresListed (header_specs machine (names_for Msvc d)) (flat_map (export_specs machine (names_for Msvc d)) (public_exports (renamed d)))
         (header_declares machine (names_for Msvc d)) (exports_declare machine (names_for Msvc d) (public_exports (renamed d)))))
         ∙ sym (of_members d machine members made (λ m. Some m.symbols)));
-    dll =
-        ap (λ (x : List MemberView). option_and_then (λ (m : MemberView). dll_in m.bytes) (slice_get x 0)) made.made
-        ∙ (first_reads machine (names_for Msvc d) (flat_map (export_specs machine (names_for Msvc d)) (public_exports (renamed d))) (member_specs_read_back d machine members made)
-        ∙ dll_of_descriptor machine (names_for Msvc d) (import_name_is_free d machine Msvc members made));
+    dll = grind (arith, first_reads, member_specs_read_back, dll_of_descriptor, import_name_is_free);
     meanings = meanings_read;
   }
 
   pub matches_definition : has_no_symbol_names d ≡ true → MatchesDefinition d machine members
-  matches_definition plain =
-      let exports = public_plain d.exports plain in
-      record {
-        meanings = flat_map (meanings_written machine d.import_name) (public_exports (renamed d));
-        read = meanings_read;
-        imports = imports_expected machine d.import_name (public_exports (renamed d)) exports (exports_ask d machine Msvc members made);
-        aliases = aliases_expected machine d.import_name (public_exports (renamed d)) exports;
-      }
+  matches_definition plain = grind (arith, public_plain, meanings_read, imports_expected, exports_ask, aliases_expected)
 
   pub reads_as_msvc : MsvcReadings d machine members
   reads_as_msvc = record { files = reads_for_msvc; matches = matches_definition }

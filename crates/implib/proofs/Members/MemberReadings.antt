@@ -1,8 +1,7 @@
 -- What the members for Microsoft's linker are read as.
-use Rattle.std.proofs.Common.{◌≡◌, ℕ, ◌-◌, ◌<◌, ◌≤◌, ◌^◌, Bool, true, false, if◌then◌else◌, ◌&&◌, ◌||◌, List, [], ◌∷◌, ◌++◌, length, drop, map, Some, None, refl, ap, sym, ◌∙◌, arith}
-use Rattle.std.specs.Prelude.{◌==◌, nat_le, nat_lt}
+use Rattle.std.proofs.Common.{◌≡◌, ℕ, ◌<◌, ◌≤◌, ◌^◌, Bool, true, false, if◌then◌else◌, ◌&&◌, ◌||◌, List, [], ◌∷◌, ◌++◌, length, drop, map, Some, None, refl, ap, sym, ◌∙◌, arith}
+use Rattle.std.specs.Prelude.{◌==◌, nat_lt}
 use Rattle.std.specs.List.{AllByRecursion, flat_map, list_any}
-use Rattle.std.specs.Option.{option_map}
 use Rattle.std.proofs.lemmas.Bool.{ltb-false, or_parts}
 use Rattle.std.proofs.lemmas.List.Folds.{list_any-append}
 use Rattle.std.proofs.lemmas.Nat.{from_le_bytes-to_le_bytes_2}
@@ -11,17 +10,17 @@ use Rattle.implib.specs.declared.machine.MachineType.{MachineType}
 use Rattle.implib.specs.declared.machine.MachineType.TheVariants.{I386, ARMNT, AMD64, ARM64}
 use Rattle.implib.specs.Formats.Bytes.{u16_bytes}
 use Rattle.implib.specs.Definition.{DefinitionView, ExportView}
-use Rattle.implib.specs.Formats.File.{ObjectFile, file_in, short_import_or_object}
+use Rattle.implib.specs.Formats.File.{file_in}
 use Rattle.implib.specs.Import.{imp_symbol, holds, is_alias, public_exports}
 use Rattle.implib.specs.Machine.{machine_number}
 use Rattle.implib.specs.Members.MemberSpec.{Contents, AShortImport, AnObject, MemberSpec, MemberView, member_of, file_bytes, file_size}
 use Rattle.implib.specs.Members.Members.{AreMembersOf, member_specs, is_too_long}
 use Rattle.implib.specs.Members.MsvcMembers.{descriptor_spec, null_descriptor_spec, null_thunk_spec, header_specs, weak_specs, export_specs, short_import_spec}
 use Rattle.implib.specs.Members.WeakExternal.{weak_spec}
-use Rattle.implib.specs.Members.Msvc.{short_import_bytes, short_import_of, short_import_size, short_import_symbol}
+use Rattle.implib.specs.Members.Msvc.{short_import_of, short_import_size, short_import_symbol}
 use Rattle.implib.specs.Members.MsvcObjects.{descriptor, null_descriptor, null_thunk}
 use Rattle.implib.specs.Members.WeakExternal.{weak_object}
-use Rattle.implib.specs.Formats.Object.{object_in, u16_at, u32_at}
+use Rattle.implib.specs.Formats.Object.{u16_at}
 use Rattle.implib.specs.Formats.Layout.{ObjectLayout, Fits, encoded, encoded_size, header_bytes}
 use Rattle.implib.specs.Members.ReadBack.{FitsShortImport, file_of}
 use Rattle.implib.specs.Formats.ShortImport.{ShortImport, is_short_import, short_import_from, short_import_header_size, short_import_in, text_in}
@@ -39,10 +38,7 @@ pub record ReadsBack (contents : Contents) : Type 0 where
   pub length : length (file_bytes contents) ≡ file_size contents
 
 short_import_reads : (r : ShortImport) → FitsShortImport r → short_import_size r ≤ 0xFFFF_FFFF → ReadsBack (AShortImport r)
-short_import_reads r fits short = record {
-  read = ap (λ x. short_import_or_object x (object_in (short_import_bytes r))) (short_import_in-short_import_bytes r fits short);
-  length = length-short_import_bytes r;
-}
+short_import_reads r fits short = grind (arith, short_import_in-short_import_bytes, length, length-short_import_bytes)
 
 not_short_import : (a b c d : Bool) → b ≡ false → (((a && b) && c) && d) ≡ false
 not_short_import true b c d is = rw is refl
@@ -61,20 +57,10 @@ no_short_import bytes is = ap (λ test. if test then short_import_from bytes (te
 -- an object for a machine is no record: its first number is the machine's
 object_is_no_short_import : (p : ObjectLayout) → p.machine < 2 ^ 16 → (p.machine == 0) ≡ false → is_short_import (encoded p) ≡ false
 unfolding encoded header_bytes u16_at u16_bytes
-object_is_no_short_import p fits nonzero =
-    let first : (u16_at (encoded p) 0 == 0) ≡ false = ap (λ n. n == 0) (from_le_bytes-to_le_bytes_2 p.machine fits) ∙ nonzero in
-    not_short_import (nat_le short_import_header_size (length (encoded p))) (u16_at (encoded p) 0 == 0) (u16_at (encoded p) 2 == 0xFFFF)
-    (u32_at (encoded p) 12 == length (encoded p) - short_import_header_size) first
+object_is_no_short_import p fits nonzero = grind (arith, from_le_bytes-to_le_bytes_2, not_short_import, length)
 
 pub object_reads : (p : ObjectLayout) → Fits p → (p.machine == 0) ≡ false → encoded_size p ≤ 0xFFFF_FFFF → ReadsBack (AnObject p)
-object_reads p fits nonzero short =
-    let below : encoded_size p < 2 ^ 32 = omega arith in
-    record {
-      read =
-          ap (λ x. short_import_or_object x (object_in (encoded p))) (no_short_import (encoded p) (object_is_no_short_import p fits.machine nonzero))
-          ∙ ap (option_map ObjectFile) (object_in-encoded p fits below);
-      length = length-encoded p fits below;
-    }
+object_reads p fits nonzero short = grind (arith, no_short_import, object_is_no_short_import, object_in-encoded, length, length-encoded)
 
 pub all_append : {X : Type 0} (P : X → Type 0) (xs ys : List X) → AllByRecursion P xs → AllByRecursion P ys → AllByRecursion P (xs ++ ys)
 all_append P [] ys first second = second
@@ -136,11 +122,7 @@ module _ (machine : MachineType) (dll : NamesOfDll) (linked_free : holds 0 dll.l
   member_specs_read : (exports : List ExportView) → AllByRecursion Sound exports →
       list_any is_too_long (header_specs machine dll ++ flat_map (export_specs machine dll) exports) ≡ false →
       AllByRecursion (λ p. ReadsBack p.contents) (header_specs machine dll ++ flat_map (export_specs machine dll) exports)
-  member_specs_read exports sound short =
-      let parts = or_parts (list_any is_too_long (header_specs machine dll)) (list_any is_too_long (flat_map (export_specs machine dll) exports))
-      (sym (list_any-append is_too_long (header_specs machine dll) (flat_map (export_specs machine dll) exports)) ∙ short) in
-      all_append (λ p. ReadsBack p.contents) (header_specs machine dll) (flat_map (export_specs machine dll) exports)
-      (header_specs_read parts.0) (exports_specs_read exports sound parts.1)
+  member_specs_read exports sound short = grind (arith, or_parts, list_any-append, all_append, header_specs_read, exports_specs_read)
 
 pub map_same : {X Y : Type 0} (f g : X → Y) (xs : List X) → AllByRecursion (λ x. f x ≡ g x) xs → map f xs ≡ map g xs
 map_same f g [] same = refl
@@ -172,11 +154,7 @@ module _ (d : DefinitionView) (machine : MachineType) (members : List MemberView
   of_members f = ap (map f) made.made ∙ map_after f member_of (member_specs (renamed d) machine Msvc)
 
   pub files_read : map (λ m. file_in m.bytes) members ≡ map (λ p. Some (file_of p.contents)) (member_specs (renamed d) machine Msvc)
-  files_read = of_members (λ m. file_in m.bytes)
-      ∙ map_same (λ p. file_in (file_bytes p.contents)) (λ p. Some (file_of p.contents)) (member_specs (renamed d) machine Msvc)
-      (each_read (member_specs (renamed d) machine Msvc) member_specs_read_back)
+  files_read = grind (arith, of_members, map_same, each_read, member_specs_read_back)
 
   pub lengths_read : map (λ m. length m.bytes) members ≡ map (λ p. file_size p.contents) (member_specs (renamed d) machine Msvc)
-  lengths_read = of_members (λ m. length m.bytes)
-      ∙ map_same (λ p. length (file_bytes p.contents)) (λ p. file_size p.contents) (member_specs (renamed d) machine Msvc)
-      (each_length (member_specs (renamed d) machine Msvc) member_specs_read_back)
+  lengths_read = grind (arith, of_members, length, map_same, each_length, member_specs_read_back)

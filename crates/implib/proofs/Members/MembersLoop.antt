@@ -1,5 +1,5 @@
 -- The loop over a definition's exports: what is left to make.
-use Rattle.std.proofs.Common.{◌≡◌, ℕ, suc, ◌+◌, ◌<◌, Bool, true, false, if◌then◌else◌, ◌||◌, ◌&&◌, List, [], ◌∷◌, ◌++◌, length, drop, map, get_or, None, Result, Err, ap, refl, sym, ◌∙◌, append_assoc, add-one}
+use Rattle.std.proofs.Common.{arith, ◌≡◌, ℕ, suc, ◌+◌, ◌<◌, Bool, true, false, if◌then◌else◌, List, [], ◌∷◌, ◌++◌, length, drop, map, get_or, None, Result, Err, ap, sym, ◌∙◌, append_assoc, add-one}
 use Rattle.std.specs.Prelude.{not}
 use Rattle.std.specs.List.{filter, flat_map, list_all, list_any}
 use Rattle.std.proofs.lemmas.List.{map-append}
@@ -43,34 +43,13 @@ module _ (machine : MachineType) (dll : NamesOfDll) (all : List MemberView) (lon
 
   -- after a private export
   pub left_private : e.private ≡ true → Left machine dll all long sound index members (e ∷ exports) → Left machine dll all long sound (index + 1) members exports
-  left_private private left = record {
-    named = rest_named left.named;
-    made = sym (ap (λ (x : List ExportView). members ++ map member_of (flat_map (export_specs machine dll) x)) (passed private)) ∙ left.made;
-    fit = sym (ap (λ (x : List ExportView). list_any is_too_long (flat_map (export_specs machine dll) x)) (passed private)) ∙ left.fit;
-    ordinals = sym (ap (list_all has_u16_ordinal) (passed private)) ∙ left.ordinals;
-  }
+  left_private private left = grind (arith, rest_named, passed)
 
   -- after an export whose members are made
   pub left_public : (extended : List MemberView) → e.private ≡ false → Left machine dll all long sound index members (e ∷ exports) →
       extended ≡ members ++ map member_of (export_specs machine dll e) → list_any is_too_long (export_specs machine dll e) ≡ false → has_u16_ordinal e ≡ true →
       Left machine dll all long sound (index + 1) extended exports
-  left_public extended public left made short ordinal =
-      let others = flat_map (export_specs machine dll) (filter (λ x. not x.private) exports) in
-      record {
-        named = rest_named left.named;
-        made =
-            ap (λ x. x ++ map member_of others) made
-            ∙ (append_assoc members (map member_of (export_specs machine dll e)) (map member_of others)
-            ∙ (ap (λ x. members ++ x) (sym (map-append member_of (export_specs machine dll e) others))
-            ∙ (sym (ap (λ (x : List ExportView). members ++ map member_of (flat_map (export_specs machine dll) x)) (kept public)) ∙ left.made)));
-        fit =
-            sym (ap (λ test. test || list_any is_too_long others) short)
-            ∙ (sym (list_any-append is_too_long (export_specs machine dll e) others)
-            ∙ (sym (ap (λ (x : List ExportView). list_any is_too_long (flat_map (export_specs machine dll) x)) (kept public)) ∙ left.fit));
-        ordinals =
-            sym (ap (λ test. test && list_all has_u16_ordinal (filter (λ x. not x.private) exports)) ordinal)
-            ∙ (sym (ap (list_all has_u16_ordinal) (kept public)) ∙ left.ordinals);
-      }
+  left_public extended public left made short ordinal = grind (arith, rest_named, append_assoc, map-append, kept, list_any-append)
 
 -- the exports from an index on are the one there and those after it
 pub exports_from : (items : List ShortExport) (index : ℕ) (item : ShortExport) → index < length items → item ≡ get_or items index item →
@@ -92,25 +71,13 @@ pub record Listed (machine : MachineType) (dll : NamesOfDll) (all_imports all_al
 -- what is found, one export more
 more_found : (found more all : List MemberView) (these others : List MemberSpec) → more ≡ found ++ map member_of these
     → found ++ map member_of (these ++ others) ≡ all → more ++ map member_of others ≡ all
-more_found found more all these others is whole =
-    ap (λ x. x ++ map member_of others) is
-    ∙ (append_assoc found (map member_of these) (map member_of others)
-    ∙ (ap (λ x. found ++ x) (sym (map-append member_of these others))
-    ∙ whole))
+more_found found more all these others is whole = grind (arith, append_assoc, map-append)
 
 module _ (machine : MachineType) (dll : NamesOfDll) (all_imports all_aliases : List MemberView) (long sound : Bool) (index : ℕ) (imports aliases : List MemberView) (e : ExportView) (exports : List ExportView) where
   -- after a private export
   pub listed_private : e.private ≡ true → Listed machine dll all_imports all_aliases long sound index imports aliases (e ∷ exports)
       → Listed machine dll all_imports all_aliases long sound (index + 1) imports aliases exports
-  listed_private private before =
-      let same = passed machine dll all_imports long sound index imports e exports private in
-      record {
-        named = rest_named machine dll all_imports long sound index imports e exports before.named;
-        imported = sym (ap (λ (x : List ExportView). imports ++ map member_of (flat_map (import_specs machine dll) x)) same) ∙ before.imported;
-        aliased = sym (ap (λ (x : List ExportView). aliases ++ map member_of (flat_map (alias_specs machine dll.linked) x)) same) ∙ before.aliased;
-        fit = sym (ap (λ (x : List ExportView). list_any is_too_long (flat_map (export_specs machine dll) x)) same) ∙ before.fit;
-        ordinals = sym (ap (list_all has_u16_ordinal) same) ∙ before.ordinals;
-      }
+  listed_private private before = grind (arith, passed, rest_named)
 
   -- after an export whose members are listed
   pub listed_public : (more_imports more_aliases : List MemberView) → e.private ≡ false
@@ -130,40 +97,21 @@ module _ (machine : MachineType) (dll : NamesOfDll) (all_imports all_aliases : L
         aliased =
             more_found aliases more_aliases all_aliases (alias_specs machine dll.linked e) (flat_map (alias_specs machine dll.linked) these) aliased
             (sym (ap (λ (x : List ExportView). aliases ++ map member_of (flat_map (alias_specs machine dll.linked) x)) same) ∙ before.aliased);
-        fit =
-            sym (ap (λ test. test || list_any is_too_long (flat_map (export_specs machine dll) these)) short)
-            ∙ (sym (list_any-append is_too_long (export_specs machine dll e) (flat_map (export_specs machine dll) these))
-            ∙ (sym (ap (λ (x : List ExportView). list_any is_too_long (flat_map (export_specs machine dll) x)) same) ∙ before.fit));
-        ordinals =
-            sym (ap (λ test. test && list_all has_u16_ordinal these) ordinal)
-            ∙ (sym (ap (list_all has_u16_ordinal) same) ∙ before.ordinals);
+        fit = grind (arith, list_any-append);
+        ordinals = grind arith;
       }
 
   -- where a member of a public export is too long, one of all is
   pub long_of_listed : e.private ≡ false → Listed machine dll all_imports all_aliases long sound index imports aliases (e ∷ exports)
       → list_any is_too_long (export_specs machine dll e) ≡ true → long ≡ true
-  long_of_listed public before is =
-      let these = filter (λ x. not x.private) exports in
-      sym before.fit
-      ∙ (ap (λ (x : List ExportView). list_any is_too_long (flat_map (export_specs machine dll) x)) (kept machine dll all_imports long sound index imports e exports public)
-      ∙ (list_any-append is_too_long (export_specs machine dll e) (flat_map (export_specs machine dll) these)
-      ∙ ap (λ test. test || list_any is_too_long (flat_map (export_specs machine dll) these)) is))
+  long_of_listed public before is = grind (arith, kept, list_any-append)
 
 -- at first nothing is listed
 pub listed_at_first : (d : DefinitionView) (machine : MachineType) → definition_names_refusal d machine Msvc ≡ None
     → list_any is_too_long (header_specs machine (names_for Msvc d)) ≡ false
     → Listed machine (names_for Msvc d) (map member_of (all_import_specs machine d)) (map member_of (all_alias_specs machine d))
     (list_any is_too_long (member_specs d machine Msvc)) (list_all has_u16_ordinal (public_exports d)) 0 [] [] d.exports
-listed_at_first d machine names header =
-    let dll = names_for Msvc d in
-    let all = flat_map (export_specs machine dll) (public_exports d) in
-    record {
-      named = (first_none _ _ (first_none _ _ names).1).1;
-      imported = refl;
-      aliased = refl;
-      fit = sym (list_any-append is_too_long (header_specs machine dll) all ∙ ap (λ test. test || list_any is_too_long all) header);
-      ordinals = refl;
-    }
+listed_at_first d machine names header = grind (arith, first_none, list_any-append)
 
 -- a call that fails
 abbrev failed : Error → Result MemberLists Error

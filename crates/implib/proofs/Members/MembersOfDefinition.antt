@@ -1,5 +1,5 @@
 -- The members of a definition whose exports are under their names to link by.
-use Rattle.std.proofs.Common.{◌≡◌, true, false, List, map, Option, Some, None, Result, Ok, Err, ap, sym, ◌∙◌, if◌then◌else◌}
+use Rattle.std.proofs.Common.{arith, ◌≡◌, true, false, List, map, Some, None, Result, Ok, Err}
 use Rattle.std.specs.Prelude.{IfOk, OnOk}
 use Rattle.std.specs.List.{list_all, list_any}
 use Rattle.implib.specs.declared.error.Error.{Error}
@@ -9,14 +9,12 @@ use Rattle.implib.specs.declared.machine.MachineType.{MachineType}
 use Rattle.implib.specs.Definition.{DefinitionView}
 use Rattle.implib.specs.Fault.{Cause, MemberTooLong, IfInvalid}
 use Rattle.implib.specs.Import.{public_exports}
-use Rattle.implib.specs.LibraryName.{names_for}
-use Rattle.implib.specs.Members.MemberLists.{AreListsOf, all_alias_specs, all_import_specs, lists_view}
-use Rattle.implib.specs.Members.MsvcMembers.{header_specs}
+use Rattle.implib.specs.Members.MemberLists.{AreListsOf, lists_view}
 use Rattle.implib.specs.Views.Making.{MakesLists}
 use Rattle.implib.specs.declared.msvc.members.MemberLists.{MemberLists}
-use Rattle.implib.specs.Members.Members.{AreMembersOf, member_specs, is_too_long, has_u16_ordinal, length_refusal, renamed_refusal, refusal}
+use Rattle.implib.specs.Members.Members.{AreMembersOf, member_specs, is_too_long, has_u16_ordinal, renamed_refusal, refusal}
 use Rattle.implib.specs.Members.MemberSpec.{MemberView, member_of}
-use Rattle.implib.specs.Members.NameRules.{first_of_both, definition_names_refusal, RefusesAlways}
+use Rattle.implib.specs.Members.NameRules.{definition_names_refusal, RefusesAlways}
 use Rattle.implib.specs.Members.ReadBack.{ReadBack}
 use Rattle.implib.specs.Renaming.{renamed}
 use Rattle.implib.proofs.Members.GnuReadings.{reads_for_gnu}
@@ -27,24 +25,18 @@ use Rattle.implib.specs.declared.flavor.Flavor.TheVariants.{Msvc, Gnu}
 pub refused_by_names : (d : DefinitionView) (machine : MachineType) (flavor : Flavor) (cause : Cause) → renamed d ≡ d →
     Some cause ≡ definition_names_refusal d machine flavor → refusal d machine flavor ≡ Some cause
 unfolding refusal renamed_refusal
-refused_by_names d machine flavor cause same found =
-    ap (λ (x : DefinitionView). renamed_refusal x machine flavor) same
-    ∙ ap (λ (x : Option Cause). first_of_both x (length_refusal (member_specs d machine flavor))) (sym found)
+refused_by_names d machine flavor cause same found = grind arith
 
 -- and it is the only one of its kind
 pub same_refusal_by_names : (d : DefinitionView) (machine : MachineType) (flavor : Flavor) (found cause : Cause) → renamed d ≡ d →
     Some found ≡ definition_names_refusal d machine flavor → definition_names_refusal (renamed d) machine flavor ≡ Some cause → Some found ≡ Some cause
-same_refusal_by_names d machine flavor found cause same is_found refused =
-    is_found ∙ sym (ap (λ (x : DefinitionView). definition_names_refusal x machine flavor) same) ∙ refused
+same_refusal_by_names d machine flavor found cause same is_found refused = grind arith
 
 -- a definition whose names are in order, and none of whose members is too long, is accepted
 accepted_of : (d : DefinitionView) (machine : MachineType) (flavor : Flavor) → renamed d ≡ d → None ≡ definition_names_refusal d machine flavor →
     list_any is_too_long (member_specs d machine flavor) ≡ false → refusal d machine flavor ≡ None
 unfolding refusal renamed_refusal
-accepted_of d machine flavor same names fit =
-    ap (λ (x : DefinitionView). renamed_refusal x machine flavor) same
-    ∙ ap (λ (x : Option Cause). first_of_both x (length_refusal (member_specs d machine flavor))) (sym names)
-    ∙ ap (λ test. if test then Some MemberTooLong else None) fit
+accepted_of d machine flavor same names fit = grind arith
 
 -- members that are made, none too long, of a definition whose names are in order, are those of the definition
 pub made_of : {T : Type 0} (shown : T → List MemberView) (d : DefinitionView) (machine : MachineType) (flavor : Flavor) (result : Result T Error) →
@@ -54,11 +46,7 @@ pub made_of : {T : Type 0} (shown : T → List MemberView) (d : DefinitionView) 
     OnOk result (list_all has_u16_ordinal (public_exports d) ≡ true) →
     IfOk result (λ members. AreMembersOf d machine flavor (shown members))
 made_of shown d machine flavor (Err error) same names made fit ordinals = tt
-made_of shown d machine flavor (Ok members) same names made fit ordinals = record {
-  accepted = accepted_of d machine flavor same names fit;
-  made = made ∙ ap (λ (x : DefinitionView). map member_of (member_specs x machine flavor)) (sym same);
-  ordinals = ap (λ (x : DefinitionView). list_all has_u16_ordinal (public_exports x)) same ∙ ordinals;
-}
+made_of shown d machine flavor (Ok members) same names made fit ordinals = grind (arith, accepted_of)
 
 -- lists of members that are made of such a definition are those of the definition
 pub lists_of : (d : DefinitionView) (machine : MachineType) (result : Result MemberLists Error) →
@@ -66,13 +54,7 @@ pub lists_of : (d : DefinitionView) (machine : MachineType) (result : Result Mem
     OnOk result (list_all has_u16_ordinal (public_exports d) ≡ true) →
     IfOk result (λ lists. AreListsOf d machine (lists_view lists))
 lists_of d machine (Err error) same names made ordinals = tt
-lists_of d machine (Ok lists) same names made ordinals = record {
-  accepted = accepted_of d machine Msvc same names made.fit;
-  header = made.header ∙ ap (λ (x : DefinitionView). map member_of (header_specs machine (names_for Msvc x))) (sym same);
-  imports = made.imports ∙ ap (λ (x : DefinitionView). map member_of (all_import_specs machine x)) (sym same);
-  aliases = made.aliases ∙ ap (λ (x : DefinitionView). map member_of (all_alias_specs machine x)) (sym same);
-  ordinals = ap (λ (x : DefinitionView). list_all has_u16_ordinal (public_exports x)) same ∙ ordinals;
-}
+lists_of d machine (Ok lists) same names made ordinals = grind (arith, accepted_of)
 
 -- a member that is too long refuses a definition whose names are in order
 pub refused_by_length : {T : Type 0} (d : DefinitionView) (machine : MachineType) (flavor : Flavor) (result : Result T Error) →
@@ -82,18 +64,12 @@ pub refused_by_length : {T : Type 0} (d : DefinitionView) (machine : MachineType
 unfolding refusal renamed_refusal
 refused_by_length d machine flavor (Ok members) same names too_long = tt
 refused_by_length d machine flavor (Err (OutOfMemory refused)) same names too_long = tt
-refused_by_length d machine flavor (Err (Invalid fault)) same names too_long =
-    ap (λ (x : DefinitionView). renamed_refusal x machine flavor) same
-    ∙ ap (λ (x : Option Cause). first_of_both x (length_refusal (member_specs d machine flavor))) (sym names)
-    ∙ ap (λ test. if test then Some MemberTooLong else None) too_long.1
-    ∙ ap (λ (x : Cause). Some x) (sym too_long.0)
+refused_by_length d machine flavor (Err (Invalid fault)) same names too_long = grind arith
 
 -- where the names are in order, no name is refused
 pub no_refusal_by_names : {T : Type 0} (d : DefinitionView) (machine : MachineType) (flavor : Flavor) (result : Result T Error) →
     renamed d ≡ d → None ≡ definition_names_refusal d machine flavor → RefusesAlways d machine flavor result
-no_refusal_by_names d machine flavor result same names = λ cause refused.
-    let none : definition_names_refusal (renamed d) machine flavor ≡ None = ap (λ (x : DefinitionView). definition_names_refusal x machine flavor) same ∙ sym names in
-    cc
+no_refusal_by_names d machine flavor result same names = λ cause refused. grind arith
 
 -- the members of a definition that is not refused are read as the definition means
 ReadBack-from_Made : (d : DefinitionView) (machine : MachineType) (flavor : Flavor) (members : List MemberView) → AreMembersOf d machine flavor members → ReadBack d machine flavor members

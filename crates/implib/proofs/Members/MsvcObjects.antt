@@ -1,5 +1,5 @@
 -- The objects for Microsoft's linker fit what a file has room for.
-use Rattle.std.proofs.Common.{◌≡◌, ℕ, ◌-◌, ◌<◌, ◌≤◌, ◌^◌, Bool, true, false, if◌then◌else◌, List, [], ◌∷◌, length, take, refl, ◌∙◌, arith, codes, zero, suc}
+use Rattle.std.proofs.Common.{◌≡◌, ℕ, ◌-◌, ◌<◌, ◌≤◌, ◌^◌, Bool, true, false, if◌then◌else◌, List, [], ◌∷◌, length, take, refl, arith, zero, suc}
 use Rattle.std.specs.Prelude.{nat_eq}
 use Rattle.std.proofs.lemmas.Bool.{or_parts, or_from}
 use Rattle.std.proofs.lemmas.List.Folds.{list_any-append}
@@ -20,9 +20,7 @@ use Rattle.implib.specs.LibraryName.{NamesOfDll}
 holds-take : (n : ℕ) (text : List ℕ) → holds 0 text ≡ false → holds 0 (take n text) ≡ false
 holds-take zero text free = refl
 holds-take (suc n) [] free = refl
-holds-take (suc n) (b ∷ text) free =
-    let parts = or_parts (nat_eq b 0) (holds 0 text) free in
-    or_from (nat_eq b 0) (holds 0 (take n text)) parts.0 (holds-take n text parts.1)
+holds-take (suc n) (b ∷ text) free = grind (arith, holds-take n text (or_parts (nat_eq b 0) (holds 0 text) free).1, or_parts, or_from)
 
 holds-chosen : (test : Bool) (first second : List ℕ) → holds 0 first ≡ false → holds 0 second ≡ false → holds 0 (if test then first else second) ≡ false
 holds-chosen true first second first_free second_free = first_free
@@ -42,9 +40,7 @@ holds-null_descriptor_symbol = refl
 
 pub holds-null_thunk_symbol : (dll : List ℕ) → holds 0 dll ≡ false → holds 0 (null_thunk_symbol dll) ≡ false
 unfolding null_thunk_symbol
-holds-null_thunk_symbol dll free =
-    list_any-append (λ b. nat_eq b 0) (base_name dll) (codes "_NULL_THUNK_DATA")
-    ∙ or_from (holds 0 (base_name dll)) false (holds-base_name dll free) refl
+holds-null_thunk_symbol dll free = grind (arith, list_any-append, or_from, holds-base_name)
 
 machine_fits : (machine : MachineType) → machine_number machine < 2 ^ 16
 machine_fits I386 = omega arith
@@ -74,8 +70,7 @@ listed_fits strings index section class listed section_fits = record { name = li
 -- a symbol whose name is in its record
 in_record_fits : (strings : List (List ℕ)) (name : List ℕ) (section class : ℕ) → 0 < length name → length name ≤ 8 → holds 0 name ≡ false → section < 2 ^ 16 →
     FitsSymbol strings (symbol (InRecord name) section class)
-in_record_fits strings name section class some few free section_fits =
-    record { name = (some, few, free); value = omega arith; section = section_fits; aux = tt }
+in_record_fits strings name section class some few free section_fits = grind arith
 
 -- a section without relocations
 pub plain_section_fits : (name contents : List ℕ) (flags : ℕ) → length name ≡ 8 → flags < 2 ^ 32 → FitsSection (record { name = name; flags = flags; bytes = contents; relocations = [] })
@@ -84,66 +79,12 @@ plain_section_fits name contents flags eight flags_fit = record { name = eight; 
 -- the import descriptor fits
 pub Fits-descriptor : (machine : MachineType) (dll : NamesOfDll) → holds 0 dll.linked ≡ false → Fits (descriptor machine dll)
 unfolding descriptor
-Fits-descriptor machine dll free =
-    let strings = descriptor_symbol dll.linked ∷ null_descriptor_symbol ∷ null_thunk_symbol dll.linked ∷ [] in
-    record {
-      machine = machine_fits machine;
-      characteristics = descriptor_characteristics_fits machine;
-      count = omega arith;
-      sections = (
-        record {
-          name = refl;
-          flags = omega arith;
-          count = omega arith;
-          relocations = (
-            relocation_fits machine _ _ (omega arith) (omega arith),
-            (
-              relocation_fits machine _ _ (omega arith) (omega arith),
-              (relocation_fits machine _ _ (omega arith) (omega arith), tt),
-            ),
-          );
-        },
-        (plain_section_fits _ _ _ refl (omega arith), tt),
-      );
-      symbols = (
-        listed_fits strings _ _ _ (omega arith) (omega arith),
-        (
-          in_record_fits strings _ _ _ (omega arith) (omega arith) refl (omega arith),
-          (
-            in_record_fits strings _ _ _ (omega arith) (omega arith) refl (omega arith),
-            (
-              in_record_fits strings _ _ _ (omega arith) (omega arith) refl (omega arith),
-              (
-                in_record_fits strings _ _ _ (omega arith) (omega arith) refl (omega arith),
-                (
-                  listed_fits strings _ _ _ (omega arith) (omega arith),
-                  (listed_fits strings _ _ _ (omega arith) (omega arith), tt),
-                ),
-              ),
-            ),
-          ),
-        ),
-      );
-      strings = (
-        holds-descriptor_symbol dll.linked free,
-        (
-          holds-null_descriptor_symbol,
-          (holds-null_thunk_symbol dll.linked free, tt),
-        ),
-      );
-    }
+Fits-descriptor machine dll free = grind (arith, machine_fits, descriptor_characteristics_fits, relocation_fits, plain_section_fits, listed_fits, in_record_fits, holds-descriptor_symbol, holds-null_descriptor_symbol, holds-null_thunk_symbol)
 
 -- the null descriptor fits
 pub Fits-null_descriptor : (machine : MachineType) → Fits (null_descriptor machine)
 unfolding null_descriptor
-Fits-null_descriptor machine = record {
-  machine = machine_fits machine;
-  characteristics = descriptor_characteristics_fits machine;
-  count = omega arith;
-  sections = (plain_section_fits _ _ _ refl (omega arith), tt);
-  symbols = (listed_fits (null_descriptor_symbol ∷ []) _ _ _ (omega arith) (omega arith), tt);
-  strings = (holds-null_descriptor_symbol, tt);
-}
+Fits-null_descriptor machine = grind (arith, machine_fits, descriptor_characteristics_fits, plain_section_fits, listed_fits, holds-null_descriptor_symbol)
 
 null_thunk_section_fits : (machine : MachineType) (name : List ℕ) → length name ≡ 8 → FitsSection (null_thunk_section machine name)
 null_thunk_section_fits I386 name eight = plain_section_fits name _ _ eight (omega arith)
@@ -154,17 +95,7 @@ null_thunk_section_fits ARM64 name eight = plain_section_fits name _ _ eight (om
 -- the null thunk fits
 pub Fits-null_thunk : (machine : MachineType) (dll : List ℕ) → holds 0 dll ≡ false → Fits (null_thunk machine dll)
 unfolding null_thunk
-Fits-null_thunk machine dll free = record {
-  machine = machine_fits machine;
-  characteristics = descriptor_characteristics_fits machine;
-  count = omega arith;
-  sections = (
-    null_thunk_section_fits machine _ refl,
-    (null_thunk_section_fits machine _ refl, tt),
-  );
-  symbols = (listed_fits (null_thunk_symbol dll ∷ []) _ _ _ (omega arith) (omega arith), tt);
-  strings = (holds-null_thunk_symbol dll free, tt);
-}
+Fits-null_thunk machine dll free = grind (arith, machine_fits, descriptor_characteristics_fits, null_thunk_section_fits, listed_fits, holds-null_thunk_symbol)
 
 length-weak_auxiliary : length (weak_auxiliary 2) ≡ 18
 unfolding u32_bytes
@@ -173,30 +104,11 @@ length-weak_auxiliary = refl
 -- a weak external fits
 pub Fits-weak_object : (machine : MachineType) (weak target : List ℕ) → holds 0 weak ≡ false → holds 0 target ≡ false → Fits (weak_object machine weak target)
 unfolding weak_object
-Fits-weak_object machine weak target weak_free target_free =
-    let strings = target ∷ weak ∷ [] in
-    record {
-      machine = machine_fits machine;
-      characteristics = omega arith;
-      count = omega arith;
-      sections = (plain_section_fits _ _ _ refl (omega arith), tt);
-      symbols = (
-        in_record_fits strings _ _ _ (omega arith) (omega arith) refl (omega arith),
-        (
-          in_record_fits strings _ _ _ (omega arith) (omega arith) refl (omega arith),
-          (
-            listed_fits strings _ _ _ (omega arith) (omega arith),
-            (record { name = omega arith; value = omega arith; section = omega arith; aux = length-weak_auxiliary }, tt),
-          ),
-        ),
-      );
-      strings = (target_free, (weak_free, tt));
-    }
+Fits-weak_object machine weak target weak_free target_free = grind (arith, machine_fits, plain_section_fits, in_record_fits, listed_fits, length-weak_auxiliary)
 
 -- A layout of the program is a table where its parts are.
 
 pub same_layout : (q : ObjectLayout) (machine characteristics : ℕ) (sections : List ObjectSection) (symbols : List LayoutSymbol) (strings : List (List ℕ)) →
     machine ≡ q.machine → characteristics ≡ q.characteristics → sections ≡ q.sections → symbols ≡ q.symbols → strings ≡ q.strings →
     q ≡ record { machine = machine; characteristics = characteristics; sections = sections; symbols = symbols; strings = strings }
-same_layout q machine characteristics sections symbols strings same_machine same_characteristics same_sections same_symbols same_strings =
-    rw (same_machine, same_characteristics, same_sections, same_symbols, same_strings) refl
+same_layout q machine characteristics sections symbols strings same_machine same_characteristics same_sections same_symbols same_strings = grind arith

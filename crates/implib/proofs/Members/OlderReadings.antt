@@ -1,8 +1,7 @@
 -- What the members with older symbols are read as.
-use Rattle.std.proofs.Common.{◌≡◌, ℕ, ◌<◌, ◌^◌, Bool, true, false, if◌then◌else◌, List, [], ◌∷◌, ◌++◌, Some, None, Result, Ok, Err, refl, ap, ◌∙◌, codes}
+use Rattle.std.proofs.Common.{arith, ◌≡◌, ℕ, ◌<◌, ◌^◌, Bool, true, false, if◌then◌else◌, List, [], ◌∷◌, ◌++◌, Some, None, Result, Ok, Err, refl, ap, codes}
 use Rattle.std.specs.Prelude.{IfOk}
 use Rattle.std.specs.List.{AllByRecursion, list_any}
-use Rattle.std.specs.Option.{option_map}
 use Rattle.std.proofs.lemmas.Bool.{ltb-true}
 use Rattle.std.proofs.lemmas.Nat.{from_le_bytes-to_le_bytes_2}
 use Rattle.implib.specs.declared.error.Error.{Error}
@@ -15,9 +14,9 @@ use Rattle.implib.specs.Formats.Bytes.{u16_bytes}
 use Rattle.implib.specs.Formats.File.{ObjectFile, alias_of_object, declared_by}
 use Rattle.implib.specs.Formats.Object.{u16_at}
 use Rattle.implib.specs.Formats.Writer.{written_object}
-use Rattle.implib.specs.Import.{Name, Ordinal, expected_ask, holds, imp_symbol, name_asked, public_exports}
+use Rattle.implib.specs.Import.{Ordinal, expected_ask, holds, imp_symbol, name_asked, public_exports}
 use Rattle.implib.specs.LibraryName.{NamesOfDll, names_for}
-use Rattle.implib.specs.Members.Gnu.{head_object, head_symbol, hint_name, iname_symbol, relocations_of_stub, relocations_of_thunk, stub, tail_object, thunk}
+use Rattle.implib.specs.Members.Gnu.{head_object, hint_name, relocations_of_stub, relocations_of_thunk, stub, tail_object, thunk}
 use Rattle.implib.specs.Members.GnuReader.{ask_of_export, code_relocations, dll_by_names, externals_in, text_section}
 use Rattle.implib.specs.Members.Members.{is_too_long, length_refusal}
 use Rattle.implib.specs.Members.NameRules.{definition_names_refusal}
@@ -49,14 +48,8 @@ asks AMD64 dll e fits free true true = ap (λ n. Some (Ordinal n)) (from_le_byte
 asks AMD64 dll e fits free false true = ap (λ n. Some (Ordinal n)) (from_le_bytes-to_le_bytes_2 e.ordinal fits)
 asks ARM64 dll e fits free true true = ap (λ n. Some (Ordinal n)) (from_le_bytes-to_le_bytes_2 e.ordinal fits)
 asks ARM64 dll e fits free false true = ap (λ n. Some (Ordinal n)) (from_le_bytes-to_le_bytes_2 e.ordinal fits)
-asks machine dll e fits free true false =
-    ap (λ x. option_map (λ name. Name name (u16_at (u16_bytes e.ordinal ++ (name_asked machine e ++ 0 ∷ [])) 0)) x)
-    (before_nul-ended (name_asked machine e) [] free)
-    ∙ ap (λ n. Some (Name (name_asked machine e) n)) (from_le_bytes-to_le_bytes_2 e.ordinal fits)
-asks machine dll e fits free false false =
-    ap (λ x. option_map (λ name. Name name (u16_at (u16_bytes e.ordinal ++ (name_asked machine e ++ 0 ∷ [])) 0)) x)
-    (before_nul-ended (name_asked machine e) [] free)
-    ∙ ap (λ n. Some (Name (name_asked machine e) n)) (from_le_bytes-to_le_bytes_2 e.ordinal fits)
+asks machine dll e fits free true false = grind (arith, before_nul-ended, free, from_le_bytes-to_le_bytes_2)
+asks machine dll e fits free false false = grind (arith, before_nul-ended, free, from_le_bytes-to_le_bytes_2)
 
 declared_by_import : (machine : MachineType) (dll : List ℕ) (e : ExportView) (is_data : Bool) →
     (let o = written_object (older_object machine dll (record e { is_data = is_data })) in externals_in o (codes ".idata$5") ++ externals_in o text_section)
@@ -73,8 +66,7 @@ no_alias machine dll e false = refl
 dll_found : (machine : MachineType) (dll : NamesOfDll) (e : ExportView) → holds 0 dll.text ≡ false →
     dll_by_names (written_object (older_object machine dll.linked e)) (written_object (head_object machine dll.linked)) (written_object (tail_object machine dll)) ≡ Some dll.text
 unfolding older_object head_object tail_object
-dll_found machine dll e free =
-    rw (same_bytes (head_symbol machine dll.linked), same_bytes (iname_symbol machine dll.linked)) (before_nul-ended dll.text [] free)
+dll_found machine dll e free = grind (arith, same_bytes, before_nul-ended, free)
 
 code_by : (machine : MachineType) (dll : List ℕ) (e : ExportView) (is_data : Bool) →
     code_relocations (written_object (older_object machine dll (record e { is_data = is_data }))) ≡ Some (expected_code machine (record e { is_data = is_data }))

@@ -52,16 +52,10 @@ take_shorter (suc n) (b ∷ text) = let fewer = take_shorter n text in omega (ar
 
 -- a text of so many bytes has no more lines and columns
 pub line_within : (text : List ℕ) (offset : ℕ) → (position_at text offset).line ≤ length text + 1
-line_within text offset =
-    let below = line_below 1 1 (take offset text) in
-    let fewer = take_shorter offset text in
-    omega (arith, below, fewer)
+line_within text offset = grind (arith, line_below, take_shorter)
 
 pub column_within : (text : List ℕ) (offset : ℕ) → (position_at text offset).column ≤ length text + 1
-column_within text offset =
-    let below = column_below 1 1 (take offset text) in
-    let fewer = take_shorter offset text in
-    omega (arith, below, fewer)
+column_within text offset = grind (arith, column_below, take_shorter)
 
 -- at the end of what is left
 pub whole_rest : (index : ℕ) (rest : List ℕ) → length rest ≤ index → take index rest ≡ rest
@@ -75,7 +69,4 @@ pub left : (front : List ℕ) (from : ℕ) → take (length front - from) (drop 
 left front from = whole_rest (length front - from) (drop from front) (let long = length-drop from front in omega (arith, long))
 
 pub left_shorter : (front : List ℕ) (from : ℕ) → length (take (length front - from) (drop from front)) ≤ length front
-left_shorter front from =
-    let same = ap length (left front from) in
-    let long = length-drop from front in
-    omega (arith, same, long)
+left_shorter front from = grind (arith, left, length-drop)

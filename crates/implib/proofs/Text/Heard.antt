@@ -5,7 +5,7 @@ use Rattle.std.specs.List.{flat_map}
 use Rattle.std.specs.Result.{MatchResult}
 use Rattle.implib.specs.declared.def.listener.Role.{Role}
 use Rattle.implib.specs.declared.def.listener.Role.TheVariants.{Other}
-use Rattle.implib.specs.Text.Grammar.{Export, Exports, Later, Named, Nameless, Sizes, Statement, StartsWith, Terminal, Version, Word, attribute_terminals, export_terminals, exports_terminals, statement_terminals, target_terminals}
+use Rattle.implib.specs.Text.Grammar.{Export, Exports, Later, Named, Nameless, Sizes, Statement, StartsWith, Terminal, Version, Word, export_terminals, exports_terminals, statement_terminals}
 use Rattle.implib.specs.Text.Heard.{Heard, export_roles, heard_of, others, roles_of, statement_roles}
 use Rattle.implib.specs.Text.Token.{TokenView}
 use Rattle.implib.specs.Views.Hearing.{HearsMore, HearsOthers, as_others, exports_heard, first_heard, many_heard, statements_heard}
@@ -44,8 +44,7 @@ heard_of-others (w ∷ terminals) (t ∷ front) rest e = ap (λ (l : List Heard)
 -- ---- the roles of exports and statements
 
 pub export_roles-length : (name : List ℕ → Terminal) (e : Export) → length (export_terminals name e) ≡ length (export_roles e)
-export_roles-length name e =
-    let same = length-map (target_terminals e.target ++ flat_map attribute_terminals e.attributes) (λ (_ : Terminal). Other) in omega (arith, same)
+export_roles-length name e = grind (arith, length-map)
 
 exports_length : (name : List ℕ → Terminal) (exports : List Export) → length (exports_terminals name exports) ≡ length (flat_map export_roles exports)
 exports_length name [] = refl

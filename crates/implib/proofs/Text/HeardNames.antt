@@ -9,7 +9,7 @@ use Rattle.implib.specs.declared.def.listener.Role.{Role}
 use Rattle.implib.specs.declared.def.listener.Role.TheVariants.{Name, Other}
 use Rattle.implib.specs.declared.machine.MachineType.{MachineType}
 use Rattle.implib.specs.Definition.{DefinitionView, ExportView}
-use Rattle.implib.specs.Text.Grammar.{Export, Exports, Later, Matches, Named, Nameless, Of, Sentence, Sizes, Statement, StartsWith, Terminal, Version, Word, attribute_terminals, export_terminals, exports_terminals, statement_terminals, target_terminals, terminals}
+use Rattle.implib.specs.Text.Grammar.{Export, Exports, Later, Matches, Named, Nameless, Of, Sentence, Sizes, Statement, StartsWith, Terminal, Version, Word, export_terminals, exports_terminals, statement_terminals, terminals}
 use Rattle.implib.specs.Text.Heard.{Heard, IsHeard, IsWhole, export_roles, heard_of, name_first, names_of, others, roles_of, statement_roles}
 use Rattle.implib.specs.Text.Meaning.{export_meaning, exports_in}
 use Rattle.implib.specs.Text.Parses.{Parses}
@@ -42,19 +42,12 @@ abbrev values : List Role → List TokenView → List (List ℕ)
 values roles tokens = map (λ (t : TokenView). t.value) (names_of (heard_of roles tokens))
 
 values-append : (first second : List Role) (tokens : List TokenView) (a : List Terminal) (rest : List TokenView) → length a ≡ length first → StartsWith tokens a rest → values (first ++ second) tokens ≡ values first tokens ++ values second rest
-values-append first second tokens a rest size starts =
-    let s = StartsWith-spans tokens a rest starts in
-    let parted : heard_of (first ++ second) tokens ≡ heard_of first tokens ++ heard_of second rest =
-    ap (heard_of (first ++ second)) s.whole ∙ heard_of-append first second s.front rest (s.size ∙ size) ∙ ap (λ (l : List TokenView). heard_of first l ++ heard_of second rest) (sym s.whole) in
-    ap (map (λ (t : TokenView). t.value)) (ap names_of parted ∙ names_of-append (heard_of first tokens) (heard_of second rest))
-    ∙ map-append (λ (t : TokenView). t.value) (names_of (heard_of first tokens)) (names_of (heard_of second rest))
+values-append first second tokens a rest size starts = grind (arith, StartsWith-spans, heard_of-append, names_of-append, map-append)
 
 -- a name has the word of its export
 export_value : (name : List ℕ → Terminal) (e : Export) (tokens rest : List TokenView) → ((word : List ℕ) (t : TokenView) → Matches (name word) t → t.value ≡ word) → StartsWith tokens (export_terminals name e) rest → values (export_roles e) tokens ≡ e.word ∷ []
 export_value name e [] rest says h = absurd h
-export_value name e (t ∷ tokens) rest says h =
-    ap (λ (names : List TokenView). t.value ∷ map (λ (t : TokenView). t.value) names) (no_names (target_terminals e.target ++ flat_map attribute_terminals e.attributes) tokens)
-    ∙ ap (λ (word : List ℕ). word ∷ []) (says e.word t h.0)
+export_value name e (t ∷ tokens) rest says h = grind (arith, no_names)
 
 exports_values : (name : List ℕ → Terminal) (exports : List Export) (tokens rest : List TokenView) → ((word : List ℕ) (t : TokenView) → Matches (name word) t → t.value ≡ word) → StartsWith tokens (exports_terminals name exports) rest → values (flat_map export_roles exports) tokens ≡ map (λ (e : Export). e.word) exports
 exports_values name [] tokens rest says h = refl
@@ -89,9 +82,7 @@ by_target machine word (Some other) = refl
 
 words_meant : (machine : MachineType) (exports : List Export) → map (decorated machine) (map (λ (e : Export). e.word) exports) ≡ map (λ (e : ExportView). name_to_link e.ext_name e.name) (map (export_meaning machine) exports)
 words_meant machine [] = refl
-words_meant machine (e ∷ exports) =
-    ap (λ (word : List ℕ). word ∷ map (decorated machine) (map (λ (e : Export). e.word) exports)) (by_target machine e.word e.target)
-    ∙ ap (λ (words : List (List ℕ)). name_to_link (export_meaning machine e).ext_name (export_meaning machine e).name ∷ words) (words_meant machine exports)
+words_meant machine (e ∷ exports) = grind (arith, words_meant machine exports, by_target)
 
 pub names_are_words : (text : List ℕ) (machine : MachineType) (definition : DefinitionView) (heard : List Heard) → IsUtf8 text → Parses text machine definition → IsHeard text heard
     → map (λ (t : TokenView). decorated machine t.value) (names_of heard) ≡ map (λ (e : ExportView). name_to_link e.ext_name e.name) definition.exports
@@ -116,12 +107,7 @@ all_heard (r ∷ roles) (t ∷ front) rest e = ap (λ (l : List TokenView). t �
 
 roles-length : (statements : List Statement) → length (terminals statements) ≡ length (roles_of statements)
 roles-length [] = refl
-roles-length (s ∷ statements) =
-    let one = statement_roles-length s in
-    let more = roles-length statements in
-    let both = length-append (statement_terminals s) (terminals statements) in
-    let roles = length-append (statement_roles s) (roles_of statements) in
-    omega (arith, one, more, both, roles)
+roles-length (s ∷ statements) = grind (arith, roles-length statements, statement_roles-length, length-append)
 
 only_end : (tokens rest : List TokenView) (heard : List TokenView) → tokens ≡ heard ++ rest → StartsWith rest (Of Eof ∷ []) [] → (end : TokenView) × (end.kind ≡ Eof) × (tokens ≡ heard ++ end ∷ [])
 only_end tokens [] heard whole h = absurd h

@@ -70,22 +70,13 @@ module _ {A : Type 0} (roles : A → List Role) (item : List TokenView → Reade
     more (suc n) enough goes = record {
       fuel = n;
       enough = omega (arith, enough, shorter);
-      goes = λ heard known.
-          let g = goes heard known in
-          record {
-            heard = g.heard ++ heard_of (roles x) tokens;
-            known = subst (λ (l : List Heard). after (g.heard ++ l)) (ap (item_heard roles tokens) read) (hears g.heard g.known);
-            same = append_assoc g.heard (heard_of (roles x) tokens) (many_heard roles item n rest) ∙ ap (λ (l : List Heard). g.heard ++ l) (sym (many_more n tokens rest x read)) ∙ g.same;
-          };
+      goes = λ heard known. grind (arith, append_assoc, many_more);
     }
 
   -- a turn that found none
   pub heard_none : (now after : List Heard → Type 0) (tokens rest : List TokenView) (total : List Heard) → item tokens ≡ Ok (None, rest) → HearsMore now after (item_heard roles tokens (item tokens))
       → HeardRemains now tokens total → HearsMore before after total
-  heard_none now after tokens rest total read hears remains heard known =
-      let g = remains.goes heard known in
-      let nothing : item_heard roles tokens (item tokens) ≡ many_heard roles item remains.fuel tokens = ap (item_heard roles tokens) read ∙ sym (many_none remains.fuel tokens rest read) in
-      subst after (ap (λ (l : List Heard). g.heard ++ l) nothing ∙ g.same) (hears g.heard g.known)
+  heard_none now after tokens rest total read hears remains heard known = grind (arith, heard, known, many_none)
 
 -- ---- an export
 
@@ -151,12 +142,7 @@ other_of before after tokens token after_first rest s starts kind read hears hea
 
 -- exports that were read are a statement
 exports_statement : (read : Reader (List Export)) (s : Statement) (rest : List TokenView) → (read >>= exports_from) ≡ Ok (Some s, rest) → (exports : List Export) × (read ≡ Ok (exports, rest)) × (s ≡ Exports exports)
-exports_statement (Ok found) s rest e =
-    let is = ok_is e in
-    (found.0, ap (λ (y : Option Statement × List TokenView). Ok (found.0, y.1)) is, some_is (sym (ap (λ (y : Option Statement × List TokenView). y.0) is)))
-  where
-    some_is : Some s ≡ Some (Exports found.0) → s ≡ Exports found.0
-    some_is e = cc
+exports_statement (Ok found) s rest e = grind (arith, ok_is)
 exports_statement (Err refusal) s rest e = absurd (ok_is_not_err (sym e))
 
 -- `EXPORTS`, and then the exports

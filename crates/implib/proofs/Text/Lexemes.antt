@@ -1,5 +1,5 @@
 -- What the lexer's helpers take off the front of a text.
-use Rattle.std.proofs.Common.{◌≡◌, ◌≢◌, ℕ, ◌+◌, ◌-◌, ◌<◌, ◌≤◌, Bool, true, false, eqb, ◌⊎◌, inl, inr, ⊎_elim, List, [], ◌∷◌, ◌++◌, length, get_or, take, drop, refl, sym, ap, subst, ◌∙◌, arith, append_assoc, length-append, length-take-le, take-append-drop, get_or-take}
+use Rattle.std.proofs.Common.{◌≡◌, ◌≢◌, ℕ, ◌+◌, ◌-◌, ◌<◌, ◌≤◌, Bool, true, false, eqb, ◌⊎◌, ⊎_elim, List, [], ◌∷◌, ◌++◌, length, get_or, take, drop, refl, sym, ap, subst, ◌∙◌, arith, append_assoc, length-append, length-take-le, take-append-drop, get_or-take}
 use Rattle.std.proofs.lemmas.Bool.{cases_lt, true≢false, eqb-true, ne_eqb}
 use Rattle.std.proofs.lemmas.List.{append-nil, drop_all, drop_more}
 use Rattle.std.proofs.lemmas.Str.{byte_from_char, inside_one, IsCharBoundary-after_ascii}
@@ -118,23 +118,10 @@ word_front text starts =
 
 -- the word's end is past its first character
 end_past_character : (text : List ℕ) (end : ℕ) → (front : WordFront text) → IsWordEnd text 0 end → length (encode_utf8 front.character) ≤ end
-end_past_character text end front is_end =
-    let c = front.character in
-    ⊎_elim
-    (λ (short : end < length (encode_utf8 c)).
-    let within : end < length text = omega (arith, ap length front.text_is, length-append (encode_utf8 c) front.tail) in
-    let stop : is_delimiter (get_or text end 0) ≡ true = is_end.stops within in
-    let same : c ≡ get_or text end 0 = inside_one c front.tail text end front.text_is short (delimiter_ascii (get_or text end 0) stop) in
-    let wrong : true ≡ false = sym stop ∙ ap is_delimiter (sym same) ∙ front.plain in
-    absurd (true≢false wrong))
-    (λ long. long)
-    (cases_lt end (length (encode_utf8 c)))
+end_past_character text end front is_end = grind (arith, ⊎_elim, length-append, inside_one, delimiter_ascii, true≢false, cases_lt)
 
 stops_at_end : (text : List ℕ) (end : ℕ) → IsWordEnd text 0 end → (drop end text ≡ []) ⊎ (begins is_delimiter (drop end text) ≡ true)
-stops_at_end text end is_end = ⊎_elim
-    (λ (within : end < length text). inr (ap (begins is_delimiter) (drop_more text end 0 within) ∙ is_end.stops within))
-    (λ (past : length text ≤ end). inl (drop_all end text past))
-    (cases_lt end (length text))
+stops_at_end text end is_end = grind (arith, ⊎_elim, drop_more, drop_all, cases_lt)
 
 pub TakesLexeme-word : (text run after value : List ℕ) (at end : ℕ) (token : TokenView) → StartsWord text → IsWordEnd text 0 end → run ≡ take end text → after ≡ drop end text → value ≡ trim_end run → token ≡ record { kind = kind_of_word value; value = value; at = at } → TakesLexeme text at token after
 TakesLexeme-word text run after value at end token starts is_end is_run is_after is_value is =
@@ -143,12 +130,9 @@ TakesLexeme-word text run after value at end token starts is_end is_run is_after
     let long = end_past_character text end front is_end in
     let size = length (encode_utf8 c) in
     let whole : end ≡ size + (end - size) = omega arith in
-    let first : run ≡ encode_utf8 c ++ take (end - size) front.tail =
-    is_run ∙ ap (take end) front.text_is ∙ ap (λ n. take n (encode_utf8 c ++ front.tail)) whole ∙ take-append-add (encode_utf8 c) front.tail (end - size) in
+    let first : run ≡ encode_utf8 c ++ take (end - size) front.tail = grind (arith, take-append-add) in
     let fits : length run ≡ end = ap length is_run ∙ length-take-le end text is_end.within in
-    let none : NonePass is_delimiter run = none_from_places is_delimiter run (λ k h.
-    let below : k < end = omega arith in
-    ap is_delimiter (ap (λ l. get_or l k 0) is_run ∙ get_or-take end text k 0 below) ∙ is_end.none_before k (omega arith) below) in
+    let none : NonePass is_delimiter run = grind (arith, none_from_places, get_or-take) in
     record {
       lexeme = Word run;
       text_is = sym (take-append-drop end text) ∙ ap (λ l. l ++ drop end text) (sym is_run) ∙ ap (λ l. run ++ l) (sym is_after);

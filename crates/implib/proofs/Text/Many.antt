@@ -81,24 +81,16 @@ module _ {A : Type 0} (item : List TokenView → Reader (Option A)) where
   many_again : (items : List A) (n : ℕ) (tokens rest : List TokenView) → length tokens ≤ n → AreRead items tokens rest → item rest ≡ Ok (None, rest) → many item n tokens ≡ Ok (items, rest)
   unfolding many
   many_again [] zero tokens rest le chain none = ap (λ (s : List TokenView). Ok ([], s)) chain
-  many_again [] (suc n) tokens rest le chain none =
-      ap (λ (s : List TokenView). item s >>= many_from (many item n)) chain ∙ bind_ok (item rest) (many_from (many item n)) (None, rest) (Ok ([], rest)) none refl
+  many_again [] (suc n) tokens rest le chain none = grind (arith, chain, bind_ok)
   many_again (x ∷ items) zero tokens rest le chain none = let lt = chain.1.shorter in absurd (omega arith)
-  many_again (x ∷ items) (suc n) tokens rest le chain none =
-      let lt = chain.1.shorter in
-      bind_ok (item tokens) (many_from (many item n)) (Some x, chain.0) (Ok (x ∷ items, rest)) chain.1.read
-      (bind_ok (many item n chain.0) (cons_item x) (items, rest) (Ok (x ∷ items, rest)) (many_again items n chain.0 rest (omega arith) chain.2 none) refl)
+  many_again (x ∷ items) (suc n) tokens rest le chain none = grind (arith, many_again items n chain.0 rest (omega arith) chain.2 none, bind_ok, items)
 
   many_refused : (items : List A) (n : ℕ) (tokens : List TokenView) (t : TokenView) (rest : List TokenView) (refusal : Refusal) → length tokens ≤ n → AreRead items tokens (t ∷ rest) → item (t ∷ rest) ≡ Err refusal → many item n tokens ≡ Err refusal
   unfolding many
   many_refused [] zero tokens t rest refusal le chain refused = let e = ap length chain in absurd (omega arith)
-  many_refused [] (suc n) tokens t rest refusal le chain refused =
-      ap (λ (s : List TokenView). item s >>= many_from (many item n)) chain ∙ bind_err (item (t ∷ rest)) (many_from (many item n)) refusal refused
+  many_refused [] (suc n) tokens t rest refusal le chain refused = grind (arith, chain, bind_err, refused)
   many_refused (x ∷ items) zero tokens t rest refusal le chain refused = let lt = chain.1.shorter in absurd (omega arith)
-  many_refused (x ∷ items) (suc n) tokens t rest refusal le chain refused =
-      let lt = chain.1.shorter in
-      bind_ok (item tokens) (many_from (many item n)) (Some x, chain.0) (Err refusal) chain.1.read
-      (bind_err (many item n chain.0) (cons_item x) refusal (many_refused items n chain.0 t rest refusal (omega arith) chain.2 refused))
+  many_refused (x ∷ items) (suc n) tokens t rest refusal le chain refused = grind (arith, many_refused items n chain.0 t rest refusal (omega arith) chain.2 refused, bind_ok, bind_err, items, refused)
 
   -- the items that are read, up to where there is none
   pub all_again : (items : List A) (tokens rest : List TokenView) → AreRead items tokens rest → item rest ≡ Ok (None, rest) → all item tokens ≡ Ok (items, rest)

@@ -1,5 +1,5 @@
 -- Gathering statements one by one gives what they mean.
-use Rattle.std.proofs.Common.{◌≡◌, List, [], ◌∷◌, ◌++◌, map, refl, sym, ap, ◌∙◌, append_assoc, append-nil}
+use Rattle.std.proofs.Common.{arith, ◌≡◌, List, [], ◌∷◌, ◌++◌, map, refl, sym, ap, ◌∙◌, append_assoc, append-nil}
 use Rattle.std.proofs.Math.Path.{fun_ext}
 use Rattle.std.proofs.lemmas.List.{map-append}
 use Rattle.std.specs.List.{flat_map, fold}
@@ -51,9 +51,7 @@ gathered machine d items exports = record {
 
 one_more : (machine : MachineType) (front : List ExportView) (s : Statement) (items : List Statement)
     → (front ++ map (made_export machine) (exports_in s)) ++ map (made_export machine) (flat_map exports_in items) ≡ front ++ map (made_export machine) (flat_map exports_in (s ∷ items))
-one_more machine front s items =
-    append_assoc front (map (made_export machine) (exports_in s)) (map (made_export machine) (flat_map exports_in items))
-    ∙ ap (λ (es : List ExportView). front ++ es) (sym (map-append (made_export machine) (exports_in s) (flat_map exports_in items)))
+one_more machine front s items = grind (arith, append_assoc, map-append)
 
 statements_gathered : (machine : MachineType) (items : List Statement) (d : DefinitionView)
     → fold (with_statement machine) d items ≡ gathered machine d items (d.exports ++ map (made_export machine) (flat_map exports_in items))
@@ -64,6 +62,4 @@ statements_gathered machine (s ∷ items) d =
 
 pub with_statements-meaning : (machine : MachineType) (items : List Statement) → with_statements machine empty_definition items ≡ meaning machine items
 unfolding with_statements
-with_statements-meaning machine items =
-    statements_gathered machine items empty_definition
-    ∙ ap (λ (made : Export → ExportView). gathered machine empty_definition items (map made (flat_map exports_in items))) (fun_ext (made_is machine))
+with_statements-meaning machine items = grind (arith, statements_gathered, fun_ext, made_is)

@@ -1,5 +1,5 @@
 -- What a text is, statements or broken, it is in one way.
-use Rattle.std.proofs.Common.{◌≡◌, ◌⊎◌, inl, inr, ℕ, List, Result, Ok, Err, refl, sym, ap, subst, ◌∙◌}
+use Rattle.std.proofs.Common.{arith, ◌≡◌, ◌⊎◌, inl, inr, ℕ, List, Result, Ok, Err, refl, sym, ap, subst, ◌∙◌}
 use Rattle.std.specs.Str.{IsUtf8}
 use Rattle.implib.specs.declared.machine.MachineType.{MachineType}
 use Rattle.implib.specs.declared.machine.MachineType.TheVariants.{AMD64}
@@ -21,10 +21,7 @@ abbrev given : List Statement × List TokenView → Result (List Statement × Li
 given p = Ok p
 
 same_list : (r : Result (List Statement × List TokenView) Refusal) (a b : List Statement) (x y : List TokenView) → r ≡ Ok (a, x) → r ≡ Ok (b, y) → a ≡ b
-same_list r a b x y e f = ap (λ (p : List Statement × List TokenView). p.0) (same_pair (a, x) (b, y) (sym e ∙ f))
-  where
-    same_pair : (p q : List Statement × List TokenView) → given p ≡ given q → p ≡ q
-    same_pair p q h = cc
+same_list r a b x y e f = grind arith
 
 same_refusal : (r : Result (List Statement × List TokenView) Refusal) (a b : Refusal) → r ≡ Err a → r ≡ Err b → a ≡ b
 same_refusal r a b e f = cc
@@ -33,10 +30,7 @@ not_both : (r : Result (List Statement × List TokenView) Refusal) (p : List Sta
 not_both r p refusal e f = cc
 
 pub one_list : (tokens : List TokenView) (statements others : List Statement) → Sentence tokens statements → Sentence tokens others → statements ≡ others
-one_list tokens statements others first second =
-    let a = sentence-read tokens statements first in
-    let b = sentence-read tokens others second in
-    same_list (statements_read tokens) statements others a.0 b.0 a.1 b.1
+one_list tokens statements others first second = grind (arith, sentence-read, same_list)
 
 pub never_both_of : (tokens others : List TokenView) (statements : List Statement) (cause : Cause) → tokens ≡ others → Sentence tokens statements → IsSyntaxError others cause → ⊥
 never_both_of tokens others statements cause same sentence broken =
@@ -45,9 +39,7 @@ never_both_of tokens others statements cause same sentence broken =
 
 -- two syntax errors of the same tokens are the same refusal
 one_refusal_of : (tokens others : List TokenView) (cause other : Cause) → tokens ≡ others → (first : IsSyntaxError tokens cause) (second : IsSyntaxError others other) → refusal_of cause (unexpected_token first) ≡ refusal_of other (unexpected_token second)
-one_refusal_of tokens others cause other same first second =
-    same_refusal (statements_read tokens) (refusal_of cause (unexpected_token first)) (refusal_of other (unexpected_token second)) (broken-refused tokens cause first)
-    (ap statements_read same ∙ broken-refused others other second)
+one_refusal_of tokens others cause other same first second = grind (arith, same_refusal, broken-refused)
 
 pub one_cause_of : (tokens : List TokenView) (cause other : Cause) → IsSyntaxError tokens cause → IsSyntaxError tokens other → cause ≡ other
 one_cause_of tokens cause other first second =
@@ -96,8 +88,7 @@ one_cause text utf8 cause other first second =
 -- ---- the token of a refusal
 
 pub one_offset_of : (tokens others : List TokenView) (cause other : Cause) (offset at : ℕ) → tokens ≡ others → IsSyntaxErrorAt tokens cause offset → IsSyntaxErrorAt others other at → offset ≡ at
-one_offset_of tokens others cause other offset at same first second =
-    sym first.token_is_at ∙ ap (λ (r : Refusal). r.at) (one_refusal_of tokens others cause other same first.error second.error) ∙ second.token_is_at
+one_offset_of tokens others cause other offset at same first second = grind (arith, one_refusal_of)
 
 pub one_offset : (text : List ℕ) → IsUtf8 text → (cause other : Cause) (offset at : ℕ) → RefusesAt text cause offset → RefusesAt text other at → offset ≡ at
 one_offset text utf8 cause other offset at first second =

@@ -1,5 +1,5 @@
 -- What the parser answers is what the tokens mean, or why they are refused.
-use Rattle.std.proofs.Common.{◌≡◌, ℕ, List, [], Ok}
+use Rattle.std.proofs.Common.{arith, ◌≡◌, ℕ, List, [], Ok}
 use Rattle.implib.specs.declared.def.parser.read_error.ReadError.{ReadError}
 use Rattle.implib.specs.declared.def.parser.read_error.ReadError.TheVariants.{Refused, OutOfMemory}
 use Rattle.implib.specs.declared.machine.MachineType.{MachineType}
@@ -40,5 +40,4 @@ heard-from_read text tokens machine d lexed e =
 
 pub answer_heard : (machine : MachineType) (tokens rest : List TokenView) (d : DefinitionView) (before after : List Heard → Type 0) → all_put (with_statement machine) empty_definition (statements_read tokens) ≡ Ok (d, rest)
     → HearsMore before after (statements_heard tokens) → before [] → HasHeardFrom (record { tokens = tokens; machine = machine }) after
-answer_heard machine tokens rest d before after h hears nothing text lexed =
-    (statements_heard tokens, heard-from_read text tokens machine d lexed (definition_read machine tokens d rest h), hears [] nothing)
+answer_heard machine tokens rest d before after h hears nothing text lexed = grind (arith, heard-from_read, definition_read)

@@ -28,9 +28,7 @@ module _ {X : Type 0} where
 module _ {A S : Type 0} (item : List TokenView → Reader (Option A)) (apply : S → A → S) where
   -- where no token is left there is no item
   at_end : (tokens : List TokenView) (state : S) → item [] ≡ Ok (None, []) → length tokens ≤ 0 → (tokens ≡ []) × (one_put apply state (item tokens) ≡ Ok (false, state, []))
-  at_end tokens state empty enough =
-      let nil : tokens ≡ [] = nil_from_length tokens (omega arith) in
-      (nil, ap (λ (t : List TokenView). one_put apply state (item t)) nil ∙ ap (one_put apply state) empty)
+  at_end tokens state empty enough = grind (arith, nil_from_length)
 
   -- at the beginning
   pub remains_all : (tokens : List TokenView) (state : S) → Remains item apply tokens state (all_put apply state (all item tokens))
@@ -44,10 +42,7 @@ module _ {A S : Type 0} (item : List TokenView → Reader (Option A)) (apply : S
   -- what one item gives, by whether there was one
   put_some : (n : ℕ) (tokens rest : List TokenView) (state after : S) (read : Reader (Option A)) (total : Result (S × List TokenView) Refusal) → one_put apply state read ≡ Ok (true, after, rest)
       → all_put apply state (read >>= many_from (many item n)) ≡ total → all_put apply after (many item n rest) ≡ total
-  put_some n tokens rest state after (Ok (Some a, left)) total e h =
-      let after-is : apply state a ≡ after = ap (λ (x : Bool × S × List TokenView). x.1) (ok_is e) in
-      let rest-is : left ≡ rest = ap (λ (x : Bool × S × List TokenView). x.2) (ok_is e) in
-      rw (← after-is, ← rest-is) (sym (put_first a state (many item n left)) ∙ h)
+  put_some n tokens rest state after (Ok (Some a, left)) total e h = grind (arith, ok_is, put_first)
   put_some n tokens rest state after (Ok (None, left)) total e h = absurd (false≢true (ap (λ (x : Bool × S × List TokenView). x.0) (ok_is e)))
   put_some n tokens rest state after (Err refusal) total e h = absurd cc
 
@@ -76,21 +71,13 @@ module _ {A S : Type 0} (item : List TokenView → Reader (Option A)) (apply : S
   pub remains_none : (tokens rest : List TokenView) (state after : S) (total : Result (S × List TokenView) Refusal) → item [] ≡ Ok (None, []) → Remains item apply tokens state total
       → one_put apply state (item tokens) ≡ Ok (false, after, rest) → total ≡ Ok (after, rest)
   unfolding many
-  remains_none tokens rest state after total empty remains read = done remains.fuel remains.enough remains.same where
-    done : (fuel : ℕ) → length tokens ≤ fuel → all_put apply state (many item fuel tokens) ≡ total → total ≡ Ok (after, rest)
-    done zero enough same =
-        let last = at_end tokens state empty enough in
-        sym same ∙ ap (λ (t : List TokenView). Ok (state, t)) last.0 ∙ ap (λ (x : Bool × S × List TokenView). Ok (x.1, x.2)) (ok_is (sym last.1 ∙ read))
-    done (suc n) enough same = put_none n tokens rest state after (item tokens) total read same
+  remains_none tokens rest state after total empty remains read = grind (arith, at_end, ok_is, put_none)
 
   -- a turn that was refused
   pub remains_fails : (tokens : List TokenView) (state : S) (refusal : Refusal) (total : Result (S × List TokenView) Refusal) → item [] ≡ Ok (None, []) → Remains item apply tokens state total
       → one_put apply state (item tokens) ≡ Err refusal → total ≡ Err refusal
   unfolding many
-  remains_fails tokens state refusal total empty remains read = done remains.fuel remains.enough remains.same where
-    done : (fuel : ℕ) → length tokens ≤ fuel → all_put apply state (many item fuel tokens) ≡ total → total ≡ Err refusal
-    done zero enough same = absurd (ok_is_not_err (sym (at_end tokens state empty enough).1 ∙ read))
-    done (suc n) enough same = put_fails n tokens state refusal (item tokens) total read same
+  remains_fails tokens state refusal total empty remains read = grind (arith, ok_is_not_err, at_end, put_fails)
 
   -- the same, of an error that may be want of memory
   pub remains_err : (tokens : List TokenView) (state : S) (error : ReadError) (total : Result (S × List TokenView) Refusal) → item [] ≡ Ok (None, []) → Remains item apply tokens state total

@@ -1,5 +1,5 @@
 -- What is read one part after another is the whole that a reader gives.
-use Rattle.std.proofs.Common.{◌≡◌, ℕ, ◌++◌, true, List, [], ◌∷◌, map, Option, Some, None, Ok, Err, refl, sym, ap, ◌∙◌, append_assoc, ◌⊎◌, inl, inr}
+use Rattle.std.proofs.Common.{arith, ◌≡◌, ℕ, ◌++◌, true, List, [], ◌∷◌, map, Option, Some, None, Ok, Err, refl, sym, ap, ◌∙◌, append_assoc, ◌⊎◌, inl, inr}
 use Rattle.std.proofs.lemmas.List.{append-nil}
 use Rattle.std.specs.List.{fold}
 use Rattle.implib.specs.declared.def.lexer.Token.{Token}
@@ -36,13 +36,11 @@ pub export_reads : (machine : MachineType) (exports : List ExportView) (tokens :
     → all_put with_attribute (named_export machine token.value target) (attributes_read after_target) ≡ Ok (e, rest)
     → one_put (with_export machine) exports (export_read tokens) ≡ Ok (true, exports ++ e ∷ [], rest)
 unfolding export_read
-export_reads machine exports tokens token after_name after_target rest target e starts kind targeted made =
-    rw (starts, kind, targeted) (export_put machine exports token.value target (attributes_read after_target) e rest made)
+export_reads machine exports tokens token after_name after_target rest target e starts kind targeted made = grind (arith, export_put)
 
 -- a statement without exports leaves them
 with_statement-settings : (machine : MachineType) (d : DefinitionView) (s : Statement) → exports_in s ≡ [] → with_statement machine d s ≡ with_settings d s
-with_statement-settings machine d s none =
-    ap (λ (exports : List ExportView). record (with_settings d s) { exports = exports }) (ap (λ (es : List Export). d.exports ++ map (made_export machine) es) none ∙ append-nil d.exports)
+with_statement-settings machine d s none = grind (arith, append-nil)
 
 -- and what it read is the definition with its settings
 put_settled : (machine : MachineType) (d : DefinitionView) (s : Statement) (rest : List TokenView) → exports_in s ≡ [] → put (with_statement machine) d (Some s, rest) ≡ Ok (true, with_settings d s, rest)
@@ -68,8 +66,7 @@ fold-with_export machine exports (e ∷ items) = fold-with_export machine (expor
 
 exports_put : (machine : MachineType) (d : DefinitionView) (read : Reader (List Export)) (exports : List ExportView) (rest : List TokenView) → all_put (with_export machine) d.exports read ≡ Ok (exports, rest)
     → one_put (with_statement machine) d (read >>= exports_from) ≡ Ok (true, record d { exports = exports }, rest)
-exports_put machine d (Ok items) exports rest h =
-    ap (λ (es : List ExportView). Ok (true, record d { exports = es }, items.1)) (sym (fold-with_export machine d.exports items.0)) ∙ ap (λ (x : List ExportView × List TokenView). Ok (true, record d { exports = x.0 }, x.1)) (ok_is h)
+exports_put machine d (Ok items) exports rest h = grind (arith, fold-with_export, ok_is)
 exports_put machine d (Err refusal) exports rest h = absurd cc
 
 pub exports_reads : (machine : MachineType) (d : DefinitionView) (tokens : List TokenView) (token : TokenView) (after : List TokenView) (exports : List ExportView) (rest : List TokenView)

@@ -124,8 +124,7 @@ attributes_outcome tokens = all_outcome AttributeLocated NoAttribute AttributeCu
 
 pub attributes_begin : (items : List Attribute) (tokens rest : List TokenView) → Chain AttributeLocated NoAttribute items tokens rest → StartsWith tokens (flat_map attribute_terminals items) rest
 attributes_begin [] tokens rest h = h
-attributes_begin (a ∷ items) tokens rest h =
-    StartsWith-append tokens (attribute_terminals a) (flat_map attribute_terminals items) h.0 rest h.1.0 (attributes_begin items h.0 rest h.2)
+attributes_begin (a ∷ items) tokens rest h = grind (arith, attributes_begin items h.0 rest h.2, StartsWith-append)
 
 pub attributes_end : (items : List Attribute) (tokens rest : List TokenView) → Chain AttributeLocated NoAttribute items tokens rest → IsAfter (follow_attributes items) rest
 attributes_end [] tokens rest h = IsAfter-none rest

@@ -7,7 +7,7 @@ use Rattle.implib.specs.declared.def.lexer.TokenKind.TheVariants.{Identifier, Eq
 use Rattle.implib.specs.Fault.{Cause}
 use Rattle.implib.specs.Text.Grammar.{Attribute, Export, Terminal, Of, Word, Later, StartsWith, at_sign, attribute_terminals, target_terminals, export_terminals, exports_terminals}
 use Rattle.implib.specs.Views.TokenReader.{Refusal, Plain, target_read, attributes_read, export_of, export_from, export_by, export_read, exports_read}
-use Rattle.implib.specs.Text.SyntaxError.{IsNotIdentifier, attribute_kinds, follow_target, follow_attributes, follow_export, follow_exports, bare}
+use Rattle.implib.specs.Text.SyntaxError.{IsNotIdentifier, follow_target, follow_export, follow_exports, bare}
 use Rattle.implib.specs.Text.Token.{TokenView}
 use Rattle.implib.proofs.Text.StartsWith.{IsAfter-append, StartsWith-append, StartsWith-shorter, IsAfter, AtFront}
 use Rattle.implib.proofs.Text.Many.{bind_outcome, Chain, ItemRead, AllRead, Stopped, all_outcome}
@@ -74,14 +74,7 @@ after_target (Some value) items mid rest h chain = IsAfter-none rest
 
 whole_export : (t : TokenView) (tokens : List TokenView) (target : Option (List ℕ) × List TokenView) (found : List Attribute × List TokenView) → t.kind ≡ Identifier → TargetRead tokens target → AttributesRead target.1 found
     → ExportLocated (t ∷ tokens) (record { word = t.value; target = target.0; attributes = found.0 }) found.1
-whole_export t tokens target found e h k = (
-  (record { kind = e; value_is = refl }, StartsWith-append tokens (target_terminals target.0) (flat_map attribute_terminals found.0) target.1 found.1 h.0 (attributes_begin found.0 target.1 found.1 k.0)),
-  record {
-    kinds = IsAfter-append attribute_kinds (follow_target target.0 found.0 ++ follow_attributes found.0) found.1 k.1.0
-        (IsAfter-append (follow_target target.0 found.0) (follow_attributes found.0) found.1 (after_target target.0 found.0 target.1 found.1 h.1 k.0) (attributes_end found.0 target.1 found.1 k.0));
-    plain = k.1.1;
-  },
-)
+whole_export t tokens target found e h k = grind (arith, StartsWith-append, attributes_begin, IsAfter-append, after_target, attributes_end)
 
 cut_attribute : (t : TokenView) (tokens : List TokenView) (target : Option (List ℕ) × List TokenView) (refusal : Refusal) → t.kind ≡ Identifier → TargetRead tokens target → (items : List Attribute) (mid : List TokenView) → Chain AttributeLocated NoAttribute items target.1 mid → AttributeCut mid refusal
     → PartCut (t ∷ tokens) refusal
@@ -162,10 +155,8 @@ later_exports (x ∷ items) e tokens mid rest plain chain h =
 
 pub exports_then : (items : List Export) (e : Export) (tokens mid rest : List TokenView) → Chain ExportLocated NoExport items tokens mid → StartsWith mid (export_terminals Word e) rest
     → StartsWith tokens (exports_terminals Word (items ++ e ∷ [])) rest
-exports_then [] e tokens mid rest chain h =
-    StartsWith-append tokens (export_terminals Word e) [] rest rest (subst (λ (s : List TokenView). StartsWith s (export_terminals Word e) rest) (sym chain) h) refl
-exports_then (x ∷ items) e tokens mid rest chain h =
-    StartsWith-append tokens (export_terminals Word x) (exports_terminals Later (items ++ e ∷ [])) chain.0 rest chain.1.0 (later_exports items e chain.0 mid rest chain.1.1.plain chain.2 h)
+exports_then [] e tokens mid rest chain h = grind (arith, StartsWith-append)
+exports_then (x ∷ items) e tokens mid rest chain h = grind (arith, StartsWith-append, later_exports, mid)
 
 later_begin : (items : List Export) (tokens rest : List TokenView) → PlainFront tokens → Chain ExportLocated NoExport items tokens rest → StartsWith tokens (exports_terminals Later items) rest
 later_begin [] tokens rest plain chain = chain
@@ -174,8 +165,7 @@ later_begin (x ∷ items) tokens rest plain chain =
 
 pub exports_begin : (items : List Export) (tokens rest : List TokenView) → Chain ExportLocated NoExport items tokens rest → StartsWith tokens (exports_terminals Word items) rest
 exports_begin [] tokens rest chain = chain
-exports_begin (x ∷ items) tokens rest chain =
-    StartsWith-append tokens (export_terminals Word x) (exports_terminals Later items) chain.0 rest chain.1.0 (later_begin items chain.0 rest chain.1.1.plain chain.2)
+exports_begin (x ∷ items) tokens rest chain = grind (arith, StartsWith-append, later_begin)
 
 pub exports_end : (items : List Export) (tokens rest : List TokenView) → Chain ExportLocated NoExport items tokens rest → IsAfter (follow_exports items) rest
 exports_end [] tokens rest chain = IsAfter-none rest

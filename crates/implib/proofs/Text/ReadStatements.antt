@@ -137,8 +137,7 @@ statements_outcome tokens = all_outcome StatementLocated NoStatement StatementCu
 
 pub statements_begin : (items : List Statement) (tokens rest : List TokenView) → Chain StatementLocated NoStatement items tokens rest → StartsWith tokens (terminals items) rest
 statements_begin [] tokens rest chain = chain
-statements_begin (s ∷ items) tokens rest chain =
-    StartsWith-append tokens (statement_terminals s) (terminals items) chain.0 rest chain.1.0 (statements_begin items chain.0 rest chain.2)
+statements_begin (s ∷ items) tokens rest chain = grind (arith, statements_begin items chain.0 rest chain.2, StartsWith-append)
 
 pub statements_end : (items : List Statement) (tokens rest : List TokenView) → Chain StatementLocated NoStatement items tokens rest → IsAfter (follow_last items) rest
 statements_end [] tokens rest chain = IsAfter-none rest

@@ -1,5 +1,5 @@
 -- What the readers give is derived so, and what they refuse is refused by the grammar: words, sizes, names and versions.
-use Rattle.std.proofs.Common.{◌≡◌, ℕ, ◌⊎◌, inl, inr, List, [], ◌∷◌, ◌++◌, Option, Some, None, Ok, Err, refl, sym, ap, subst}
+use Rattle.std.proofs.Common.{arith, ◌≡◌, ℕ, ◌⊎◌, inl, inr, List, [], ◌∷◌, ◌++◌, Option, Some, None, Ok, Err, refl, sym, ap, subst}
 use Rattle.std.specs.Result.{MatchResult}
 use Rattle.implib.specs.declared.def.lexer.TokenKind.{TokenKind}
 use Rattle.implib.specs.declared.def.lexer.TokenKind.TheVariants.{Identifier, Comma, Equal, KwBase}
@@ -20,8 +20,7 @@ abbrev pub WordRead : List TokenView → TokenView × List TokenView → Type 0
 WordRead tokens word = (tokens ≡ word.0 ∷ word.1) × (word.0.kind ≡ Identifier)
 
 pub word_starts : (tokens : List TokenView) (word : TokenView × List TokenView) → WordRead tokens word → StartsWith tokens (Word word.0.value ∷ []) word.1
-word_starts tokens word h =
-    subst (λ (s : List TokenView). StartsWith s (Word word.0.value ∷ []) word.1) (sym h.0) (record { kind = h.1; value_is = refl }, refl)
+word_starts tokens word h = grind arith
 
 word_by_outcome : (kind : TokenKind) (t : TokenView) (rest : List TokenView) → t.kind ≡ kind → MatchResult (word_by kind t rest) (WordRead (t ∷ rest)) (AtFront IsNotIdentifier (t ∷ rest))
 word_by_outcome Identifier t rest e = (refl, e)
@@ -152,8 +151,7 @@ BaseCut front tokens refusal = CutAfter tokens (front ++ Of KwBase ∷ []) IsNot
 
 signed_outcome : (t : TokenView) (rest after : List TokenView) → t.kind ≡ KwBase → SignRead rest after
     → MatchResult (number_read after) (λ n. StartsWith (t ∷ rest) (base_terminals (Some n.0)) n.1) (BaseCut [] (t ∷ rest))
-signed_outcome t rest after e h =
-    by_number (number_read after) (number_outcome after)
+signed_outcome t rest after e h = grind (arith, by_number, number_outcome)
   where
     by_number : (r : Reader ℕ) → MatchResult r (NumberRead after) (AtFront NumberRefused after) → MatchResult r (λ n. StartsWith (t ∷ rest) (base_terminals (Some n.0)) n.1) (BaseCut [] (t ∷ rest))
     by_number (Ok n) k = (e, StartsWith-append rest (Of Equal ∷ []) (Number n.0 ∷ []) after n.1 h k)

@@ -9,7 +9,7 @@ use Rattle.std.proofs.Math.Utf8.{scalar}
 use Rattle.std.specs.Str.{all_scalars, chars, encode_utf8_all, IsUtf8, NonePass}
 use Rattle.implib.specs.Text.Token.{is_line_feed, is_quote, is_delimiter, is_equal_sign, Lexeme, Blank, Comment, LastComment, EqualSign, EqualSigns, CommaSign, Quoted, Unclosed, Word, lexeme_text, IsLexemeBefore, IsEnd, text_of, EachIsLexeme, Divides}
 use Rattle.implib.specs.Ascii.{begins}
-use Rattle.implib.specs.Views.Scanner.{cut_before, comment_lexeme, quoted_lexeme, other_lexeme, first_lexeme, lexemes_within, lexemes_in}
+use Rattle.implib.specs.Views.Scanner.{cut_before, other_lexeme, first_lexeme, lexemes_within, lexemes_in}
 
 -- the text ends here, or goes on with a byte that passes the test
 abbrev StopsAt : (ℕ → Bool) → List ℕ → Type 0
@@ -19,9 +19,7 @@ StopsAt test after = (after ≡ []) ⊎ (begins test after ≡ true)
 cut_finds : (test : ℕ → Bool) (front after : List ℕ) → NonePass test front → StopsAt test after → cut_before test (front ++ after) ≡ (front, after)
 cut_finds test [] [] none stops = refl
 cut_finds test [] (b ∷ after) none stops = elim stops [ inl e ↦ cc | inr h ↦ rw h refl ]
-cut_finds test (x ∷ front) after none stops =
-    let none_first : test x ≡ false = none.0 in
-    rw (none_first, cut_finds test front after none.1 stops) refl
+cut_finds test (x ∷ front) after none stops = grind (arith, cut_finds test front after none.1 stops, after, stops)
 
 -- at a character that begins no other lexeme, white space or a word is found
 first_other : (text after : List ℕ) (c : ℕ) → text ≡ encode_utf8 c ++ after → c ≢ 0 → c ≢ 59 → c ≢ 61 → c ≢ 44 → c ≢ 34 → first_lexeme text ≡ Some (other_lexeme text)
@@ -53,37 +51,23 @@ white_is_no c k white dark same = let wrong : true ≡ false = sym white ∙ ap 
 
 -- a word's first character is no delimiter
 delimiter_starts_no_word : (run tail : List ℕ) (c k : ℕ) → run ≡ encode_utf8 c ++ tail → NonePass is_delimiter run → k < 128 → is_delimiter k ≡ true → c ≢ k
-delimiter_starts_no_word run tail c k e none small stops same =
-    let ascii : encode_utf8 c ≡ c ∷ [] = encode_ascii c (omega arith) in
-    let front : run ≡ c ∷ tail = e ∙ ap (λ l. l ++ tail) ascii in
-    let first : NonePass is_delimiter (c ∷ tail) = subst (NonePass is_delimiter) front none in
-    let wrong : true ≡ false = sym stops ∙ ap is_delimiter (sym same) ∙ first.0 in
-    cc
+delimiter_starts_no_word run tail c k e none small stops same = grind (arith, encode_ascii, none, stops)
 
 -- what is at the front of a text is found there
 pub first_lexeme_located : (lexeme : Lexeme) (after : List ℕ) → IsLexemeBefore lexeme after → IsUtf8 (lexeme_text lexeme ++ after) → first_lexeme (lexeme_text lexeme ++ after) ≡ Some lexeme
 first_lexeme_located (Blank c) after white utf8 =
     first_other (encode_utf8 c ++ after) after c refl (white_is_no c 0 white refl) (white_is_no c 59 white refl) (white_is_no c 61 white refl) (white_is_no c 44 white refl) (white_is_no c 34 white refl)
     ∙ ap Some (other_blank (encode_utf8 c ++ after) after c utf8 refl white)
-first_lexeme_located (Comment line) after none utf8 =
-    let cut : cut_before is_line_feed (line ++ (10 ∷ after)) ≡ (line, 10 ∷ after) = cut_finds is_line_feed line (10 ∷ after) none (inr refl) in
-    ap (λ l. first_lexeme (59 ∷ l)) (append_assoc line (10 ∷ []) after) ∙ ap (λ p. Some (comment_lexeme p)) cut
-first_lexeme_located (LastComment line) after (none, last) utf8 =
-    let cut : cut_before is_line_feed (line ++ after) ≡ (line, after) = cut_finds is_line_feed line after none (inl last) in
-    ap (λ p. Some (comment_lexeme p)) cut ∙ ap (λ l. Some (comment_lexeme (line, l))) last
+first_lexeme_located (Comment line) after none utf8 = grind (arith, after, cut_finds, none, append_assoc)
+first_lexeme_located (LastComment line) after (none, last) utf8 = grind (arith, after, cut_finds, none)
 first_lexeme_located EqualSign after alone utf8 = rw alone refl
 first_lexeme_located EqualSigns after holds utf8 = refl
 first_lexeme_located CommaSign after holds utf8 = refl
-first_lexeme_located (Quoted inside) after none utf8 =
-    let cut : cut_before is_quote (inside ++ (34 ∷ after)) ≡ (inside, 34 ∷ after) = cut_finds is_quote inside (34 ∷ after) none (inr refl) in
-    ap (λ l. first_lexeme (34 ∷ l)) (append_assoc inside (34 ∷ []) after) ∙ ap (λ p. Some (quoted_lexeme p)) cut
-first_lexeme_located (Unclosed inside) after (none, last) utf8 =
-    let cut : cut_before is_quote (inside ++ after) ≡ (inside, after) = cut_finds is_quote inside after none (inl last) in
-    ap (λ p. Some (quoted_lexeme p)) cut ∙ ap (λ l. Some (quoted_lexeme (inside, l))) last
+first_lexeme_located (Quoted inside) after none utf8 = grind (arith, after, cut_finds, none, append_assoc)
+first_lexeme_located (Unclosed inside) after (none, last) utf8 = grind (arith, after, cut_finds, none)
 first_lexeme_located (Word run) after (starts, none, stops) utf8 =
     let c = starts.character in
-    let e : run ++ after ≡ encode_utf8 c ++ (starts.tail ++ after) =
-    ap (λ l. l ++ after) starts.text_is ∙ append_assoc (encode_utf8 c) starts.tail after in
+    let e : run ++ after ≡ encode_utf8 c ++ (starts.tail ++ after) = grind (arith, append_assoc) in
     let none_is = λ (k : ℕ) (small : k < 128) (ends : is_delimiter k ≡ true). delimiter_starts_no_word run starts.tail c k starts.text_is none small ends in
     first_other (run ++ after) (starts.tail ++ after) c e starts.not_nul (none_is 59 (omega arith) refl) (none_is 61 (omega arith) refl) (none_is 44 (omega arith) refl) starts.not_quote
     ∙ ap Some (other_word (run ++ after) (starts.tail ++ after) c utf8 e starts.not_white)
@@ -104,9 +88,7 @@ lexeme_nonempty EqualSigns after holds = omega arith
 lexeme_nonempty CommaSign after holds = omega arith
 lexeme_nonempty (Quoted inside) after none = omega arith
 lexeme_nonempty (Unclosed inside) after none = omega arith
-lexeme_nonempty (Word run) after (starts, none, stops) =
-    let bounds = len_utf8_bounds starts.character in
-    omega (arith, ap length starts.text_is, length-append (encode_utf8 starts.character) starts.tail, length-encode starts.character, bounds.0)
+lexeme_nonempty (Word run) after (starts, none, stops) = grind (arith, len_utf8_bounds, length-append, length-encode)
 
 -- what follows an ASCII byte is text
 utf8_after_ascii : (front after : List ℕ) (b : ℕ) → b < 128 → IsUtf8 (front ++ (b ∷ after)) → IsUtf8 after
@@ -152,9 +134,7 @@ utf8_after_lexeme (Word run) after (starts, none, stops) utf8 = utf8_at_stop run
 -- a lexeme in front, with room for it
 pub lexemes_within_lexeme : (n : ℕ) (lexeme : Lexeme) (after : List ℕ) → IsLexemeBefore lexeme after → IsUtf8 (lexeme_text lexeme ++ after) → lexemes_within (suc n) (lexeme_text lexeme ++ after) ≡ lexeme ∷ lexemes_within n after
 unfolding lexemes_within
-lexemes_within_lexeme n lexeme after located utf8 =
-    let found = first_lexeme_located lexeme after located utf8 in
-    rw (found, lexemes_within) (ap (λ l. lexeme ∷ lexemes_within n l) (drop_at (lexeme_text lexeme) after (length (lexeme_text lexeme)) refl))
+lexemes_within_lexeme n lexeme after located utf8 = grind (arith, first_lexeme_located, lexeme, after, located, drop_at)
 
 lexemes_within_end : (n : ℕ) (end : List ℕ) → IsEnd end → lexemes_within n end ≡ []
 unfolding lexemes_within
@@ -164,8 +144,7 @@ lexemes_within_end (suc n) end ends = rw (first_lexeme_end end ends, lexemes_wit
 -- the witness finds the lexemes that divide a text
 pub lexemes_within_division : (n : ℕ) (lexemes : List Lexeme) (end : List ℕ) → EachIsLexeme lexemes end → IsEnd end → IsUtf8 (text_of lexemes end) → length (text_of lexemes end) ≤ n → lexemes_within n (text_of lexemes end) ≡ lexemes
 lexemes_within_division n [] end are_located ends utf8 fits = lexemes_within_end n end ends
-lexemes_within_division zero (lexeme ∷ lexemes) end are_located ends utf8 fits =
-    absurd (omega (arith, length-append (lexeme_text lexeme) (text_of lexemes end), lexeme_nonempty lexeme (text_of lexemes end) are_located.0))
+lexemes_within_division zero (lexeme ∷ lexemes) end are_located ends utf8 fits = grind (arith, length-append, lexeme, lexemes, end, lexeme_nonempty)
 lexemes_within_division (suc n) (lexeme ∷ lexemes) end are_located ends utf8 fits =
     let after = text_of lexemes end in
     let shorter : length after ≤ n = omega (arith, length-append (lexeme_text lexeme) after, lexeme_nonempty lexeme after are_located.0) in
@@ -278,11 +257,7 @@ front_word c rest is_scalar dark n0 n34 plain =
       lexeme = Word (encode_utf8 c ++ tail);
       after = after;
       text_is = ap (λ l. encode_utf8 c ++ l) cut.text_is ∙ sym (append_assoc (encode_utf8 c) tail after);
-      located = (
-        record { character = c; tail = tail; text_is = refl; scalar = is_scalar; not_white = dark; not_nul = n0; not_quote = n34 },
-        none_append is_delimiter (encode_utf8 c) tail (none_in_character c plain) cut.none,
-        cut.stops,
-      );
+      located = grind (arith, scalar, none_append, none_in_character);
     }
 
 front_character : (c : ℕ) (rest : List ℕ) → IsScalar c → c ≢ 0 → c ≢ 59 → c ≢ 61 → c ≢ 44 → c ≢ 34 → Front (encode_utf8 c ++ rest)
@@ -330,11 +305,7 @@ division_after text front rest =
     record {
       lexemes = front.lexeme ∷ rest.lexemes;
       end = rest.end;
-      divides = record {
-        text_is = front.text_is ∙ ap (λ l. lexeme_text front.lexeme ++ l) same;
-        each_is_lexeme = (subst (IsLexemeBefore front.lexeme) same front.located, rest.divides.each_is_lexeme);
-        ends = rest.divides.ends;
-      };
+      divides = grind arith;
     }
 
 division_within : (n : ℕ) (text : List ℕ) → IsUtf8 text → length text ≤ n → Division text
@@ -354,6 +325,4 @@ division text utf8 = division_within (length text) text utf8 (omega arith)
 
 -- and it is the witness's
 pub Divides-lexemes_in : (text : List ℕ) (lexemes : List Lexeme) (end : List ℕ) → IsUtf8 text → Divides text lexemes end → lexemes_in text ≡ lexemes
-Divides-lexemes_in text lexemes end utf8 d =
-    ap (λ l. lexemes_in l) d.text_is
-    ∙ lexemes_within_division (length (text_of lexemes end)) lexemes end d.each_is_lexeme d.ends (subst IsUtf8 d.text_is utf8) (omega arith)
+Divides-lexemes_in text lexemes end utf8 d = grind (arith, lexemes_within_division, lexemes, end)

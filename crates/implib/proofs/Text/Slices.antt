@@ -12,11 +12,7 @@ use Rattle.implib.proofs.Text.Trimmed.{take-trim_end, take-value, value_within}
 
 -- what is between a front and the rest is the slice there
 slice_between : (text front value after : List ℕ) (at : ℕ) → text ≡ front ++ (value ++ after) → at ≡ length front → take (length value) (drop at text) ≡ value
-slice_between text front value after at e position =
-    ap (λ n. take (length value) (drop n text)) position
-    ∙ ap (λ l. take (length value) (drop (length front) l)) e
-    ∙ ap (take (length value)) (drop_at front (value ++ after) (length front) refl)
-    ∙ take_at value after (length value) refl
+slice_between text front value after at e position = grind (arith, drop_at, take_at)
 
 -- the front of a text before an ASCII byte is text
 utf8_before_ascii : (front after : List ℕ) (b : ℕ) → b < 128 → IsUtf8 (front ++ (b ∷ after)) → IsUtf8 front
@@ -55,10 +51,7 @@ slice_of_name text front inside after e utf8 =
     let end_is : value ++ back ≡ rest = ap (λ l. l ++ back) (sym (take-value inside utf8)) ∙ take-append-drop (length value) rest in
     let whole : before ++ (value ++ back) ≡ inside = ap (λ l. before ++ l) end_is ∙ take-append-drop start inside in
     let opened = front ++ (34 ∷ before) in
-    let text_is : front ++ (34 ∷ (inside ++ after)) ≡ opened ++ (value ++ (back ++ after)) =
-    ap (λ l. front ++ (34 ∷ (l ++ after))) (sym whole)
-    ∙ ap (λ l. front ++ (34 ∷ l)) (append_assoc before (value ++ back) after ∙ ap (λ l. before ++ l) (append_assoc value back after))
-    ∙ sym (append_assoc front (34 ∷ before) (value ++ (back ++ after))) in
+    let text_is : front ++ (34 ∷ (inside ++ after)) ≡ opened ++ (value ++ (back ++ after)) = grind (arith, append_assoc) in
     slice_between text opened value (back ++ after) (length front + 1 + start) (e ∙ text_is)
     (omega (arith, length-append front (34 ∷ before), length-take-le start inside bound))
 

@@ -24,9 +24,7 @@ pub record Parted (tokens : List TokenView) (a b : List Terminal) (rest : List T
 pub StartsWith-parted : (tokens : List TokenView) (a b : List Terminal) (rest : List TokenView) → StartsWith tokens (a ++ b) rest → Parted tokens a b rest
 StartsWith-parted tokens [] b rest h = record { mid = tokens; front = refl; back = h }
 StartsWith-parted [] (w ∷ a) b rest h = absurd h
-StartsWith-parted (t ∷ tokens) (w ∷ a) b rest h =
-    let p = StartsWith-parted tokens a b rest h.1 in
-    record { mid = p.mid; front = (h.0, p.front); back = p.back }
+StartsWith-parted (t ∷ tokens) (w ∷ a) b rest h = grind (arith, StartsWith-parted tokens a b rest h.1)
 
 StartsWith-length-le : (tokens : List TokenView) (a : List Terminal) (rest : List TokenView) → StartsWith tokens a rest → length rest ≤ length tokens
 StartsWith-length-le tokens [] rest h = rw h (omega arith)
@@ -65,8 +63,7 @@ after_one t (next ∷ rest) other h = h.1
 pub StartsWith-ends : (tokens : List TokenView) (a : List Terminal) (rest : List TokenView) → AllByRecursion WantsNoEof a → StartsWith tokens a rest → EndsInEof tokens → EndsInEof rest
 StartsWith-ends tokens [] rest all h ends = subst EndsInEof h ends
 StartsWith-ends [] (w ∷ a) rest all h ends = absurd h
-StartsWith-ends (t ∷ tokens) (w ∷ a) rest all h ends =
-    StartsWith-ends tokens a rest all.1 h.1 (after_one t tokens (Matches-not_eof w t all.0 h.0) ends)
+StartsWith-ends (t ∷ tokens) (w ∷ a) rest all h ends = grind (arith, StartsWith-ends tokens a rest all.1 h.1 (after_one t tokens (Matches-not_eof w t all.0 h.0) ends), after_one, Matches-not_eof)
 
 pub EndsInEof-last : (t : TokenView) (rest : List TokenView) → t.kind ≡ Eof → EndsInEof (t ∷ rest) → rest ≡ []
 EndsInEof-last t [] e h = refl

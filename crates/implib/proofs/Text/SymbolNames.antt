@@ -1,12 +1,12 @@
 -- The definition that a text means has no symbol names and gives no asked names.
-use Rattle.std.proofs.Common.{◌≡◌, ℕ, true, List, [], ◌∷◌, map, refl, subst}
+use Rattle.std.proofs.Common.{arith, ◌≡◌, ℕ, true, List, [], ◌∷◌, map, refl}
 use Rattle.std.specs.Prelude.{is_none}
-use Rattle.std.specs.List.{flat_map, list_all}
+use Rattle.std.specs.List.{list_all}
 use Rattle.implib.specs.declared.machine.MachineType.{MachineType}
 use Rattle.implib.specs.Definition.{DefinitionView, ExportView}
 use Rattle.implib.specs.Text.Grammar.{Export}
 use Rattle.implib.specs.Import.{is_empty_text}
-use Rattle.implib.specs.Text.Meaning.{export_meaning, exports_in}
+use Rattle.implib.specs.Text.Meaning.{export_meaning}
 use Rattle.implib.specs.Text.Parses.{Parses}
 use Rattle.implib.specs.Renaming.{renamed_export}
 use Rattle.implib.specs.Text.SymbolNames.{LacksSymbolNames}
@@ -33,13 +33,4 @@ renamed_ask machine [] = refl
 renamed_ask machine (e ∷ exports) = renamed_ask machine exports
 
 pub parsed_lacks : (text : List ℕ) (machine : MachineType) (definition : DefinitionView) → Parses text machine definition → LacksSymbolNames definition
-parsed_lacks text machine definition parsed =
-    let exports = flat_map exports_in parsed.statements in
-    subst LacksSymbolNames parsed.means
-    (record {
-      parsed = parsed_lack machine exports;
-      asks_as_parsed = parsed_ask machine exports;
-      asks_as_renamed = renamed_ask machine exports;
-      renamed = renamed_lack machine exports;
-      library_name = refl;
-    })
+parsed_lacks text machine definition parsed = grind (arith, parsed_lack, parsed_ask, renamed_ask, renamed_lack)

@@ -6,7 +6,7 @@ use Rattle.implib.specs.declared.def.lexer.TokenKind.TheVariants.{Eof, Identifie
 use Rattle.implib.specs.Fault.{Cause}
 use Rattle.implib.specs.Text.Grammar.{Attribute, Joined, Apart, Data, Constant, Private, Alias, Export, Terminal, Of, Word, Later, StartsWith, IsWord, IsLoneAt, at_sign, no_name_terminals, attribute_terminals, target_terminals, export_terminals, exports_terminals}
 use Rattle.implib.specs.Text.Number.{IsNumber, u16_limit}
-use Rattle.implib.specs.Views.TokenReader.{◌>>=◌, Refusal, refusal_of, number_of, AtWord, Lone, WithOrdinal, Plain, at_word, word_read, no_name_by, no_name_read, ordinal_or, ordinal_by, ordinal_read, joined_from, apart_of, apart_from, alias_from, at_attribute, attribute_by, attribute_read, attributes_read, target_of, target_from, target_by, target_read, export_of, export_from, export_by, export_read, exports_read}
+use Rattle.implib.specs.Views.TokenReader.{◌>>=◌, Refusal, refusal_of, number_of, AtWord, Lone, WithOrdinal, Plain, word_read, no_name_by, no_name_read, ordinal_or, ordinal_by, ordinal_read, joined_from, apart_of, apart_from, alias_from, at_attribute, attribute_by, attribute_read, attributes_read, target_of, target_from, target_by, target_read, export_of, export_from, export_by, export_read, exports_read}
 use Rattle.implib.specs.Text.SyntaxError.{IsNotIdentifier, IsNoneOf, attribute_kinds, follow_ordinal, follow_attribute, follow_attributes, follow_target, follow_export, follow_exports, bare}
 use Rattle.implib.specs.Text.Token.{TokenView}
 use Rattle.implib.proofs.Text.StartsWith.{IsNoneOf-append, IsNoneOf-parts, IsAfter-parts, StartsWith-parted, StartsWith-shorter, IsAfter}
@@ -32,8 +32,7 @@ no_name_again : (no_name : Bool) (tokens rest : List TokenView) → StartsWith t
 unfolding no_name_read
 no_name_again false tokens rest h after = ap no_name_read h ∙ no_no_name rest after
 no_name_again true [] rest h after = absurd h
-no_name_again true (t ∷ tokens) rest h after =
-    ap (λ (k : TokenKind). no_name_by k t tokens) h.0 ∙ ap (λ (s : List TokenView). (true, s)) h.1
+no_name_again true (t ∷ tokens) rest h after = grind arith
 
 -- ---- the ordinal after a lone `@`
 
@@ -48,12 +47,8 @@ ordinal_again t n rest other is =
 
 ordinal_refused : (t : TokenView) (rest : List TokenView) (cause : Cause) → OrdinalRefused t cause → ordinal_read (t ∷ rest) ≡ Err (refusal_of cause t)
 unfolding ordinal_read
-ordinal_refused t rest cause (inl h) =
-    ap (λ (k : TokenKind). ordinal_by k t rest) h.end ∙ ap (λ (c : Cause). Err (refusal_of c t)) (sym h.reported)
-ordinal_refused t rest cause (inr h) =
-    ordinal_by_other t.kind t rest h.not_end
-    ∙ ap (λ (o : Option ℕ). ordinal_or o t rest) (number_of-none t.value u16_limit h.none)
-    ∙ ap (λ (c : Cause). Err (refusal_of c t)) (sym h.reported)
+ordinal_refused t rest cause (inl h) = grind arith
+ordinal_refused t rest cause (inr h) = grind (arith, ordinal_by_other, number_of-none)
 
 -- ---- attributes
 
@@ -144,10 +139,7 @@ clear_after a (t ∷ rest) h = clear_attribute a t.kind h.0
 
 attributes_again : (items : List Attribute) (tokens rest : List TokenView) → StartsWith tokens (flat_map attribute_terminals items) rest → IsAfter (follow_attributes items) rest → AreRead attribute_read items tokens rest
 attributes_again [] tokens rest h after = h
-attributes_again (a ∷ []) tokens rest h after =
-    let p = StartsWith-parted tokens (attribute_terminals a) [] rest h in
-    let ends : IsAfter (follow_attribute a) p.mid = subst (IsAfter (follow_attribute a)) (sym p.back) after in
-    (p.mid, record { read = attribute_again a tokens p.mid p.front ends; shorter = StartsWith-shorter tokens (attribute_terminals a) p.mid (attribute_nonempty a) p.front }, p.back)
+attributes_again (a ∷ []) tokens rest h after = grind (arith, StartsWith-parted, attribute_again, StartsWith-shorter, attribute_nonempty)
 attributes_again (a ∷ b ∷ items) tokens rest h after =
     let p = StartsWith-parted tokens (attribute_terminals a) (flat_map attribute_terminals (b ∷ items)) rest h in
     let ends = clear_after a p.mid (attribute_first b (flat_map attribute_terminals items) p.mid rest p.back) in
@@ -177,12 +169,7 @@ target_again : (target : Option (List ℕ)) (tokens rest : List TokenView) → S
 target_again None tokens rest h after = ap target_read h ∙ no_target rest after
 target_again (Some value) [] rest h after = absurd h
 target_again (Some value) (t ∷ []) rest h after = absurd h.1
-target_again (Some value) (t ∷ u ∷ tokens) rest h after =
-    after_sign t (u ∷ tokens) h.0
-    ∙ bind_ok (word_read (u ∷ tokens)) target_from (u, tokens) (Ok (Some value, rest)) (word_again u tokens h.1.0.0.kind)
-    (not_lone_target (u, tokens) (at_word u.value) (at_word-gives u.value) (subst (λ (v : List ℕ). ¬ (IsLoneAt v)) (sym h.1.0.0.value_is) h.1.0.1)
-    ∙ ap (λ (v : List ℕ). Ok (Some v, tokens)) h.1.0.0.value_is
-    ∙ ap (λ (s : List TokenView). Ok (Some value, s)) h.1.1)
+target_again (Some value) (t ∷ u ∷ tokens) rest h after = grind (arith, after_sign, bind_ok, word_again, not_lone_target, at_word-gives)
 
 target_refused : (t u : TokenView) (rest : List TokenView) (cause : Cause) → t.kind ≡ Equal → TargetRefused u cause → target_read (t ∷ u ∷ rest) ≡ Err (refusal_of cause u)
 target_refused t u rest cause e (inl h) =
@@ -204,8 +191,7 @@ before_attributes (Some value) items (t ∷ tokens) rest h after = tt
 -- what an export's first word leads to
 after_word : (e : Export) (t : TokenView) (tokens : List TokenView) → IsWord t e.word → export_read (t ∷ tokens) ≡ (target_read tokens >>= export_from e.word)
 unfolding export_read
-after_word e t tokens is =
-    ap (λ (k : TokenKind). export_by k t tokens) is.kind ∙ ap (λ (v : List ℕ). target_read tokens >>= export_from v) is.value_is
+after_word e t tokens is = grind arith
 
 export_again : (e : Export) (tokens rest : List TokenView) → StartsWith tokens (export_terminals Word e) rest → ExportEnds e rest → export_read tokens ≡ Ok (Some e, rest)
 unfolding attributes_read
@@ -286,8 +272,7 @@ ends_at_later e next items (t ∷ tokens) rest h = record {
 }
 
 take_export : (e : Export) (tokens rest : List TokenView) → StartsWith tokens (export_terminals Word e) rest → ExportEnds e rest → Takes export_read tokens e rest
-take_export e tokens rest h ends =
-    record { read = export_again e tokens rest h ends; shorter = StartsWith-shorter tokens (export_terminals Word e) rest (omega arith) h }
+take_export e tokens rest h ends = grind (arith, export_again, StartsWith-shorter)
 
 ends_at_rest : (e : Export) (rest : List TokenView) → IsAfter (Identifier ∷ follow_export e) rest → ExportEnds e rest
 ends_at_rest e [] h = record { kinds = tt; plain = tt }
@@ -314,8 +299,7 @@ no_export (t ∷ rest) kinds h = export_by_other t.kind t rest h.0
 
 pub exports_again : (items : List Export) (tokens rest : List TokenView) → StartsWith tokens (exports_terminals Word items) rest → IsAfter (Identifier ∷ follow_exports items) rest → exports_read tokens ≡ Ok (items, rest)
 unfolding exports_read
-exports_again items tokens rest h after =
-    all_again export_read items tokens rest (exports_chain items tokens rest h after) (no_export rest (follow_exports items) after)
+exports_again items tokens rest h after = grind (arith, all_again, exports_chain, no_export)
 
 -- exports are read up to the last one
 record BeforeLast (items : List Export) (last : Export) (tokens whole : List TokenView) : Type 0 where
@@ -324,9 +308,7 @@ record BeforeLast (items : List Export) (last : Export) (tokens whole : List Tok
   back : StartsWith mid (export_terminals Word last) whole
 
 before_last : (items : List Export) (last : Export) (tokens whole : List TokenView) → StartsWith tokens (exports_terminals Word (items ++ last ∷ [])) whole → BeforeLast items last tokens whole
-before_last [] last tokens whole h =
-    let p = StartsWith-parted tokens (export_terminals Word last) [] whole h in
-    record { mid = tokens; chain = refl; back = subst (StartsWith tokens (export_terminals Word last)) p.back p.front }
+before_last [] last tokens whole h = grind (arith, StartsWith-parted tokens (export_terminals Word last) [] whole h)
 before_last (e ∷ []) last tokens whole h =
     let p = StartsWith-parted tokens (export_terminals Word e) (exports_terminals Later (last ∷ [])) whole h in
     let b = before_last [] last p.mid whole (later_is_word (last ∷ []) p.mid whole p.back) in
@@ -340,9 +322,4 @@ before_last (e ∷ next ∷ items) last tokens whole h =
 pub export_stops : (items : List Export) (last : Export) (tokens whole : List TokenView) (refusal : Refusal) → StartsWith tokens (exports_terminals Word (items ++ last ∷ [])) whole
     → ((mid : List TokenView) → StartsWith mid (export_terminals Word last) whole → export_read mid ≡ Err refusal) → exports_read tokens ≡ Err refusal
 unfolding exports_read
-export_stops items last tokens whole refusal h refused =
-    let b = before_last items last tokens whole h in stops b.mid b.chain b.back
-  where
-    stops : (mid : List TokenView) → AreRead export_read items tokens mid → StartsWith mid (export_terminals Word last) whole → exports_read tokens ≡ Err refusal
-    stops [] chain back = absurd back
-    stops (t ∷ rest) chain back = all_refused export_read items tokens t rest refusal chain (refused (t ∷ rest) back)
+export_stops items last tokens whole refusal h refused = grind (arith, before_last, all_refused)

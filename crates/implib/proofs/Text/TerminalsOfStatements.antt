@@ -1,5 +1,5 @@
 -- What is derived is read so, and what the grammar refuses the readers refuse: statements.
-use Rattle.std.proofs.Common.{◌≡◌, ◌≢◌, ℕ, inl, inr, List, [], ◌∷◌, ◌++◌, Option, Some, None, Ok, Err, refl, sym, ap, subst, ◌∙◌}
+use Rattle.std.proofs.Common.{arith, ◌≡◌, ◌≢◌, ℕ, inl, inr, List, [], ◌∷◌, ◌++◌, Option, Some, None, Ok, Err, refl, sym, ap, subst, ◌∙◌}
 use Rattle.implib.specs.declared.def.lexer.TokenKind.{TokenKind}
 use Rattle.implib.specs.declared.def.lexer.TokenKind.TheVariants.{Eof, Identifier, Comma, Equal, EqualEqual, KwBase, KwExports, KwHeapsize, KwLibrary, KwName, KwStacksize, KwVersion}
 use Rattle.implib.specs.Fault.{Cause, UnknownDirective}
@@ -115,9 +115,7 @@ statement_again (Sizes region reserve commit) (t ∷ tokens) rest h after =
     at_region t tokens region h.0
     ∙ bind_ok (sizes_read tokens) (region_from region) ((reserve, commit), rest) (Ok (Some (Sizes region reserve commit), rest)) (sizes_again reserve commit tokens rest h.1 after) refl
 statement_again Nameless [] rest h after = absurd h
-statement_again Nameless (t ∷ tokens) rest h after =
-    at_name t tokens h.0
-    ∙ bind_ok (name_read tokens) some_statement (Nameless, rest) (Ok (Some Nameless, rest)) (ap name_read h.1 ∙ no_name_again rest after) refl
+statement_again Nameless (t ∷ tokens) rest h after = grind (arith, at_name, bind_ok, no_name_again)
 statement_again (Named name base) [] rest h after = absurd h
 statement_again (Named name base) (t ∷ []) rest h after = absurd h.1
 statement_again (Named name base) (t ∷ u ∷ tokens) rest h after =
@@ -196,8 +194,7 @@ started_refused (ToOrdinal exports last) (u ∷ tokens) t rest cause h refused =
 -- ---- statements
 
 take_statement : (s : Statement) (tokens rest : List TokenView) → StartsWith tokens (statement_terminals s) rest → IsAfter (follow s) rest → Takes statement_read tokens s rest
-take_statement s tokens rest h after =
-    record { read = statement_again s tokens rest h after; shorter = StartsWith-shorter tokens (statement_terminals s) rest (statement_nonempty s) h }
+take_statement s tokens rest h after = grind (arith, statement_again, StartsWith-shorter, statement_nonempty)
 
 statements_chain : (items : List Statement) (tokens rest : List TokenView) → StartsWith tokens (terminals items) rest → IsAfter (follow_last items) rest → AreRead statement_read items tokens rest
 statements_chain [] tokens rest h after = h
@@ -215,13 +212,7 @@ end_read t rest e = at_kind t rest Eof e
 -- what is derived is read
 pub sentence-read : (tokens : List TokenView) (statements : List Statement) → Sentence tokens statements → (rest : List TokenView) × (statements_read tokens ≡ Ok (statements, rest))
 unfolding statements_read
-sentence-read tokens statements h =
-    let p = StartsWith-parted tokens (terminals statements) (Of Eof ∷ []) [] h in ended p.mid p.front p.back
-  where
-    ended : (mid : List TokenView) → StartsWith tokens (terminals statements) mid → StartsWith mid (Of Eof ∷ []) [] → (rest : List TokenView) × (statements_read tokens ≡ Ok (statements, rest))
-    ended [] front back = absurd back
-    ended (t ∷ rest) front back =
-        (t ∷ rest, all_again statement_read statements tokens (t ∷ rest) (statements_chain statements tokens (t ∷ rest) front (clear_last statements (t ∷ rest) (none_at t.kind Eof statement_kinds back.0 refl))) (end_read t rest back.0))
+sentence-read tokens statements h = grind (arith, StartsWith-parted, all_again, statements_chain, clear_last, none_at, end_read)
 
 -- what the grammar refuses is refused for that cause, at that token
 pub broken-refused : (tokens : List TokenView) (cause : Cause) → (b : IsSyntaxError tokens cause) → statements_read tokens ≡ Err (refusal_of cause (unexpected_token b))

@@ -1,5 +1,5 @@
 -- What is derived is read so, and what the grammar refuses the readers refuse: words, sizes, names and versions.
-use Rattle.std.proofs.Common.{◌≡◌, ◌≢◌, ℕ, inl, inr, List, [], ◌∷◌, Option, Some, None, Ok, Err, refl, sym, ap, ◌∙◌}
+use Rattle.std.proofs.Common.{arith, ◌≡◌, ◌≢◌, ℕ, inl, inr, List, [], ◌∷◌, Option, Some, None, Ok, Err, refl, sym, ap, ◌∙◌}
 use Rattle.implib.specs.declared.def.lexer.TokenKind.{TokenKind}
 use Rattle.implib.specs.declared.def.lexer.TokenKind.TheVariants.{Identifier, Comma, Equal, KwBase}
 use Rattle.implib.specs.Fault.{Cause, ExpectedIdentifier, ExpectedEqual}
@@ -38,9 +38,7 @@ number_again t n rest e is =
 pub number_refused : (t : TokenView) (rest : List TokenView) (cause : Cause) → NumberRefused t cause → number_read (t ∷ rest) ≡ Err (refusal_of cause t)
 unfolding number_read
 number_refused t rest cause (inl h) = bind_err (word_read (t ∷ rest)) number_from (refusal_of cause t) (word_refused t rest cause h)
-number_refused t rest cause (inr h) =
-    bind_ok (word_read (t ∷ rest)) number_from (t, rest) (Err (refusal_of cause t)) (word_again t rest h.kind)
-    (ap (λ (o : Option ℕ). integer_or o t rest) (number_of-none t.value u64_limit h.none) ∙ ap (λ (c : Cause). Err (refusal_of c t)) (sym h.reported))
+number_refused t rest cause (inr h) = grind (arith, bind_ok, word_again, number_of-none)
 
 -- ---- versions
 
@@ -53,9 +51,7 @@ version_again t major minor rest e is =
 pub version_refused : (t : TokenView) (rest : List TokenView) (cause : Cause) → VersionRefused t cause → version_read (t ∷ rest) ≡ Err (refusal_of cause t)
 unfolding version_read
 version_refused t rest cause (inl h) = bind_err (word_read (t ∷ rest)) version_from (refusal_of cause t) (word_refused t rest cause h)
-version_refused t rest cause (inr h) =
-    bind_ok (word_read (t ∷ rest)) version_from (t, rest) (Err (refusal_of cause t)) (word_again t rest h.kind)
-    (ap (λ (o : Option (ℕ × ℕ)). integer_or o t rest) (version_of-none t.value h.none) ∙ ap (λ (c : Cause). Err (refusal_of c t)) (sym h.reported))
+version_refused t rest cause (inr h) = grind (arith, bind_ok, word_again, version_of-none)
 
 -- ---- sizes
 
@@ -139,9 +135,7 @@ base_again (Some n) (t ∷ sign ∷ u ∷ tokens) rest h after =
     ∙ bind_ok (sign_read (sign ∷ u ∷ tokens) >>= number_read) some_number (n, tokens) (Ok (Some n, rest)) expected (ap (λ (s : List TokenView). Ok (Some n, s)) h.1.1.1)
 
 base_sign_refused : (base t : TokenView) (rest : List TokenView) (cause : Cause) → base.kind ≡ KwBase → IsNotEqualSign t cause → base_read (base ∷ t ∷ rest) ≡ Err (refusal_of cause t)
-base_sign_refused base t rest cause e h =
-    after_base base (t ∷ rest) e
-    ∙ bind_err (sign_read (t ∷ rest) >>= number_read) some_number (refusal_of cause t) (bind_err (sign_read (t ∷ rest)) number_read (refusal_of cause t) (sign_refused t rest cause h))
+base_sign_refused base t rest cause e h = grind (arith, after_base, bind_err, sign_refused)
 
 base_number_refused : (base sign t : TokenView) (rest : List TokenView) (cause : Cause) → base.kind ≡ KwBase → sign.kind ≡ Equal → NumberRefused t cause → base_read (base ∷ sign ∷ t ∷ rest) ≡ Err (refusal_of cause t)
 base_number_refused base sign t rest cause e s h =
@@ -161,8 +155,7 @@ no_name_again (t ∷ rest) h = name_by_other t.kind t rest h.0
 -- after a name its base decides
 after_name : (t : TokenView) (name : List ℕ) (rest : List TokenView) → IsWord t name → name_read (t ∷ rest) ≡ (base_read rest >>= named_from name)
 unfolding name_read
-after_name t name rest is =
-    ap (λ (k : TokenKind). name_by k t rest) is.kind ∙ ap (λ (v : List ℕ). base_read rest >>= named_from v) is.value_is
+after_name t name rest is = grind arith
 
 pub name_again : (name : List ℕ) (base : Option ℕ) (t : TokenView) (tokens rest : List TokenView) → IsWord t name → StartsWith tokens (base_terminals base) rest → IsAfter (follow_name base) rest
     → name_read (t ∷ tokens) ≡ Ok (Named name base, rest)

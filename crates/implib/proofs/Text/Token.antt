@@ -5,7 +5,7 @@ use Rattle.std.specs.List.{AllByRecursion}
 use Rattle.std.specs.Str.{IsUtf8, bytes_eq, trim, trim_end}
 use Rattle.implib.specs.declared.def.lexer.TokenKind.{TokenKind}
 use Rattle.implib.specs.declared.def.lexer.TokenKind.TheVariants as kind
-use Rattle.implib.specs.Text.Token.{IsKnown, DividesOnce, LexedOnce, text_of, TokenView, Lexed, EndsInEof, Lexeme, Blank, Comment, LastComment, EqualSign, EqualSigns, CommaSign, Quoted, Unclosed, Word, lexeme_text, keywords, kind_in, kind_of_word, tokens_of_lexeme, tokens_of, value_start}
+use Rattle.implib.specs.Text.Token.{IsKnown, DividesOnce, LexedOnce, text_of, TokenView, Lexed, EndsInEof, Lexeme, Blank, Comment, LastComment, EqualSign, EqualSigns, CommaSign, Quoted, Unclosed, Word, lexeme_text, kind_in, kind_of_word, tokens_of_lexeme, tokens_of, value_start}
 use Rattle.implib.specs.Views.Scanner.{lexemes_in, tokens_left}
 use Rattle.implib.proofs.Text.Trivia.{AllByRecursion-append}
 use Rattle.implib.proofs.Text.Scanner.{division, Divides-lexemes_in}
@@ -27,16 +27,12 @@ kind_in_differs k (row ∷ rows) word none lacks =
 -- no word is Eof
 pub kind_of_word_not_eof : (word : List ℕ) → kind_of_word word ≢ kind.Eof
 unfolding kind_of_word LacksKind
-kind_of_word_not_eof word =
-    kind_in_differs kind.Eof keywords word (λ e. cc)
-    (λ e. cc, (λ e. cc, (λ e. cc, (λ e. cc, (λ e. cc, (λ e. cc, (λ e. cc, (λ e. cc, (λ e. cc, (λ e. cc, (λ e. cc, tt)))))))))))
+kind_of_word_not_eof word = grind (arith, kind_in_differs)
 
 -- nor Unknown
 kind_of_word_known : (word : List ℕ) → kind_of_word word ≢ kind.Unknown
 unfolding kind_of_word LacksKind
-kind_of_word_known word =
-    kind_in_differs kind.Unknown keywords word (λ e. cc)
-    (λ e. cc, (λ e. cc, (λ e. cc, (λ e. cc, (λ e. cc, (λ e. cc, (λ e. cc, (λ e. cc, (λ e. cc, (λ e. cc, (λ e. cc, tt)))))))))))
+kind_of_word_known word = grind (arith, kind_in_differs)
 
 -- one more token in front
 EndsInEof-cons : (k : TokenKind) (value : List ℕ) (at : ℕ) (rest : List TokenView) → k ≢ kind.Eof → EndsInEof rest → EndsInEof (record { kind = k; value = value; at = at } ∷ rest)
@@ -56,8 +52,7 @@ EndsInEof-lexeme position (Word run) rest ends = EndsInEof-cons (kind_of_word (t
 
 EndsInEof-tokens_of : (position : ℕ) (lexemes : List Lexeme) → EndsInEof (tokens_of position lexemes)
 EndsInEof-tokens_of position [] = refl
-EndsInEof-tokens_of position (lexeme ∷ lexemes) =
-    EndsInEof-lexeme position lexeme _ (EndsInEof-tokens_of (position + length (lexeme_text lexeme)) lexemes)
+EndsInEof-tokens_of position (lexeme ∷ lexemes) = grind (arith, EndsInEof-tokens_of (position + length (lexeme_text lexeme)) lexemes, EndsInEof-lexeme)
 
 -- Eof comes once, last
 pub EndsInEof-from_Lexed : (text : List ℕ) (tokens : List TokenView) → Lexed text tokens → EndsInEof tokens
@@ -65,8 +60,7 @@ EndsInEof-from_Lexed text tokens lexed = subst EndsInEof (sym lexed.given) (Ends
 
 -- the tokens of a text are those of the lexemes that the witness finds
 Lexed-tokens : (text : List ℕ) (tokens : List TokenView) → IsUtf8 text → Lexed text tokens → tokens ≡ tokens_of 0 (lexemes_in text)
-Lexed-tokens text tokens utf8 lexed =
-    lexed.given ∙ ap (tokens_of 0) (sym (Divides-lexemes_in text lexed.lexemes lexed.end utf8 lexed.divides))
+Lexed-tokens text tokens utf8 lexed = grind (arith, Divides-lexemes_in)
 
 -- a text has at most one list of tokens
 pub Lexed-unique : (text : List ℕ) (a b : List TokenView) → IsUtf8 text → Lexed text a → Lexed text b → a ≡ b
@@ -129,9 +123,7 @@ lexeme_known position (Word run) = (kind_of_word_known (trim_end run), tt)
 
 lexemes_known : (position : ℕ) (lexemes : List Lexeme) → AllByRecursion IsKnown (tokens_of position lexemes)
 lexemes_known position [] = (λ e. cc, tt)
-lexemes_known position (lexeme ∷ lexemes) =
-    let next = position + length (lexeme_text lexeme) in
-    AllByRecursion-append IsKnown (tokens_of_lexeme position lexeme) (tokens_of next lexemes) (lexeme_known position lexeme) (lexemes_known next lexemes)
+lexemes_known position (lexeme ∷ lexemes) = grind (arith, lexemes_known (position + length (lexeme_text lexeme)) lexemes, AllByRecursion-append, lexeme_known)
 
 -- no token is Unknown
 pub Lexed-known : (text : List ℕ) (tokens : List TokenView) → Lexed text tokens → AllByRecursion IsKnown tokens

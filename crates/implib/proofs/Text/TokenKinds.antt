@@ -1,5 +1,5 @@
 -- Kinds of tokens are distinguished by numbers.
-use Rattle.std.proofs.Common.{◌≡◌, ◌≢◌, ℕ, Bool, true, ◌&&◌, not, eqb, List, [], ◌∷◌, sym, ap, subst, ◌∙◌, eq-eqb}
+use Rattle.std.proofs.Common.{arith, ◌≡◌, ◌≢◌, ℕ, Bool, true, ◌&&◌, not, eqb, List, [], ◌∷◌, sym, subst, ◌∙◌, eq-eqb}
 use Rattle.std.proofs.lemmas.Bool.{and_parts, false≢true}
 use Rattle.implib.specs.declared.def.lexer.TokenKind.{TokenKind}
 use Rattle.implib.specs.declared.def.lexer.TokenKind.TheVariants.{Unknown, Eof, Identifier, Comma, Equal, EqualEqual, KwBase, KwConstant, KwData, KwExports, KwHeapsize, KwLibrary, KwName, KwNoname, KwPrivate, KwStacksize, KwVersion}
@@ -33,16 +33,12 @@ is_none kind (first ∷ kinds) = not (is_same kind first) && is_none kind kinds
 
 -- kinds with other numbers are other kinds
 pub differs : (a b : TokenKind) → not (is_same a b) ≡ true → a ≢ b
-differs a b h e =
-    let same : is_same a b ≡ true = eq-eqb (kind_number a) (kind_number b) (ap kind_number e) in
-    false≢true (ap not (sym same) ∙ h)
+differs a b h e = grind (arith, eq-eqb, false≢true)
 
 -- what a computed test says of a kind
 pub IsNoneOf-by_test : (kind : TokenKind) (kinds : List TokenKind) → is_none kind kinds ≡ true → IsNoneOf kind kinds
 IsNoneOf-by_test kind [] h = tt
-IsNoneOf-by_test kind (first ∷ kinds) h =
-    let parts = and_parts (not (is_same kind first)) (is_none kind kinds) h in
-    (differs kind first parts.0, IsNoneOf-by_test kind kinds parts.1)
+IsNoneOf-by_test kind (first ∷ kinds) h = grind (arith, IsNoneOf-by_test kind kinds (and_parts (not (is_same kind first)) (is_none kind kinds) h).1, and_parts, differs)
 
 -- of a token whose kind is known
 pub none_at : (kind known : TokenKind) (kinds : List TokenKind) → kind ≡ known → is_none known kinds ≡ true → IsNoneOf kind kinds

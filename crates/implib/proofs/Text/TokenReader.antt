@@ -1,5 +1,5 @@
 -- What the readers give is what the grammar says.
-use Rattle.std.proofs.Common.{◌≡◌, inl, inr, List, [], ◌∷◌, ℕ, Result, Ok, Err, subst, sym}
+use Rattle.std.proofs.Common.{arith, ◌≡◌, inl, inr, List, [], ◌∷◌, ℕ, Result, Ok, Err, subst, sym}
 use Rattle.std.specs.Result.{MatchResult}
 use Rattle.implib.specs.declared.def.lexer.TokenKind.TheVariants.{Eof}
 use Rattle.implib.specs.declared.machine.MachineType.{MachineType}
@@ -26,10 +26,7 @@ pub record Derived (machine : MachineType) (tokens : List TokenView) (d : Defini
 
 -- the end of the text is all that is left
 only_eof : (rest : List TokenView) → EndsInEof rest → NoStatement rest → StartsWith rest (Of Eof ∷ []) []
-only_eof [] ends none = absurd (no_tokens ends)
-  where
-    no_tokens : EndsInEof [] → ⊥
-    no_tokens h = let some = EndsInEof-some [] h in absurd cc
+only_eof [] ends none = grind (arith, EndsInEof-some)
 only_eof (t ∷ rest) ends none = (none, EndsInEof-last t rest none ends)
 
 ends_after : (tokens rest : List TokenView) (statements : List Statement) → EndsInEof tokens → StartsWith tokens (terminals statements) rest → EndsInEof rest
@@ -103,9 +100,7 @@ unfolding read
 read-refused machine tokens refusal ends e = refused_from machine tokens refusal ends (statements_read tokens) (statements_outcome tokens) e
 
 pub Parses-from_read : (text : List ℕ) (tokens : List TokenView) (machine : MachineType) (d : DefinitionView) → Lexed text tokens → read machine tokens ≡ Ok d → Parses text machine d
-Parses-from_read text tokens machine d lexed e =
-    let s = read-derived machine tokens d (EndsInEof-from_Lexed text tokens lexed) e in
-    record { tokens = tokens; statements = s.statements; lexed = lexed; sentence = s.sentence; means = s.means }
+Parses-from_read text tokens machine d lexed e = grind (arith, read-derived machine tokens d (EndsInEof-from_Lexed text tokens lexed) e, EndsInEof-from_Lexed text tokens lexed)
 
 pub RefusesAt-from_read : (text : List ℕ) (tokens : List TokenView) (machine : MachineType) (refusal : Refusal) → Lexed text tokens → read machine tokens ≡ Err refusal → RefusesAt text refusal.cause refusal.at
 RefusesAt-from_read text tokens machine refusal lexed e =

@@ -1,12 +1,12 @@
 -- The tokens that a lexer has still to give, over one call of `next`.
-use Rattle.std.proofs.Common.{◌≡◌, ◌≢◌, ℕ, ◌+◌, ◌-◌, ◌≤◌, Bool, true, false, List, [], ◌∷◌, ◌++◌, ⊎_elim, length, refl, sym, ap, subst, ◌∙◌, arith, length-append}
+use Rattle.std.proofs.Common.{◌≡◌, ◌≢◌, ℕ, ◌-◌, ◌≤◌, Bool, true, false, List, [], ◌∷◌, ◌++◌, ⊎_elim, length, refl, sym, ap, subst, ◌∙◌, arith, length-append}
 use Rattle.std.specs.Bool.{Decides}
 use Rattle.std.specs.List.{AllByRecursion}
 use Rattle.std.specs.Str.{IsUtf8, trim_end}
 use Rattle.implib.specs.declared.def.lexer.TokenKind.{TokenKind}
 use Rattle.implib.specs.declared.def.lexer.TokenKind.TheVariants as kind
 use Rattle.implib.specs.Text.Token.{eof, lexeme_text, text_of, tokens_of_lexeme, tokens_of, Blank, Comment, CommaSign, EachIsLexeme, EqualSign, EqualSigns, IsEnd, LastComment, Lexeme, Quoted, TokenView, IsLexemeBefore, Unclosed, Word}
-use Rattle.implib.specs.Views.Scanner.{lexemes_in, tokens_left, IsTrivia, PassesTrivia, TakesLexeme, TakesToken}
+use Rattle.implib.specs.Views.Scanner.{lexemes_in, tokens_left, IsTrivia, PassesTrivia, TakesToken}
 use Rattle.implib.proofs.Text.Scanner.{division, Divides-lexemes_in, utf8_after_lexeme}
 use Rattle.implib.proofs.Text.Token.{kind_of_word_not_eof}
 
@@ -26,11 +26,7 @@ lexemes_in_lexeme lexeme after located utf8 =
 -- a lexeme in front of what is left gives its token, if it has one
 left_after_lexeme : (text : List ℕ) (lexeme : Lexeme) (after : List ℕ) → IsLexemeBefore lexeme after → IsUtf8 (lexeme_text lexeme ++ after) → length (lexeme_text lexeme ++ after) ≤ length text → tokens_left text (lexeme_text lexeme ++ after) false ≡ tokens_of_lexeme (length text - length (lexeme_text lexeme ++ after)) lexeme ++ tokens_left text after false
 unfolding tokens_left
-left_after_lexeme text lexeme after located utf8 fits =
-    let position = length text - length (lexeme_text lexeme ++ after) in
-    let next : position + length (lexeme_text lexeme) ≡ length text - length after = omega (arith, length-append (lexeme_text lexeme) after) in
-    ap (tokens_of position) (lexemes_in_lexeme lexeme after located utf8)
-    ∙ ap (λ n. tokens_of_lexeme position lexeme ++ tokens_of n (lexemes_in after)) next
+left_after_lexeme text lexeme after located utf8 fits = grind (arith, length-append, lexemes_in_lexeme)
 
 left_after_trivia : (text : List ℕ) (trivia : List Lexeme) (rest : List ℕ) → EachIsLexeme trivia rest → AllByRecursion IsTrivia trivia → IsUtf8 (text_of trivia rest) → length (text_of trivia rest) ≤ length text → tokens_left text (text_of trivia rest) false ≡ tokens_left text rest false
 left_after_trivia text [] rest are_located each utf8 fits = refl
@@ -50,10 +46,7 @@ pub PassesTrivia-shorter : (text rest : List ℕ) → PassesTrivia text rest →
 PassesTrivia-shorter text rest passed = omega (arith, ap length passed.text_is, text_of_longer passed.trivia rest)
 
 pub TakesToken-shorter : (text : List ℕ) (position : ℕ) (token : TokenView) (after : List ℕ) → TakesToken text position token after → length after ≤ length text
-TakesToken-shorter text position token after taken = ⊎_elim
-    (λ (taken : TakesLexeme text position token after). omega (arith, ap length taken.text_is, length-append (lexeme_text taken.lexeme) after))
-    (λ (ended : IsEnd text × (token ≡ eof position) × (after ≡ text)). omega (arith, ap length ended.2))
-    taken
+TakesToken-shorter text position token after taken = grind (arith, ⊎_elim, length-append)
 
 first_kind : List TokenView → TokenKind
 first_kind [] = kind.Unknown
@@ -85,26 +78,7 @@ left_at_end text rest after done ends utf8 is_done =
 
 -- one call of `next`
 pub tokens_left_next : (text rest start after : List ℕ) (token : TokenView) (done : Bool) → length rest ≤ length text → IsUtf8 rest → IsUtf8 start → PassesTrivia rest start → TakesToken start (length text - length start) token after → Decides done (token.kind ≡ kind.Eof) → tokens_left text rest false ≡ token ∷ tokens_left text after done
-tokens_left_next text rest start after token done fits rest_utf8 start_utf8 passed taken decides =
-    let shorter : length start ≤ length text = omega (arith, PassesTrivia-shorter rest start passed) in
-    let trivia = passed.text_is in
-    let skipped : tokens_left text rest false ≡ tokens_left text start false =
-    ap (λ l. tokens_left text l false) trivia
-    ∙ left_after_trivia text passed.trivia start passed.each_is_lexeme passed.each_trivia (subst IsUtf8 trivia rest_utf8) (omega (arith, ap length trivia)) in
-    skipped ∙ ⊎_elim
-    (λ (taken : TakesLexeme start (length text - length start) token after).
-    let e = taken.text_is in
-    let here = λ (l : List ℕ). tokens_of_lexeme (length text - length l) taken.lexeme ++ tokens_left text after false in
-    let is_done = not_done token.kind done decides (token_of_not_eof (length text - length start) taken.lexeme token [] taken.given) in
-    ap (λ l. tokens_left text l false) e
-    ∙ left_after_lexeme text taken.lexeme after taken.located (subst IsUtf8 e start_utf8) (omega (arith, ap length e))
-    ∙ ap here (sym e)
-    ∙ ap (λ l. l ++ tokens_left text after false) taken.given
-    ∙ ap (λ d. token ∷ tokens_left text after d) (sym is_done))
-    (λ (ended : IsEnd start × (token ≡ eof (length text - length start)) × (after ≡ start)).
-    left_at_end text start after done ended.0 start_utf8 (decides.1 (ap (λ t. t.kind) ended.1))
-    ∙ ap (λ t. t ∷ tokens_left text after done) (sym ended.1))
-    taken
+tokens_left_next text rest start after token done fits rest_utf8 start_utf8 passed taken decides = grind (arith, PassesTrivia-shorter, left_after_trivia, ⊎_elim, not_done, token_of_not_eof, left_after_lexeme, left_at_end)
 
 -- a lexer that is done has none
 pub tokens_left_done : (text rest : List ℕ) (done : Bool) → done ≡ true → tokens_left text rest done ≡ []

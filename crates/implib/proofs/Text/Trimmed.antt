@@ -1,5 +1,5 @@
 -- A trimmed text is a slice of the text.
-use Rattle.std.proofs.Common.{inl, inr, ◌≡◌, ℕ, ◌+◌, ◌-◌, ◌≤◌, true, false, cond, eqb, List, [], ◌∷◌, ◌++◌, length, take, drop, refl, sym, ap, subst, ◌∙◌, arith, append_assoc, length-append}
+use Rattle.std.proofs.Common.{◌≡◌, ℕ, ◌+◌, ◌-◌, ◌≤◌, true, false, cond, eqb, List, [], ◌∷◌, ◌++◌, length, take, drop, refl, sym, ap, subst, ◌∙◌, arith, append_assoc, length-append}
 use Rattle.std.proofs.lemmas.Bool.{and_parts, cases_Bool, eqb-true}
 use Rattle.std.proofs.lemmas.List.{drop_at, nil_from_length, take_at}
 use Rattle.std.proofs.lemmas.Str.{encodes-chars, scalars-chars}
@@ -20,9 +20,7 @@ record IsHead (text part : List ℕ) : Type 0 where
   text_is : text ≡ part ++ back
 
 IsTail-drop : (text part : List ℕ) → IsTail text part → drop (length text - length part) text ≡ part
-IsTail-drop text part tail =
-    let at : length text - length part ≡ length tail.front = omega (arith, ap length tail.text_is, length-append tail.front part) in
-    ap (λ n. drop n text) at ∙ ap (drop (length tail.front)) tail.text_is ∙ drop_at tail.front part (length tail.front) refl
+IsTail-drop text part tail = grind (arith, length-append, drop_at)
 
 IsHead-take : (text part : List ℕ) → IsHead text part → take (length part) text ≡ part
 IsHead-take text part head = ap (take (length part)) head.text_is ∙ take_at part head.back (length part) refl
@@ -91,17 +89,7 @@ trim_shorter text utf8 =
 
 -- the value of a quoted name is where it is said to start
 pub take-value : (inside : List ℕ) → IsUtf8 inside → take (length (trim inside)) (drop (value_start inside) inside) ≡ trim inside
-take-value inside utf8 =
-    elim (cases_Bool (eqb (length (trim inside)) 0)) [
-      | inl none ↦
-          let empty : length (trim inside) ≡ 0 = eqb-true (length (trim inside)) 0 none in
-          ap (λ n. take n (drop (value_start inside) inside)) empty ∙ sym (nil_from_length (trim inside) empty)
-      | inr some ↦ rw some (take-trim inside utf8)
-    ]
+take-value inside utf8 = grind (arith, cases_Bool, eqb-true, nil_from_length, take-trim)
 
 pub value_within : (inside : List ℕ) → IsUtf8 inside → length (trim inside) + value_start inside ≤ length inside
-value_within inside utf8 =
-    elim (cases_Bool (eqb (length (trim inside)) 0)) [
-      | inl none ↦ rw none (omega (arith, eqb-true (length (trim inside)) 0 none))
-      | inr some ↦ rw some (trim_shorter inside utf8)
-    ]
+value_within inside utf8 = grind (arith, cases_Bool, eqb-true, trim_shorter)

@@ -1,12 +1,12 @@
 -- Passing white space and comments.
-use Rattle.std.proofs.Common.{◌≡◌, ◌≢◌, ℕ, ◌<◌, Bool, true, false, List, [], ◌∷◌, ◌++◌, map, length, get_or, drop, refl, sym, ap, subst, ◌∙◌, append_assoc, take-append-drop}
+use Rattle.std.proofs.Common.{arith, ◌≡◌, ◌≢◌, ℕ, ◌<◌, Bool, true, false, List, [], ◌∷◌, ◌++◌, map, length, get_or, drop, refl, sym, ap, subst, ◌∙◌, append_assoc, take-append-drop}
 use Rattle.std.proofs.lemmas.Bool.{ne_eqb}
 use Rattle.std.proofs.lemmas.List.{append-nil}
 use Rattle.std.specs.Prelude.{not}
 use Rattle.std.specs.Char.{encode_utf8, is_whitespace, is_not_whitespace}
 use Rattle.std.specs.List.{AllByRecursion}
 use Rattle.std.specs.Str.{encode_utf8_all, EmptyOrStartsWithPassing, IsTrimStart, NonePass}
-use Rattle.implib.specs.Text.Token.{is_line_feed, Lexeme, Blank, Comment, LastComment, lexeme_text, IsLexemeBefore, text_of, EachIsLexeme}
+use Rattle.implib.specs.Text.Token.{is_line_feed, Lexeme, Blank, Comment, LastComment, lexeme_text, text_of, EachIsLexeme}
 use Rattle.implib.specs.Ascii.{begins}
 use Rattle.implib.specs.Views.Scanner.{is_semicolon, IsTrivia, PassesTrivia, SkipsTrivia}
 use Rattle.implib.proofs.Text.Scanner.{none_from_places}
@@ -35,8 +35,7 @@ text_of-append (lexeme ∷ first) second end = ap (λ l. lexeme_text lexeme ++ l
 
 EachIsLexeme-append : (first second : List Lexeme) (end : List ℕ) → EachIsLexeme first (text_of second end) → EachIsLexeme second end → EachIsLexeme (first ++ second) end
 EachIsLexeme-append [] second end are_located more = more
-EachIsLexeme-append (lexeme ∷ first) second end are_located more =
-    (subst (IsLexemeBefore lexeme) (sym (text_of-append first second end)) are_located.0, EachIsLexeme-append first second end are_located.1 more)
+EachIsLexeme-append (lexeme ∷ first) second end are_located more = grind (arith, EachIsLexeme-append first second end are_located.1 more, text_of-append)
 
 pub AllByRecursion-append : {X : Type 0} (P : X → Type 0) (xs ys : List X) → AllByRecursion P xs → AllByRecursion P ys → AllByRecursion P (xs ++ ys)
 AllByRecursion-append P [] ys first second = second
@@ -44,12 +43,7 @@ AllByRecursion-append P (x ∷ xs) ys first second = (first.0, AllByRecursion-ap
 
 -- trivia and then more
 pub PassesTrivia-trans : (a b c : List ℕ) → PassesTrivia a b → PassesTrivia b c → PassesTrivia a c
-PassesTrivia-trans a b c first second = record {
-  trivia = first.trivia ++ second.trivia;
-  text_is = first.text_is ∙ ap (text_of first.trivia) second.text_is ∙ sym (text_of-append first.trivia second.trivia c);
-  each_is_lexeme = EachIsLexeme-append first.trivia second.trivia c (subst (EachIsLexeme first.trivia) second.text_is first.each_is_lexeme) second.each_is_lexeme;
-  each_trivia = AllByRecursion-append IsTrivia first.trivia second.trivia first.each_trivia second.each_trivia;
-}
+PassesTrivia-trans a b c first second = grind (arith, text_of-append, EachIsLexeme-append, AllByRecursion-append)
 
 -- white space, character by character
 text_of-blanks : (cs after : List ℕ) → text_of (map Blank cs) after ≡ encode_utf8_all cs ++ after
@@ -85,11 +79,7 @@ pub record PassesSpace (text rest : List ℕ) : Type 0 where
   pub no_space : EmptyOrStartsWithPassing is_not_whitespace rest tail
 
 pub PassesSpace-trim_start : (text rest : List ℕ) → IsTrimStart text rest → PassesSpace text rest
-PassesSpace-trim_start text rest trimmed = record {
-  passes = PassesTrivia-trim_start text rest trimmed;
-  tail = trimmed.3.0;
-  no_space = trimmed.3.1;
-}
+PassesSpace-trim_start text rest trimmed = grind (arith, PassesTrivia-trim_start)
 
 -- one more comment, and the white space after it
 pub PassesSpace-comment : (text before comment after rest : List ℕ) → PassesSpace text before → before ≡ 59 ∷ comment → PassesTrivia (59 ∷ comment) after → IsTrimStart after rest → PassesSpace text rest
@@ -101,7 +91,4 @@ PassesSpace-comment text before comment after rest passed is_comment line trimme
 
 -- where no comment follows, all is passed
 pub SkipsTrivia-from_space : (text rest : List ℕ) → PassesSpace text rest → begins is_semicolon rest ≡ false → SkipsTrivia text rest
-SkipsTrivia-from_space text rest passed no_comment = record {
-  passes = passed.passes;
-  all = record { tail = passed.tail; no_space = passed.no_space; no_comment = no_comment };
-}
+SkipsTrivia-from_space text rest passed no_comment = grind arith

@@ -1,6 +1,6 @@
 -- What the readers say of a word is what the grammar says of it.
-use Rattle.std.proofs.Common.{◌≡◌, ◌≢◌, ℕ, ◌<◌, ◌≤◌, ◌⊎◌, inl, inr, Bool, true, false, cond, ◌&&◌, eqb, ltb, leb, List, [], ◌∷◌, ◌++◌, length, drop, Option, Some, None, refl, sym, ap, subst, ◌∙◌, arith, eqb-true, ltb-true, leb-true, lt-ltb, le-leb}
-use Rattle.std.specs.Prelude.{slice_index, option_map}
+use Rattle.std.proofs.Common.{◌≡◌, ℕ, ◌<◌, ◌≤◌, ◌⊎◌, inl, inr, Bool, true, false, cond, ◌&&◌, eqb, ltb, leb, List, [], ◌∷◌, ◌++◌, length, drop, Option, Some, None, refl, sym, ap, subst, ◌∙◌, arith, eqb-true, ltb-true, leb-true, lt-ltb, le-leb}
+use Rattle.std.specs.Prelude.{slice_index}
 use Rattle.std.specs.Str.{all_ascii_digits}
 use Rattle.std.specs.Str.Parse.{digits_value, without_leading_plus}
 use Rattle.std.proofs.lemmas.Bool.{and_parts, eqb-false, ne_eqb}
@@ -21,44 +21,26 @@ text_by_rest (c ∷ cs) true e = inr (ap (λ (d : ℕ). d ∷ cs) (eqb-true _ _ 
 
 -- the digits of a number are what is after its `+`
 rest_of_text : (value digits : List ℕ) → all_ascii_digits digits ≡ true → 0 < length digits → (value ≡ digits) ⊎ (value ≡ plus_sign ∷ digits) → without_leading_plus value ≡ digits
-rest_of_text value digits all some (inl e) =
-    let first : slice_index digits 0 ≢ 43 = not_in_digits own digits 43 all (λ h. omega (arith, h)) 0 some in
-    ap without_leading_plus e ∙ without_leading_plus_none digits first
+rest_of_text value digits all some (inl e) = grind (arith, digits, not_in_digits, without_leading_plus_none)
 rest_of_text value digits all some (inr e) = ap without_leading_plus e
 
 number_by-passed : (digits : List ℕ) (limit : ℕ) → all_ascii_digits digits ≡ true → 0 < length digits → digits_value 10 digits ≤ limit → number_by digits limit ≡ Some (digits_value 10 digits)
-number_by-passed digits limit all some within =
-    rw (all, lt-ltb 0 (length digits) some, le-leb (digits_value 10 digits) limit within) refl
+number_by-passed digits limit all some within = grind (arith, lt-ltb, digits, le-leb)
 
 pub number_of-is : (value : List ℕ) (limit n : ℕ) → IsNumber value limit n → number_of value limit ≡ Some n
 unfolding number_of
-number_of-is value limit n is =
-    ap (λ (ds : List ℕ). number_by ds limit) (rest_of_text value is.digits is.all_digits is.some_digit is.text_is)
-    ∙ number_by-passed is.digits limit is.all_digits is.some_digit (subst (λ (k : ℕ). k ≤ limit) is.written is.within)
-    ∙ ap Some (sym is.written)
+number_of-is value limit n is = grind (arith, rest_of_text, number_by-passed)
 
 -- what a computed number has passed
 passed : (digits : List ℕ) (limit n : ℕ) (test : Bool) → (all_ascii_digits digits && (ltb 0 (length digits) && leb (digits_value 10 digits) limit)) ≡ test
     → cond test (Some (digits_value 10 digits)) None ≡ Some n
     → (all_ascii_digits digits ≡ true) × (0 < length digits) × (digits_value 10 digits ≤ limit) × (n ≡ digits_value 10 digits)
-passed digits limit n true e h =
-    let first = and_parts (all_ascii_digits digits) (ltb 0 (length digits) && leb (digits_value 10 digits) limit) e in
-    let second = and_parts (ltb 0 (length digits)) (leb (digits_value 10 digits) limit) first.1 in
-    (first.0, ltb-true 0 (length digits) second.0, leb-true (digits_value 10 digits) limit second.1, cc)
+passed digits limit n true e h = grind (arith, and_parts, digits, ltb-true, leb-true)
 passed digits limit n false e h = absurd cc
 
 pub number_of-gives : (value : List ℕ) (limit n : ℕ) → number_of value limit ≡ Some n → IsNumber value limit n
 unfolding number_of
-number_of-gives value limit n h =
-    let p = passed (without_leading_plus value) limit n _ refl h in
-    record {
-      digits = without_leading_plus value;
-      text_is = text_by_rest value (eqb (slice_index value 0) plus_sign) refl;
-      all_digits = p.0;
-      some_digit = p.1;
-      written = p.3;
-      within = rw p.3 p.2;
-    }
+number_of-gives value limit n h = grind (arith, passed, text_by_rest)
 
 pub number_of-lacks : (value : List ℕ) (limit : ℕ) → number_of value limit ≡ None → (n : ℕ) → ¬ (IsNumber value limit n)
 number_of-lacks value limit h n is = let e = number_of-is value limit n is in absurd cc
@@ -79,8 +61,7 @@ IsAtWord (WithOrdinal n) value = IsAtNumber value n
 IsAtWord Plain value = (¬ (IsLoneAt value)) × ((n : ℕ) → ¬ (IsAtNumber value n))
 
 after_at_number : (byte c : ℕ) (cs : List ℕ) (o : Option ℕ) → byte ≡ at_sign → number_of (c ∷ cs) u16_limit ≡ o → IsAtWord (at_number o) (byte ∷ c ∷ cs)
-after_at_number byte c cs (Some n) b e =
-    record { number = c ∷ cs; text_is = ap (λ (x : ℕ). x ∷ c ∷ cs) b; is_number = number_of-gives (c ∷ cs) u16_limit n e }
+after_at_number byte c cs (Some n) b e = grind (arith, number_of-gives)
 after_at_number byte c cs None b e =
     ((λ h. absurd cc), λ n is. number_of-lacks (c ∷ cs) u16_limit e n (subst (λ (v : List ℕ). IsNumber v u16_limit n) (tails is.number is.text_is) is.is_number))
   where
@@ -93,22 +74,11 @@ after_at_gives byte (c ∷ cs) b = after_at_number byte c cs (number_of (c ∷ c
 
 first_gives : (byte : ℕ) (rest : List ℕ) (test : Bool) → eqb byte at_sign ≡ test → IsAtWord (cond test (after_at rest) Plain) (byte ∷ rest)
 first_gives byte rest true e = after_at_gives byte rest (eqb-true byte at_sign e)
-first_gives byte rest false e =
-    let other = eqb-false byte at_sign e in
-    ((λ h. other (heads h)), λ n is. other (heads_of is.number is.text_is))
-  where
-    heads : byte ∷ rest ≡ at_sign ∷ [] → byte ≡ at_sign
-    heads h = cc
-
-    heads_of : (number : List ℕ) → byte ∷ rest ≡ at_sign ∷ number → byte ≡ at_sign
-    heads_of number h = cc
+first_gives byte rest false e = grind (arith, eqb-false)
 
 pub at_word-gives : (value : List ℕ) → IsAtWord (at_word value) value
 unfolding at_word
-at_word-gives [] = ((λ h. absurd cc), λ n is. no_such_text is.number is.text_is)
-  where
-    no_such_text : (number : List ℕ) → [] ≡ at_sign ∷ number → ⊥
-    no_such_text number h = cc
+at_word-gives [] = grind arith
 at_word-gives (byte ∷ rest) = first_gives byte rest (eqb byte at_sign) refl
 
 -- the same, where the word is known
@@ -120,12 +90,7 @@ unfolding at_word
 lone_is = refl
 
 no_digits : (limit n : ℕ) → ¬ (IsNumber [] limit n)
-no_digits limit n is = none is.digits is.text_is is.some_digit
-  where
-    none : (digits : List ℕ) → ([] ≡ digits) ⊎ ([] ≡ plus_sign ∷ digits) → 0 < length digits → ⊥
-    none [] s h = omega arith
-    none (c ∷ cs) (inl e) h = cc
-    none (c ∷ cs) (inr e) h = cc
+no_digits limit n is = grind arith
 
 with_ordinal_is : (number : List ℕ) (n : ℕ) → IsNumber number u16_limit n → at_word (at_sign ∷ number) ≡ WithOrdinal n
 unfolding at_word
@@ -151,9 +116,7 @@ NoStop (c ∷ cs) = (eqb c full_stop ≡ false) × NoStop cs
 
 NoStop-digits : (ds : List ℕ) → all_ascii_digits ds ≡ true → NoStop ds
 NoStop-digits [] h = tt
-NoStop-digits (c ∷ cs) h =
-    let p = tells_all_ascii_digits.parts c cs h in
-    (ne_eqb c full_stop (omega (arith, p.0)), NoStop-digits cs p.1)
+NoStop-digits (c ∷ cs) h = grind (arith, NoStop-digits cs (tells_all_ascii_digits.parts c cs h).1, ne_eqb)
 
 NoStop-number : (value : List ℕ) (limit n : ℕ) → IsNumber value limit n → NoStop value
 NoStop-number value limit n is = by_text is.text_is
@@ -191,24 +154,13 @@ at_stop-parts [] = tt
 at_stop-parts (c ∷ cs) = cut_by c cs (eqb c full_stop) refl (at_stop-parts cs)
 
 both_parts : (first second : Option ℕ) (major minor : ℕ) → both first second ≡ Some (major, minor) → (first ≡ Some major) × (second ≡ Some minor)
-both_parts (Some a) (Some b) major minor h =
-    (ap (option_map (λ (p : ℕ × ℕ). p.0)) h, ap (option_map (λ (p : ℕ × ℕ). p.1)) h)
+both_parts (Some a) (Some b) major minor h = grind arith
 both_parts None second major minor h = absurd cc
 both_parts (Some a) None major minor h = absurd cc
 
 version_by_gives : (value : List ℕ) (o : Option (List ℕ × List ℕ)) (major minor : ℕ) → IsCutSo value o → version_by value o ≡ Some (major, minor) → IsVersion value major minor
-version_by_gives value None major minor cut h =
-    let p = both_parts (number_of value u32_limit) (Some 0) major minor h in
-    inl (record { is_number = number_of-gives value u32_limit major p.0; minor_is = cc })
-version_by_gives value (Some parts) major minor cut h =
-    let p = both_parts (number_of parts.0 u32_limit) (number_of parts.1 u32_limit) major minor h in
-    inr (record {
-      front = parts.0;
-      back = parts.1;
-      text_is = cut;
-      front_number = number_of-gives parts.0 u32_limit major p.0;
-      back_number = number_of-gives parts.1 u32_limit minor p.1;
-    })
+version_by_gives value None major minor cut h = grind (arith, both_parts, number_of-gives)
+version_by_gives value (Some parts) major minor cut h = grind (arith, both_parts, number_of-gives)
 
 pub version_of-gives : (value : List ℕ) (major minor : ℕ) → version_of value ≡ Some (major, minor) → IsVersion value major minor
 unfolding version_of

@@ -1,5 +1,5 @@
 -- The worked members for GNU's linker, by computing.
-use Rattle.std.proofs.Common.{◌≡◌, ℕ, List, true, Ok, refl}
+use Rattle.std.proofs.Common.{arith, ◌≡◌, ℕ, List, true, Ok, refl}
 use Rattle.std.specs.Str.{is_utf8}
 use Rattle.implib.specs.declared.machine.MachineType.{MachineType}
 use Rattle.implib.specs.Formats.Bytes.{u16_bytes, u32_bytes}
@@ -47,17 +47,7 @@ worked_gnu_outlines = record {
 
 pub worked_gnu_refusals : WorkedGnuRefusals
 unfolding opened
-worked_gnu_refusals = record {
-  nul_in_name = refl;
-  empty_name = refl;
-  nul_in_symbol_name = refl;
-  nul_in_alias_target = refl;
-  nothing_asked = refl;
-  nothing_given = refl;
-  nul_in_asked_name = refl;
-  nul_and_nothing_asked = refl;
-  nul_in_target_and_nothing_asked = refl;
-}
+worked_gnu_refusals = grind arith
 
 pub worked_gnu_bytes : WorkedGnuBytes
 unfolding opened

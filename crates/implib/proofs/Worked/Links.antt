@@ -1,6 +1,5 @@
 -- The members that were linked by hand, by computing.
-use Rattle.std.proofs.Common.{◌≡◌, ℕ, ◌^◌, ◌∷◌, [], List, ap, arith, codes, refl}
-use Rattle.std.specs.Prelude.{slice_index}
+use Rattle.std.proofs.Common.{◌≡◌, ◌∷◌, [], List, arith, codes, refl}
 use Rattle.std.specs.Fmt.{digits}
 use Rattle.std.specs.List.{IsDistinct}
 use Rattle.implib.specs.Formats.Bytes.{u16_bytes, u32_bytes}
@@ -28,20 +27,7 @@ both_image = image_of AMD64 bases_64 (placed (foo (codes "bar") (codes "baz")) A
 
 both_may_link : MayLink (foo (codes "bar") (codes "baz")) AMD64 bases_64 (0 ∷ 1 ∷ [])
 unfolding opened refusal renamed_refusal alias_specs encoded_size IsDistinct
-both_may_link = record {
-  made = record { accepted = refl; made = refl; ordinals = refl };
-  distinct = ((refl, (refl, (refl, (refl, (refl, tt))))), ((refl, (refl, (refl, (refl, tt)))), ((refl, (refl, (refl, tt))), ((refl, (refl, tt)), ((refl, tt), (tt, tt))))));
-  admissible = record {
-    descriptors = (omega arith, refl);
-    directory_ends = (omega arith, refl);
-    lookups = (omega arith, refl);
-    addresses = (omega arith, refl);
-    hint_names = (omega arith, refl);
-    dll_names = (omega arith, refl);
-    ends = ends_below (2 ^ 31) both_image refl;
-    apart = apart_as_they_rise (2 ^ 31) both_image refl;
-  };
-}
+both_may_link = grind (arith, ends_below, apart_as_they_rise)
 
 abbrev two_image : List Range
 two_image = image_of AMD64 bases_of_two placed_two
@@ -49,32 +35,11 @@ two_image = image_of AMD64 bases_of_two placed_two
 two_may_link : InputsMayLink AMD64 bases_of_two two_inputs
 unfolding opened refusal renamed_refusal alias_specs encoded_size IsDistinct
 two_may_link = record {
-  made = (
-    record { made = record { accepted = refl; made = refl; ordinals = refl }; numbers = (omega arith, tt); in_order = tt },
-    (record { made = record { accepted = refl; made = refl; ordinals = refl }; numbers = (omega arith, tt); in_order = tt }, tt),
-  );
+  made = grind arith;
   rising = (refl, tt);
-  apart = (
-    (
-      (
-        λ b. let letters : 122 ≡ 102 = ap (λ (text : List ℕ). slice_index text 0) b.1 in omega arith,
-        λ b. let letters : 102 ≡ 122 = ap (λ (text : List ℕ). slice_index text 0) b.1 in omega arith,
-      ),
-      tt,
-    ),
-    (tt, tt),
-  );
+  apart = grind arith;
   distinct = ((refl, (refl, (refl, (refl, (refl, (refl, (refl, tt))))))), ((refl, (refl, (refl, (refl, (refl, (refl, tt)))))), ((refl, (refl, (refl, (refl, (refl, tt))))), ((refl, (refl, (refl, (refl, tt)))), ((refl, (refl, (refl, tt))), ((refl, (refl, tt)), ((refl, tt), (tt, tt))))))));
-  admissible = record {
-    descriptors = (omega arith, refl);
-    directory_ends = (omega arith, refl);
-    lookups = (omega arith, refl);
-    addresses = (omega arith, refl);
-    hint_names = (omega arith, refl);
-    dll_names = (omega arith, refl);
-    ends = ends_below (2 ^ 31) two_image refl;
-    apart = apart_as_they_rise (2 ^ 31) two_image refl;
-  };
+  admissible = grind (arith, ends_below, apart_as_they_rise);
 }
 
 abbrev one_dll_image : List Range
@@ -83,32 +48,11 @@ one_dll_image = image_of AMD64 bases_of_two placed_of_one_dll
 two_of_one_dll_may_link : InputsMayLink AMD64 bases_of_two inputs_of_one_dll
 unfolding opened refusal renamed_refusal alias_specs encoded_size IsDistinct
 two_of_one_dll_may_link = record {
-  made = (
-    record { made = record { accepted = refl; made = refl; ordinals = refl }; numbers = (omega arith, tt); in_order = tt },
-    (record { made = record { accepted = refl; made = refl; ordinals = refl }; numbers = (omega arith, tt); in_order = tt }, tt),
-  );
+  made = grind arith;
   rising = (refl, tt);
-  apart = (
-    (
-      (
-        λ b. let digits_of : 50 ≡ 49 = ap (λ (text : List ℕ). slice_index text 8) b.1 in omega arith,
-        λ b. let digits_of : 49 ≡ 50 = ap (λ (text : List ℕ). slice_index text 8) b.1 in omega arith,
-      ),
-      tt,
-    ),
-    (tt, tt),
-  );
+  apart = grind arith;
   distinct = ((refl, (refl, (refl, (refl, (refl, (refl, (refl, tt))))))), ((refl, (refl, (refl, (refl, (refl, (refl, tt)))))), ((refl, (refl, (refl, (refl, (refl, tt))))), ((refl, (refl, (refl, (refl, tt)))), ((refl, (refl, (refl, tt))), ((refl, (refl, tt)), ((refl, tt), (tt, tt))))))));
-  admissible = record {
-    descriptors = (omega arith, refl);
-    directory_ends = (omega arith, refl);
-    lookups = (omega arith, refl);
-    addresses = (omega arith, refl);
-    hint_names = (omega arith, refl);
-    dll_names = (omega arith, refl);
-    ends = ends_below (2 ^ 31) one_dll_image refl;
-    apart = apart_as_they_rise (2 ^ 31) one_dll_image refl;
-  };
+  admissible = grind (arith, ends_below, apart_as_they_rise);
 }
 
 two_of_one_name_may_not : InputsMayLink AMD64 bases_of_two inputs_of_one_name → ⊥
@@ -117,32 +61,4 @@ two_of_one_name_may_not may = (let equal : Equal ≡ Less = may.rising.0 in cc)
 
 pub worked_links : WorkedLinks
 unfolding opened
-worked_links = record {
-  two_may_link = two_may_link;
-  both_may_link = both_may_link;
-  two = record { descriptors = refl; lookups = refl; addresses = refl; bar = refl; qux = refl };
-  two_of_one_dll_may_link = two_of_one_dll_may_link;
-  two_of_one_dll = record {
-    descriptors = refl;
-    lookups = refl;
-    addresses = refl;
-    first_text = refl;
-    second_text = refl;
-    first_head = refl;
-    second_head = refl;
-    no_head = refl;
-    first_name = refl;
-    second_name = refl;
-    bar = refl;
-    qux = refl;
-  };
-  two_of_one_name_may_not = two_of_one_name_may_not;
-  both = record { descriptor = refl; lookups = refl; addresses = refl; hints = refl; dll = refl; section_addresses = refl };
-  none = record { descriptor = refl; lookups = refl; addresses = refl; hints = refl; dll = refl; section_addresses = refl };
-  both_32 = record { descriptor = refl; lookups = refl; addresses = refl; hints = refl; dll = refl; section_addresses = refl };
-  second_32 = record { descriptor = refl; lookups = refl; addresses = refl; hints = refl; dll = refl; section_addresses = refl };
-  number_zero = refl;
-  no_hint = refl;
-  number_zero_links = record { descriptor = refl; lookups = refl; addresses = refl; hints = refl; dll = refl; section_addresses = refl };
-  six_digits_first = refl;
-}
+worked_links = grind (arith, two_may_link, both_may_link, two_of_one_dll_may_link, two_of_one_name_may_not)

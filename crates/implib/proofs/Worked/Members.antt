@@ -1,5 +1,5 @@
 -- The worked members, by computing.
-use Rattle.std.proofs.Common.{◌≡◌, ℕ, List, true, Ok, refl}
+use Rattle.std.proofs.Common.{arith, ◌≡◌, ℕ, List, true, Ok, refl}
 use Rattle.std.specs.Str.{is_utf8}
 use Rattle.implib.specs.declared.machine.MachineType.{MachineType}
 use Rattle.implib.specs.Formats.Bytes.{u16_bytes, u32_bytes}
@@ -106,13 +106,4 @@ worked_bytes = record {
 
 pub worked_fields : WorkedFields
 unfolding opened
-worked_fields = record {
-  function = refl;
-  is_data = refl;
-  constant = refl;
-  data_and_constant = refl;
-  function_by_ordinal = refl;
-  data_by_ordinal = refl;
-  constant_by_ordinal = refl;
-  with_underscore = refl;
-}
+worked_fields = grind arith

@@ -1,5 +1,5 @@
 -- The worked positions, by computing.
-use Rattle.std.proofs.Common.{◌≡◌, ℕ, List, true, Err, refl}
+use Rattle.std.proofs.Common.{arith, ◌≡◌, ℕ, List, true, Err}
 use Rattle.std.proofs.lemmas.Str.{IsUtf8-from_is_utf8}
 use Rattle.std.specs.Str.{is_utf8}
 use Rattle.implib.specs.declared.machine.MachineType.TheVariants.{AMD64}
@@ -14,19 +14,7 @@ use Rattle.implib.proofs.Text.TokenReader.{RefusesAt-from_read}
 use Rattle.implib.proofs.Worked.Statements.{opened}
 
 pub worked_lines : WorkedLines
-worked_lines = record {
-  beginning = refl;
-  one_byte = refl;
-  whole_line = refl;
-  next_line = refl;
-  in_next_line = refl;
-  empty_lines = refl;
-  both_ends = refl;
-  before_line_feed = refl;
-  carriage_return = refl;
-  tab = refl;
-  two_bytes = refl;
-}
+worked_lines = grind arith
 
 abbrev refusal_in : Cause → ℕ → Refusal
 refusal_in cause at = record { cause = cause; at = at }
@@ -37,23 +25,4 @@ refuses_at text cause offset utf8 e =
 
 pub worked_positions : WorkedPositions
 unfolding opened
-worked_positions = record {
-  first_word = (refuses_at _ _ _ refl refl, refl);
-  after_blanks = (refuses_at _ _ _ refl refl, refl);
-  after_comment = (refuses_at _ _ _ refl refl, refl);
-  no_name_without_ordinal = (refuses_at _ _ _ refl refl, refl);
-  second_target = (refuses_at _ _ _ refl refl, refl);
-  missing_size = (refuses_at _ _ _ refl refl, refl);
-  missing_size_before_nul = (refuses_at _ _ _ refl refl, refl);
-  missing_size_at_last_line = (refuses_at _ _ _ refl refl, refl);
-  negative_size = (refuses_at _ _ _ refl refl, refl);
-  quoted_size = (refuses_at _ _ _ refl refl, refl);
-  unclosed_size = (refuses_at _ _ _ refl refl, refl);
-  three_numbers = (refuses_at _ _ _ refl refl, refl);
-  base_without_sign = (refuses_at _ _ _ refl refl, refl);
-  alias_without_word = (refuses_at _ _ _ refl refl, refl);
-  lone_at = (refuses_at _ _ _ refl refl, refl);
-  word_for_ordinal = (refuses_at _ _ _ refl refl, refl);
-  end_for_ordinal = (refuses_at _ _ _ refl refl, refl);
-  byte_order_mark = (refuses_at _ _ _ refl refl, refl);
-}
+worked_positions = grind (arith, refuses_at)

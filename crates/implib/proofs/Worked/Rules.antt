@@ -1,11 +1,11 @@
 -- Tables take nothing that they do not list: by the test of each row.
-use Rattle.std.proofs.Common.{◌≡◌, ◌≢◌, ℕ, ◌==◌, true, false, List, [], ◌∷◌, Option, Some, None, inl, inr, refl, sym, ap, ◌∙◌, if◌then◌else◌}
+use Rattle.std.proofs.Common.{arith, ◌≡◌, ◌≢◌, ℕ, ◌==◌, true, List, [], ◌∷◌, Option, Some, None, refl, sym, if◌then◌else◌}
 use Rattle.std.proofs.lemmas.Bool.{cases_Bool, eqb-true, false_from_ne_true}
 use Rattle.std.proofs.lemmas.Bool.Decides.{Decides-eqb}
 use Rattle.std.proofs.lemmas.Option.{none-some}
 use Rattle.std.proofs.lemmas.Slice.Eq.{bytes_eq-Decides, ends_is}
 use Rattle.std.specs.List.{ends_with}
-use Rattle.std.specs.Prelude.{bytes_eq, codes, length, nat_eq, take, unwrap_or, ◌++◌, ◌-◌}
+use Rattle.std.specs.Prelude.{bytes_eq, codes, length, nat_eq, take, ◌++◌, ◌-◌}
 use Rattle.implib.specs.declared.def.lexer.TokenKind.{TokenKind}
 use Rattle.implib.specs.declared.def.lexer.TokenKind.TheVariants.{Identifier, KwBase, KwConstant, KwData, KwExports, KwHeapsize, KwLibrary, KwName, KwNoname, KwPrivate, KwStacksize, KwVersion}
 use Rattle.implib.specs.declared.flavor.Flavor.{Flavor}
@@ -22,24 +22,12 @@ use Rattle.implib.specs.Worked.Rules.{IsCutFrom, TakeNothingElse, only_flavor_na
 name_row : {X : Type 0} (name own : List ℕ) (a x : X) (others : Option X) (only : X → List ℕ) → only a ≡ own →
     (others ≡ Some x → name ≡ only x) →
     (if bytes_eq name own then Some a else others) ≡ Some x → name ≡ only x
-name_row name own a x others only known behind found =
-    elim (cases_Bool (bytes_eq name own)) [
-      | inl same ↦
-          let answered : Some a ≡ Some x = rw same at found in
-          (bytes_eq-Decides name own).0 same ∙ sym known ∙ ap only (ap (λ o. unwrap_or o a) answered)
-      | inr differ ↦ behind (rw differ at found)
-    ]
+name_row name own a x others only known behind found = grind (arith, cases_Bool, bytes_eq-Decides)
 
 number_row : {X : Type 0} (number own : ℕ) (a x : X) (others : Option X) (only : X → ℕ) → only a ≡ own →
     (others ≡ Some x → number ≡ only x) →
     (if number == own then Some a else others) ≡ Some x → number ≡ only x
-number_row number own a x others only known behind found =
-    elim (cases_Bool (number == own)) [
-      | inl same ↦
-          let answered : Some a ≡ Some x = rw same at found in
-          eqb-true number own same ∙ sym known ∙ ap only (ap (λ o. unwrap_or o a) answered)
-      | inr differ ↦ behind (rw differ at found)
-    ]
+number_row number own a x others only known behind found = grind (arith, cases_Bool, eqb-true)
 
 machine_names : (name : List ℕ) (machine : MachineType) → machine_named name ≡ Some machine → name ≡ only_name machine
 machine_names name machine found =
@@ -50,11 +38,7 @@ machine_names name machine found =
 
 machine_numbers : (number : ℕ) (machine : MachineType) → machine_numbered number ≡ Some machine →
     number ≡ only_number machine
-machine_numbers number machine found =
-    number_row number 0x14C I386 machine _ only_number refl
-    (λ f. number_row number 0x1C4 ARMNT machine _ only_number refl
-    (λ f. number_row number 0x8664 AMD64 machine _ only_number refl
-    (λ f. number_row number 0xAA64 ARM64 machine None only_number refl (λ f. absurd (none-some machine f)) f) f) f) found
+machine_numbers number machine found = grind (arith, number_row, none-some)
 
 flavor_names : (name : List ℕ) (flavor : Flavor) → flavor_named name ≡ Some flavor → name ≡ only_flavor_name flavor
 flavor_names name flavor found =
@@ -65,13 +49,7 @@ flavor_names name flavor found =
 word_row : (word own : List ℕ) (a : TokenKind) (others kind : TokenKind) → only_word a ≡ own →
     (others ≡ kind → word ≡ only_word kind) →
     (if bytes_eq word own then a else others) ≡ kind → word ≡ only_word kind
-word_row word own a others kind known behind found =
-    elim (cases_Bool (bytes_eq word own)) [
-      | inl same ↦
-          let answered : a ≡ kind = rw same at found in
-          (bytes_eq-Decides word own).0 same ∙ sym known ∙ ap only_word answered
-      | inr differ ↦ behind (rw differ at found)
-    ]
+word_row word own a others kind known behind found = grind (arith, cases_Bool, bytes_eq-Decides)
 
 words : (word : List ℕ) (kind : TokenKind) → kind_of_word word ≡ kind → kind ≢ Identifier → word ≡ only_word kind
 unfolding kind_of_word
@@ -95,27 +73,11 @@ suffix dll end is = (ends_is Decides-eqb dll end _ refl).0 is
 -- with each of the two endings, and with neither
 cut : (dll : List ℕ) → IsCutFrom dll (base_name dll)
 unfolding base_name
-cut dll =
-    elim (cases_Bool (ends_with nat_eq dll (codes ".dll"))) [
-      | inl is ↦ rw is (inr (inl (suffix dll (codes ".dll") is)))
-      | inr is_not ↦ elim (cases_Bool (ends_with nat_eq dll (codes ".exe"))) [
-        | inl is ↦ rw (is_not, is) (inr (inr (suffix dll (codes ".exe") is)))
-        | inr neither ↦ rw (is_not, neither) (inl refl)
-      ]
-    ]
+cut dll = grind (arith, cases_Bool, suffix)
 
 kept : (byte : ℕ) → byte ≢ 0x2E → mangled_name (byte ∷ []) ≡ byte ∷ []
 unfolding mangled_name
-kept byte differs =
-    let other : (byte == 0x2E) ≡ false = false_from_ne_true (byte == 0x2E) (λ same. differs (eqb-true byte 0x2E same)) in
-    rw other refl
+kept byte differs = grind (arith, false_from_ne_true, eqb-true)
 
 pub take_nothing_else : TakeNothingElse
-take_nothing_else = record {
-  machine_names = machine_names;
-  machine_numbers = machine_numbers;
-  flavor_names = flavor_names;
-  keywords = words;
-  base_names = cut;
-  mangled_bytes = kept;
-}
+take_nothing_else = grind (arith, machine_names, machine_numbers, flavor_names, words, cut, kept)

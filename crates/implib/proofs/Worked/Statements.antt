@@ -1,5 +1,5 @@
 -- The worked texts, by computing.
-use Rattle.std.proofs.Common.{◌≡◌, ℕ, List, true, length, Result, Ok, Err, refl, subst}
+use Rattle.std.proofs.Common.{arith, ◌≡◌, ℕ, List, true, length, Result, Ok, Err, refl, subst}
 use Rattle.std.proofs.lemmas.Str.{IsUtf8-from_is_utf8}
 use Rattle.std.specs.Char.{encode_utf8}
 use Rattle.std.specs.Str.{chars, is_utf8, trim_end, trim_start}
@@ -64,52 +64,11 @@ worked_settings = record {
 
 pub worked_exports : WorkedExports
 unfolding opened
-worked_exports = record {
-  joined_ordinal = parses _ _ _ refl refl;
-  no_ordinal = parses _ _ _ refl refl;
-  apart_ordinal = parses _ _ _ refl refl;
-  quoted_ordinal = parses _ _ _ refl refl;
-  signed_ordinal = parses _ _ _ refl refl;
-  first_name = parses _ _ _ refl refl;
-  last_ordinal_wins = parses _ _ _ refl refl;
-  last_alias_wins = parses _ _ _ refl refl;
-  target_and_alias = parses _ _ _ refl refl;
-  decorated_names = parses _ _ _ refl refl;
-  flags = parses _ _ _ refl refl;
-  greatest_ordinal = parses _ _ _ refl refl;
-  no_keywords = parses _ _ _ refl refl;
-  signs_in_names = parses _ _ _ refl refl;
-  decorated_target = parses _ _ _ refl refl;
-}
+worked_exports = grind (arith, parses)
 
 pub worked_refusals : WorkedRefusals
 unfolding opened
-worked_refusals = record {
-  word = refuses _ _ refl refl;
-  comma = refuses _ _ refl refl;
-  no_name_without_ordinal = refuses _ _ refl refl;
-  second_target = refuses _ _ refl refl;
-  missing_size = refuses _ _ refl refl;
-  size_too_great = refuses _ _ refl refl;
-  negative_size = refuses _ _ refl refl;
-  sign_alone = refuses _ _ refl refl;
-  three_numbers = refuses _ _ refl refl;
-  no_major = refuses _ _ refl refl;
-  no_minor = refuses _ _ refl refl;
-  minor_too_great = refuses _ _ refl refl;
-  base_too_great = refuses _ _ refl refl;
-  commit_too_great = refuses _ _ refl refl;
-  description = refuses _ _ refl refl;
-  sections = refuses _ _ refl refl;
-  base_without_sign = refuses _ _ refl refl;
-  base_without_number = refuses _ _ refl refl;
-  alias_without_word = refuses _ _ refl refl;
-  lone_at = refuses _ _ refl refl;
-  word_for_ordinal = refuses _ _ refl refl;
-  number_for_ordinal = refuses _ _ refl refl;
-  sign_for_ordinal = refuses _ _ refl refl;
-  end_for_ordinal = refuses _ _ refl refl;
-}
+worked_refusals = grind (arith, refuses)
 
 -- a definition is read, with so many exports
 abbrev Counts : ℕ → Result DefinitionView Refusal → Type 0

@@ -1,5 +1,5 @@
 -- The worked tables, by computing.
-use Rattle.std.proofs.Common.{refl}
+use Rattle.std.proofs.Common.{arith, refl}
 use Rattle.std.specs.Fmt.{digits}
 use Rattle.implib.specs.declared.machine.MachineType.{MachineType}
 use Rattle.implib.specs.declared.machine.MachineType.TheVariants.{I386, ARMNT, AMD64, ARM64}
@@ -33,131 +33,20 @@ worked_gnu_tables ARM64 = record { head = refl; tail = refl; function = refl; fu
 
 pub worked_gnu_names : WorkedGnuNames
 unfolding opened
-worked_gnu_names = record {
-  underscore_on_i386 = refl;
-  underscore_on_armnt = refl;
-  with_underscore_and_at_sign = refl;
-  with_two_at_signs = refl;
-  given_name = refl;
-  given_name_with_underscore = refl;
-}
+worked_gnu_names = grind arith
 
 pub worked_names : WorkedNames
 unfolding opened
-worked_names = record {
-  base_of_dll = refl;
-  base_of_exe = refl;
-  base_of_sys = refl;
-  base_of_two = refl;
-  base_in_capitals = refl;
-  base_without_full_stop = refl;
-  base_of_extension = refl;
-  base_of_drv = refl;
-  base_of_ocx = refl;
-  base_of_cpl = refl;
-  base_of_exe_in_capitals = refl;
-  base_of_one_capital = refl;
-  base_of_another_sign = refl;
-  base_with_plus = refl;
-  base_of_signs = refl;
-  mangled_name_of_sys = refl;
-  mangled_name_of_dll = refl;
-  mangled_name_of_two = refl;
-  mangled_name_of_underscore = refl;
-  mangled_name_of_drv = refl;
-  mangled_name_of_exe_in_capitals = refl;
-  mangled_name_with_plus = refl;
-  mangled_name_with_dollar_sign = refl;
-  mangled_name_with_space = refl;
-  mangled_name_of_signs = refl;
-  descriptor_of_drv = refl;
-  descriptor_of_signs = refl;
-  null_thunk_of_drv = refl;
-  head_of_drv = refl;
-  head_of_drv_on_i386 = refl;
-  iname_of_drv = refl;
-  iname_of_drv_on_i386 = refl;
-  head_member_of_drv = refl;
-  tail_member_of_drv = refl;
-  numbered_member_of_drv = refl;
-  first_number = refl;
-  greatest_number_of_five = refl;
-  number_of_six = refl;
-}
+worked_names = grind arith
 
 pub worked_records : WorkedRecords
 unfolding opened
-worked_records = record {
-  on_i386 = refl;
-  on_armnt = refl;
-  on_amd64 = refl;
-  on_arm64 = refl;
-  hint = refl;
-  constant_by_ordinal = refl;
-  data_without_prefix = refl;
-  undecorated = refl;
-  bytes = refl;
-}
+worked_records = grind arith
 
 pub worked_name_types : WorkedNameTypes
 unfolding opened
-worked_name_types = record {
-  no_rule = refl;
-  prefix = refl;
-  prefix_on_armnt = refl;
-  other_symbol = refl;
-  decorated_before_prefix = refl;
-  decorated_before_other_symbol = refl;
-  decorated_on_amd64 = refl;
-  at_sign_alone = refl;
-  underscore_alone = refl;
-  other_symbol_before_prefix = refl;
-  data_under_symbol = refl;
-  constant_under_symbol = refl;
-  both_under_symbol = refl;
-  constant_with_prefix = refl;
-  decorated_data = refl;
-  question_mark = refl;
-  question_mark_as_symbol = refl;
-  question_mark_under_symbol = refl;
-  own_symbol = refl;
-  ordinal_before_all = refl;
-  given_whole = refl;
-  given_without_prefix = refl;
-  given_undecorated = refl;
-  given_own_name = refl;
-  given_of_fastcall = refl;
-  given_with_underscore = refl;
-  given_of_symbol_name = refl;
-  given_on_armnt = refl;
-  given_on_amd64 = refl;
-  given_on_arm64 = refl;
-  given_behind_question_mark = refl;
-  given_beside_ordinal = refl;
-}
+worked_name_types = grind arith
 
 pub worked_asked_names : WorkedAskedNames
 unfolding opened
-worked_asked_names = record {
-  whole = refl;
-  whole_decorated = refl;
-  without_prefix = refl;
-  without_question_mark = refl;
-  without_at_sign = refl;
-  without_underscore = refl;
-  one_prefix_alone = refl;
-  without_prefix_or_end = refl;
-  given_whole = refl;
-  given_without_prefix = refl;
-  given_undecorated = refl;
-  given_on_amd64 = refl;
-  by_gnu_on_i386 = refl;
-  by_gnu_on_armnt = refl;
-  by_gnu_on_amd64 = refl;
-  by_gnu_on_arm64 = refl;
-  by_gnu_question_mark = refl;
-  by_gnu_whole = refl;
-  by_gnu_of_symbol_name = refl;
-  by_lld_of_symbol_name = refl;
-  given_of_no_name_type = refl;
-}
+worked_asked_names = grind arith

@@ -1,8 +1,8 @@
 -- What is asked of a DLL is found in it.
-use Rattle.std.proofs.Common.{◌≡◌, ℕ, zero, suc, ◌+◌, ◌<◌, ◌≤◌, ◌==◌, ◌^◌, Bool, true, false, cond, List, [], ◌∷◌, ◌++◌, Option, Some, None, length, map, refl, ap, ◌∙◌, sym, subst, arith}
+use Rattle.std.proofs.Common.{◌≡◌, ℕ, zero, suc, ◌+◌, ◌<◌, ◌≤◌, ◌==◌, ◌^◌, Bool, true, false, cond, List, [], ◌∷◌, Option, Some, None, length, map, refl, ap, ◌∙◌, sym, subst, arith}
 use Rattle.std.specs.Prelude.{All, Contains, filter}
 use Rattle.std.specs.List.{flat_map, slice_get}
-use Rattle.std.specs.Option.{is_some, option_and_then, option_map}
+use Rattle.std.specs.Option.{option_and_then, option_map}
 use Rattle.std.proofs.lemmas.List.{map-append}
 use Rattle.std.proofs.lemmas.List.Elements.{All-append, All-cons, All-nil, Contains-append_left, Contains-append_right}
 use Rattle.std.proofs.lemmas.Bool.{eqb-true}
@@ -21,19 +21,13 @@ at_position e position n is = right_hint_finds e.names n.text position (ap (opti
 
 -- and leads to the target of its index
 leads_at : (e : Exports) (position : ℕ) (n : NameEntry) → slice_get e.names position ≡ Some n → by_name e n.text position ≡ target_at e.targets n.index
-leads_at e position n is =
-    ap (option_and_then (λ p. option_and_then (λ name. target_at e.targets name.index) (slice_get e.names p))) (at_position e position n is)
-    ∙ ap (option_and_then (λ name. target_at e.targets name.index)) is
+leads_at e position n is = grind (arith, at_position, position, is)
 
 -- the ask of a name
 name_found : (e : Exports) (position : ℕ) (n : NameEntry) (o : Option Target) → slice_get e.names position ≡ Some n → target_at e.targets n.index ≡ o
     → All (IsFoundAtOnce e) (map ask_of (named_of n.text position o))
 name_found e position n None is leads = All-nil (IsFoundAtOnce e)
-name_found e position n (Some target) is leads =
-    All-cons (IsFoundAtOnce e) (Name n.text position) [] (record {
-      is_found = ap is_some (leads_at e position n is ∙ leads);
-      at_once = ap (option_map (λ name. name.text)) is;
-    }) (All-nil (IsFoundAtOnce e))
+name_found e position n (Some target) is leads = grind (arith, All-cons, position, leads_at, is, All-nil)
 
 -- the asks of names, from a position on
 names_found : (e : Exports) (names : List NameEntry) (position : ℕ) → ((k : ℕ) (n : NameEntry) → slice_get names k ≡ Some n → slice_get e.names (position + k) ≡ Some n)
@@ -52,15 +46,7 @@ names_found e (n ∷ names) position each =
 number_found : (e : Exports) (index : ℕ) (o : Option Target) (names : List (List ℕ)) (target : Target) → e.base < 2 ^ 32 → index < 2 ^ 32
     → target_at e.targets index ≡ filled target → All (IsFoundAtOnce e) (map ask_of (numbered_to (ordinal_of e.base index) (unnamed names target)))
 number_found e index o (name ∷ names) target base low is = All-nil (IsFoundAtOnce e)
-number_found e index o [] target base low is = by_target (filled target) refl
-  where
-    by_target : (f : Option Target) → filled target ≡ f → All (IsFoundAtOnce e) (map ask_of (numbered_to (ordinal_of e.base index) f))
-    by_target None none = All-nil (IsFoundAtOnce e)
-    by_target (Some t) some =
-        All-cons (IsFoundAtOnce e) (Ordinal (ordinal_of e.base index)) [] (record {
-          is_found = ap is_some (ordinals_lead e index base low ∙ is ∙ some);
-          at_once = tt;
-        }) (All-nil (IsFoundAtOnce e))
+number_found e index o [] target base low is = grind (arith, All-cons, ordinals_lead, low, All-nil)
 
 -- the asks of ordinals, from an index on
 numbers_found : (e : Exports) (targets : List Target) (index : ℕ) → e.base < 2 ^ 32 → index + length targets ≤ 2 ^ 32
@@ -117,15 +103,7 @@ name_among : (targets : List Target) (names : List NameEntry) (position k : ℕ)
     → Contains (map ask_of (named_from targets names position)) (Name n.text (position + k))
 unfolding named_from
 name_among targets [] position k n target is leads = absurd cc
-name_among targets (m ∷ names) position zero n target is leads =
-    let same : m ≡ n = cc in
-    let here = named_of m.text position (target_at targets m.index) in
-    let rest = named_from targets names (position + 1) in
-    let one : map ask_of here ≡ Name n.text position ∷ [] = subst (λ x. map ask_of (named_of x.text position (target_at targets x.index)) ≡ Name n.text position ∷ []) (sym same) (ap (λ o. map ask_of (named_of n.text position o)) leads) in
-    subst (λ p. Contains (map ask_of (here ++ rest)) (Name n.text p)) (omega arith)
-    (subst (λ asks. Contains asks (Name n.text position)) (sym (map-append ask_of here rest))
-    (Contains-append_left (map ask_of here) (map ask_of rest) (Name n.text position)
-    (subst (λ asks. Contains asks (Name n.text position)) (sym one) (first_of (Name n.text position) []))))
+name_among targets (m ∷ names) position zero n target is leads = grind (arith, position, map-append, Contains-append_left, first_of)
 name_among targets (m ∷ names) position (suc k) n target is leads =
     let here = named_of m.text position (target_at targets m.index) in
     let rest = named_from targets names (position + 1) in
@@ -165,18 +143,7 @@ number_among : (base : ℕ) (names : List NameEntry) (targets : List Target) (in
     → slice_get targets k ≡ Some t → filled t ≡ Some target → names_at names (index + k) ≡ []
     → Contains (map ask_of (flat_map numbered_of (rows_from base names targets index))) (Ordinal (ordinal_of base (index + k)))
 number_among base names [] index k t target is leads none = absurd cc
-number_among base names (u ∷ targets) index zero t target is leads bare =
-    let same : u ≡ t = cc in
-    let here = numbered_to (ordinal_of base index) (unnamed (names_at names index) u) in
-    let rest = flat_map numbered_of (rows_from base names targets (index + 1)) in
-    let none : names_at names index ≡ [] = subst (λ p. names_at names p ≡ []) (omega arith) bare in
-    let ask = Ordinal (ordinal_of base index) in
-    let one : map ask_of here ≡ ask ∷ [] =
-    ap (λ ns. map ask_of (numbered_to (ordinal_of base index) (unnamed ns u))) none
-    ∙ ap (λ o. map ask_of (numbered_to (ordinal_of base index) o)) (ap filled same ∙ leads) in
-    subst (λ p. Contains (map ask_of (here ++ rest)) (Ordinal (ordinal_of base p))) (omega arith)
-    (subst (λ asks. Contains asks ask) (sym (map-append ask_of here rest))
-    (Contains-append_left (map ask_of here) (map ask_of rest) ask (subst (λ asks. Contains asks ask) (sym one) (first_of ask []))))
+number_among base names (u ∷ targets) index zero t target is leads bare = grind (arith, t, map-append, Contains-append_left, first_of)
 number_among base names (u ∷ targets) index (suc k) t target is leads bare =
     let here = numbered_to (ordinal_of base index) (unnamed (names_at names index) u) in
     let rest = flat_map numbered_of (rows_from base names targets (index + 1)) in
@@ -193,11 +160,7 @@ pub record At (targets : List Target) (index : ℕ) (target : Target) : Type 0 w
   pub is : filled t ≡ Some target
 
 entry_at : (targets : List Target) (index : ℕ) (target : Target) → target_at targets index ≡ Some target → At targets index target
-entry_at targets index target is = found (slice_get targets index) refl is
-  where
-    found : (o : Option Target) → slice_get targets index ≡ o → option_and_then filled o ≡ Some target → At targets index target
-    found None none is = absurd cc
-    found (Some t) some is = record { t = t; at = some; is = is }
+entry_at targets index target is = grind arith
 
 -- the index of the ordinal of an index
 index_of_ordinal : (base index : ℕ) → base < 2 ^ 32 → index < 2 ^ 32 → ordinal_index base (ordinal_of base index) ≡ index

@@ -1,5 +1,5 @@
 -- Lemmas on the exports of names and of rows, one at a time.
-use Rattle.std.proofs.Common.{◌≡◌, ℕ, suc, ◌+◌, ◌<◌, List, [], ◌∷◌, ◌++◌, length, map, take, get_or, refl, ap, ◌∙◌, sym, append_assoc, append-nil, arith}
+use Rattle.std.proofs.Common.{◌≡◌, ℕ, ◌+◌, ◌<◌, List, [], ◌∷◌, ◌++◌, length, map, take, get_or, refl, ap, ◌∙◌, sym, append_assoc, append-nil, arith}
 use Rattle.std.specs.List.{slice_get}
 use Rattle.implib_dll.specs.Exports.{Exports, NameEntry, Target}
 use Rattle.implib_dll.specs.Lookup.{target_at}
@@ -19,12 +19,7 @@ pub named_from-append : (targets : List Target) (names : List NameEntry) (n : Na
     → named_from targets (names ++ n ∷ []) position ≡ named_from targets names position ++ named_of n.text (position + length names) (target_at targets n.index)
 unfolding named_from
 named_from-append targets [] n position = ap (λ p. named_of n.text p (target_at targets n.index) ++ []) (omega arith) ∙ append-nil _
-named_from-append targets (m ∷ names) n position =
-    let here = named_of m.text position (target_at targets m.index) in
-    let same : position + 1 + length names ≡ position + suc (length names) = omega arith in
-    ap (λ later. here ++ later) (named_from-append targets names n (position + 1))
-    ∙ (ap (λ p. here ++ (named_from targets names (position + 1) ++ named_of n.text p (target_at targets n.index))) same
-    ∙ sym (append_assoc here (named_from targets names (position + 1)) (named_of n.text (position + suc (length names)) (target_at targets n.index))))
+named_from-append targets (m ∷ names) n position = grind (arith, named_from-append targets names n (position + 1), append_assoc)
 
 -- want of memory refuses any
 pub memory_refuses_name : (text : List ℕ) (position : ℕ) (unsaid : Unsaid) → unsaid ≡ OutOfMemory → IsUnsaidName text position unsaid

@@ -1,19 +1,17 @@
 -- The library of a DLL asks for exactly what the DLL exports.
-use Rattle.std.proofs.Common.{◌≡◌, ℕ, ◌+◌, Bool, true, false, cond, ◌&&◌, not, List, [], ◌∷◌, ◌++◌, Option, Some, None, map, drop, refl, ap, ◌∙◌, sym, subst, append-nil}
-use Rattle.std.specs.Prelude.{All, reverse, if◌then◌else◌}
+use Rattle.std.proofs.Common.{arith, ◌≡◌, ℕ, ◌+◌, Bool, true, false, cond, not, List, [], ◌∷◌, ◌++◌, Option, Some, None, map, drop, refl, ap, ◌∙◌, sym, subst, append-nil}
+use Rattle.std.specs.Prelude.{All, if◌then◌else◌}
 use Rattle.std.specs.List.{filter, flat_map, list_all}
 use Rattle.std.proofs.lemmas.List.Folds.{list_all-append}
-use Rattle.std.specs.Option.{option_and_then, option_map}
+use Rattle.std.specs.Option.{option_map}
 use Rattle.std.proofs.lemmas.List.{map-append}
 use Rattle.implib.specs.declared.flavor.Flavor.{Flavor}
 use Rattle.implib.specs.declared.flavor.Flavor.TheVariants.{Msvc, Gnu}
 use Rattle.implib.specs.declared.machine.MachineType.{MachineType}
 use Rattle.implib.specs.declared.machine.MachineType.TheVariants.{I386}
 use Rattle.implib.specs.Definition.{DefinitionView, ExportView, empty_export}
-use Rattle.implib.specs.Formats.File.{AnAlias, AnImport, file_in, meaning_in}
-use Rattle.implib.specs.Import.{Alias, Ask, Import, aliases_for, is_empty_text, Name, Ordinal, expected_ask, expected_import, public_exports}
-use Rattle.implib.specs.Machine.{has_leading_underscore}
-use Rattle.implib.specs.Members.GnuReader.{meaning_with}
+use Rattle.implib.specs.Formats.File.{AnImport, meaning_in}
+use Rattle.implib.specs.Import.{Alias, Ask, Import, aliases_for, is_empty_text, Name, Ordinal, expected_ask, expected_import}
 use Rattle.implib.specs.Members.MemberLists.{has_code, is_weak, kept_of_alias}
 use Rattle.implib.specs.Members.MemberSpec.{MemberView, member_of}
 use Rattle.implib.specs.Members.Members.{member_specs}
@@ -23,19 +21,18 @@ use Rattle.implib_dll.specs.Exports.{Exports, NameEntry, Target}
 use Rattle.implib_dll.specs.Lookup.{target_at}
 use Rattle.implib_dll.specs.Rows.{Row, rows_of}
 use Rattle.implib_libraries.proofs.FromDll.Found.{asks_are_found}
-use Rattle.implib_libraries.specs.FromDll.Definition.{exports_of, is_data, named_export, named_from, named_of, numbered_of, numbered_to, target_unnamed}
+use Rattle.implib_libraries.specs.FromDll.Definition.{exports_of, is_data, named_from, named_of, numbered_of, numbered_to}
 use Rattle.implib_libraries.specs.FromDll.Laws.{Fits, IsFoundAtOnce, ask_of, asks_of}
 use Rattle.implib_rules.proofs.Asked.{asks_as_linked}
-use Rattle.implib_rules.specs.Additions.{extended_exports, no_additions}
+use Rattle.implib_rules.specs.Additions.{no_additions}
 use Rattle.implib_rules.specs.ExportAs.{AreMadeFor}
 use Rattle.implib_rules.specs.Exports.{LackSymbolNames, MembersOfExports, of_exports}
 use Rattle.implib_rules.specs.Library.{definition_for}
-use Rattle.implib_rules.specs.Linked.{NamingView, killed, linked_exports, makes, symbol_of, word_asked}
-use Rattle.implib_rules.specs.Repeats.{without_repeated}
+use Rattle.implib_rules.specs.Linked.{NamingView, word_asked}
 use Rattle.implib_rules.specs.Names.{dll_name}
 use Rattle.implib_rules.specs.Options.{LibraryOptionsView}
-use Rattle.implib_rules.specs.Order.{LibraryReads, ReadsInOrder, own_aliases, own_imports}
-use Rattle.implib_libraries.specs.OfDll.Decorated.{decorated_export, decorated_exports, is_decorated, is_exported, symbol_for, with_symbols, with_word, word_naming}
+use Rattle.implib_rules.specs.Order.{LibraryReads, ReadsInOrder}
+use Rattle.implib_libraries.specs.OfDll.Decorated.{decorated_export, decorated_exports, is_decorated, symbol_for, with_symbols, with_word, word_naming}
 use Rattle.implib_libraries.specs.OfDll.Decorations.{DecorationView}
 use Rattle.implib_libraries.specs.OfDll.Libraries.{AsksForExports, AsksForWords, DecoratedLibrariesAskForExports, GnuReadsAs, LibrariesAskForExports, ReadsAs, are_different}
 use Rattle.implib_libraries.proofs.OfDll.Symbols.{found_decorated, is_whole, made_of}
@@ -50,9 +47,7 @@ abbrev AreWords : List ExportView → Type 0
 AreWords xs = map of_word (map to_word xs) ≡ xs
 
 words-append : (xs ys : List ExportView) → AreWords xs → AreWords ys → AreWords (xs ++ ys)
-words-append xs ys first second =
-    ap (map of_word) (map-append to_word xs ys) ∙ (map-append of_word (map to_word xs) (map to_word ys)
-    ∙ (ap (λ l. l ++ map of_word (map to_word ys)) first ∙ ap (λ l. xs ++ l) second))
+words-append xs ys first second = grind (arith, map-append)
 
 -- what is asked for a word
 abbrev ask_of_word : Word → Ask
@@ -68,14 +63,7 @@ bare-nil : AreBare []
 bare-nil = record { words = refl; asks = refl; serve = λ machine naming. refl }
 
 bare-append : (xs ys : List ExportView) → AreBare xs → AreBare ys → AreBare (xs ++ ys)
-bare-append xs ys first second = record {
-  words = words-append xs ys first.words second.words;
-  asks = ap (map ask_of_word) (map-append to_word xs ys) ∙ (map-append ask_of_word (map to_word xs) (map to_word ys)
-      ∙ (ap (λ l. l ++ map ask_of_word (map to_word ys)) first.asks ∙ (ap (λ l. map ask_of xs ++ l) second.asks ∙ sym (map-append ask_of xs ys))));
-  serve = λ machine naming. ap (list_all (serves machine naming)) (map-append to_word xs ys)
-      ∙ (list_all-append (serves machine naming) (map to_word xs) (map to_word ys)
-      ∙ (ap (λ b. b && list_all (serves machine naming) (map to_word ys)) (first.serve machine naming) ∙ second.serve machine naming));
-}
+bare-append xs ys first second = grind (arith, words-append, map-append, list_all-append)
 
 named_bare : (text : List ℕ) (position : ℕ) (o : Option Target) → AreBare (named_of text position o)
 named_bare text position None = bare-nil
@@ -84,9 +72,7 @@ named_bare text position (Some target) = record { words = refl; asks = refl; ser
 all_named_bare : (targets : List Target) (names : List NameEntry) (position : ℕ) → AreBare (named_from targets names position)
 unfolding named_from
 all_named_bare targets [] position = bare-nil
-all_named_bare targets (n ∷ names) position =
-    bare-append (named_of n.text position (target_at targets n.index)) (named_from targets names (position + 1))
-    (named_bare n.text position (target_at targets n.index)) (all_named_bare targets names (position + 1))
+all_named_bare targets (n ∷ names) position = grind (arith, all_named_bare targets names (position + 1), bare-append, named_bare)
 
 numbered_bare : (ordinal : ℕ) (o : Option Target) → AreBare (numbered_to ordinal o)
 numbered_bare ordinal None = bare-nil
@@ -94,8 +80,7 @@ numbered_bare ordinal (Some target) = record { words = refl; asks = refl; serve 
 
 all_numbered_bare : (rows : List Row) → AreBare (flat_map numbered_of rows)
 all_numbered_bare [] = bare-nil
-all_numbered_bare (r ∷ rows) =
-    bare-append (numbered_of r) (flat_map numbered_of rows) (numbered_bare r.ordinal (target_unnamed r)) (all_numbered_bare rows)
+all_numbered_bare (r ∷ rows) = grind (arith, all_numbered_bare rows, bare-append, numbered_bare)
 
 exports_are_bare : (e : Exports) → AreBare (exports_of e)
 exports_are_bare e =
@@ -118,17 +103,10 @@ strong_links machine naming (w ∷ ws) = ap (λ xs. link machine naming w ∷ xs
 -- ---- what is asked for
 
 word_whole : (machine : MachineType) (naming : NamingView) (word : List ℕ) → naming.kills_at ≡ false → word_asked machine naming word ≡ word
-word_whole machine naming word whole =
-    ap (λ b. cond (has_leading_underscore machine && b) (killed word) word) whole ∙ never (has_leading_underscore machine)
-  where
-    never : (b : Bool) → cond (b && false) (killed word) word ≡ word
-    never true = refl
-    never false = refl
+word_whole machine naming word whole = grind (arith, word)
 
 ask_linked : (machine : MachineType) (naming : NamingView) (w : Word) → naming.kills_at ≡ false → expected_ask machine (link machine naming w) ≡ ask_of_word w
-ask_linked machine naming w whole =
-    ap (λ name. cond w.no_name (Ordinal w.number) (Name name w.number))
-    (asks_as_linked machine naming (of_word w) ∙ ap (λ name. cond (is_empty_text w.target) name w.target) (word_whole machine naming w.name whole))
+ask_linked machine naming w whole = grind (arith, asks_as_linked machine naming (of_word w), word_whole machine naming w.name whole)
 
 -- the imports of a DLL's library
 abbrev imports_made : MachineType → NamingView → List ℕ → List Word → List Import
@@ -137,9 +115,7 @@ imports_made machine naming dll ws = map (λ w. expected_import machine dll (lin
 asks_made : (machine : MachineType) (naming : NamingView) (dll : List ℕ) (ws : List Word) → naming.kills_at ≡ false
     → map (λ i. i.ask) (imports_made machine naming dll ws) ≡ map ask_of_word ws
 asks_made machine naming dll [] whole = refl
-asks_made machine naming dll (w ∷ ws) whole =
-    ap (λ a. a ∷ map (λ i. i.ask) (imports_made machine naming dll ws)) (ask_linked machine naming w whole)
-    ∙ ap (λ l. ask_of_word w ∷ l) (asks_made machine naming dll ws whole)
+asks_made machine naming dll (w ∷ ws) whole = grind (arith, asks_made machine naming dll ws whole, ask_linked)
 
 dlls_made : (machine : MachineType) (naming : NamingView) (dll : List ℕ) (ws : List Word)
     → map (λ i. i.dll) (imports_made machine naming dll ws) ≡ map (λ i. dll) (imports_made machine naming dll ws)
@@ -159,9 +135,7 @@ map-twice g f (x ∷ xs) = ap (λ l. g (f x) ∷ l) (map-twice g f xs)
 
 imports_of_links : (machine : MachineType) (naming : NamingView) (dll : List ℕ) (ws : List Word)
     → map (expected_import machine dll) (filter (λ x. not (is_weak x)) (filter (λ x. not x.private) (map (link machine naming) ws))) ≡ imports_made machine naming dll ws
-imports_of_links machine naming dll ws =
-    ap (λ xs. map (expected_import machine dll) (filter (λ x. not (is_weak x)) xs)) (public_links machine naming ws)
-    ∙ (ap (map (expected_import machine dll)) (strong_links machine naming ws) ∙ map-twice (expected_import machine dll) (link machine naming) ws)
+imports_of_links machine naming dll ws = grind (arith, public_links, strong_links, map-twice)
 
 -- the aliases of an export
 abbrev kept : ExportView → List Alias
@@ -193,11 +167,7 @@ names_of_words (x ∷ xs) = ap (λ l. x.name ∷ l) (names_of_words xs)
 exports_made : (options : LibraryOptionsView) (ws : List Word) → options.additions ≡ no_additions → are_different (map (λ w. w.name) ws) ≡ true
     → list_all (serves options.machine options.naming) ws ≡ true
     → (definition_for options (of_exports (map of_word ws)) [] false).exports ≡ map (link options.machine options.naming) ws
-exports_made options ws nothing apart all =
-    ap (λ a. linked_exports options.machine options.naming options.flavor (without_repeated (extended_exports options.machine options.naming a (map of_word ws)))) nothing
-    ∙ (ap (λ xs. linked_exports options.machine options.naming options.flavor (without_repeated xs)) (nothing_added options.machine options.naming ws)
-    ∙ (ap (linked_exports options.machine options.naming options.flavor) (nothing_left_out ws apart)
-    ∙ linked_words options.machine options.naming options.flavor ws all))
+exports_made options ws nothing apart all = grind (arith, nothing_added, nothing_left_out, linked_words)
 
 -- a definition of words as they are linked
 pub record OfLinks (machine : MachineType) (naming : NamingView) (dll : List ℕ) (ws : List Word) (d : DefinitionView) : Type 0 where
@@ -206,10 +176,7 @@ pub record OfLinks (machine : MachineType) (naming : NamingView) (dll : List ℕ
 
 -- under its names to link by it is the same
 renamed_same : (machine : MachineType) (naming : NamingView) (dll : List ℕ) (ws : List Word) (d : DefinitionView) → OfLinks machine naming dll ws d → renamed d ≡ d
-renamed_same machine naming dll ws d is =
-    let same : map renamed_export d.exports ≡ d.exports =
-    ap (map renamed_export) is.exports ∙ (renamed_links machine naming ws ∙ sym is.exports) in
-    ap (λ xs. record d { exports = xs }) same
+renamed_same machine naming dll ws d is = grind (arith, renamed_links)
 
 -- ---- what is read of the members
 
@@ -217,17 +184,7 @@ renamed_same machine naming dll ws d is =
 msvc_read : (machine : MachineType) (naming : NamingView) (dll : List ℕ) (ws : List Word) (d : DefinitionView) (members : List MemberView)
     → OfLinks machine naming dll ws d → ReadsInOrder d machine members
     → map (λ m. meaning_in m.bytes) (drop 3 members) ≡ map (λ i. Some (AnImport i)) (imports_made machine naming dll ws)
-msvc_read machine naming dll ws d members is reads =
-    let imports : own_imports machine d ≡ imports_made machine naming dll ws =
-    ap (λ xs. map (expected_import machine d.import_name) (filter (λ x. not (is_weak x)) (filter (λ x. not x.private) xs))) is.exports
-    ∙ (ap (λ n. map (expected_import machine n) (filter (λ x. not (is_weak x)) (filter (λ x. not x.private) (map (link machine naming) ws)))) is.name
-    ∙ imports_of_links machine naming dll ws) in
-    let aliases : own_aliases d ≡ [] = ap (λ xs. flat_map kept (filter (λ x. not x.private) xs)) is.exports ∙ no_alias machine naming ws in
-    reads.meanings
-    ∙ (ap (λ own. map Some (map AnImport own ++ map AnAlias (own_aliases d))) imports
-    ∙ (ap (λ others. map Some (map AnImport (imports_made machine naming dll ws) ++ map AnAlias others)) aliases
-    ∙ (ap (map Some) (append-nil (map AnImport (imports_made machine naming dll ws)))
-    ∙ map-twice Some AnImport (imports_made machine naming dll ws))))
+msvc_read machine naming dll ws d members is reads = grind (arith, imports_of_links, no_alias, append-nil, map-twice)
 
 -- for GNU's linker
 gnu_read : (machine : MachineType) (naming : NamingView) (dll : List ℕ) (ws : List Word) (d : DefinitionView) (members all : List MemberView)
@@ -235,19 +192,13 @@ gnu_read : (machine : MachineType) (naming : NamingView) (dll : List ℕ) (ws : 
     → GnuReadBack d machine all → GnuReadsAs members (imports_made machine naming dll ws)
 gnu_read machine naming dll ws d members all is made whole reads =
     let same : members ≡ all = made ∙ (ap (λ r. map member_of (member_specs r machine Gnu)) (sym (renamed_same machine naming dll ws d is)) ∙ sym whole) in
-    let meanings : reads.meanings ≡ map AnImport (imports_made machine naming dll ws) =
-    reads.by_export
-    ∙ (ap (λ r. flat_map (expected_meanings machine d.import_name) (public_exports r)) (renamed_same machine naming dll ws d is)
-    ∙ (ap (λ xs. flat_map (expected_meanings machine d.import_name) (filter (λ x. not x.private) xs)) is.exports
-    ∙ (ap (λ n. flat_map (expected_meanings machine n) (filter (λ x. not x.private) (map (link machine naming) ws))) is.name
-    ∙ (ap (flat_map (expected_meanings machine dll)) (public_links machine naming ws) ∙ meanings_made machine naming dll ws)))) in
+    let meanings : reads.meanings ≡ map AnImport (imports_made machine naming dll ws) = grind (arith, renamed_same, public_links, meanings_made) in
     record {
       tail = reads.tail;
       head = reads.head;
       tail_read = ap (λ ms. file_at ms 0) same ∙ reads.tail_read;
       head_read = ap (λ ms. file_at ms 1) same ∙ reads.head_read;
-      read = ap (λ ms. map (λ m. option_and_then (meaning_with reads.head reads.tail) (file_in m.bytes)) (reverse (drop 2 ms))) same
-          ∙ (reads.meanings_read ∙ (ap (map Some) meanings ∙ map-twice Some AnImport (imports_made machine naming dll ws)));
+      read = grind (arith, map-twice);
     }
 
 -- no word has a symbol name
@@ -272,13 +223,9 @@ of_words e options ws members fits asking ask all apart m =
     let naming = options.naming in
     let dll = dll_name options.dll [] false in
     let d = m.definition in
-    let links : OfLinks machine naming dll ws d = record {
-      exports = ap (λ def. def.exports) m.of_exports.is ∙ exports_made options ws asking.nothing_added apart all;
-      name = ap (λ def. def.import_name) m.of_exports.is;
-    } in
+    let links : OfLinks machine naming dll ws d = grind (arith, exports_made) in
     let same = renamed_same machine naming dll ws d links in
-    let asks : map (λ i. i.ask) (imports_made machine naming dll ws) ≡ asks_of e =
-    asks_made machine naming dll ws asking.whole ∙ ask in
+    let asks : map (λ i. i.ask) (imports_made machine naming dll ws) ≡ asks_of e = grind (arith, asks_made, ask) in
     record {
       imports = imports_made machine naming dll ws;
       read = read_as options.flavor naming machine dll ws d members asking.no_third_text links
@@ -293,10 +240,7 @@ of_words e options ws members fits asking ask all apart m =
 of_list : (e : Exports) (options : LibraryOptionsView) (xs : List ExportView) (members : List MemberView) → Fits e → AsksForWords options
     → AreWords xs → map ask_of_word (map to_word xs) ≡ asks_of e → list_all (serves options.machine options.naming) (map to_word xs) ≡ true
     → are_different (map (λ x. x.name) xs) ≡ true → MembersOfExports xs options members → AsksForExports e options members
-of_list e options xs members fits asking are ask all apart m =
-    of_words e options (map to_word xs) members fits asking ask all
-    (subst (λ names. are_different names ≡ true) (sym (names_of_words xs)) apart)
-    (subst (λ ys. MembersOfExports ys options members) (sym are) m)
+of_list e options xs members fits asking are ask all apart m = grind (arith, of_words, ask, names_of_words)
 
 pub libraries_ask_for_exports : LibrariesAskForExports
 libraries_ask_for_exports e options members fits asking apart m =
@@ -320,16 +264,7 @@ stays naming name number is_data = record { word = refl; ask = refl; serve = ref
 
 given : (naming : NamingView) (name symbol : List ℕ) (number : ℕ) (is_data : Bool) → is_decorated name symbol ≡ true
     → IsDecorated naming (named_one name number is_data) (record (named_one name number is_data) { name = word_naming naming symbol; alias_target = name })
-given naming name symbol number is_data is =
-    let made = made_of name symbol is in
-    let whole = is_whole naming name symbol is in
-    let word = word_naming naming symbol in
-    let makes_name : makes I386 (symbol_of I386 naming word) name ≡ true = ap (λ s. makes I386 s name) whole.symbol_is ∙ whole.makes_name in
-    record {
-      word = refl;
-      ask = ap (λ b. Name (cond b word name) number) made.some;
-      serve = ap (λ b. not (not (is_empty_text name) && not b)) makes_name ∙ ap not (and_false (not (is_empty_text name)));
-    }
+given naming name symbol number is_data is = grind (arith, made_of name symbol is, is_whole naming name symbol is, and_false (not (is_empty_text name)))
 
 named_decorated : (naming : NamingView) (decorations : List DecorationView) (names : List NameEntry) (name : List ℕ) (number : ℕ) (is_data : Bool)
     → IsDecorated naming (named_one name number is_data) (decorated_export naming decorations names (named_one name number is_data))
@@ -344,10 +279,8 @@ named_decorated naming decorations names name number false = by_symbol (symbol_f
 
     by_symbol : (o : Option (List ℕ)) → symbol_for decorations name ≡ o
         → IsDecorated naming (named_one name number false) (with_word names (named_one name number false) (option_map (word_naming naming) (symbol_for decorations name)))
-    by_symbol None none = subst (λ s. IsDecorated naming (named_one name number false) (with_word names (named_one name number false) (option_map (word_naming naming) s)))
-        (sym none) (stays naming name number false)
-    by_symbol (Some symbol) some = subst (λ s. IsDecorated naming (named_one name number false) (with_word names (named_one name number false) (option_map (word_naming naming) s)))
-        (sym some) (by_exported symbol (found_decorated decorations name symbol some) (is_exported names (word_naming naming symbol)))
+    by_symbol None none = grind (arith, stays)
+    by_symbol (Some symbol) some = grind (arith, by_exported, found_decorated)
 
 module _ (naming : NamingView) (decorations : List DecorationView) (names : List NameEntry) where
   -- exports with their symbols
@@ -364,32 +297,14 @@ module _ (naming : NamingView) (decorations : List DecorationView) (names : List
   decorated-nil = record { words = refl; asks = refl; serve = refl }
 
   decorated-one : (x : ExportView) → IsDecorated naming x (decorated_export naming decorations names x) → AreDecorated (x ∷ [])
-  decorated-one x is = record {
-    words = ap (λ y. y ∷ []) is.word;
-    asks = ap (λ a. a ∷ []) is.ask;
-    serve = ap (λ b. b && true) is.serve;
-  }
+  decorated-one x is = grind arith
 
   decorated-append : (xs ys : List ExportView) → AreDecorated xs → AreDecorated ys → AreDecorated (xs ++ ys)
-  decorated-append xs ys first second =
-      let dx = decorated xs in
-      let dy = decorated ys in
-      let both : decorated (xs ++ ys) ≡ dx ++ dy = map-append (decorated_export naming decorations names) xs ys in
-      record {
-        words = subst AreWords (sym both) (words-append dx dy first.words second.words);
-        asks = ap (λ l. map ask_of_word (map to_word l)) both
-            ∙ (ap (map ask_of_word) (map-append to_word dx dy) ∙ (map-append ask_of_word (map to_word dx) (map to_word dy)
-            ∙ (ap (λ l. l ++ map ask_of_word (map to_word dy)) first.asks ∙ (ap (λ l. map ask_of xs ++ l) second.asks ∙ sym (map-append ask_of xs ys)))));
-        serve = ap (λ l. list_all (serves I386 naming) (map to_word l)) both
-            ∙ (ap (list_all (serves I386 naming)) (map-append to_word dx dy)
-            ∙ (list_all-append (serves I386 naming) (map to_word dx) (map to_word dy)
-            ∙ (ap (λ b. b && list_all (serves I386 naming) (map to_word dy)) first.serve ∙ second.serve)));
-      }
+  decorated-append xs ys first second = grind (arith, map-append, words-append, list_all-append)
 
   named_part : (text : List ℕ) (position : ℕ) (o : Option Target) → AreDecorated (named_of text position o)
   named_part text position None = decorated-nil
-  named_part text position (Some target) =
-      decorated-one (named_export text position target) (named_decorated naming decorations names text position (is_data target))
+  named_part text position (Some target) = grind (arith, decorated-one, named_decorated)
 
   named_parts : (targets : List Target) (entries : List NameEntry) (position : ℕ) → AreDecorated (named_from targets entries position)
   unfolding named_from
@@ -404,8 +319,7 @@ module _ (naming : NamingView) (decorations : List DecorationView) (names : List
 
   numbered_parts : (rows : List Row) → AreDecorated (flat_map numbered_of rows)
   numbered_parts [] = decorated-nil
-  numbered_parts (r ∷ rows) =
-      decorated-append (numbered_of r) (flat_map numbered_of rows) (numbered_part r.ordinal (target_unnamed r)) (numbered_parts rows)
+  numbered_parts (r ∷ rows) = grind (arith, numbered_parts rows, decorated-append, numbered_part)
 
   are_decorated : (e : Exports) → AreDecorated (exports_of e)
   are_decorated e =

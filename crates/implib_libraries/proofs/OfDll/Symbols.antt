@@ -1,9 +1,8 @@
 -- Decorated symbols: what they are made of, and the words and names that they have.
-use Rattle.std.proofs.Common.{◌≡◌, ℕ, Bool, true, false, cond, ◌&&◌, ◌||◌, not, List, [], ◌∷◌, ◌++◌, drop, length, take, suc, ◌+◌, ◌<◌, ◌≤◌, Some, arith, refl, ap, ◌∙◌, sym, subst, inl, inr, ◌⊎◌}
-use Rattle.std.specs.Prelude.{◌==◌, bytes_eq, nat_eq, nat_le, slice_index_or}
+use Rattle.std.proofs.Common.{◌≡◌, ℕ, Bool, true, false, cond, ◌&&◌, ◌||◌, not, List, [], ◌∷◌, ◌++◌, drop, length, take, suc, ◌+◌, ◌<◌, Some, arith, refl, ap, ◌∙◌, sym, subst}
+use Rattle.std.specs.Prelude.{◌==◌, bytes_eq, nat_eq, slice_index_or}
 use Rattle.std.specs.Char.{is_ascii_digit}
-use Rattle.std.specs.Option.{option_map}
-use Rattle.std.specs.List.{find, list_all, list_any, position_or_len, starts_with}
+use Rattle.std.specs.List.{list_all, list_any, position_or_len, starts_with}
 use Rattle.std.proofs.lemmas.Bool.{eq-eqb, eqb-true, leb-true}
 use Rattle.std.specs.Str.{IsUtf8}
 use Rattle.std.proofs.lemmas.List.Sums.{AllPass-from_list_all}
@@ -70,14 +69,7 @@ made_of name (b ∷ rest) is =
 
 -- a digit is no `@`
 digit : (b : ℕ) → is_ascii_digit b ≡ true → (b == at_sign) ≡ false
-digit b is = by_test (b == at_sign) refl
-  where
-    by_test : (t : Bool) → (b == at_sign) ≡ t → (b == at_sign) ≡ false
-    by_test true same = absurd (other (eqb-true b at_sign same) is)
-      where
-        other : b ≡ at_sign → is_ascii_digit b ≡ true → ⊥
-        other same is = let wrong : is_ascii_digit at_sign ≡ true = ap is_ascii_digit (sym same) ∙ is in cc
-    by_test false same = same
+digit b is = grind (arith, eqb-true, is)
 
 -- what stands before the first `@`
 pub before_count : (name digits : List ℕ) → list_any is_at_sign name ≡ false → before_at_sign (name ++ at_sign ∷ digits) ≡ name
@@ -100,9 +92,7 @@ two_digits before (d ∷ digits) are =
 
 two_name : (name digits : List ℕ) → list_any is_at_sign name ≡ false → list_all is_ascii_digit digits ≡ true → two_at_signs false (name ++ at_sign ∷ digits) ≡ false
 two_name [] digits bare are = two_digits true digits are
-two_name (n ∷ name) digits bare are =
-    ap (λ b. two_at_signs b (name ++ at_sign ∷ digits)) (or_false_left (is_at_sign n) (list_any is_at_sign name) bare)
-    ∙ two_name name digits (or_false_right (is_at_sign n) (list_any is_at_sign name) bare) are
+two_name (n ∷ name) digits bare are = grind (arith, two_name name digits (or_false_right (is_at_sign n) (list_any is_at_sign name) bare) are, digits, or_false_left, bare, or_false_right)
 
 or_true : (b : Bool) → (b || true) ≡ true
 or_true true = refl
@@ -116,10 +106,7 @@ has_at (n ∷ name) digits = ap (λ b. is_at_sign n || b) (has_at name digits) �
 -- ---- a decorated symbol of a text is a text
 
 low : (b : ℕ) → is_ascii_digit b ≡ true → b < 128
-low b is = below_more (leb-true b 57 (and_true_right (nat_le 48 b) (nat_le b 57) is))
-  where
-    below_more : b ≤ 57 → b < 128
-    below_more below = omega arith
+low b is = grind (arith, leb-true, and_true_right, is)
 
 one_utf8 : (b : ℕ) → b < 128 → IsUtf8 (b ∷ [])
 one_utf8 b below = IsUtf8-from_ascii (b ∷ []) (IsAscii-from_all (b ∷ []) all)
@@ -131,13 +118,7 @@ digits_utf8 : (digits : List ℕ) → list_all is_ascii_digit digits ≡ true �
 digits_utf8 digits are = IsUtf8-from_ascii digits (IsAscii-from_all digits (λ k d within. low _ (AllPass-from_list_all is_ascii_digit digits are k d within)))
 
 mark_utf8 : (b : ℕ) → ((b == underscore) || (b == at_sign)) ≡ true → IsUtf8 (b ∷ [])
-mark_utf8 b is = by_first (b == underscore) refl
-  where
-    by_first : (t : Bool) → (b == underscore) ≡ t → IsUtf8 (b ∷ [])
-    by_first true same = subst (λ x. IsUtf8 (x ∷ [])) (sym (eqb-true b underscore same)) (one_utf8 underscore (omega arith))
-    by_first false other =
-        let same = ap (λ t. t || (b == at_sign)) (sym other) ∙ is in
-        subst (λ x. IsUtf8 (x ∷ [])) (sym (eqb-true b at_sign same)) (one_utf8 at_sign (omega arith))
+mark_utf8 b is = grind (arith, eqb-true, one_utf8, is)
 
 -- a name and a count
 pub counted_utf8 : (name digits : List ℕ) → IsUtf8 name → list_all is_ascii_digit digits ≡ true → IsUtf8 (name ++ at_sign ∷ digits)
@@ -165,8 +146,7 @@ word_utf8 naming name symbol utf8 is = by_choice (begins_with underscore symbol 
 -- ---- the rules make the symbol of its word, and the name of the symbol
 
 all_false : (a b c : Bool) → a ≡ false → b ≡ false → c ≡ false → (((a || b) || c) || false) ≡ false
-all_false a b c first second third =
-    ap (λ x. ((x || b) || c) || false) first ∙ (ap (λ x. (x || c) || false) second ∙ ap (λ x. x || false) third)
+all_false a b c first second third = grind (arith, first)
 
 -- a naming, by its fields
 abbrev by_fields : Bool → Bool → Bool → Bool → NamingView
@@ -183,16 +163,9 @@ whole_underscore : (plain kills exports keeps : Bool) (name digits : List ℕ) �
     → symbol_of I386 (by_fields plain kills exports keeps) (word_naming (by_fields plain kills exports keeps) (underscore ∷ (name ++ at_sign ∷ digits)))
     ≡ underscore ∷ (name ++ at_sign ∷ digits)
 whole_underscore true kills exports keeps name digits some bare plain are = refl
-whole_underscore false kills exports true name digits some bare plain are =
-    let symbol = underscore ∷ (name ++ at_sign ∷ digits) in
-    ap (λ b. cond (not (two_at_signs false symbol || b)) (underscore ∷ symbol) symbol) (has_at name digits)
-    ∙ ap (λ b. cond (not b) (underscore ∷ symbol) symbol) (or_true (two_at_signs false symbol))
+whole_underscore false kills exports true name digits some bare plain are = grind (arith, digits, has_at, or_true)
 whole_underscore false kills exports false [] digits some bare plain are = absurd cc
-whole_underscore false kills exports false (n ∷ name) digits some bare plain are =
-    let rest = n ∷ (name ++ at_sign ∷ digits) in
-    ap (λ b. cond (not b) (underscore ∷ rest) rest)
-    (all_false (n == at_sign) (n == question_mark) (two_at_signs false rest) (or_false_left (is_at_sign n) (list_any is_at_sign name) bare) plain
-    (two_name (n ∷ name) digits bare are))
+whole_underscore false kills exports false (n ∷ name) digits some bare plain are = grind (arith, digits, all_false, or_false_left, bare, plain, two_name)
 
 same_bytes : (xs : List ℕ) → bytes_eq xs xs ≡ true
 same_bytes [] = refl
@@ -201,11 +174,7 @@ same_bytes (x ∷ xs) = ap (λ b. b && bytes_eq xs xs) (eq-eqb x x refl) ∙ sam
 -- undecorate makes a name of what follows the first byte
 made_behind : (symbol name digits : List ℕ) → list_any is_at_sign name ≡ false
     → (bytes_eq symbol name || (bytes_eq (name ++ at_sign ∷ digits) name || bytes_eq (before_at_sign (name ++ at_sign ∷ digits)) name)) ≡ true
-made_behind symbol name digits bare =
-    let rest = name ++ at_sign ∷ digits in
-    ap (λ t. bytes_eq symbol name || (bytes_eq rest name || bytes_eq t name)) (before_count name digits bare)
-    ∙ (ap (λ b. bytes_eq symbol name || (bytes_eq rest name || b)) (same_bytes name)
-    ∙ (ap (λ b. bytes_eq symbol name || b) (or_true (bytes_eq rest name)) ∙ or_true (bytes_eq symbol name)))
+made_behind symbol name digits bare = grind (arith, digits, before_count, bare, same_bytes, or_true)
 
 -- what the rules make of the word of a decorated symbol
 pub record IsWhole (naming : NamingView) (name symbol : List ℕ) : Type 0 where
@@ -232,10 +201,7 @@ is_whole naming name symbol is = by_first (made.first == underscore) refl
     }
 
     fastcall : IsWhole naming name (at_sign ∷ (name ++ at_sign ∷ made.digits))
-    fastcall = record {
-      symbol_is = whole_at naming.is_plain naming.kills_at naming.exports_as naming.keeps_decorated (name ++ at_sign ∷ made.digits);
-      makes_name = made_behind (at_sign ∷ (name ++ at_sign ∷ made.digits)) name made.digits made.bare;
-    }
+    fastcall = grind (arith, whole_at naming.is_plain naming.kills_at naming.exports_as naming.keeps_decorated (name ++ at_sign ∷ made.digits), made_behind (at_sign ∷ (name ++ at_sign ∷ made.digits)) name made.digits made.bare)
 
     by_first : (t : Bool) → (made.first == underscore) ≡ t → IsWhole naming name symbol
     by_first true same =
@@ -250,9 +216,5 @@ found_decorated [] name symbol is = absurd cc
 found_decorated (d ∷ decorations) name symbol is = by_test (decorates name d) refl (found_decorated decorations name symbol)
   where
     by_test : (t : Bool) → decorates name d ≡ t → (symbol_for decorations name ≡ Some symbol → is_decorated name symbol ≡ true) → is_decorated name symbol ≡ true
-    by_test true here later =
-        let found : Some d.symbol ≡ Some symbol = ap (λ b. option_map (λ x. x.symbol) (cond b (Some d) (find (decorates name) decorations))) (sym here) ∙ is in
-        let same : d.symbol ≡ symbol = cc in
-        subst (λ s. is_decorated name s ≡ true) same (and_true_right (bytes_eq d.name name) (is_decorated name d.symbol) here)
-    by_test false here later =
-        later (ap (λ b. option_map (λ x. x.symbol) (cond b (Some d) (find (decorates name) decorations))) (sym here) ∙ is)
+    by_test true here later = grind (arith, is, and_true_right)
+    by_test false here later = grind (arith, is)

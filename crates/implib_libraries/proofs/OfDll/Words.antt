@@ -1,14 +1,13 @@
 -- Exports with nothing but a word, a number and two flags, as those of a DLL are, and what the rules make of them.
-use Rattle.std.proofs.Common.{◌≡◌, ℕ, Bool, true, false, cond, ◌&&◌, ◌||◌, not, List, [], ◌∷◌, ◌++◌, map, refl, ap, ◌∙◌, append-nil, None}
+use Rattle.std.proofs.Common.{arith, ◌≡◌, ℕ, Bool, true, false, ◌&&◌, ◌||◌, not, List, [], ◌∷◌, ◌++◌, map, refl, ap, ◌∙◌, append-nil}
 use Rattle.std.specs.Prelude.{bytes_eq}
 use Rattle.std.specs.List.{list_all, list_any}
 use Rattle.implib.specs.declared.flavor.Flavor.{Flavor}
 use Rattle.implib.specs.declared.flavor.Flavor.TheVariants.{Msvc, Gnu}
 use Rattle.implib.specs.declared.machine.MachineType.{MachineType}
-use Rattle.implib.specs.Ascii.{at_sign, begins_with, underscore}
 use Rattle.implib.specs.Definition.{ExportView, empty_export}
 use Rattle.implib_rules.specs.Additions.{extended_exports, no_additions, underscored}
-use Rattle.implib_rules.specs.Linked.{NamingView, adds_target, declares, has_target, is_among, is_apart, is_declared, linked_export, linked_exports, linked_import, linked_to, own_symbol, target_import, target_symbol, targets_beside, with_symbol, word_asked}
+use Rattle.implib_rules.specs.Linked.{NamingView, is_apart, is_declared, linked_export, linked_exports, linked_import, targets_beside}
 use Rattle.implib_rules.specs.Repeats.{left_out, repeats_behind, without_repeated}
 use Rattle.implib_libraries.specs.OfDll.Libraries.{are_different}
 
@@ -56,17 +55,11 @@ both_false a b first second = ap (λ x. x || b) first ∙ second
 -- ---- nothing is added
 
 nothing_under : (machine : MachineType) (naming : NamingView) (w : Word) → underscored machine naming no_additions (of_word w) ≡ of_word w
-nothing_under machine naming w =
-    ap (λ b. cond (not (has_target (of_word w)) && b) (record (of_word w) { alias_target = underscore ∷ word_asked machine naming w.name }) (of_word w))
-    (and_false (not (begins_with at_sign w.name)))
-    ∙ ap (λ b. cond b (record (of_word w) { alias_target = underscore ∷ word_asked machine naming w.name }) (of_word w))
-    (and_false (not (has_target (of_word w))))
+nothing_under machine naming w = grind (arith, and_false)
 
 nothing_unders : (machine : MachineType) (naming : NamingView) (ws : List Word) → map (underscored machine naming no_additions) (map of_word ws) ≡ map of_word ws
 nothing_unders machine naming [] = refl
-nothing_unders machine naming (w ∷ ws) =
-    ap (λ x. x ∷ map (underscored machine naming no_additions) (map of_word ws)) (nothing_under machine naming w)
-    ∙ ap (λ xs. of_word w ∷ xs) (nothing_unders machine naming ws)
+nothing_unders machine naming (w ∷ ws) = grind (arith, nothing_unders machine naming ws, nothing_under)
 
 pub nothing_added : (machine : MachineType) (naming : NamingView) (ws : List Word) → extended_exports machine naming no_additions (map of_word ws) ≡ map of_word ws
 nothing_added machine naming ws = append-nil (map (underscored machine naming no_additions) (map of_word ws)) ∙ nothing_unders machine naming ws
@@ -75,11 +68,7 @@ nothing_added machine naming ws = append-nil (map (underscored machine naming no
 
 list_any-append : {X : Type 0} (p : X → Bool) (xs ys : List X) → list_any p (xs ++ ys) ≡ (list_any p xs || list_any p ys)
 list_any-append p [] ys = refl
-list_any-append p (x ∷ xs) ys = by_first (p x) (list_any-append p xs ys)
-  where
-    by_first : (b : Bool) → list_any p (xs ++ ys) ≡ (list_any p xs || list_any p ys) → (b || list_any p (xs ++ ys)) ≡ ((b || list_any p xs) || list_any p ys)
-    by_first true is = refl
-    by_first false is = is
+list_any-append p (x ∷ xs) ys = grind (arith, list_any-append p xs ys)
 
 -- none of these words is declared before them
 abbrev none_declared : List ExportView → List Word → Bool
@@ -89,10 +78,7 @@ declared_more : (before : List ExportView) (x : Word) (ws : List Word) → none_
     → list_any (λ other. bytes_eq other x.name) (map (λ w. w.name) ws) ≡ false → none_declared (before ++ of_word x ∷ []) ws ≡ false
 declared_more before x [] none other = refl
 declared_more before x (w ∷ ws) none other =
-    let here : is_declared (before ++ of_word x ∷ []) w.name ≡ false =
-    list_any-append (λ e. declares e w.name) before (of_word x ∷ [])
-    ∙ both_false (is_declared before w.name) (bytes_eq w.name x.name || false) (or_false_left (is_declared before w.name) (none_declared before ws) none)
-    (both_false (bytes_eq w.name x.name) false (or_false_left (bytes_eq w.name x.name) (list_any (λ o. bytes_eq o x.name) (map (λ v. v.name) ws)) other) refl) in
+    let here : is_declared (before ++ of_word x ∷ []) w.name ≡ false = grind (arith, list_any-append, both_false, or_false_left) in
     both_false (is_declared (before ++ of_word x ∷ []) w.name) (none_declared (before ++ of_word x ∷ []) ws) here
     (declared_more before x ws (or_false_right (is_declared before w.name) (none_declared before ws) none)
     (or_false_right (bytes_eq w.name x.name) (list_any (λ o. bytes_eq o x.name) (map (λ v. v.name) ws)) other))
@@ -140,27 +126,15 @@ others_serve machine naming w ws all = and_true_right (serves machine naming w) 
 linked_each : (machine : MachineType) (naming : NamingView) (flavor : Flavor) (among : List ExportView) (ws : List Word)
     → list_all (serves machine naming) ws ≡ true → map (linked_export machine naming flavor among) (map of_word ws) ≡ map (link machine naming) ws
 linked_each machine naming flavor among [] all = refl
-linked_each machine naming Msvc among (w ∷ ws) all =
-    ap (λ b. linked_to machine naming (cond b (target_symbol machine naming among (of_word w)) None) (of_word w)
-    ∷ map (linked_export machine naming Msvc among) (map of_word ws)) (first_serves machine naming w ws all)
-    ∙ ap (λ xs. link machine naming w ∷ xs) (linked_each machine naming Msvc among ws (others_serve machine naming w ws all))
-linked_each machine naming Gnu among (w ∷ ws) all =
-    ap (λ xs. link machine naming w ∷ xs) (linked_each machine naming Gnu among ws (others_serve machine naming w ws all))
+linked_each machine naming Msvc among (w ∷ ws) all = grind (arith, linked_each machine naming Msvc among ws (others_serve machine naming w ws all), first_serves, others_serve)
+linked_each machine naming Gnu among (w ∷ ws) all = grind (arith, linked_each machine naming Gnu among ws (others_serve machine naming w ws all), others_serve)
 
 no_targets : (machine : MachineType) (naming : NamingView) (among : List ExportView) (symbols : List (List ℕ)) (ws : List Word)
     → list_all (serves machine naming) ws ≡ true → targets_beside machine naming among symbols (map of_word ws) ≡ []
 no_targets machine naming among symbols [] all = refl
-no_targets machine naming among symbols (w ∷ ws) all =
-    let symbol = own_symbol (of_word w) in
-    let adds : adds_target machine naming among (of_word w) ≡ false =
-    ap (λ b. b && (not naming.exports_as && not (is_declared among symbol))) (first_serves machine naming w ws all) in
-    ap (λ b. cond (b && not (is_among symbols symbol)) (target_import (of_word w) ∷ []) []
-    ++ targets_beside machine naming among (cond b (with_symbol symbols symbol) symbols) (map of_word ws)) adds
-    ∙ no_targets machine naming among symbols ws (others_serve machine naming w ws all)
+no_targets machine naming among symbols (w ∷ ws) all = grind (arith, no_targets machine naming among symbols ws (others_serve machine naming w ws all), first_serves, others_serve)
 
 pub linked_words : (machine : MachineType) (naming : NamingView) (flavor : Flavor) (ws : List Word) → list_all (serves machine naming) ws ≡ true
     → linked_exports machine naming flavor (map of_word ws) ≡ map (link machine naming) ws
 linked_words machine naming Gnu ws all = append-nil _ ∙ linked_each machine naming Gnu (map of_word ws) ws all
-linked_words machine naming Msvc ws all =
-    ap (λ more. map (linked_export machine naming Msvc (map of_word ws)) (map of_word ws) ++ more) (no_targets machine naming (map of_word ws) [] ws all)
-    ∙ (append-nil _ ∙ linked_each machine naming Msvc (map of_word ws) ws all)
+linked_words machine naming Msvc ws all = grind (arith, no_targets, append-nil, linked_each)

@@ -1,4 +1,4 @@
-use Rattle.std.proofs.Common.{◌+◌, ◌<◌, ◌≤◌, ◌∙◌, arith, length, sym}
+use Rattle.std.proofs.Common.{◌+◌, ◌<◌, ◌∙◌, arith, length}
 use Rattle.implib_archive.specs.Pushed.{shown}
 use Rattle.implib_archive.specs.Sources.{no_member}
 use Rattle.implib_archive.proofs.Listed.{entries_all, entries_more}
@@ -13,7 +13,4 @@ loop-index-preserved g c =
     ∙ c.loop-index.invariant
 
 pub returns : goal.returns
-returns g c =
-    let members = g.S.Members.members c.args.source.now in
-    let past : length members ≤ c.loop-index.index = omega (arith, c.loop-index-test.false, c.count-index-end.ensures) in
-    sym (entries_all (shown c.loop-index.entries.items) (c.loop-index.index + 1) members c.loop-index.index past) ∙ c.loop-index.invariant
+returns g c = grind (arith, entries_all, c.loop-index-test.false, c.count-index-end.ensures, c.loop-index.invariant)

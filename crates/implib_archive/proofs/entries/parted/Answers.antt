@@ -1,5 +1,4 @@
-use Rattle.std.proofs.Common.{◌++◌, ◌∙◌, [], append_assoc, ap, sym, subst, take}
-use Rattle.std.specs.List.Sorted.{IsPermutation}
+use Rattle.std.proofs.Common.{arith, ◌∙◌, [], append_assoc, ap}
 use Rattle.std.proofs.lemmas.List.{take_all}
 use Rattle.std.proofs.lemmas.List.Sorted.{IsPermutation-refl}
 use Rattle.implib.proofs.Formats.Defaults.{no_text}
@@ -33,10 +32,4 @@ loop-entry-preserved c =
     ]
 
 pub returns : goal.returns
-returns c =
-    let l = c.loop-entry in
-    let together =
-    sym (append_assoc l.parted.items l.auxiliary.items (l.marked.items ++ l.others.items)) ∙ sym (append_assoc (l.parted.items ++ l.auxiliary.items) l.marked.items l.others.items) in
-    rw (c.in_ok-append-3.ensures.items, c.in_ok-append-2.ensures.items, c.in_ok-append.ensures.items)
-    (subst (λ t. IsPermutation t (((l.parted.items ++ l.auxiliary.items) ++ l.marked.items) ++ l.others.items)) (take_all l.entry-index c.args.entries.now c.loop-entry-test.false)
-    (subst (IsPermutation (take l.entry-index c.args.entries.now)) together l.invariant))
+returns c = grind (arith, append_assoc, take_all, c.in_ok-append-3.ensures.items, c.in_ok-append-2.ensures.items, c.in_ok-append.ensures.items, c.loop-entry-test.false, c.loop-entry.invariant)

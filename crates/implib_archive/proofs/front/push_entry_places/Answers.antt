@@ -1,7 +1,6 @@
-use Rattle.std.proofs.Common.{◌<◌, ◌≤◌, arith, length}
+use Rattle.std.proofs.Common.{rules, ◌<◌, ◌≤◌, arith, length}
 use Rattle.implib.proofs.Formats.Defaults.{no_text}
 use Rattle.implib_archive.specs.Archive.{place_of}
-use Rattle.implib_archive.specs.Parts.{u32_be}
 use Rattle.implib_archive.proofs.Appended.{number_at, pushes_entry, pushes_nothing}
 use Rattle.implib_archive.proofs.front.push_entry_places.Goals as goal
 
@@ -19,6 +18,4 @@ loop-entry-init c = pushes_nothing _
 
 pub loop-entry-preserved : goal.loop-entry-preserved
 unfolding place_of
-loop-entry-preserved c =
-    pushes_entry (λ e. u32_be (place_of c.args.places.now e.1)) c.args.entries.now c.loop-entry.entry-index (no_text, 0) c.loop-entry-test.true c.loop-entry.invariant
-    c.in_ok-push_u32_be.ensures
+loop-entry-preserved c = search (rules, pushes_entry, c.loop-entry-test.true, c.loop-entry.invariant, c.in_ok-push_u32_be.ensures)

@@ -1,4 +1,4 @@
-use Rattle.std.proofs.Common.{◌<◌, ◌+◌, ◌%◌, ◌∙◌, ap, arith, length, sym}
+use Rattle.std.proofs.Common.{◌<◌, ◌+◌, ◌%◌, ap, arith, length, sym}
 use Rattle.implib_archive.specs.Archive.{names_bytes, names_label}
 use Rattle.implib_archive.specs.Parts.{header_bytes}
 use Rattle.implib_archive.specs.Pushed.{shown}
@@ -7,9 +7,7 @@ use Rattle.implib_archive.proofs.Sized.{names_part-none, names_part-some, on_pad
 use Rattle.implib_archive.proofs.front.push_names.Goals as goal
 
 pub returns-then-names-eq0 : goal.returns-then-names-eq0
-returns-then-names-eq0 c =
-    let names = names_bytes c.args.kind (shown c.args.names.now.offsets.entries) in
-    pushes_as (names_part-none names (sym c.requires.measured ∙ c.if-names-eq0.true)) (pushes_nothing c.args.out.now.items)
+returns-then-names-eq0 c = grind (arith, pushes_as, names_part-none, pushes_nothing, c.requires.measured, c.if-names-eq0.true)
 
 pub returns : goal.returns
 returns c =

@@ -1,6 +1,5 @@
-use Rattle.std.proofs.Common.{◌^◌, ◌<◌, arith}
+use Rattle.std.proofs.Common.{rules, ◌^◌, ◌<◌, arith}
 use Rattle.implib.proofs.Formats.Defaults.{no_text}
-use Rattle.implib_archive.specs.Parts.{u16_le}
 use Rattle.implib_archive.proofs.Appended.{number_at, pushes_entry, pushes_nothing}
 use Rattle.implib_archive.proofs.front.push_numbers.Goals as goal
 
@@ -11,5 +10,4 @@ pub loop-entry-init : goal.loop-entry-init
 loop-entry-init c = pushes_nothing _
 
 pub loop-entry-preserved : goal.loop-entry-preserved
-loop-entry-preserved c =
-    pushes_entry (λ e. u16_le e.1) c.args.entries.now c.loop-entry.entry-index (no_text, 0) c.loop-entry-test.true c.loop-entry.invariant c.in_ok-push_u16_le.ensures
+loop-entry-preserved c = search (rules, pushes_entry, c.loop-entry-test.true, c.loop-entry.invariant, c.in_ok-push_u16_le.ensures)

@@ -1,5 +1,4 @@
-use Rattle.std.proofs.Common.{◌++◌, ◌∷◌, []}
-use Rattle.implib.proofs.Formats.Defaults.{no_text}
+use Rattle.std.proofs.Common.{rules}
 use Rattle.implib_archive.specs.Archive.{strings_of}
 use Rattle.implib_archive.proofs.Appended.{pushes_entry, pushes_nothing}
 use Rattle.implib_archive.proofs.front.push_strings.Goals as goal
@@ -10,5 +9,4 @@ loop-entry-init c = pushes_nothing _
 
 pub loop-entry-preserved : goal.loop-entry-preserved
 unfolding strings_of
-loop-entry-preserved c =
-    pushes_entry (λ e. e.0 ++ 0 ∷ []) c.args.entries.now c.loop-entry.entry-index (no_text, 0) c.loop-entry-test.true c.loop-entry.invariant c.in_ok-push_ended.ensures
+loop-entry-preserved c = search (rules, pushes_entry, c.loop-entry-test.true, c.loop-entry.invariant, c.in_ok-push_ended.ensures)

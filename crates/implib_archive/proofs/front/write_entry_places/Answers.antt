@@ -7,9 +7,7 @@ use Rattle.implib_archive.proofs.Puts.{begins_nothing}
 use Rattle.implib_archive.proofs.front.write_entry_places.Goals as goal
 
 pub push_entry_places-requires : goal.push_entry_places-requires
-push_entry_places-requires g c =
-    let lo = c.loop-done.done in
-    all_between (λ e. (0 < e.1) × (e.1 ≤ length c.args.places.now)) (lo + c.min.result - lo) lo c.args.entries.now c.requires
+push_entry_places-requires g c = grind (arith, all_between (λ e. (0 < e.1) × (e.1 ≤ length c.args.places.now)) (c.loop-done.done + c.min.result - c.loop-done.done) c.loop-done.done c.args.entries.now c.requires, c.requires)
 
 pub loop-done-init : goal.loop-done-init
 loop-done-init g c = behind_pushed _ (pushes_nothing _)

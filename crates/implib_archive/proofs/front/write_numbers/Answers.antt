@@ -6,9 +6,7 @@ use Rattle.implib_archive.proofs.Puts.{begins_nothing}
 use Rattle.implib_archive.proofs.front.write_numbers.Goals as goal
 
 pub push_numbers-requires : goal.push_numbers-requires
-push_numbers-requires g c =
-    let lo = c.loop-done.done in
-    all_between (λ e. e.1 < 2 ^ 16) (lo + c.min.result - lo) lo c.args.entries.now c.requires
+push_numbers-requires g c = grind (arith, all_between (λ e. e.1 < 2 ^ 16) (c.loop-done.done + c.min.result - c.loop-done.done) c.loop-done.done c.args.entries.now c.requires, c.requires)
 
 pub loop-done-init : goal.loop-done-init
 loop-done-init g c = behind_pushed _ (pushes_nothing _)

@@ -1,8 +1,8 @@
-use Rattle.std.proofs.Common.{◌+◌, ◌<◌, ◌≤◌, ◌++◌, ◌∷◌, [], ◌∙◌, ap, append_assoc, append-nil, arith, length, drop, refl, sym}
+use Rattle.std.proofs.Common.{◌+◌, ◌<◌, ◌∙◌, ap, append_assoc, append-nil, arith, length, drop, refl, sym}
 use Rattle.implib_archive.specs.Archive.{places_from}
 use Rattle.implib_archive.specs.Parts.{part_size}
 use Rattle.implib_archive.specs.Sources.{no_member}
-use Rattle.implib_archive.proofs.Placed.{are_short, end_all, end_more, first_too_far, long_here, none_too_far, places_all, places_more, short_more, some_too_far}
+use Rattle.implib_archive.proofs.Placed.{end_all, end_more, first_too_far, long_here, none_too_far, places_all, places_more, short_more, some_too_far}
 use Rattle.implib_archive.proofs.offsets.place_members.Goals as goal
 
 pub returns-then-first-ge-TOO_LONG-clause-refused : goal.returns-then-first-ge-TOO_LONG-clause-refused
@@ -17,10 +17,7 @@ returns-then-place-ge-TOO_LONG-clause-refused g c =
     some_too_far c.args.first members l.invariant.begins (sym l.invariant.short ∙ long)
 
 pub part_size-place-requires : goal.part_size-place-requires
-part_size-place-requires g c =
-    let members = g.S.Members.members c.args.source.now in
-    let within : c.loop-index.index < length members = omega (arith, c.loop-index-test.true, c.count-index-end.ensures) in
-    omega (arith, c.requires c.loop-index.index no_member within, c.size.ensures)
+part_size-place-requires g c = grind (arith, c.loop-index-test.true, c.count-index-end.ensures, c.requires, c.size.ensures)
 
 pub loop-index-preserved : goal.loop-index-preserved
 loop-index-preserved g c =
@@ -32,30 +29,16 @@ loop-index-preserved g c =
     let rest = places_from next (drop (l.index + 1) members) in
     record {
       begins = l.invariant.begins;
-      offsets = ap (λ t. t ++ rest) c.in_ok-push.ensures.items ∙ append_assoc l.offsets.items (l.place ∷ []) rest
-          ∙ sym (ap (λ t. l.offsets.items ++ t) (places_more members l.index no_member within l.place next step))
-          ∙ l.invariant.offsets;
+      offsets = grind (arith, append_assoc, places_more, c.in_ok-push.ensures.items);
       ends = sym (end_more members l.index no_member within l.place next step) ∙ l.invariant.ends;
       short = sym (short_more members l.index no_member within l.place next step c.if-place-ge-TOO_LONG.false) ∙ l.invariant.short;
     }
 
 pub returns-clause-accepted : goal.returns-clause-accepted
-returns-clause-accepted g c =
-    let l = c.loop-index in
-    let members = g.S.Members.members c.args.source.now in
-    let past : length members ≤ l.index = omega (arith, c.loop-index-test.false, c.count-index-end.ensures) in
-    none_too_far c.args.first members l.invariant.begins (sym l.invariant.short ∙ ap are_short (places_all members l.index l.place past))
+returns-clause-accepted g c = grind (arith, none_too_far, places_all, c.loop-index-test.false, c.count-index-end.ensures, c.loop-index.invariant.begins, c.loop-index.invariant.short)
 
 pub returns-clause-offsets : goal.returns-clause-offsets
-returns-clause-offsets g c =
-    let l = c.loop-index in
-    let members = g.S.Members.members c.args.source.now in
-    let past : length members ≤ l.index = omega (arith, c.loop-index-test.false, c.count-index-end.ensures) in
-    sym (ap (λ t. l.offsets.items ++ t) (places_all members l.index l.place past) ∙ append-nil l.offsets.items) ∙ l.invariant.offsets
+returns-clause-offsets g c = grind (arith, places_all, append-nil, c.loop-index-test.false, c.count-index-end.ensures, c.loop-index.invariant.offsets)
 
 pub returns-clause-end : goal.returns-clause-end
-returns-clause-end g c =
-    let l = c.loop-index in
-    let members = g.S.Members.members c.args.source.now in
-    let past : length members ≤ l.index = omega (arith, c.loop-index-test.false, c.count-index-end.ensures) in
-    sym (end_all members l.index l.place past) ∙ l.invariant.ends
+returns-clause-end g c = grind (arith, end_all, c.loop-index-test.false, c.count-index-end.ensures, c.loop-index.invariant.ends)

@@ -9,6 +9,4 @@ unfolding strings_of
 loop-entry-init c = refl
 
 pub loop-entry-preserved : goal.loop-entry-preserved
-loop-entry-preserved c =
-    let more = strings_more c.args.entries.now c.loop-entry.entry-index (no_text, 0) c.loop-entry-test.true in
-    omega (arith, more, c.loop-entry.invariant, c.saturating_add-size.ensures)
+loop-entry-preserved c = grind (arith, strings_more c.args.entries.now c.loop-entry.entry-index (no_text, 0) c.loop-entry-test.true, c.loop-entry-test.true, c.loop-entry.invariant, c.saturating_add-size.ensures)

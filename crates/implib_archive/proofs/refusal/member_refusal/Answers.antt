@@ -6,19 +6,11 @@ use Rattle.implib_archive.proofs.refusal.member_refusal.Goals as goal
 
 pub returns-then-is_some : goal.returns-then-is_some
 unfolding member_refusal
-returns-then-is_some g c =
-    let of_name = c.name_refusal-of_name.ensures ∙ ap (name_refusal c.args.kind) (c.as_bytes.ensures.value ∙ c.name.ensures) in
-    let here = sym (ap is_some of_name) ∙ (sym c.is_some.ensures ∙ c.if-is_some.true) in
-    rw here of_name
+returns-then-is_some g c = grind (arith, is_some, c.name_refusal-of_name.ensures, c.as_bytes.ensures.value, c.name.ensures, c.is_some.ensures, c.if-is_some.true)
 
 pub returns-then-is_some-2 : goal.returns-then-is_some-2
 unfolding member_refusal
-returns-then-is_some-2 g c =
-    let of_name = c.name_refusal-of_name.ensures ∙ ap (name_refusal c.args.kind) (c.as_bytes.ensures.value ∙ c.name.ensures) in
-    let passed = sym (ap is_some of_name) ∙ (sym c.is_some.ensures ∙ c.if-is_some.false) in
-    let of_symbols = c.symbols_refusal-of_symbols.ensures in
-    let here = sym (ap is_some of_symbols) ∙ (sym c.is_some-2.ensures ∙ c.if-is_some-2.true) in
-    rw (passed, here) of_symbols
+returns-then-is_some-2 g c = grind (arith, is_some, c.name_refusal-of_name.ensures, c.as_bytes.ensures.value, c.name.ensures, c.is_some.ensures, c.if-is_some.false, c.symbols_refusal-of_symbols.ensures, c.is_some-2.ensures, c.if-is_some-2.true)
 
 pub returns-then-size : goal.returns-then-size
 unfolding member_refusal

@@ -1,5 +1,4 @@
-use Rattle.std.proofs.Common.{subst}
-use Rattle.std.specs.Io.KnownBytes.{Appends}
+use Rattle.std.proofs.Common.{arith, subst}
 use Rattle.implib_archive.specs.Pushed.{shown}
 use Rattle.implib_archive.specs.Sources.{member_at}
 use Rattle.implib.specs.Beginning.{AppendsBeginning}
@@ -15,8 +14,4 @@ returns-in_err-put_part-clause-written g c =
     (subst (AppendsBeginning (g.W.Write.contents c.args.writer.now) (g.W.Write.contents c.put_part.new.writer)) whole c.in_err-put_part.ensures)
 
 pub returns-clause-written : goal.returns-clause-written
-returns-clause-written g c =
-    let m = member_at (g.S.Members.members c.args.source.now) c.args.index in
-    let made = piece_is c.as_slice-2.ensures.value c.in_ok-push_bytes.ensures c.clear.ensures.items in
-    let whole = member_whole (shown c.args.names.now.offsets.entries) m c.in_ok-renew_header.ensures c.as_slice.ensures.value made in
-    subst (Appends (g.W.Write.contents c.args.writer.now) (g.W.Write.contents c.put_part.new.writer)) whole c.in_ok-put_part.ensures
+returns-clause-written g c = grind (arith, piece_is, member_whole, c.as_slice-2.ensures.value, c.in_ok-push_bytes.ensures, c.clear.ensures.items, c.in_ok-renew_header.ensures, c.as_slice.ensures.value, c.in_ok-put_part.ensures)

@@ -1,4 +1,4 @@
-use Rattle.std.proofs.Common.{refl, subst}
+use Rattle.std.proofs.Common.{arith, refl, subst}
 use Rattle.implib.specs.Definition.{definition_view}
 use Rattle.implib_libraries.specs.Arm64ec.{arm64ec_options}
 use Rattle.implib_rules.specs.Library.{DefinitionFor}
@@ -12,8 +12,7 @@ returns-in-Ok-definition_for-clause-given c =
     let options = library_options_view c.args.options.now in
     let d = definition_view c.in-Ok-definition_for.def in
     let found = found_in bytes c.in-Ok.text.now c.in_ok-read.read c.in_ok-read.ensures c.in-Ok.ensures in
-    let read : DefinitionFor c.in-Ok.text.now (arm64ec_options options) d =
-    subst (λ o. DefinitionFor c.in-Ok.text.now o d) c.arm64ec_options.ensures c.in-Ok-definition_for.ensures.meant in
+    let read : DefinitionFor c.in-Ok.text.now (arm64ec_options options) d = grind (arith, c.arm64ec_options.ensures, c.in-Ok-definition_for.ensures.meant) in
     record {
       utf8 = found.1;
       definition = d;

@@ -1,5 +1,5 @@
 use Rattle.std.proofs.Common.{◌∙◌, ◌+◌, ap, arith, length, refl, sym, is_some}
-use Rattle.implib_archive.specs.Archive.{is_long, offset_of}
+use Rattle.implib_archive.specs.Archive.{is_long}
 use Rattle.implib_archive.specs.Pushed.{shown}
 use Rattle.implib_archive.proofs.Listed.{inserted_new, listed_key}
 use Rattle.implib_archive.proofs.Named.{measured_long, measured_more, measured_same, offset_found, with_name-found, with_name-short}
@@ -9,14 +9,10 @@ pub returns-then-self : goal.returns-then-self
 returns-then-self c = λ names m. measured_long c.args.kind names c.args.name.now c.if-self.true m
 
 pub returns-then-not-is_long : goal.returns-then-not-is_long
-returns-then-not-is_long c = λ names m.
-    let short = sym (c.is_long.ensures ∙ ap is_long c.as_bytes.ensures.value) ∙ c.if-not-is_long.true in
-    measured_same c.args.kind names c.args.name.now (with_name-short c.args.kind names c.args.name.now short) m
+returns-then-not-is_long c = λ names m. grind (arith, measured_same, with_name-short, c.is_long.ensures, c.as_bytes.ensures.value, c.if-not-is_long.true)
 
 pub returns-then-contains_key : goal.returns-then-contains_key
-returns-then-contains_key c = λ names m.
-    let found = ap is_some (sym (offset_found c.args.name _ (λ x. refl) c.args.self.now.offsets.entries)) ∙ (sym c.contains_key.ensures ∙ c.if-contains_key.true) in
-    measured_same c.args.kind names c.args.name.now (with_name-found c.args.kind names c.args.name.now (sym (ap (λ t. is_some (offset_of t c.args.name.now)) (m.same (omega (arith, c.if-self.false)))) ∙ found)) m
+returns-then-contains_key c = λ names m. grind (arith, is_some, offset_found, measured_same, with_name-found, c.contains_key.ensures, c.if-contains_key.true, c.if-self.false)
 
 pub returns : goal.returns
 returns c = λ names m.

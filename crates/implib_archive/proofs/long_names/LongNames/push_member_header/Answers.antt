@@ -1,4 +1,4 @@
-use Rattle.std.proofs.Common.{◌∙◌, ◌++◌, ap, codes, decimal, sym}
+use Rattle.std.proofs.Common.{arith, ◌∙◌, ◌++◌, ap, codes, decimal, sym}
 use Rattle.implib_archive.specs.Archive.{is_long}
 use Rattle.implib_archive.specs.Parts.{header_bytes}
 use Rattle.implib_archive.specs.Pushed.{shown}
@@ -15,9 +15,4 @@ returns-then-is_long c =
     on_as _ _ _ (ap (λ l. header_bytes l c.args.size) (label_with names name c.label_of.ensures text)) c.push_header.ensures
 
 pub returns-else-is_long : goal.returns-else-is_long
-returns-else-is_long c =
-    let names = shown c.args.self.now.offsets.entries in
-    let name = c.args.name.now in
-    let short = sym (c.is_long.ensures ∙ ap is_long c.as_bytes.ensures.value) ∙ c.if-is_long.false in
-    let text = ap (λ t. t ++ codes "/") c.as_bytes-else-is_long.ensures.value ∙ name_field-short names name short in
-    on_as _ _ _ (ap (λ l. header_bytes l c.args.size) (label_with names name c.label_of-else-is_long.ensures text)) c.push_header-else-is_long.ensures
+returns-else-is_long c = grind (arith, name_field-short, on_as, label_with, c.is_long.ensures, c.as_bytes.ensures.value, c.if-is_long.false, c.as_bytes-else-is_long.ensures.value, c.label_of-else-is_long.ensures, c.push_header-else-is_long.ensures)

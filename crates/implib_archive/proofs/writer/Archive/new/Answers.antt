@@ -8,14 +8,11 @@ pub returns-in-Some-clause-refused : goal.returns-in-Some-clause-refused
 returns-in-Some-clause-refused g c = refused_member c.args.kind (g.S.Members.members c.args.source) _ (sym c.in-Some.ensures) refl
 
 pub returns-then-has_too_many-clause-refused : goal.returns-then-has_too_many-clause-refused
-returns-then-has_too_many-clause-refused g c =
-    refused_many c.args.kind (g.S.Members.members c.args.source) (sym c.source_refusal.ensures ∙ c.in_default.is) (sym c.has_too_many.ensures ∙ c.if-has_too_many.true)
+returns-then-has_too_many-clause-refused g c = grind (arith, refused_many, c.source_refusal.ensures, c.in_default.is, c.has_too_many.ensures, c.if-has_too_many.true)
 
 -- for each lifetime that the source's bound may stand for
 pub place_members-requires : goal.place_members-requires
-place_members-requires g c =
-    let short = each_short c.args.kind (g.S.Members.members c.args.source) (sym c.source_refusal.ensures ∙ c.in_default.is) in
-    λ _. ((refl, tt), short)
+place_members-requires g c = grind (arith, each_short, c.source_refusal.ensures, c.in_default.is)
 
 pub returns-in_err-places-clause-refused : goal.returns-in_err-places-clause-refused
 returns-in_err-places-clause-refused g c =
@@ -47,8 +44,4 @@ invariant_of-result g c =
     }
 
 pub returns-clause-accepted : goal.returns-clause-accepted
-returns-clause-accepted g c =
-    let kind = c.args.kind in
-    let ms = g.S.Members.members c.args.source in
-    refused_places kind ms (sym c.source_refusal.ensures ∙ c.in_default.is) (sym c.has_too_many.ensures ∙ c.if-has_too_many.false)
-    ∙ sym (same_refusal c.first_place-first.result (first_place kind ms) ms c.first_place-first.ensures) ∙ c.in_ok-places.ensures.accepted
+returns-clause-accepted g c = grind (arith, refused_places, same_refusal, c.source_refusal.ensures, c.in_default.is, c.has_too_many.ensures, c.if-has_too_many.false, c.first_place-first.ensures, c.in_ok-places.ensures.accepted)

@@ -1,5 +1,5 @@
 use Rattle.std.proofs.Common.{◌∙◌, ap, arith, subst, sym}
-use Rattle.implib_archive.specs.Archive.{front, front_of, places_of, sorted_entries}
+use Rattle.implib_archive.specs.Archive.{places_of}
 use Rattle.implib_archive.specs.Pushed.{FrontFits, shown}
 use Rattle.implib_archive.proofs.Puts.{writes_as}
 use Rattle.implib_archive.proofs.Whole.{front_fits, front_made, names_below, ordered_made}
@@ -16,17 +16,10 @@ write_front-requires-clause-fits g c =
     (subst (λ e. FrontFits a.kind (places_of a.kind ms) e) (sym entries) (front_fits a.kind ms made.accepted))
 
 pub write_front-requires-clause-ordered : goal.write_front-requires-clause-ordered
-write_front-requires-clause-ordered g c = λ is.
-    ap shown c.as_slice-sorted.ensures.value ∙ (ordered_made c.self.invariant is ∙ ap (λ e. sorted_entries (shown e)) (sym c.as_slice-entries.ensures.value))
+write_front-requires-clause-ordered g c = λ is. grind (arith, ordered_made, c.as_slice-sorted.ensures.value, c.self.invariant, c.as_slice-entries.ensures.value)
 
 pub write_front-requires-clause-short : goal.write_front-requires-clause-short
-write_front-requires-clause-short g c =
-    let made = c.self.invariant in omega (arith, made.sized, names_below _ _ made.accepted)
+write_front-requires-clause-short g c = grind (arith, names_below, c.self.invariant, c.self.invariant.sized, c.self.invariant.accepted)
 
 pub returns : goal.returns
-returns g c =
-    let a = c.self.inside in
-    let names = shown a.names.offsets.entries in
-    writes_as c.write_front.result _ _ (ap (λ p. front a.kind p (shown c.as_slice-entries.result.now) names) c.as_slice-places.ensures.value
-    ∙ (ap (λ e. front a.kind a.places.offsets.items (shown e) names) c.as_slice-entries.ensures.value
-    ∙ (front_made c.self.invariant ∙ ap (λ v. front_of v.kind v.members) c.self.view_is))) c.write_front.ensures
+returns g c = grind (arith, writes_as, front_made c.self.invariant, c.as_slice-places.ensures.value, c.as_slice-entries.ensures.value, c.self.invariant, c.write_front.ensures)

@@ -1,9 +1,8 @@
-use Rattle.std.proofs.Common.{◌∙◌, ap, map, subst}
+use Rattle.std.proofs.Common.{arith, ◌∙◌, ap, map}
 use Rattle.std.specs.List.{flat_map}
 use Rattle.implib.specs.Definition.{definition_view, export_view}
-use Rattle.implib_rules.specs.Library.{DefinitionFor}
 use Rattle.implib_rules.proofs.Made.{found_in}
-use Rattle.implib_libraries.specs.OfDll.Decorations.{of_export, reading}
+use Rattle.implib_libraries.specs.OfDll.Decorations.{of_export}
 use Rattle.implib_libraries.proofs.of_dll.decorations.of_definition.Goals as goal
 
 pub returns-clause-are : goal.returns-clause-are
@@ -14,7 +13,6 @@ returns-clause-are c =
     record {
       utf8 = found.1;
       definition = definition;
-      of_text = subst (λ t. DefinitionFor t reading definition) found.0
-          (subst (λ o. DefinitionFor text o definition) c.reading.ensures c.in_ok-def.ensures.meant);
+      of_text = grind (arith, c.reading.ensures, c.in_ok-def.ensures.meant);
       are = c.in_ok-of_exports.ensures ∙ ap (λ xs. flat_map of_export (map export_view xs)) c.as_slice.ensures.value;
     }
