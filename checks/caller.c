@@ -1,22 +1,16 @@
 /*
  * Calls the library for checks/c: reads cases from standard input, and writes what came of each.
  *
- * A case is a machine, a flavour, whether allocations are to fail, and the length of a text, each a number of
- * 8 bytes, and then the text. For each case implib_members is called with buffers of several sizes, whose
- * answers have to agree; where they do not, the program ends. Of each case it writes a line with the status,
- * the place, its line and column, and the length of what follows: the listing of the members, as implib_tool
- * writes it.
+ * The argument is the name of a call, without `implib_`. A case is ten numbers of 8 bytes: the size of the options,
+ * the machine, the flavour, the flags, whether a name of the DLL is given, its length, the length of a text, that of a
+ * library, the number of exports, whether allocations are to fail; then the name, the text, the library, and of each
+ * export the length of its name and the name, the same of its target, its ordinal and its flags; a length of 2^64 - 1
+ * is a null pointer. Of implib_imports the text is the library, of implib_exports and implib_check_dll the DLL.
  *
- * With the argument `library` it calls implib_library in its stead, and what follows is the archive; with
- * `definition` implib_definition, and what follows is the encoding; with `imports` implib_imports, and with `exports` implib_exports,
- * of the bytes of the text. With the argument `with` it calls implib_library_with in the same way, and implib_write, whose pieces have to be the same
- * library; then a case begins with four numbers more, the size of the options, the flags, whether a name of the DLL
- * is given, and its length, and the name is before the text. With `warnings` it calls implib_warnings so, and what
- * follows is the encoding; with `check` implib_check_library, where the length of a library and the library are after
- * the name, and with `beside` implib_check_dll, where the text is the file of a DLL. With `of` it calls implib_library_of: then the last number is that of exports, and in the
- * place of the text is of each the length of its name and the name, the same of its target, its ordinal and its flags;
- * a length of 2^64 - 1 is a null pointer. With the argument `texts` it writes a line with the text of each status from
- * 0 to 99 instead.
+ * Each call is made with buffers of several sizes, whose answers have to agree; where they do not, the program ends. Of
+ * each case it writes a line with the status, the place, its line and column, and the length of what follows: what the
+ * call put into the buffer. Libraries are written by implib_write, too. With the argument `texts` it writes a line with
+ * the text of each status from 0 to 99 instead.
  *
  * The linker puts __wrap_malloc and its kin in the place of malloc (--wrap).
  */
@@ -25,7 +19,6 @@
 #include <string.h>
 
 #include "implib.h"
-#include "members.h"
 
 #define PATTERN 0xA5
 #define ROOM 64
@@ -82,52 +75,23 @@ static void demand(int holds, const char *what)
     }
 }
 
-typedef uint32_t callee(const uint8_t *text, size_t text_length, uint16_t machine, uint32_t flavor,
-                        uint8_t *buffer, size_t buffer_length, size_t *length, size_t *place);
+enum name { MEMBERS, LIBRARY, DEFINITION, IMPORTS, EXPORTS, LIBRARY_WITH, WARNINGS, LIBRARY_OF, CHECK_LIBRARY, CHECK_DLL };
+static const char *const NAMES[] = {"members", "library", "definition", "imports", "exports", "library_with",
+                                    "warnings", "library_of", "check_library", "check_dll"};
 
-typedef uint32_t callee_with(const struct implib_options *options, const uint8_t *text, size_t text_length,
-                             uint8_t *buffer, size_t buffer_length, size_t *length, size_t *place);
+struct slice {
+    uint8_t *bytes;
+    size_t length;
+};
 
-/* A call of the function, or, where this is null, of one with options, or, where this is null too, of
- * implib_check_library; or, for exports, of implib_library_of. */
 struct call {
-    callee *function;
-    callee_with *with;
-    struct slice library;
-    struct slice text;
+    enum name name;
     struct implib_options options;
-    int is_of_exports;
+    struct slice text;
+    struct slice library;
     struct implib_export *exports;
     size_t count;
 };
-
-/* implib_definition, which has no flavour. */
-static uint32_t definition(const uint8_t *text, size_t text_length, uint16_t machine, uint32_t flavor,
-                           uint8_t *buffer, size_t buffer_length, size_t *length, size_t *place)
-{
-    (void)flavor;
-    return implib_definition(text, text_length, machine, buffer, buffer_length, length, place);
-}
-
-/* implib_imports, which has bytes alone. */
-static uint32_t imports(const uint8_t *bytes, size_t bytes_length, uint16_t machine, uint32_t flavor,
-                        uint8_t *buffer, size_t buffer_length, size_t *length, size_t *place)
-{
-    (void)machine;
-    (void)flavor;
-    if (place != NULL)
-        *place = 0;
-    return implib_imports(bytes, bytes_length, buffer, buffer_length, length);
-}
-
-/* implib_exports, of bytes alone. */
-static uint32_t exports(const uint8_t *bytes, size_t bytes_length, uint16_t machine, uint32_t flavor,
-                        uint8_t *buffer, size_t buffer_length, size_t *length, size_t *place)
-{
-    (void)machine;
-    (void)flavor;
-    return implib_exports(bytes, bytes_length, buffer, buffer_length, length, place);
-}
 
 struct answer {
     uint32_t status;
@@ -136,26 +100,38 @@ struct answer {
     uint8_t *buffer; /* exactly as long as the call is given */
 };
 
-/* Whether libraries are held against DLLs. */
-static int is_of_dlls;
-
 /* The status of a call for this text, which may be null. */
 static uint32_t status_of(struct call call, const uint8_t *text, uint8_t *buffer, size_t room, size_t *length,
                           size_t *place)
 {
-    if (call.is_of_exports)
-        return implib_library_of(&call.options, call.count == 0 ? NULL : call.exports, call.count, buffer, room, length,
-                                 place);
-    if (is_of_dlls)
-        return implib_check_dll(call.library.length == 0 ? NULL : call.library.bytes, call.library.length, text,
-                                call.text.length, call.options.dll, call.options.dll_length, buffer, room, length, place);
-    if (call.function == NULL && call.with == NULL)
-        return implib_check_library(call.library.length == 0 ? NULL : call.library.bytes, call.library.length, text,
-                                    call.text.length, &call.options, buffer, room, length, place);
-    if (call.function == NULL)
-        return call.with(&call.options, text, call.text.length, buffer, room, length, place);
-    return call.function(text, call.text.length, call.options.machine, call.options.flavor, buffer, room, length,
-                         place);
+    const struct implib_options *options = &call.options;
+    const uint8_t *library = call.library.length == 0 ? NULL : call.library.bytes;
+    size_t count = call.text.length;
+    switch (call.name) {
+    case MEMBERS:
+        return implib_members(text, count, options->machine, options->flavor, buffer, room, length, place);
+    case LIBRARY:
+        return implib_library(text, count, options->machine, options->flavor, buffer, room, length, place);
+    case DEFINITION:
+        return implib_definition(text, count, options->machine, buffer, room, length, place);
+    case IMPORTS:
+        if (place != NULL)
+            *place = 0;
+        return implib_imports(text, count, buffer, room, length);
+    case EXPORTS:
+        return implib_exports(text, count, buffer, room, length, place);
+    case LIBRARY_WITH:
+        return implib_library_with(options, text, count, buffer, room, length, place);
+    case WARNINGS:
+        return implib_warnings(options, text, count, buffer, room, length, place);
+    case LIBRARY_OF:
+        return implib_library_of(options, call.count == 0 ? NULL : call.exports, call.count, buffer, room, length, place);
+    case CHECK_LIBRARY:
+        return implib_check_library(library, call.library.length, text, count, options, buffer, room, length, place);
+    default:
+        return implib_check_dll(library, call.library.length, text, count, options->dll, options->dll_length, buffer,
+                                room, length, place);
+    }
 }
 
 static int is_untouched(const uint8_t *bytes, size_t from, size_t to)
@@ -329,175 +305,71 @@ static void call_written(struct call call, struct answer expected, int refuses)
     }
 }
 
-/* ---- listings */
-
-/* A text that grows. */
-struct text {
-    char *bytes;
-    size_t length;
-    size_t room;
-};
-
-static void put(struct text *text, const char *format, size_t value)
-{
-    if (text->room - text->length < 64) {
-        text->room = 2 * text->room + 64;
-        text->bytes = realloc(text->bytes, text->room);
-        demand(text->bytes != NULL, "no memory for a listing");
-    }
-    text->length += (size_t)snprintf(text->bytes + text->length, 64, format, value);
-}
-
-static void put_name(struct text *text, struct slice name)
-{
-    for (size_t index = 0; index < name.length; index++) {
-        uint8_t byte = name.bytes[index];
-        put(text, byte < 0x21 || byte > 0x7E || byte == '\\' ? "\\x%02zx" : "%c", byte);
-    }
-}
-
-static void put_file(struct text *text, struct slice file)
-{
-    for (size_t index = 0; index < file.length; index++) {
-        put(text, "%02zx", file.bytes[index]);
-        put(text, index % 16 == 15 || index + 1 == file.length ? "\n" : " ", 0);
-    }
-}
-
-static void put_member(struct text *text, struct reader *reader)
-{
-    struct member member;
-    struct slice symbol, file;
-    demand(read_member(reader, &member), "the encoding of a member is cut short");
-    struct reader symbols = *reader;
-    for (size_t index = 0; index < member.symbols; index++)
-        demand(read_text(reader, &symbol), "the encoding of a symbol is cut short");
-    demand(read_text(reader, &file), "the encoding of a file is cut short");
-    put(text, "member ", 0);
-    put_name(text, member.name);
-    put(text, " %zu\n", file.length);
-    for (size_t index = 0; index < member.symbols; index++) {
-        read_text(&symbols, &symbol);
-        put(text, "symbol ", 0);
-        put_name(text, symbol);
-        put(text, "\n", 0);
-    }
-    put_file(text, file);
-}
-
-static struct text listing_of(struct answer answer)
-{
-    struct text text = {NULL, 0, 0};
-    struct reader reader = {answer.buffer, answer.length};
-    size_t count;
-    demand(read_number(&reader, &count), "the encoding has no count");
-    for (size_t index = 0; index < count; index++)
-        put_member(&text, &reader);
-    demand(reader.left == 0, "something follows the members");
-    return text;
-}
-
 /* ---- cases */
 
 static void run(struct call call, int refuses)
 {
     struct answer answer = called_with_all(call);
-    struct text listing = {NULL, 0, 0};
     size_t line = 12345, column = 67890;
     if (refuses)
         call_refused(call, answer);
-    if (call.function == NULL && call.with == implib_library_with && !call.is_of_exports)
+    if (call.name == LIBRARY_WITH)
         call_written(call, answer, refuses);
-    implib_position(call.text.length == 0 ? NULL : call.text.bytes, call.text.length, answer.place, &line,
-                    &column);
+    implib_position(call.text.length == 0 ? NULL : call.text.bytes, call.text.length, answer.place, &line, &column);
     implib_position(call.text.bytes, call.text.length, answer.place, NULL, NULL);
-    if (answer.status == IMPLIB_SUCCESS && call.function == implib_members)
-        listing = listing_of(answer);
-    if (answer.status == IMPLIB_SUCCESS && call.function != implib_members) {
-        listing.bytes = (char *)answer.buffer;
-        listing.length = answer.length;
-        answer.buffer = NULL;
-    }
-    printf("%u %zu %zu %zu %zu\n", answer.status, answer.place, line, column, listing.length);
-    fwrite(listing.bytes == NULL ? "" : listing.bytes, 1, listing.length, stdout);
-    free(listing.bytes);
+    size_t length = answer.status == IMPLIB_SUCCESS ? answer.length : 0;
+    printf("%u %zu %zu %zu %zu\n", answer.status, answer.place, line, column, length);
+    fwrite(answer.buffer, 1, length, stdout);
     free(answer.buffer);
 }
 
-static int number_read(size_t *number)
+static int numbers_read(uint64_t *numbers, size_t count)
 {
-    uint8_t bytes[8];
-    struct reader reader = {bytes, 8};
-    return fread(bytes, 1, 8, stdin) == 8 && read_number(&reader, number);
+    return fread(numbers, sizeof *numbers, count, stdin) == count;
 }
 
-/* The next bytes of a case, exactly as long. */
-static uint8_t *bytes_read(size_t length)
+/* The next bytes of a case, exactly as long, or a null pointer. */
+static struct slice bytes_read(uint64_t length)
 {
-    uint8_t *bytes = malloc(length);
-    demand(bytes != NULL && fread(bytes, 1, length, stdin) == length, "a case is cut short");
-    return bytes;
+    if (length == UINT64_MAX)
+        return (struct slice){NULL, 0};
+    struct slice read = {malloc(length), length};
+    demand(read.bytes != NULL && fread(read.bytes, 1, length, stdin) == length, "a case is cut short");
+    return read;
 }
 
-/* A name of an export, which may be null. */
-static const uint8_t *name_read(size_t *length)
+static struct implib_export export_read(void)
 {
-    demand(number_read(length), "an export is cut short");
-    if (*length != SIZE_MAX)
-        return bytes_read(*length);
-    *length = 0;
-    return NULL;
+    uint64_t length = 0, numbers[2] = {0, 0};
+    demand(numbers_read(&length, 1), "an export is cut short");
+    struct slice name = bytes_read(length);
+    demand(numbers_read(&length, 1), "an export is cut short");
+    struct slice target = bytes_read(length);
+    demand(numbers_read(numbers, 2), "an export is cut short");
+    return (struct implib_export){name.bytes, name.length, target.bytes, target.length, (uint16_t)numbers[0],
+                                  (uint32_t)numbers[1]};
 }
 
-static struct implib_export *exports_read(size_t count)
+static int run_next(enum name name)
 {
-    struct implib_export *exports = malloc(count * sizeof *exports);
+    uint64_t of[10];
+    if (!numbers_read(of, 10))
+        return 0;
+    struct slice dll = bytes_read(of[4] ? of[5] : UINT64_MAX), text = bytes_read(of[6]), library = bytes_read(of[7]);
+    struct implib_export *exports = malloc(of[8] * sizeof *exports);
     demand(exports != NULL, "no memory for exports");
-    for (size_t index = 0; index < count; index++) {
-        struct implib_export *export = &exports[index];
-        size_t ordinal = 0, flags = 0;
-        export->name = name_read(&export->name_length);
-        export->target = name_read(&export->target_length);
-        demand(number_read(&ordinal) && number_read(&flags), "an export is cut short");
-        export->ordinal = (uint16_t)ordinal;
-        export->flags = (uint32_t)flags;
-    }
-    return exports;
-}
-
-static void exports_freed(struct implib_export *exports, size_t count)
-{
-    for (size_t index = 0; index < count; index++) {
+    for (size_t index = 0; index < of[8]; index++)
+        exports[index] = export_read();
+    struct implib_options options = {of[0], (uint16_t)of[1], (uint32_t)of[2], (uint32_t)of[3], dll.bytes, of[5]};
+    run((struct call){name, options, text, library, exports, of[8]}, of[9] != 0);
+    for (size_t index = 0; index < of[8]; index++) {
         free((void *)exports[index].name);
         free((void *)exports[index].target);
     }
     free(exports);
-}
-
-static int run_next(callee *function, callee_with *with, int is_of_exports)
-{
-    size_t size = sizeof(struct implib_options), flags = 0, has_dll = 0, dll_length = 0;
-    size_t machine, flavor, refuses, length;
-    if (function == NULL
-        && (!number_read(&size) || !number_read(&flags) || !number_read(&has_dll) || !number_read(&dll_length)))
-        return 0;
-    if (!number_read(&machine) || !number_read(&flavor) || !number_read(&refuses) || !number_read(&length))
-        return 0;
-    uint8_t *dll = has_dll ? bytes_read(dll_length) : NULL;
-    size_t library_length = 0;
-    demand(function != NULL || with != NULL || number_read(&library_length), "a library is cut short");
-    uint8_t *library = bytes_read(library_length);
-    size_t text_length = is_of_exports ? 0 : length, count = is_of_exports ? length : 0;
-    uint8_t *text = bytes_read(text_length);
-    struct implib_export *exports = exports_read(count);
-    struct call call = {
-        function, with, {library, library_length}, {text, text_length},
-        {size, (uint16_t)machine, (uint32_t)flavor, (uint32_t)flags, dll, dll_length}, is_of_exports, exports, count};
-    run(call, refuses != 0);
-    exports_freed(exports, count);
-    free(text);
-    free(library);
-    free(dll);
+    free(library.bytes);
+    free(text.bytes);
+    free(dll.bytes);
     return 1;
 }
 
@@ -522,29 +394,12 @@ static void run_text(uint32_t status)
 
 int main(int count, char *arguments[])
 {
-    if (count == 2 && strcmp(arguments[1], "texts") == 0) {
-        for (uint32_t status = 0; status < 100; status++)
-            run_text(status);
-        return 0;
-    }
+    demand(count == 2, "no call is named");
+    for (uint32_t status = 0; strcmp(arguments[1], "texts") == 0 && status < 100; status++)
+        run_text(status);
     demand(implib_version() == IMPLIB_VERSION, "the header is of another version than the library");
-    callee *function = implib_members;
-    if (count == 2 && strcmp(arguments[1], "library") == 0)
-        function = implib_library;
-    if (count == 2 && strcmp(arguments[1], "definition") == 0)
-        function = definition;
-    if (count == 2 && strcmp(arguments[1], "imports") == 0)
-        function = imports;
-    if (count == 2 && strcmp(arguments[1], "exports") == 0)
-        function = exports;
-    int is_of_exports = count == 2 && strcmp(arguments[1], "of") == 0;
-    int is_of_warnings = count == 2 && strcmp(arguments[1], "warnings") == 0;
-    is_of_dlls = count == 2 && strcmp(arguments[1], "beside") == 0;
-    int is_of_checks = is_of_dlls || (count == 2 && strcmp(arguments[1], "check") == 0);
-    if (is_of_exports || is_of_warnings || is_of_checks || (count == 2 && strcmp(arguments[1], "with") == 0))
-        function = NULL;
-    callee_with *with = is_of_warnings ? implib_warnings : is_of_checks ? NULL : implib_library_with;
-    while (run_next(function, with, is_of_exports))
-        ;
+    for (size_t name = 0; name < sizeof NAMES / sizeof *NAMES; name++)
+        while (strcmp(arguments[1], NAMES[name]) == 0 && run_next((enum name)name))
+            ;
     return 0;
 }
