@@ -5,11 +5,13 @@ entry, or nothing that a loader fills: then it is lost.
 """
 from dataclasses import dataclass, field
 from functools import reduce
+from itertools import permutations, product
 from operator import or_
+
+from targets import X86, definition
 
 LLD, GNU = ("lld-link", "ld.lld"), ("GNU ld",)
 ALL = LLD + GNU
-X86 = ("I386", "AMD64")
 EVERY = ("I386", "ARMNT", "AMD64", "ARM64")
 NOT_ARMNT = ("I386", "AMD64", "ARM64")
 LOST = "lost"
@@ -26,30 +28,32 @@ class Fails:
 
 @dataclass(frozen=True)
 class Trial:
-    """What is linked, by which linkers for which machines, and what is found: what each symbol leads
-    to, or how the link fails; and, where it is given, what the import directory has, that is each DLL
-    with what it is asked for."""
+    """What is linked, by which linkers for which machines, and what is found: what each symbol of the program leads to,
+    or how the link fails; and, where it is given, what the import directory has, that is each DLL with what it is asked
+    for. Without `parts` a program that names these symbols is linked with the libraries. A part is an option, in which
+    `{_}` is what is in front of a symbol of C, or a file that `Links` makes."""
 
     linkers: tuple
     machines: tuple
     libraries: tuple
     found: object
     directory: dict | None = None
-    # options of a linker; `{_}` is what is in front of a symbol of C
+    # options of a linker, in front
     options: dict = field(default_factory=dict)
-
-
-def definition(dll, *exports):
-    return "\n".join([f"LIBRARY {dll}", "EXPORTS", *exports, ""])
+    parts: tuple = ()
+    # how the link may fail, too
+    or_fails: str | None = None
+    # whether lld-link is not told that the program is not safe
+    is_safe: bool = False
 
 
 def msvc(*definitions):
     """An archive for each definition, in Microsoft's flavour."""
-    return tuple(("msvc", text) for text in definitions)
+    return tuple(("library", "msvc", text) for text in definitions)
 
 
 def gnu(*definitions):
-    return tuple(("gnu", text) for text in definitions)
+    return tuple(("library", "gnu", text) for text in definitions)
 
 
 def entries(dll, *names):
@@ -243,4 +247,119 @@ DLL_NAMES = {
     "dll-name-other": of_lost_names(False, "ZOO.DLL", "zoo.EXE", "zoo.drv", "zoo.sys"),
 }
 
-LINES = NAMES | CONSTANTS | SEVERAL | ALIGNMENT | DLL_NAMES
+# ---- orders, and programs of more than words
+
+
+def in_order(linkers, machines, parts, directory, found=None, **more):
+    """What the import directory has where these parts are linked; or how the link fails."""
+    fails = Fails((), directory) if isinstance(directory, str) else None
+    return Trial(linkers, machines, (), fails or found or {}, None if fails else directory, parts=parts, **more)
+
+
+FLAVOURS = ("msvc", "gnu")
+# An archive whose object wants what follows.
+HELPER = ".data\n.globl {_}helper\n{_}helper: {word} "
+BOTH_WAYS = [("words", "helper"), ("archive", HELPER + "{_}zoo_open\n")]
+OPENS = {"zoo.dll": ["zoo_open"]}
+ARCHIVE_ORDER = [
+    trial
+    for name in FLAVOURS
+    for program, archive, library in [(*BOTH_WAYS, ("library", name, OPEN))]
+    for trial in (
+        in_order(LLD, NOT_ARMNT, (program, library, archive), OPENS),
+        in_order(GNU, X86, (program, library, archive), "undefined reference"),
+        in_order(ALL, NOT_ARMNT, (program, archive, library), OPENS),
+        in_order(ALL, NOT_ARMNT, (program, library, archive, library), OPENS),
+        in_order(GNU, X86, (program, "--start-group", library, archive, "--end-group"), OPENS),
+    )
+]
+# A library is searched for `zoo_open`, then the helper names `size`, and the library is searched again.
+BOTH = ("words", "helper", "__imp_zoo_open")
+LATE_DATA = [
+    in_order(
+        GNU, X86, (BOTH, *[library] * twice, ("archive", HELPER + "__imp_{_}size\n"), library),
+        OPENS if name == "msvc" and ask == "#7" and twice else {"zoo.dll": [ask, "zoo_open"]},
+    )
+    for name, (export, ask), twice in product(
+        FLAVOURS, (("size @7 NONAME DATA", "#7"), ("size @7 DATA", "size")), (False, True)
+    )
+    for library in [("library", name, definition("zoo.dll", "zoo_open", export))]
+]
+# The plain reference and the library first, or GNU ld with the library last, are right.
+WEAK = {"weak": ("object", ".data\n.weak {_}bar\n{word} {_}bar\n"), "plain": ("words", "bar")}
+WEAK_REFERENCE = [
+    in_order(linkers, EVERY, tuple(files[part] for part in order), directory, found)
+    for name in FLAVOURS
+    for files in [{**WEAK, "library": ("library", name, definition("zoo.dll", "bar"))}]
+    for order in permutations(files)
+    for linkers, directory, found in (
+        (LLD, {"zoo.dll": ["bar"]}, None) if order[2] == "weak" else (LLD, {}, {"bar": "nothing"}),
+        (GNU if order[2] == "library" else (), {"zoo.dll": ["bar"]}, None),
+    )
+]
+# A program of data with the one symbol of MinGW's start code that auto-import asks for.
+STARTED = (
+    "object",
+    ".text\n.globl {_}start, {_}_pei386_runtime_relocator\n{_}start:\n{_}_pei386_runtime_relocator:\n"
+    ".data\n{word} {_}bar\n",
+)
+BY_AUTO_IMPORT = {1: {"zoo.dll": ["bar"]}, 2: {"zoo.dll": ["bar", "baz"]}}
+ALIAS_OF_DATA = [
+    in_order(
+        GNU, X86, (*options, STARTED, ("library", name, definition("zoo.dll", *exports))),
+        BY_AUTO_IMPORT[len(exports)] if name == "gnu" and not options else "undefined reference to `bar'",
+    )
+    for name, exports, options in product(
+        FLAVOURS, (("baz DATA", "bar == {_}baz DATA"), ("bar == {_}baz DATA",)), ((), ("--disable-auto-import",))
+    )
+]
+DEFSYM = "--defsym=_zoo_a=_zoo_b"
+LAST = (("words", "__imp_zoo_b", "zoo_a"), *gnu(definition("zoo.dll", "zoo_b")))
+# A program that says that it is safe.
+SAFE = ".text\n.globl _start\n.set @feat.00, 1\n.globl @feat.00\n_start: call *__imp__zoo_{}\n"
+OWN = ("object", ".data\n.globl {_}zoo_b, __imp_{_}zoo_b\n{_}zoo_b: .long 0\n__imp_{_}zoo_b: .long 0\n")
+WHOLE = {
+    "archive-order": ARCHIVE_ORDER,
+    "late-data": LATE_DATA,
+    "weak-reference": WEAK_REFERENCE,
+    "alias-of-data": ALIAS_OF_DATA,
+    "alias-option-last": [
+        Trial(GNU, ("I386",), (), {"__imp_zoo_b": "entry of zoo.dll!zoo_b", "zoo_a": led}, parts=parts)
+        for parts, led in (((DEFSYM, *LAST), "stub of zoo.dll!zoo_b"), ((*LAST, DEFSYM), "nothing"))
+    ],
+    "bare-data": [
+        Trial(linkers, EVERY, flavour(definition("zoo.dll", "animals DATA")), found, or_fails=or_fails)
+        for flavour in (msvc, gnu)
+        for linkers, found, or_fails in (
+            (("lld-link",), Fails(("animals",), "undefined symbol"), None),
+            (("ld.lld",), {"animals": "entry of zoo.dll!animals"}, "_pei386_runtime_relocator"),
+            (GNU, Fails(("animals",), "_pei386_runtime_relocator"), None),
+        )
+    ],
+    "cut-prefix": [
+        in_order(linkers, (machine,), (("words", f"__imp_{name}"), ("cut", definition("zoo.dll", name))), found)
+        for linkers, machine, name, asked in (
+            (ALL, "I386", "zoo_f", "zoo_f"), (LLD, "AMD64", "_zoo_f", "zoo_f"), (GNU, "AMD64", "_zoo_f", "_zoo_f")
+        )
+        for found in [{"zoo.dll": [asked]}]
+    ],
+    "safe-handlers": [
+        in_order(("lld-link",), ("I386",), (("object", SAFE.format(name)), *library), found, is_safe=True)
+        for name, library, found in (
+            ("b", msvc(ALIAS_WITH_LEAD), {"zoo.dll": ["zoo_b"]}),
+            ("a", msvc(ALIAS_WITH_LEAD), "is not compatible with SEH"),
+            ("b", gnu(ALIAS_WITH_LEAD), "is not compatible with SEH"),
+        )
+    ],
+    # A library of `implib_dlltool`; the program may define `zoo_b` itself.
+    "weak-alias": [
+        in_order(linkers, X86, (("words", symbol), *own, ("own", name, ALIAS)), found)
+        for name, own, symbol in product(FLAVOURS, ((), (OWN,)), ("zoo_a", "__imp_zoo_a"))
+        for linkers, found in (
+            (LLD, {"zoo.dll": ["zoo_b"]}),
+            (GNU, "undefined reference to" if name == "msvc" else {"zoo.dll": ["zoo_b"]}),
+        )
+    ],
+}
+
+LINES = NAMES | CONSTANTS | SEVERAL | ALIGNMENT | DLL_NAMES | WHOLE
