@@ -156,14 +156,14 @@ def fetch_sources(folder, *packages):
 
 def unpacked(folder, package, *patterns):
     """The folder of what these patterns take of a source package, which is fetched into this folder where it is not."""
-    found = glob.glob(os.path.join(folder, f"{package}-*", ""))
+    found = glob.glob(os.path.join(folder, f"{package}[-_]*", ""))
     if not found:
         tars = os.path.join(folder, f"{package}_*.orig.tar.*")
         if not glob.glob(tars):
             fetch_sources(folder, package)
         tar = next(path for path in glob.glob(tars) if not path.endswith(".asc"))
         subprocess.run(["tar", "xf", tar, "--wildcards", *patterns], cwd=folder, check=True)
-        found = glob.glob(os.path.join(folder, f"{package}-*", ""))
+        found = glob.glob(os.path.join(folder, f"{package}[-_]*", ""))
     return found[0]
 
 
