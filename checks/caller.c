@@ -1,16 +1,16 @@
 /*
  * Calls the library for checks/c: reads cases from standard input, and writes what came of each.
  *
- * The argument is the name of a call, without `implib_`. A case is ten numbers of 8 bytes: the size of the options,
- * the machine, the flavour, the flags, whether a name of the DLL is given, its length, the length of a text, that of a
+ * The argument is the name of a call, without `implib_`. A case is ten numbers of 8 bytes: the size of the options, the
+ * machine, the flavour, the flags, whether a name of the DLL is given, its length, the length of a text, that of a
  * library, the number of exports, whether allocations are to fail; then the name, the text, the library, and of each
  * export the length of its name and the name, the same of its target, its ordinal and its flags; a length of 2^64 - 1
  * is a null pointer. Of implib_imports the text is the library, of implib_exports and implib_check_dll the DLL.
  *
- * Each call is made with buffers of several sizes, whose answers have to agree; where they do not, the program ends. Of
- * each case it writes a line with the status, the place, its line and column, and the length of what follows: what the
- * call put into the buffer. Libraries are written by implib_write, too. With the argument `texts` it writes a line with
- * the text of each status from 0 to 99 instead.
+ * Each call is made with buffers of several sizes, and with null pointers, whose answers have to agree; where they do
+ * not, the program ends. Libraries of texts are written by implib_write, too. Of each case it writes a line with the
+ * status, the place, its line and column, and the length of what follows: what the call put into the buffer. With the
+ * argument `texts` it writes a line with the text of each status from 0 to 99 instead.
  *
  * The linker puts __wrap_malloc and its kin in the place of malloc (--wrap).
  */
@@ -75,7 +75,7 @@ static void demand(int holds, const char *what)
     }
 }
 
-enum name { MEMBERS, LIBRARY, DEFINITION, IMPORTS, EXPORTS, LIBRARY_WITH, WARNINGS, LIBRARY_OF, CHECK_LIBRARY, CHECK_DLL };
+enum name { MEMBERS, LIBRARY, DEFINITION, IMPORTS, EXPORTS, WITH, WARNINGS, LIBRARY_OF, CHECK_LIBRARY, CHECK_DLL };
 static const char *const NAMES[] = {"members", "library", "definition", "imports", "exports", "library_with",
                                     "warnings", "library_of", "check_library", "check_dll"};
 
@@ -87,16 +87,14 @@ struct slice {
 struct call {
     enum name name;
     struct implib_options options;
-    struct slice text;
-    struct slice library;
+    struct slice text, library;
     struct implib_export *exports;
     size_t count;
 };
 
 struct answer {
     uint32_t status;
-    size_t length;
-    size_t place;
+    size_t length, place;
     uint8_t *buffer; /* exactly as long as the call is given */
 };
 
@@ -104,33 +102,32 @@ struct answer {
 static uint32_t status_of(struct call call, const uint8_t *text, uint8_t *buffer, size_t room, size_t *length,
                           size_t *place)
 {
-    const struct implib_options *options = &call.options;
+    const struct implib_options *of = &call.options;
     const uint8_t *library = call.library.length == 0 ? NULL : call.library.bytes;
-    size_t count = call.text.length;
+    size_t size = call.library.length, count = call.text.length;
     switch (call.name) {
     case MEMBERS:
-        return implib_members(text, count, options->machine, options->flavor, buffer, room, length, place);
+        return implib_members(text, count, of->machine, of->flavor, buffer, room, length, place);
     case LIBRARY:
-        return implib_library(text, count, options->machine, options->flavor, buffer, room, length, place);
+        return implib_library(text, count, of->machine, of->flavor, buffer, room, length, place);
     case DEFINITION:
-        return implib_definition(text, count, options->machine, buffer, room, length, place);
+        return implib_definition(text, count, of->machine, buffer, room, length, place);
     case IMPORTS:
         if (place != NULL)
             *place = 0;
         return implib_imports(text, count, buffer, room, length);
     case EXPORTS:
         return implib_exports(text, count, buffer, room, length, place);
-    case LIBRARY_WITH:
-        return implib_library_with(options, text, count, buffer, room, length, place);
+    case WITH:
+        return implib_library_with(of, text, count, buffer, room, length, place);
     case WARNINGS:
-        return implib_warnings(options, text, count, buffer, room, length, place);
+        return implib_warnings(of, text, count, buffer, room, length, place);
     case LIBRARY_OF:
-        return implib_library_of(options, call.count == 0 ? NULL : call.exports, call.count, buffer, room, length, place);
+        return implib_library_of(of, call.count == 0 ? NULL : call.exports, call.count, buffer, room, length, place);
     case CHECK_LIBRARY:
-        return implib_check_library(library, call.library.length, text, count, options, buffer, room, length, place);
+        return implib_check_library(library, size, text, count, of, buffer, room, length, place);
     default:
-        return implib_check_dll(library, call.library.length, text, count, options->dll, options->dll_length, buffer,
-                                room, length, place);
+        return implib_check_dll(library, size, text, count, of->dll, of->dll_length, buffer, room, length, place);
     }
 }
 
@@ -142,14 +139,25 @@ static int is_untouched(const uint8_t *bytes, size_t from, size_t to)
     return 1;
 }
 
-/* A call with a buffer of this length, after whose end nothing may be touched. */
-static struct answer called(struct call call, size_t room)
+/* A buffer of this length, of a pattern. */
+static uint8_t *new_buffer(size_t room)
 {
-    struct answer answer = {0, 12345, 67890, malloc(room)};
-    demand(answer.buffer != NULL, "no memory for a buffer");
-    memset(answer.buffer, PATTERN, room);
+    uint8_t *buffer = malloc(room);
+    demand(buffer != NULL, "no memory for a buffer");
+    memset(buffer, PATTERN, room);
+    return buffer;
+}
+
+/* A call with a buffer of this length, behind whose answer nothing may be touched. The allocation of this number fails,
+ * or none does. */
+static struct answer called(struct call call, size_t room, long number)
+{
+    struct answer answer = {0, 12345, 67890, new_buffer(room)};
     long before = held;
+    has_failed = 0;
+    until_failure = number;
     answer.status = status_of(call, call.text.bytes, answer.buffer, room, &answer.length, &answer.place);
+    until_failure = -1;
     demand(held == before, "memory is not freed");
     size_t written = answer.status == IMPLIB_SUCCESS ? answer.length : 0;
     demand(written <= room, "more is written than there is room");
@@ -170,40 +178,32 @@ static void demand_same(struct answer first, struct answer second)
 static void call_null(struct call call, struct answer expected)
 {
     const uint8_t *text = call.text.length == 0 ? NULL : call.text.bytes;
-    struct answer answer = {0, 12345, 67890, NULL};
-    answer.status = status_of(call, text, NULL, 0, &answer.length, &answer.place);
-    demand_same(expected, answer);
-    answer.length = 12345;
-    answer.status = status_of(call, text, NULL, 0, &answer.length, NULL);
-    demand_same(expected, answer);
-    answer.status = status_of(call, text, NULL, 0, NULL, NULL);
-    demand_same(expected, answer);
-}
-
-/* The call with a buffer that is too short: the same length is needed. */
-static void call_short(struct call call, size_t room, size_t needed)
-{
-    struct answer answer = called(call, room);
-    demand(answer.status == IMPLIB_BUFFER_TOO_SMALL && answer.length == needed && answer.place == 0,
-           "a short buffer is not refused");
-    free(answer.buffer);
+    for (int wanted = 0; wanted < 4; wanted++) {
+        struct answer answer = {0, wanted & 1 ? 12345 : expected.length, wanted & 2 ? 67890 : expected.place, NULL};
+        size_t *length = wanted & 1 ? &answer.length : NULL, *place = wanted & 2 ? &answer.place : NULL;
+        answer.status = status_of(call, text, NULL, 0, length, place);
+        demand_same(expected, answer);
+    }
 }
 
 /* The call with buffers of several sizes; the answer is that of one that is just long enough. */
 static struct answer called_with_all(struct call call)
 {
-    struct answer empty = called(call, 0);
+    struct answer empty = called(call, 0, -1);
     free(empty.buffer);
     call_null(call, empty);
     if (empty.status != IMPLIB_BUFFER_TOO_SMALL) {
-        struct answer other = called(call, ROOM);
+        struct answer other = called(call, ROOM, -1);
         demand_same(empty, other);
         return other;
     }
-    call_short(call, 1, empty.length);
-    call_short(call, empty.length / 2, empty.length);
-    call_short(call, empty.length - 1, empty.length);
-    struct answer exact = called(call, empty.length), roomy = called(call, empty.length + ROOM);
+    size_t lengths[] = {1, empty.length / 2, empty.length - 1};
+    for (size_t index = 0; index < 3; index++) {
+        struct answer shorter = called(call, lengths[index], -1);
+        demand_same(empty, shorter);
+        free(shorter.buffer);
+    }
+    struct answer exact = called(call, empty.length, -1), roomy = called(call, empty.length + ROOM, -1);
     demand(exact.status == IMPLIB_SUCCESS && exact.length == empty.length, "an exact buffer is refused");
     demand_same(exact, roomy);
     demand(memcmp(exact.buffer, roomy.buffer, exact.length) == 0, "the encoding depends on the buffer");
@@ -214,26 +214,14 @@ static struct answer called_with_all(struct call call)
 /* The call with one allocation after the other failing, up to one at which none is left to fail. */
 static void call_refused(struct call call, struct answer expected)
 {
-    for (long number = 1; ; number++) {
-        size_t room = expected.length < ROOM ? ROOM : expected.length;
-        struct answer answer = {0, 1, 1, malloc(room)};
-        demand(answer.buffer != NULL, "no memory for a buffer");
-        memset(answer.buffer, PATTERN, room);
-        has_failed = 0;
-        long before = held;
-        until_failure = number;
-        answer.status = status_of(call, call.text.bytes, answer.buffer, room, &answer.length, &answer.place);
-        until_failure = -1;
-        demand(held == before, "memory is not freed after a failed allocation");
-        if (!has_failed) {
-            demand_same(expected, answer);
-            free(answer.buffer);
-            return;
-        }
+    has_failed = 1;
+    for (long number = 1; has_failed; number++) {
+        struct answer answer = called(call, expected.length < ROOM ? ROOM : expected.length, number);
         int is_reported = answer.status == IMPLIB_OUT_OF_MEMORY && answer.length == 0 && answer.place == 0;
         int is_other = answer.status == expected.status && answer.status >= IMPLIB_UNKNOWN_DIRECTIVE;
-        demand(is_reported || is_other, "a failed allocation is not reported");
-        demand(is_untouched(answer.buffer, 0, room), "a failed allocation changes the buffer");
+        demand(!has_failed || is_reported || is_other, "a failed allocation is not reported");
+        if (!has_failed)
+            demand_same(expected, answer);
         free(answer.buffer);
     }
 }
@@ -243,9 +231,7 @@ static void call_refused(struct call call, struct answer expected)
 /* What a writer has taken, of a library that is known, and the number of the piece that it does not take. */
 struct taken {
     struct answer library;
-    size_t length;
-    size_t pieces;
-    size_t refused;
+    size_t length, pieces, refused;
 };
 
 static int take(void *context, const uint8_t *bytes, size_t count)
@@ -262,16 +248,19 @@ static int take(void *context, const uint8_t *bytes, size_t count)
     return 0;
 }
 
-/* Writes the library of a call, of which this piece is not taken; gives what was taken. */
-static struct taken written(struct call call, struct answer library, size_t refused, uint32_t *status, size_t *place)
+/* Writes the library of a call, of which this piece is not taken, and this allocation fails; gives what was taken. */
+static struct taken written(struct call call, struct answer library, size_t refused, long number, struct answer *told)
 {
     struct taken taken = {library, 0, 0, refused};
-    size_t length = 12345;
     long before = held;
-    *place = 67890;
-    *status = implib_write(&call.options, call.text.bytes, call.text.length, take, &taken, &length, place);
+    *told = (struct answer){0, 12345, 67890, NULL};
+    has_failed = 0;
+    until_failure = number;
+    told->status = implib_write(&call.options, call.text.bytes, call.text.length, take, &taken, &told->length,
+                                &told->place);
+    until_failure = -1;
     demand(held == before, "memory is not freed after writing");
-    demand(length == taken.length, "another length is told than was written");
+    demand(told->length == taken.length, "another length is told than was written");
     return taken;
 }
 
@@ -279,27 +268,24 @@ static struct taken written(struct call call, struct answer library, size_t refu
  * first two, one in the middle and the last are not taken, each in turn. */
 static void call_written(struct call call, struct answer expected, int refuses)
 {
-    uint32_t status;
-    size_t place, pieces = written(call, expected, SIZE_MAX, &status, &place).pieces;
-    demand(status == expected.status && place == expected.place, "another status is told than of the library");
-    demand(status != IMPLIB_SUCCESS || pieces > 0, "nothing is written");
+    struct answer told;
+    size_t pieces = written(call, expected, SIZE_MAX, -1, &told).pieces;
+    demand(told.status == expected.status && told.place == expected.place, "another status is told by writing");
+    demand(told.status != IMPLIB_SUCCESS || pieces > 0, "nothing is written");
     for (size_t refused = 0; refused < pieces; refused++) {
         if (pieces > 8 && refused > 1 && refused != pieces / 2 && refused != pieces - 1)
             continue;
-        struct taken taken = written(call, expected, refused, &status, &place);
-        demand(status == IMPLIB_WRITE_FAILED && place == 0, "a piece that is not taken is not told");
-        demand(taken.pieces == refused, "a piece is written behind one that is not taken");
+        size_t taken = written(call, expected, refused, -1, &told).pieces;
+        demand(told.status == IMPLIB_WRITE_FAILED && told.place == 0, "a piece that is not taken is not told");
+        demand(taken == refused, "a piece is written behind one that is not taken");
     }
-    status = implib_write(&call.options, call.text.bytes, call.text.length, take,
-                          &(struct taken){expected, 0, 0, SIZE_MAX}, NULL, NULL);
-    demand(status == expected.status, "the status depends on what is told");
+    struct taken taken = {expected, 0, 0, SIZE_MAX};
+    told.status = implib_write(&call.options, call.text.bytes, call.text.length, take, &taken, NULL, NULL);
+    demand(told.status == expected.status, "the status depends on what is told");
     for (long number = 1; refuses; number++) {
-        has_failed = 0;
-        until_failure = number;
-        struct taken taken = written(call, expected, SIZE_MAX, &status, &place);
-        until_failure = -1;
-        int is_reported = status == IMPLIB_OUT_OF_MEMORY && place == 0 && taken.pieces == 0;
-        demand(is_reported || (status == expected.status && place == expected.place),
+        pieces = written(call, expected, SIZE_MAX, number, &told).pieces;
+        int is_reported = told.status == IMPLIB_OUT_OF_MEMORY && told.place == 0 && pieces == 0;
+        demand(is_reported || (told.status == expected.status && told.place == expected.place),
                "a failed allocation is not told by writing");
         refuses = has_failed;
     }
@@ -313,7 +299,7 @@ static void run(struct call call, int refuses)
     size_t line = 12345, column = 67890;
     if (refuses)
         call_refused(call, answer);
-    if (call.name == LIBRARY_WITH)
+    if (call.name == WITH)
         call_written(call, answer, refuses);
     implib_position(call.text.length == 0 ? NULL : call.text.bytes, call.text.length, answer.place, &line, &column);
     implib_position(call.text.bytes, call.text.length, answer.place, NULL, NULL);
@@ -379,13 +365,11 @@ static void run_text(uint32_t status)
     size_t length = implib_status_text(status, NULL, 0);
     demand(length + 1 <= IMPLIB_STATUS_TEXT_SIZE, "a text is too long");
     for (size_t room = 0; room <= IMPLIB_STATUS_TEXT_SIZE; room++) {
-        char *buffer = malloc(room);
-        demand(buffer != NULL, "no memory for a buffer");
-        memset(buffer, PATTERN, room);
-        demand(implib_status_text(status, buffer, room) == length, "the length depends on the buffer");
-        size_t written = room > length ? length + 1 : 0;
-        demand(is_untouched((uint8_t *)buffer, written, room), "more is written than the text");
-        demand(written == 0 || strlen(buffer) == length, "the text is not ended");
+        uint8_t *buffer = new_buffer(room);
+        demand(implib_status_text(status, (char *)buffer, room) == length, "the length depends on the buffer");
+        size_t count = room > length ? length + 1 : 0;
+        demand(is_untouched(buffer, count, room), "more is written than the text");
+        demand(count == 0 || strlen((char *)buffer) == length, "the text is not ended");
         if (room == IMPLIB_STATUS_TEXT_SIZE)
             printf("%s\n", buffer);
         free(buffer);
