@@ -93,50 +93,45 @@ OPTIONS = {
     "GNU ld": ("--defsym={_}zoo_a={_}zoo_b", "--defsym=__imp_{_}zoo_a=__imp_{_}zoo_b"),
 }
 OF_C = Fails(("__imp__feed@8", "_feed@8"), "undefined.*feed@8")
+I386, ARMNT, LLD_LINK, LD_LLD = ("I386",), ("ARMNT",), ("lld-link",), ("ld.lld",)
+FEED, OWN_FEED = definition("zoo.dll", "feed@8"), definition("zoo.dll", "_feed@8")
 NAMES = {
     "alias-gnu": [
-        trial
-        for text in (ALIAS, ALIAS_ALONE)
-        for trial in (
-            Trial(ALL, NOT_ARMNT, gnu(text), ASKS_A),
-            Trial(LLD, ("ARMNT",), gnu(text), entries("zoo.dll", "zoo_a")),
-        )
+        *(Trial(ALL, NOT_ARMNT, gnu(text), ASKS_A) for text in (ALIAS, ALIAS_ALONE)),
+        *(Trial(LLD, ARMNT, gnu(text), entries("zoo.dll", "zoo_a")) for text in (ALIAS, ALIAS_ALONE)),
     ],
     "alias-lld": [
         Trial(LLD, ("ARMNT", "AMD64", "ARM64"), msvc(ALIAS), ASKS_B),
-        Trial(LLD, ("I386",), msvc(ALIAS_WITH_LEAD), ASKS_B),
+        Trial(LLD, I386, msvc(ALIAS_WITH_LEAD), ASKS_B),
         Trial(LLD, EVERY, msvc(ALIAS_ALONE), UNDEFINED),
     ],
-    "alias-lead": [
-        Trial(("lld-link",), ("I386",), msvc(ALIAS), UNDEFINED),
-        Trial(("ld.lld",), ("I386",), msvc(ALIAS), GUESSED),
-    ],
+    "alias-lead": [Trial(LLD_LINK, I386, msvc(ALIAS), UNDEFINED), Trial(LD_LLD, I386, msvc(ALIAS), GUESSED)],
     "alias-gnu-ld": [Trial(GNU, X86, msvc(text), ASKS_A) for text in (ALIAS, ALIAS_ALONE)],
     "alias-option": both(ALL, X86, definition("zoo.dll", "zoo_b"), ASKS_B, options=OPTIONS),
     "renamed": both(ALL, X86, definition("zoo.dll", "zoo_a = zoo_b"), ASKS_A),
     "stdcall": [
-        *both(ALL, ("I386",), definition("zoo.dll", "feed@8"), OF_C),
-        *both(ALL, ("I386",), definition("zoo.dll", "feed@8"), calls("zoo.dll", "feed@8")),
-        *both(ALL, ("I386",), definition("zoo.dll", "_feed@8"), calls("zoo.dll", "_feed@8")),
+        *both(ALL, I386, FEED, OF_C), *both(ALL, I386, FEED, calls("zoo.dll", "feed@8")),
+        *both(ALL, I386, OWN_FEED, calls("zoo.dll", "_feed@8")),
     ],
 }
 
 # ---- constants
 
 CONSTANT = definition("zoo.dll", "zoo_open", "limit CONSTANT")
+NOT_RECOGNIZED = [
+    Fails(symbols, "file format not recognized")
+    for symbols in (("__imp_limit",), ("limit",), ("__imp_zoo_open", "__imp_limit"))
+]
 CONSTANTS = {
     "constant-gnu": [
         Trial(ALL, NOT_ARMNT, gnu(CONSTANT), calls("zoo.dll", "limit")),
-        Trial(LLD, ("ARMNT",), gnu(CONSTANT), entries("zoo.dll", "limit")),
+        Trial(LLD, ARMNT, gnu(CONSTANT), entries("zoo.dll", "limit")),
     ],
     "constant-lld": [
         Trial(LLD, EVERY, msvc(CONSTANT), entries("zoo.dll", "limit") | {"limit": "entry of zoo.dll!limit"}),
     ],
     "constant-gnu-ld": [
-        *(
-            Trial(GNU, X86, msvc(CONSTANT), Fails(symbols, "file format not recognized"))
-            for symbols in (("__imp_limit",), ("limit",), ("__imp_zoo_open", "__imp_limit"))
-        ),
+        *(Trial(GNU, X86, msvc(CONSTANT), fails) for fails in NOT_RECOGNIZED),
         Trial(GNU, X86, msvc(CONSTANT), calls("zoo.dll", "zoo_open")),
     ],
 }
@@ -149,12 +144,11 @@ SECOND_LOST = entries("zoo.dll", "zoo_open") | lost("zoo_close")
 ALIKE = definition("a.b.dll", "zoo_open"), definition("a_b.dll", "zoo_close")
 ALIKE_RIGHT = entries("a.b.dll", "zoo_open") | entries("a_b.dll", "zoo_close")
 BEGINNINGS = definition("zoo", "zoo_open"), definition("zoo_a_i.dll", "zoo_close")
-BEGINNINGS_RIGHT = entries("zoo", "zoo_open") | entries("zoo_a_i.dll", "zoo_close")
-DLLS = definition("zoo.dll", "zoo_open"), definition("yak.dll", "yak_open")
+ONE_BEGUN = {"zoo": ["zoo_close"], "zoo_a_i.dll": ["zoo_close"]}
+SECOND_BEGUN = entries("zoo_a_i.dll", "zoo_close")
+ONE_ARCHIVE = OPEN + "---\n" + definition("yak.dll", "yak_open")
 SEVERAL = {
-    "one-archive": both(
-        ALL, X86, "---\n".join(DLLS), calls("zoo.dll", "zoo_open") | calls("yak.dll", "yak_open")
-    ),
+    "one-archive": both(ALL, X86, ONE_ARCHIVE, calls("zoo.dll", "zoo_open") | calls("yak.dll", "yak_open")),
     "two-archives": [
         Trial(LLD, EVERY, msvc(OPEN, CLOSE), TWO_RIGHT),
         Trial(LLD, EVERY, gnu(OPEN, CLOSE), SECOND_LOST),
@@ -166,17 +160,13 @@ SEVERAL = {
     "one-mangled-name": [
         Trial(LLD, EVERY, gnu(*ALIKE), entries("a.b.dll", "zoo_open") | lost("zoo_close")),
         Trial(GNU, X86, gnu(*ALIKE), entries("a.b.dll", "zoo_open", "zoo_close")),
-        *(
-            Trial(ALL, EVERY, libraries, ALIKE_RIGHT)
-            for libraries in (gnu(ALIKE[0]) + msvc(ALIKE[1]), msvc(ALIKE[0]) + gnu(ALIKE[1]), msvc(*ALIKE))
-        ),
+        Trial(ALL, EVERY, gnu(ALIKE[0]) + msvc(ALIKE[1]), ALIKE_RIGHT),
+        Trial(ALL, EVERY, msvc(ALIKE[0]) + gnu(ALIKE[1]), ALIKE_RIGHT),
+        Trial(ALL, EVERY, msvc(*ALIKE), ALIKE_RIGHT),
     ],
     "beginnings": [
-        Trial(
-            ALL, X86, gnu("---\n".join(BEGINNINGS)), lost("zoo_open") | entries("zoo_a_i.dll", "zoo_close"),
-            {"zoo": ["zoo_close"], "zoo_a_i.dll": ["zoo_close"]},
-        ),
-        Trial(ALL, X86, gnu(*BEGINNINGS), BEGINNINGS_RIGHT),
+        Trial(ALL, X86, gnu("---\n".join(BEGINNINGS)), lost("zoo_open") | SECOND_BEGUN, ONE_BEGUN),
+        Trial(ALL, X86, gnu(*BEGINNINGS), entries("zoo", "zoo_open") | SECOND_BEGUN),
     ],
 }
 
@@ -184,58 +174,43 @@ SEVERAL = {
 
 ANIMALS = ("zoo", "yak", "emu", "gnu", "lynx")
 RUNS = [definition(f"{name}.dll", f"{name}_run", f"{name}_size DATA") for name in ANIMALS]
-
-
-def runs(count):
-    """What a program finds that calls a function of each of the first DLLs."""
-    return reduce(or_, (calls(f"{name}.dll", f"{name}_run") for name in ANIMALS[:count]))
-
-
-def sizes(count):
-    """What a program finds that names data of each of the first DLLs."""
-    return reduce(or_, (entries(f"{name}.dll", f"{name}_size") for name in ANIMALS[:count]))
-
-
-def of_arm64(libraries, found):
-    return Trial(LLD, ("ARM64",), libraries, found)
-
-
-def misaligned(symbols):
-    return Fails(tuple(symbols), "misaligned ldr/str offset")
-
-
+# What a program finds that calls a function, or names data, of each of the first DLLs.
+CALLED = [reduce(or_, (calls(f"{name}.dll", f"{name}_run") for name in ANIMALS[:n]), {}) for n in range(6)]
+SIZES = [reduce(or_, (entries(f"{name}.dll", f"{name}_size") for name in ANIMALS[:n]), {}) for n in range(6)]
+MISALIGNED = [Fails(tuple(symbols), "misaligned ldr/str offset") for symbols in CALLED]
 ALIGNMENT = {
     "even": [
-        *(of_arm64(gnu(*RUNS[:count]), misaligned(runs(count))) for count in (2, 4)),
-        of_arm64(gnu(*RUNS[:2]), misaligned(("__imp_zoo_run", "__imp_yak_run"))),
-        *(of_arm64(gnu(*RUNS[:count]), runs(count)) for count in (1, 3, 5)),
-        *(of_arm64(gnu(*RUNS[:count]), sizes(count)) for count in (2, 4)),
-        *(of_arm64(msvc(RUNS[0]) + gnu(*RUNS[1:count]), runs(count)) for count in (2, 3, 4)),
-        of_arm64(msvc(*RUNS[:4]), runs(4)),
+        Trial(LLD, ("ARM64",), libraries, found)
+        for libraries, found in (
+            *((gnu(*RUNS[:count]), MISALIGNED[count]) for count in (2, 4)),
+            (gnu(*RUNS[:2]), Fails(("__imp_zoo_run", "__imp_yak_run"), MISALIGNED[0].text)),
+            *((gnu(*RUNS[:count]), CALLED[count]) for count in (1, 3, 5)),
+            *((gnu(*RUNS[:count]), SIZES[count]) for count in (2, 4)),
+            *((msvc(RUNS[0]) + gnu(*RUNS[1:count]), CALLED[count]) for count in (2, 3, 4)),
+            (msvc(*RUNS[:4]), CALLED[4]),
+        )
     ],
 }
 
 # ---- names of DLLs
 
+EXPORTS = ("zoo_open", "secret @9 NONAME", "animals DATA")
+ALL_LOST = lost("zoo_open", "secret", "animals")
+
 
 def of_names(linkers, machines, flavour, *dlls):
     """Libraries of DLLs of these names, of which all that a program names is found."""
-    return [
-        Trial(linkers, machines, flavour(definition(dll, *EXPORTS)), found, {dll: ["#9", "animals", "zoo_open"]})
-        for dll in dlls
-        for found in [entries(dll, "zoo_open", "secret:#9", "animals")]
-    ]
+    found = {dll: entries(dll, "zoo_open", "secret:#9", "animals") for dll in dlls}
+    directory = ["#9", "animals", "zoo_open"]
+    return [Trial(linkers, machines, flavour(definition(dll, *EXPORTS)), found[dll], {dll: directory}) for dll in dlls]
 
 
 def of_lost_names(is_there, *dlls):
     """Libraries of DLLs of these names, all of whose imports are lost; the DLL is there or not."""
-    found = lost("zoo_open", "secret", "animals")
-    return [
-        Trial(GNU, X86, msvc(definition(dll, *EXPORTS)), found, {dll: []} if is_there else {}) for dll in dlls
-    ]
+    kinds = [(msvc(definition(dll, *EXPORTS)), {dll: []} if is_there else {}) for dll in dlls]
+    return [Trial(GNU, X86, library, ALL_LOST, directory) for library, directory in kinds]
 
 
-EXPORTS = ("zoo_open", "secret @9 NONAME", "animals DATA")
 OTHER_NAMES = ("zoo.exe", "zoo", "zoo.drv", "zoo.sys", "ZOO.DLL", "zoo.EXE", "a.b.dll")
 DLL_NAMES = {
     "dll-names": [

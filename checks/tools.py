@@ -4,6 +4,7 @@ import functools
 import glob
 import importlib.machinery
 import importlib.util
+import itertools
 import os
 import re
 import shutil
@@ -133,6 +134,21 @@ def closed(wrong, said):
         print(line)
     print(f"{said}: {len(wrong)} wrong")
     sys.exit(1 if wrong else 0)
+
+
+def failing_runs(folder, command, before=lambda: None):
+    """Runs of a command with one allocation after the other failing, up to one at which none is left to fail. Each is
+    preceded by a call, and is given with the allocation's number."""
+    shim = os.path.join(folder, "failing_malloc.so")
+    if not os.path.exists(shim):
+        done(["gcc", "-shared", "-fPIC", "-o", shim, os.path.join(ROOT, "checks", "failing_malloc.c")])
+    for number in itertools.count(1):
+        before()
+        failing = {"LD_PRELOAD": os.path.abspath(shim), "FAIL_AT": str(number)}
+        run = subprocess.run(command, capture_output=True, text=True, env=failing)
+        if run.stdout.endswith("not reached\n"):
+            return
+        yield number, run
 
 
 # ---- source packages
