@@ -32,20 +32,18 @@ static void hold(int holds, const char *function, const char *what)
 /* ---- the library's own functions */
 
 #define LIST(...) __VA_ARGS__
-#define PASS(POINTERS, NUMBERS, FIRST, SECOND) \
-    pass(__func__, (const void *const[6]){POINTERS}, (const uint64_t[8]){NUMBERS}, FIRST, SECOND)
 #define TEXT const uint8_t *text, size_t text_length
 #define OPTIONS const uint8_t *dll, size_t dll_length, uint32_t has_dll, uint16_t machine, uint32_t flavor, \
                 uint32_t flags
-#define ANSWER uint8_t *buffer, size_t buffer_length, size_t *length, size_t *place
-/* Those with options have the same, in the same order. */
-#define PASS_WITH(ITS, COUNT) \
-    PASS(LIST(ITS, dll, buffer, length, place), \
-         LIST(COUNT, dll_length, has_dll, machine, flavor, flags, buffer_length), length, place)
+#define BUFFER uint8_t *buffer, size_t buffer_length
+#define ANSWER BUFFER, size_t *length, size_t *place
 
 static uint32_t pass(const char *function, const void *const pointers[6], const uint64_t numbers[8], size_t *first,
                      size_t *second)
 {
+    const struct implib_export *exports = pointers[0];
+    if (strcmp(function, "library_of") == 0)
+        hold(exports->name != NULL && exports->target != NULL, function, "an export has a null pointer");
     passed.function = function;
     memcpy(passed.pointers, pointers, sizeof passed.pointers);
     memcpy(passed.numbers, numbers, sizeof passed.numbers);
@@ -56,69 +54,42 @@ static uint32_t pass(const char *function, const void *const pointers[6], const 
     return ANSWERED;
 }
 
-#define STUB_WITH(NAME) \
-    uint32_t NAME(TEXT, OPTIONS, ANSWER) \
+/* A function that passes these on. */
+#define STUB(TYPE, NAME, PARAMETERS, POINTERS, NUMBERS, FIRST, SECOND) \
+    TYPE implib_##NAME##_nonnull PARAMETERS \
     { \
-        return PASS_WITH(text, text_length); \
+        return pass(#NAME, (const void *const[6]){POINTERS}, (const uint64_t[8]){NUMBERS}, FIRST, SECOND); \
     }
-STUB_WITH(implib_library_with_nonnull)
-STUB_WITH(implib_delayed_library_nonnull)
-STUB_WITH(implib_named_library_nonnull)
-STUB_WITH(implib_warnings_nonnull)
+/* Those with options have the same, in the same order. */
+#define STUB_WITH(NAME, PARAMETERS, ITS, COUNT, MORE, LENGTH) \
+    STUB(uint32_t, NAME, PARAMETERS, LIST(ITS, dll, buffer, length, place, MORE), \
+         LIST(COUNT, dll_length, has_dll, machine, flavor, flags, buffer_length, LENGTH), length, place)
 
-uint32_t implib_library_of_nonnull(const struct implib_export *exports, size_t count, OPTIONS, ANSWER)
-{
-    hold(exports->name != NULL && exports->target != NULL, __func__, "an export has a null pointer");
-    return PASS_WITH(exports, count);
-}
-
-uint32_t implib_check_library_nonnull(const uint8_t *bytes, size_t bytes_length, TEXT, OPTIONS, ANSWER)
-{
-    return PASS(LIST(text, dll, buffer, length, place, bytes),
-                LIST(text_length, dll_length, has_dll, machine, flavor, flags, buffer_length, bytes_length), length,
-                place);
-}
-
-uint32_t implib_library_nonnull(TEXT, uint16_t machine, uint32_t flavor, ANSWER)
-{
-    return PASS(LIST(text, buffer, length, place), LIST(text_length, buffer_length, machine, flavor), length, place);
-}
-
-uint32_t implib_members_nonnull(TEXT, uint16_t machine, uint32_t flavor, ANSWER)
-{
-    return PASS(LIST(text, buffer, length, place), LIST(text_length, buffer_length, machine, flavor), length, place);
-}
-
-uint32_t implib_definition_nonnull(TEXT, uint16_t machine, ANSWER)
-{
-    return PASS(LIST(text, buffer, length, place), LIST(text_length, buffer_length, machine), length, place);
-}
-
-uint32_t implib_exports_nonnull(TEXT, ANSWER)
-{
-    return PASS(LIST(text, buffer, length, place), LIST(text_length, buffer_length), length, place);
-}
-
-uint32_t implib_imports_nonnull(TEXT, uint8_t *buffer, size_t buffer_length, size_t *length)
-{
-    return PASS(LIST(text, buffer, length), LIST(text_length, buffer_length), length, NULL);
-}
-
-uint32_t implib_check_dll_nonnull(TEXT, const uint8_t *dll, size_t dll_length, const uint8_t *name, size_t name_length,
-                                  ANSWER)
-{
-    return PASS(LIST(text, dll, name, buffer, length, place), LIST(text_length, dll_length, name_length, buffer_length),
-                length, place);
-}
+STUB_WITH(library_with, (TEXT, OPTIONS, ANSWER), text, text_length, NULL, 0)
+STUB_WITH(delayed_library, (TEXT, OPTIONS, ANSWER), text, text_length, NULL, 0)
+STUB_WITH(named_library, (TEXT, OPTIONS, ANSWER), text, text_length, NULL, 0)
+STUB_WITH(warnings, (TEXT, OPTIONS, ANSWER), text, text_length, NULL, 0)
+STUB_WITH(library_of, (const struct implib_export *exports, size_t count, OPTIONS, ANSWER), exports, count, NULL, 0)
+STUB_WITH(check_library, (const uint8_t *bytes, size_t size, TEXT, OPTIONS, ANSWER), text, text_length, bytes, size)
+STUB(uint32_t, library, (TEXT, uint16_t machine, uint32_t flavor, ANSWER), LIST(text, buffer, length, place),
+     LIST(text_length, buffer_length, machine, flavor), length, place)
+STUB(uint32_t, members, (TEXT, uint16_t machine, uint32_t flavor, ANSWER), LIST(text, buffer, length, place),
+     LIST(text_length, buffer_length, machine, flavor), length, place)
+STUB(uint32_t, definition, (TEXT, uint16_t machine, ANSWER), LIST(text, buffer, length, place),
+     LIST(text_length, buffer_length, machine), length, place)
+STUB(uint32_t, exports, (TEXT, ANSWER), LIST(text, buffer, length, place), LIST(text_length, buffer_length), length,
+     place)
+STUB(uint32_t, imports, (TEXT, BUFFER, size_t *length), LIST(text, buffer, length), LIST(text_length, buffer_length),
+     length, NULL)
+STUB(uint32_t, check_dll, (TEXT, const uint8_t *dll, size_t size, const uint8_t *name, size_t name_length, ANSWER),
+     LIST(text, dll, name, buffer, length, place), LIST(text_length, size, name_length, buffer_length), length, place)
+STUB(size_t, status_text, (uint32_t status, char *buffer, size_t buffer_length), LIST(buffer),
+     LIST(status, buffer_length), NULL, NULL)
 
 void implib_position_nonnull(TEXT, size_t offset, size_t *line, size_t *column)
 {
-    PASS(LIST(text, line, column), LIST(text_length, offset), line, column);
-}
-
-size_t implib_status_text_nonnull(uint32_t status, char *buffer, size_t buffer_length)
-{
-    return PASS(LIST(buffer), LIST(status, buffer_length), NULL, NULL);
+    pass("position", (const void *const[6]){text, line, column}, (const uint64_t[8]){text_length, offset}, line,
+         column);
 }
 
 /* ---- what a call passes on */
@@ -156,29 +127,28 @@ static void hold_plain(struct given it)
     uint64_t numbers[8] = {it.text_length, it.buffer_length, MACHINE, FLAVOR};
     uint32_t status;
     status = implib_library(it.text, it.text_length, MACHINE, FLAVOR, it.buffer, it.buffer_length, it.first, it.second);
-    hold_passed("implib_library_nonnull", status, 4, answers, numbers);
+    hold_passed("library", status, 4, answers, numbers);
     status = implib_members(it.text, it.text_length, MACHINE, FLAVOR, it.buffer, it.buffer_length, it.first, it.second);
-    hold_passed("implib_members_nonnull", status, 4, answers, numbers);
+    hold_passed("members", status, 4, answers, numbers);
     numbers[3] = 0;
     status = implib_definition(it.text, it.text_length, MACHINE, it.buffer, it.buffer_length, it.first, it.second);
-    hold_passed("implib_definition_nonnull", status, 4, answers, numbers);
+    hold_passed("definition", status, 4, answers, numbers);
     numbers[2] = 0;
     status = implib_exports(it.text, it.text_length, it.buffer, it.buffer_length, it.first, it.second);
-    hold_passed("implib_exports_nonnull", status, 4, answers, numbers);
+    hold_passed("exports", status, 4, answers, numbers);
     status = implib_imports(it.text, it.text_length, it.buffer, it.buffer_length, it.first);
-    hold_passed("implib_imports_nonnull", status, 3, answers, numbers);
+    hold_passed("imports", status, 3, answers, numbers);
     status = implib_check_dll(it.text, it.text_length, it.other, it.other_length, it.name, it.name_length, it.buffer,
                               it.buffer_length, it.first, it.second);
-    HOLD("implib_check_dll_nonnull", status, 6, LIST(it.text, it.other, it.name, it.buffer, it.first, it.second),
+    HOLD("check_dll", status, 6, LIST(it.text, it.other, it.name, it.buffer, it.first, it.second),
          LIST(it.text_length, it.other_length, it.name_length, it.buffer_length));
     implib_position(it.text, it.text_length, 5, it.first, it.second);
-    HOLD("implib_position_nonnull", ANSWERED, 3, LIST(it.text, it.first, it.second), LIST(it.text_length, 5));
+    HOLD("position", ANSWERED, 3, LIST(it.text, it.first, it.second), LIST(it.text_length, 5));
     size_t length = implib_status_text(IMPLIB_NO_NAME_TYPE, (char *)it.buffer, it.buffer_length);
-    HOLD("implib_status_text_nonnull", length, 1, LIST(it.buffer), LIST(IMPLIB_NO_NAME_TYPE, it.buffer_length));
+    HOLD("status_text", length, 1, LIST(it.buffer), LIST(IMPLIB_NO_NAME_TYPE, it.buffer_length));
 }
 
-static const char *const WITH[] = {"implib_library_with_nonnull", "implib_warnings_nonnull",
-                                   "implib_check_library_nonnull", "implib_library_of_nonnull"};
+static const char *const WITH[] = {"library_with", "warnings", "check_library", "library_of"};
 
 static uint32_t called_with(unsigned call, const struct implib_options *options, struct given it)
 {
@@ -230,7 +200,7 @@ static void hold_kinds(struct given it)
         uint32_t flags = FLAGS + (named ? IMPLIB_NULL_NAMED : IMPLIB_DELAYED);
         struct implib_options options = {sizeof options, MACHINE, FLAVOR, flags, it.name, it.name_length};
         uint32_t status = called_with(0, &options, it);
-        HOLD(named ? "implib_named_library_nonnull" : "implib_delayed_library_nonnull", status, 5,
+        HOLD(named ? "named_library" : "delayed_library", status, 5,
              LIST(it.text, it.name, it.buffer, it.first, it.second),
              LIST(it.text_length, it.name == NULL ? 0 : it.name_length, it.name != NULL, MACHINE, FLAVOR, FLAGS,
                   it.buffer_length));
@@ -275,6 +245,6 @@ int main(void)
     }
     /* A pointer that is not null is passed on where the length is 0 too, or a variable in its place. */
     uint32_t status = implib_library(text, 0, MACHINE, FLAVOR, buffer, 0, NULL, NULL);
-    HOLD("implib_library_nonnull", status, 4, LIST(NULL), LIST(0, 0, MACHINE, FLAVOR));
+    HOLD("library", status, 4, LIST(NULL), LIST(0, 0, MACHINE, FLAVOR));
     return 0;
 }
