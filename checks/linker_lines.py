@@ -256,7 +256,7 @@ LATE_DATA = [
         OPENS if name == "msvc" and ask == "#7" and twice else {"zoo.dll": [ask, "zoo_open"]},
     )
     for name, (export, ask), twice in product(
-        FLAVOURS, (("size @7 NONAME DATA", "#7"), ("size @7 DATA", "size")), (False, True)
+        FLAVOURS, (("size @7 NONAME DATA", "#7"), ("size @7 DATA", "size:7")), (False, True)
     )
     for library in [("library", name, definition("zoo.dll", "zoo_open", export))]
 ]
