@@ -38,7 +38,7 @@ class Image:
         else:
             self.width, directories = 4, optional + 96
             self.base = struct.unpack_from("<I", self.data, optional + 28)[0]
-        self.exports, _, self.directory = struct.unpack_from("<3I", self.data, directories)
+        self.directory = struct.unpack_from("<I", self.data, directories + 8)[0]
         first = optional + struct.unpack_from("<H", self.data, header + 20)[0]
         # of each section the size in memory, the address, the size in the file and the place there
         places = range(first, first + 40 * sections, 40)
@@ -93,14 +93,6 @@ class Image:
             dll.table + self.width * index: (dll.name, ask)
             for dll in self.imports()
             for index, ask in enumerate(dll.addresses)
-        }
-
-    def ordinals(self):
-        """The exports of a DLL that have names, each with its number ("PE Format", "Export Directory Table")."""
-        base, _, count, _, names, numbers = struct.unpack("<6I", self.bytes_at(self.exports + 16, 24))
-        return {
-            self.text_at(self.number_at(names + 4 * place)): base + self.number_at(numbers + 2 * place, 2)
-            for place in range(count)
         }
 
     def words(self, count):
