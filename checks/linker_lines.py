@@ -8,13 +8,12 @@ from functools import reduce
 from itertools import permutations, product
 from operator import or_
 
-from targets import X86, definition
+from targets import LOST, X86, calls, definition, entries
 
 LLD, GNU = ("lld-link", "ld.lld"), ("GNU ld",)
 ALL = LLD + GNU
 EVERY = ("I386", "ARMNT", "AMD64", "ARM64")
 NOT_ARMNT = ("I386", "AMD64", "ARM64")
-LOST = "lost"
 
 
 @dataclass(frozen=True)
@@ -54,19 +53,6 @@ def msvc(*definitions):
 
 def gnu(*definitions):
     return tuple(("library", "gnu", text) for text in definitions)
-
-
-def entries(dll, *names):
-    """Symbols of addresses, each of which is at its entry. A name with a `:` tells behind it what the
-    DLL is asked for; else that is the name."""
-    pairs = (name.partition(":")[::2] for name in names)
-    return {f"__imp_{symbol}": f"entry of {dll}!{asked or symbol}" for symbol, asked in pairs}
-
-
-def calls(dll, *names):
-    """Symbols of functions and of their addresses."""
-    pairs = [name.partition(":")[::2] for name in names]
-    return entries(dll, *names) | {symbol: f"stub of {dll}!{asked or symbol}" for symbol, asked in pairs}
 
 
 def lost(*names):

@@ -6,7 +6,7 @@ import subprocess
 from dataclasses import dataclass
 
 import tools
-from image import MARK, Image
+from image import MARK, BadImage, Image
 
 
 @dataclass(frozen=True)
@@ -113,101 +113,89 @@ class Wrong(Exception):
     """What is wrong in a linked file."""
 
 
-# How a difference begins of import tables that lack something.
-LOST = "lost is"
+# What an address leads to that no loader fills.
+LOST = "lost"
 
 
-@dataclass(frozen=True)
-class Named:
-    """An import that a program names: the symbol, as C has it or on I386 bare, and what its DLL is asked for, a number,
-    a name, or a name with its hint."""
-
-    dll: str
-    symbol: str
-    ask: object
-    is_data: bool = False
-    is_bare: bool = False
-
-    def symbols(self, machine):
-        """Its symbols: the entry, and but for data the stub; each with whether it is one."""
-        lead = "" if self.is_bare else TARGETS[machine].lead
-        yield f"__imp_{lead}{self.symbol}", False
-        if not self.is_data:
-            yield f"{lead}{self.symbol}", True
+def entries(dll, *names):
+    """Symbols of addresses, as C has them, each of which is at its entry. A name with a `:` tells behind it what the
+    DLL is asked for, a name or `#` and a number; else that is the name."""
+    pairs = (name.partition(":")[::2] for name in names)
+    return {f"__imp_{symbol}": f"entry of {dll}!{asked or symbol}" for symbol, asked in pairs}
 
 
-def functions(dll, *names):
-    """Functions of a DLL. A name with a `:` tells behind it what the DLL is asked for, by a name or a number;
-    else that is the name."""
+def calls(dll, *names):
+    """Symbols of functions, and of their addresses."""
     pairs = [name.partition(":")[::2] for name in names]
-    return [Named(dll, name, int(ask) if ask.isdecimal() else ask or name) for name, ask in pairs]
+    return entries(dll, *names) | {symbol: f"stub of {dll}!{asked or symbol}" for symbol, asked in pairs}
 
 
-def data(dll, *names):
-    """Data of a DLL, asked for by these names."""
-    return [Named(dll, name, name, True) for name in names]
+def symbol_of(machine, symbol):
+    """A symbol of C, as objects have it: on I386 with a `_` in front, unless it has an `@`."""
+    address, name = "__imp_" * symbol.startswith("__imp_"), symbol.removeprefix("__imp_")
+    return address + (name if "@" in name else TARGETS[machine].lead + name)
+
+
+def program_of(folder, machine, symbols, code=""):
+    """An object with a word for each of these symbols of C."""
+    return program_of_words(folder, machine, [symbol_of(machine, symbol) for symbol in symbols], code)
 
 
 def asked(ask):
-    """The name, without its hint, or the number that a DLL is asked for."""
-    return ask[0] if isinstance(ask, tuple) else ask
+    """What a DLL is asked for, without a hint."""
+    return f"#{ask}" if isinstance(ask, int) else ask[0]
 
 
-def gathered(pairs):
-    """What each DLL is asked for: names and numbers, sorted as texts."""
+def hinted(ask):
+    """The same, with a hint that is not 0."""
+    return asked(ask) + (f":{ask[1]}" if isinstance(ask, tuple) and ask[1] else "")
+
+
+def asks(image, shown=asked):
+    """What each DLL of the import directory is asked for, by all descriptors of the DLL."""
     found = {}
-    for dll, ask in pairs:
-        found.setdefault(dll, []).append(ask)
-    return {dll: sorted(asks, key=str) for dll, asks in found.items()}
+    for dll in image.imports():
+        found[dll.name] = sorted([*found.get(dll.name, ()), *map(shown, dll.addresses)])
+    return found
 
 
-def asks(image):
-    """What a linked file asks each DLL for, by all descriptors of the DLL."""
-    return gathered((dll.name, asked(ask)) for dll in Image(image).imports() for ask in dll.lookups)
+def found_in(image, symbols, shown=asked):
+    """What each symbol leads to, of a program that has words for them."""
+    words, places = image.words(len(symbols)) if symbols else [], image.entries()
+    return {symbol: led_to(image, places, symbol, word, shown) for symbol, word in zip(symbols, words)}
 
 
-def program_of(folder, machine, named, code=""):
-    """An object with a word for each symbol of these imports."""
-    return program_of_words(folder, machine, [symbol for one in named for symbol, _ in one.symbols(machine)], code)
+def led_to(image, places, symbol, word, shown):
+    """What the address of a symbol leads to: the entry of an import, a stub that jumps by it, or something else."""
+    if word + image.base == 0:
+        return "nothing"
+    kind, entry = "entry", word
+    if word not in places:
+        kind = "stub"
+        try:
+            entry = None if symbol.startswith("__imp_") else image.stub_entry(word)
+        except BadImage:
+            return "no stub"
+    return f"{kind} of {places[entry][0]}!{shown(places[entry][1])}" if entry in places else LOST
 
 
-def hold_image(path, machine, named, folds=False):
-    """Holds a linked file against the imports that its program names: the import tables ask for just these, each
-    once, and each symbol leads to the entry of its own. Names of DLLs may differ in small and capital letters, if
-    `folds`; hints count where they are given."""
-    image, is_exact = Image(path), any(isinstance(one.ask, tuple) for one in named)
-
-    def pair(dll, ask):
-        return dll.lower() if folds else dll, ask if is_exact else asked(ask)
-
+def hold_image(path, named, folds=False):
+    """Holds a linked file against what its program names: the import tables ask for just that, each once, and each
+    symbol leads where it has to. Names may differ in small and capital letters, if `folds`."""
+    image, fold = Image(path), str.lower if folds else str
     dlls = image.imports()
-    found = gathered(pair(dll.name, ask) for dll in dlls for ask in dll.lookups)
-    wanted = gathered(pair(one.dll, one.ask) for one in named)
+    found = sorted(fold(f"{dll.name}!{asked(ask)}") for dll in dlls for ask in dll.addresses)
+    wanted = sorted({fold(led.split(" of ")[1]) for led in named.values()})
     if found != wanted:
-        raise Wrong(difference(found, wanted))
+        lost, more = ([one for one in these if one not in those] for these, those in ((wanted, found), (found, wanted)))
+        said = f"{LOST} is {', '.join(lost[:5])}" if lost else "asked is for more"
+        raise Wrong(f"{said}; asked is for {more[:5]}" if more else said)
     if not all(dll.lookups for dll in dlls):
         raise Wrong("a DLL is asked for nothing")
-    entries = {entry: pair(*found) for entry, found in image.entries().items()}
     # a table that runs on into the next has entries that are another DLL's, too
-    if len(entries) != len(named):
+    if len(image.entries()) != len(wanted):
         raise Wrong("a table goes on in another one")
-    symbols = [(symbol, one, is_stub) for one in named for symbol, is_stub in one.symbols(machine)]
-    for (symbol, one, is_stub), word in zip(symbols, image.words(len(symbols))):
-        entry = entries.get(image.stub_entry(word) if is_stub else word)
-        if entry != pair(one.dll, one.ask):
-            raise Wrong(f"{symbol} leads to {entry}")
-
-
-def difference(found, wanted):
-    """How import tables differ from what is wanted, in short."""
-
-    def shortened(asks):
-        return ", ".join(map(str, asks)) if len(asks) < 6 else f"{asks[0]} and {len(asks) - 1} more"
-
-    def of(one, other):
-        pairs = [(dll, [ask for ask in asks if ask not in other.get(dll, [])]) for dll, asks in one.items()]
-        return "; ".join(f"{shortened(asks)} of {dll}" for dll, asks in pairs if asks)
-
-    lost, more = of(wanted, found), of(found, wanted)
-    words = [f"{LOST} {lost}"] * bool(lost) + [f"asked is for {more}"] * bool(more)
-    return ", and ".join(words) or f"asked is twice for the same: {found}"
+    leads = found_in(image, list(named))
+    wrong = {symbol: led for symbol, led in leads.items() if fold(led) != fold(named[symbol])}
+    if wrong:
+        raise Wrong(f"symbols lead elsewhere: {wrong}")
