@@ -239,30 +239,19 @@ def renamed(export):
 ORDINAL, NAME, NO_PREFIX = 0, 1, 2
 
 
-def has_underscore(export, machine):
-    return machine is I386 and export.name.startswith("_")
-
-
 def name_type(export, machine):
     """A parsed export has no symbol name, so a record's symbol is the export's name."""
-    if export.no_name:
-        return ORDINAL
-    if export.name.startswith("_") and "@" in export.name:
-        return NAME
-    return NO_PREFIX if has_underscore(export, machine) else NAME
+    has_underscore = machine is I386 and export.name.startswith("_")
+    return ORDINAL if export.no_name else NO_PREFIX if has_underscore and "@" not in export.name else NAME
 
 
-def asked_by_record(export, machine):
-    return export.name[1:] if name_type(export, machine) == NO_PREFIX else export.name
+def asked(export, machine):
+    """By a record as by an object."""
+    has_underscore = machine is I386 and export.name.startswith("_")
+    return export.name[1:] if has_underscore and "@" not in export.name else export.name
 
 
-def asked_by_object(export, machine):
-    if has_underscore(export, machine) and "@" not in export.name:
-        return export.name[1:]
-    return export.name
-
-
-def check(import_name, exports, machine, asked):
+def check(import_name, exports, machine):
     if import_name == "":
         raise Refused("import name is empty")
     if "\0" in import_name:
@@ -424,8 +413,7 @@ def gnu_export(export, head, machine):
         thunk_relocations, hint_and_name = (), b""
     else:
         thunk, thunk_relocations = bytes(machine.thunk_width), ((0, hint_name, kind),)
-        asked = asked_by_object(export, machine).encode()
-        hint_and_name = struct.pack("<H", export.ordinal) + asked + b"\0"
+        hint_and_name = struct.pack("<H", export.ordinal) + asked(export, machine).encode() + b"\0"
     sections = [
         Section(".text", 0x60300020, code, code_relocations),
         Section(".data", 0xC0300040),
@@ -446,17 +434,13 @@ def msvc_members(import_name, exports, machine):
     descriptor = "__IMPORT_DESCRIPTOR_" + base
     null_descriptor = "__NULL_IMPORT_DESCRIPTOR"
     null_thunk = f"\x7f{base}_NULL_THUNK_DATA"
-    members = [
-        Member(import_name, data, [symbol])
-        for symbol, data in (
-            (descriptor, msvc_descriptor(import_name, descriptor, null_descriptor, null_thunk, machine)),
-            (null_descriptor, msvc_null(machine, [".idata$3"], 0xC0300040, 20, null_descriptor)),
-            (null_thunk, msvc_null(
-                machine, [".idata$5", ".idata$4"], 0xC0300040 if machine.is_32bit else 0xC0400040,
-                machine.thunk_width, null_thunk,
-            )),
-        )
-    ]
+    align = 0xC0300040 if machine.is_32bit else 0xC0400040
+    objects = {
+        descriptor: msvc_descriptor(import_name, descriptor, null_descriptor, null_thunk, machine),
+        null_descriptor: msvc_null(machine, [".idata$3"], 0xC0300040, 20, null_descriptor),
+        null_thunk: msvc_null(machine, [".idata$5", ".idata$4"], align, machine.thunk_width, null_thunk),
+    }
+    members = [Member(import_name, data, [symbol]) for symbol, data in objects.items()]
     for export in exports:
         for symbol, data in weak_externals(export, machine):
             members.append(Member(import_name, data, [symbol]))
@@ -505,7 +489,7 @@ def msvc_record(import_name, export, machine):
 
 # ---- the program
 
-FLAVOURS = {"msvc": (asked_by_record, msvc_members), "gnu": (asked_by_object, gnu_members)}
+FLAVOURS = {"msvc": msvc_members, "gnu": gnu_members}
 USAGE = b"usage: implib_tool MACHINE FLAVOUR\n"
 
 
@@ -513,9 +497,8 @@ def members_of(text, machine, flavour):
     parser = Parser(text, machine)
     parser.parse()
     exports = [renamed(export) for export in parser.exports if not export.private]
-    asked, members = FLAVOURS[flavour]
-    check(parser.import_name, exports, machine, asked)
-    return members(parser.import_name, exports, machine)
+    check(parser.import_name, exports, machine)
+    return FLAVOURS[flavour](parser.import_name, exports, machine)
 
 
 def shown(name):
@@ -537,16 +520,7 @@ def listing(members):
 
 def parts_of(text):
     """The parts between lines that are `---`, or that and a carriage return."""
-    parts = [""]
-    for line in text.split("\n"):
-        if line in ("---", "---\r"):
-            parts.append("")
-        else:
-            parts[-1] += line + "\n"
-    # The last line has no line feed, and a line that divides has none that stays.
-    if not text.endswith(("\n---", "\n---\r")) and text not in ("---", "---\r"):
-        parts[-1] = parts[-1][:-1]
-    return parts
+    return re.split(r"(?:\A|(?<=\n))---\r?(?:\n|\Z)", text)
 
 
 def run(data, arguments):
