@@ -6,7 +6,8 @@ The offsets are those of Microsoft's "PE Format": "Optional Header", "Import Dir
 import struct
 from dataclasses import dataclass
 
-from targets import MARK
+# In front of a program's words, so that they can be found in the linked file.
+MARK = "sixteen letters:"
 
 
 class BadImage(Exception):

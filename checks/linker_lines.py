@@ -5,14 +5,15 @@ entry, or nothing that a loader fills: then it is lost.
 """
 from dataclasses import dataclass, field
 from functools import reduce
+from itertools import permutations, product
 from operator import or_
+
+from targets import LOST, X86, calls, definition, entries
 
 LLD, GNU = ("lld-link", "ld.lld"), ("GNU ld",)
 ALL = LLD + GNU
-X86 = ("I386", "AMD64")
 EVERY = ("I386", "ARMNT", "AMD64", "ARM64")
 NOT_ARMNT = ("I386", "AMD64", "ARM64")
-LOST = "lost"
 
 
 @dataclass(frozen=True)
@@ -26,43 +27,32 @@ class Fails:
 
 @dataclass(frozen=True)
 class Trial:
-    """What is linked, by which linkers for which machines, and what is found: what each symbol leads
-    to, or how the link fails; and, where it is given, what the import directory has, that is each DLL
-    with what it is asked for."""
+    """What is linked, by which linkers for which machines, and what is found: what each symbol of the program leads to,
+    or how the link fails; and, where it is given, what the import directory has, that is each DLL with what it is asked
+    for. Without `parts` a program that names these symbols is linked with the libraries. A part is an option, in which
+    `{_}` is what is in front of a symbol of C, or a file that `Links` makes."""
 
     linkers: tuple
     machines: tuple
     libraries: tuple
     found: object
     directory: dict | None = None
-    # options of a linker; `{_}` is what is in front of a symbol of C
+    # options of a linker, in front
     options: dict = field(default_factory=dict)
-
-
-def definition(dll, *exports):
-    return "\n".join([f"LIBRARY {dll}", "EXPORTS", *exports, ""])
+    parts: tuple = ()
+    # how the link may fail, too
+    or_fails: str | None = None
+    # whether lld-link is not told that the program is not safe
+    is_safe: bool = False
 
 
 def msvc(*definitions):
     """An archive for each definition, in Microsoft's flavour."""
-    return tuple(("msvc", text) for text in definitions)
+    return tuple(("library", "msvc", text) for text in definitions)
 
 
 def gnu(*definitions):
-    return tuple(("gnu", text) for text in definitions)
-
-
-def entries(dll, *names):
-    """Symbols of addresses, each of which is at its entry. A name with a `:` tells behind it what the
-    DLL is asked for; else that is the name."""
-    pairs = (name.partition(":")[::2] for name in names)
-    return {f"__imp_{symbol}": f"entry of {dll}!{asked or symbol}" for symbol, asked in pairs}
-
-
-def calls(dll, *names):
-    """Symbols of functions and of their addresses."""
-    pairs = [name.partition(":")[::2] for name in names]
-    return entries(dll, *names) | {symbol: f"stub of {dll}!{asked or symbol}" for symbol, asked in pairs}
+    return tuple(("library", "gnu", text) for text in definitions)
 
 
 def lost(*names):
@@ -89,50 +79,45 @@ OPTIONS = {
     "GNU ld": ("--defsym={_}zoo_a={_}zoo_b", "--defsym=__imp_{_}zoo_a=__imp_{_}zoo_b"),
 }
 OF_C = Fails(("__imp__feed@8", "_feed@8"), "undefined.*feed@8")
+I386, ARMNT, LLD_LINK, LD_LLD = ("I386",), ("ARMNT",), ("lld-link",), ("ld.lld",)
+FEED, OWN_FEED = definition("zoo.dll", "feed@8"), definition("zoo.dll", "_feed@8")
 NAMES = {
     "alias-gnu": [
-        trial
-        for text in (ALIAS, ALIAS_ALONE)
-        for trial in (
-            Trial(ALL, NOT_ARMNT, gnu(text), ASKS_A),
-            Trial(LLD, ("ARMNT",), gnu(text), entries("zoo.dll", "zoo_a")),
-        )
+        *(Trial(ALL, NOT_ARMNT, gnu(text), ASKS_A) for text in (ALIAS, ALIAS_ALONE)),
+        *(Trial(LLD, ARMNT, gnu(text), entries("zoo.dll", "zoo_a")) for text in (ALIAS, ALIAS_ALONE)),
     ],
     "alias-lld": [
         Trial(LLD, ("ARMNT", "AMD64", "ARM64"), msvc(ALIAS), ASKS_B),
-        Trial(LLD, ("I386",), msvc(ALIAS_WITH_LEAD), ASKS_B),
+        Trial(LLD, I386, msvc(ALIAS_WITH_LEAD), ASKS_B),
         Trial(LLD, EVERY, msvc(ALIAS_ALONE), UNDEFINED),
     ],
-    "alias-lead": [
-        Trial(("lld-link",), ("I386",), msvc(ALIAS), UNDEFINED),
-        Trial(("ld.lld",), ("I386",), msvc(ALIAS), GUESSED),
-    ],
+    "alias-lead": [Trial(LLD_LINK, I386, msvc(ALIAS), UNDEFINED), Trial(LD_LLD, I386, msvc(ALIAS), GUESSED)],
     "alias-gnu-ld": [Trial(GNU, X86, msvc(text), ASKS_A) for text in (ALIAS, ALIAS_ALONE)],
     "alias-option": both(ALL, X86, definition("zoo.dll", "zoo_b"), ASKS_B, options=OPTIONS),
     "renamed": both(ALL, X86, definition("zoo.dll", "zoo_a = zoo_b"), ASKS_A),
     "stdcall": [
-        *both(ALL, ("I386",), definition("zoo.dll", "feed@8"), OF_C),
-        *both(ALL, ("I386",), definition("zoo.dll", "feed@8"), calls("zoo.dll", "feed@8")),
-        *both(ALL, ("I386",), definition("zoo.dll", "_feed@8"), calls("zoo.dll", "_feed@8")),
+        *both(ALL, I386, FEED, OF_C), *both(ALL, I386, FEED, calls("zoo.dll", "feed@8")),
+        *both(ALL, I386, OWN_FEED, calls("zoo.dll", "_feed@8")),
     ],
 }
 
 # ---- constants
 
 CONSTANT = definition("zoo.dll", "zoo_open", "limit CONSTANT")
+NOT_RECOGNIZED = [
+    Fails(symbols, "file format not recognized")
+    for symbols in (("__imp_limit",), ("limit",), ("__imp_zoo_open", "__imp_limit"))
+]
 CONSTANTS = {
     "constant-gnu": [
         Trial(ALL, NOT_ARMNT, gnu(CONSTANT), calls("zoo.dll", "limit")),
-        Trial(LLD, ("ARMNT",), gnu(CONSTANT), entries("zoo.dll", "limit")),
+        Trial(LLD, ARMNT, gnu(CONSTANT), entries("zoo.dll", "limit")),
     ],
     "constant-lld": [
         Trial(LLD, EVERY, msvc(CONSTANT), entries("zoo.dll", "limit") | {"limit": "entry of zoo.dll!limit"}),
     ],
     "constant-gnu-ld": [
-        *(
-            Trial(GNU, X86, msvc(CONSTANT), Fails(symbols, "file format not recognized"))
-            for symbols in (("__imp_limit",), ("limit",), ("__imp_zoo_open", "__imp_limit"))
-        ),
+        *(Trial(GNU, X86, msvc(CONSTANT), fails) for fails in NOT_RECOGNIZED),
         Trial(GNU, X86, msvc(CONSTANT), calls("zoo.dll", "zoo_open")),
     ],
 }
@@ -145,12 +130,11 @@ SECOND_LOST = entries("zoo.dll", "zoo_open") | lost("zoo_close")
 ALIKE = definition("a.b.dll", "zoo_open"), definition("a_b.dll", "zoo_close")
 ALIKE_RIGHT = entries("a.b.dll", "zoo_open") | entries("a_b.dll", "zoo_close")
 BEGINNINGS = definition("zoo", "zoo_open"), definition("zoo_a_i.dll", "zoo_close")
-BEGINNINGS_RIGHT = entries("zoo", "zoo_open") | entries("zoo_a_i.dll", "zoo_close")
-DLLS = definition("zoo.dll", "zoo_open"), definition("yak.dll", "yak_open")
+ONE_BEGUN = {"zoo": ["zoo_close"], "zoo_a_i.dll": ["zoo_close"]}
+SECOND_BEGUN = entries("zoo_a_i.dll", "zoo_close")
+ONE_ARCHIVE = OPEN + "---\n" + definition("yak.dll", "yak_open")
 SEVERAL = {
-    "one-archive": both(
-        ALL, X86, "---\n".join(DLLS), calls("zoo.dll", "zoo_open") | calls("yak.dll", "yak_open")
-    ),
+    "one-archive": both(ALL, X86, ONE_ARCHIVE, calls("zoo.dll", "zoo_open") | calls("yak.dll", "yak_open")),
     "two-archives": [
         Trial(LLD, EVERY, msvc(OPEN, CLOSE), TWO_RIGHT),
         Trial(LLD, EVERY, gnu(OPEN, CLOSE), SECOND_LOST),
@@ -162,17 +146,13 @@ SEVERAL = {
     "one-mangled-name": [
         Trial(LLD, EVERY, gnu(*ALIKE), entries("a.b.dll", "zoo_open") | lost("zoo_close")),
         Trial(GNU, X86, gnu(*ALIKE), entries("a.b.dll", "zoo_open", "zoo_close")),
-        *(
-            Trial(ALL, EVERY, libraries, ALIKE_RIGHT)
-            for libraries in (gnu(ALIKE[0]) + msvc(ALIKE[1]), msvc(ALIKE[0]) + gnu(ALIKE[1]), msvc(*ALIKE))
-        ),
+        Trial(ALL, EVERY, gnu(ALIKE[0]) + msvc(ALIKE[1]), ALIKE_RIGHT),
+        Trial(ALL, EVERY, msvc(ALIKE[0]) + gnu(ALIKE[1]), ALIKE_RIGHT),
+        Trial(ALL, EVERY, msvc(*ALIKE), ALIKE_RIGHT),
     ],
     "beginnings": [
-        Trial(
-            ALL, X86, gnu("---\n".join(BEGINNINGS)), lost("zoo_open") | entries("zoo_a_i.dll", "zoo_close"),
-            {"zoo": ["zoo_close"], "zoo_a_i.dll": ["zoo_close"]},
-        ),
-        Trial(ALL, X86, gnu(*BEGINNINGS), BEGINNINGS_RIGHT),
+        Trial(ALL, X86, gnu("---\n".join(BEGINNINGS)), lost("zoo_open") | SECOND_BEGUN, ONE_BEGUN),
+        Trial(ALL, X86, gnu(*BEGINNINGS), entries("zoo", "zoo_open") | SECOND_BEGUN),
     ],
 }
 
@@ -180,58 +160,43 @@ SEVERAL = {
 
 ANIMALS = ("zoo", "yak", "emu", "gnu", "lynx")
 RUNS = [definition(f"{name}.dll", f"{name}_run", f"{name}_size DATA") for name in ANIMALS]
-
-
-def runs(count):
-    """What a program finds that calls a function of each of the first DLLs."""
-    return reduce(or_, (calls(f"{name}.dll", f"{name}_run") for name in ANIMALS[:count]))
-
-
-def sizes(count):
-    """What a program finds that names data of each of the first DLLs."""
-    return reduce(or_, (entries(f"{name}.dll", f"{name}_size") for name in ANIMALS[:count]))
-
-
-def of_arm64(libraries, found):
-    return Trial(LLD, ("ARM64",), libraries, found)
-
-
-def misaligned(symbols):
-    return Fails(tuple(symbols), "misaligned ldr/str offset")
-
-
+# What a program finds that calls a function, or names data, of each of the first DLLs.
+CALLED = [reduce(or_, (calls(f"{name}.dll", f"{name}_run") for name in ANIMALS[:n]), {}) for n in range(6)]
+SIZES = [reduce(or_, (entries(f"{name}.dll", f"{name}_size") for name in ANIMALS[:n]), {}) for n in range(6)]
+MISALIGNED = [Fails(tuple(symbols), "misaligned ldr/str offset") for symbols in CALLED]
 ALIGNMENT = {
     "even": [
-        *(of_arm64(gnu(*RUNS[:count]), misaligned(runs(count))) for count in (2, 4)),
-        of_arm64(gnu(*RUNS[:2]), misaligned(("__imp_zoo_run", "__imp_yak_run"))),
-        *(of_arm64(gnu(*RUNS[:count]), runs(count)) for count in (1, 3, 5)),
-        *(of_arm64(gnu(*RUNS[:count]), sizes(count)) for count in (2, 4)),
-        *(of_arm64(msvc(RUNS[0]) + gnu(*RUNS[1:count]), runs(count)) for count in (2, 3, 4)),
-        of_arm64(msvc(*RUNS[:4]), runs(4)),
+        Trial(LLD, ("ARM64",), libraries, found)
+        for libraries, found in (
+            *((gnu(*RUNS[:count]), MISALIGNED[count]) for count in (2, 4)),
+            (gnu(*RUNS[:2]), Fails(("__imp_zoo_run", "__imp_yak_run"), MISALIGNED[0].text)),
+            *((gnu(*RUNS[:count]), CALLED[count]) for count in (1, 3, 5)),
+            *((gnu(*RUNS[:count]), SIZES[count]) for count in (2, 4)),
+            *((msvc(RUNS[0]) + gnu(*RUNS[1:count]), CALLED[count]) for count in (2, 3, 4)),
+            (msvc(*RUNS[:4]), CALLED[4]),
+        )
     ],
 }
 
 # ---- names of DLLs
 
+EXPORTS = ("zoo_open", "secret @9 NONAME", "animals DATA")
+ALL_LOST = lost("zoo_open", "secret", "animals")
+
 
 def of_names(linkers, machines, flavour, *dlls):
     """Libraries of DLLs of these names, of which all that a program names is found."""
-    return [
-        Trial(linkers, machines, flavour(definition(dll, *EXPORTS)), found, {dll: ["#9", "animals", "zoo_open"]})
-        for dll in dlls
-        for found in [entries(dll, "zoo_open", "secret:#9", "animals")]
-    ]
+    found = {dll: entries(dll, "zoo_open", "secret:#9", "animals") for dll in dlls}
+    directory = ["#9", "animals", "zoo_open"]
+    return [Trial(linkers, machines, flavour(definition(dll, *EXPORTS)), found[dll], {dll: directory}) for dll in dlls]
 
 
 def of_lost_names(is_there, *dlls):
     """Libraries of DLLs of these names, all of whose imports are lost; the DLL is there or not."""
-    found = lost("zoo_open", "secret", "animals")
-    return [
-        Trial(GNU, X86, msvc(definition(dll, *EXPORTS)), found, {dll: []} if is_there else {}) for dll in dlls
-    ]
+    kinds = [(msvc(definition(dll, *EXPORTS)), {dll: []} if is_there else {}) for dll in dlls]
+    return [Trial(GNU, X86, library, ALL_LOST, directory) for library, directory in kinds]
 
 
-EXPORTS = ("zoo_open", "secret @9 NONAME", "animals DATA")
 OTHER_NAMES = ("zoo.exe", "zoo", "zoo.drv", "zoo.sys", "ZOO.DLL", "zoo.EXE", "a.b.dll")
 DLL_NAMES = {
     "dll-names": [
@@ -243,4 +208,119 @@ DLL_NAMES = {
     "dll-name-other": of_lost_names(False, "ZOO.DLL", "zoo.EXE", "zoo.drv", "zoo.sys"),
 }
 
-LINES = NAMES | CONSTANTS | SEVERAL | ALIGNMENT | DLL_NAMES
+# ---- orders, and programs of more than words
+
+
+def in_order(linkers, machines, parts, directory, found=None, **more):
+    """What the import directory has where these parts are linked; or how the link fails."""
+    fails = Fails((), directory) if isinstance(directory, str) else None
+    return Trial(linkers, machines, (), fails or found or {}, None if fails else directory, parts=parts, **more)
+
+
+FLAVOURS = ("msvc", "gnu")
+# An archive whose object wants what follows.
+HELPER = ".data\n.globl {_}helper\n{_}helper: {word} "
+BOTH_WAYS = [("words", "helper"), ("archive", HELPER + "{_}zoo_open\n")]
+OPENS = {"zoo.dll": ["zoo_open"]}
+ARCHIVE_ORDER = [
+    trial
+    for name in FLAVOURS
+    for program, archive, library in [(*BOTH_WAYS, ("library", name, OPEN))]
+    for trial in (
+        in_order(LLD, NOT_ARMNT, (program, library, archive), OPENS),
+        in_order(GNU, X86, (program, library, archive), "undefined reference"),
+        in_order(ALL, NOT_ARMNT, (program, archive, library), OPENS),
+        in_order(ALL, NOT_ARMNT, (program, library, archive, library), OPENS),
+        in_order(GNU, X86, (program, "--start-group", library, archive, "--end-group"), OPENS),
+    )
+]
+# A library is searched for `zoo_open`, then the helper names `size`, and the library is searched again.
+BOTH = ("words", "helper", "__imp_zoo_open")
+LATE_DATA = [
+    in_order(
+        GNU, X86, (BOTH, *[library] * twice, ("archive", HELPER + "__imp_{_}size\n"), library),
+        OPENS if name == "msvc" and ask == "#7" and twice else {"zoo.dll": [ask, "zoo_open"]},
+    )
+    for name, (export, ask), twice in product(
+        FLAVOURS, (("size @7 NONAME DATA", "#7"), ("size @7 DATA", "size:7")), (False, True)
+    )
+    for library in [("library", name, definition("zoo.dll", "zoo_open", export))]
+]
+# The plain reference and the library first, or GNU ld with the library last, are right.
+WEAK = {"weak": ("object", ".data\n.weak {_}bar\n{word} {_}bar\n"), "plain": ("words", "bar")}
+WEAK_REFERENCE = [
+    in_order(linkers, EVERY, tuple(files[part] for part in order), directory, found)
+    for name in FLAVOURS
+    for files in [{**WEAK, "library": ("library", name, definition("zoo.dll", "bar"))}]
+    for order in permutations(files)
+    for linkers, directory, found in (
+        (LLD, {"zoo.dll": ["bar"]}, None) if order[2] == "weak" else (LLD, {}, {"bar": "nothing"}),
+        (GNU if order[2] == "library" else (), {"zoo.dll": ["bar"]}, None),
+    )
+]
+# A program of data with the one symbol of MinGW's start code that auto-import asks for.
+STARTED = (
+    "object",
+    ".text\n.globl {_}start, {_}_pei386_runtime_relocator\n{_}start:\n{_}_pei386_runtime_relocator:\n"
+    ".data\n{word} {_}bar\n",
+)
+BY_AUTO_IMPORT = {1: {"zoo.dll": ["bar"]}, 2: {"zoo.dll": ["bar", "baz"]}}
+ALIAS_OF_DATA = [
+    in_order(
+        GNU, X86, (*options, STARTED, ("library", name, definition("zoo.dll", *exports))),
+        BY_AUTO_IMPORT[len(exports)] if name == "gnu" and not options else "undefined reference to `bar'",
+    )
+    for name, exports, options in product(
+        FLAVOURS, (("baz DATA", "bar == {_}baz DATA"), ("bar == {_}baz DATA",)), ((), ("--disable-auto-import",))
+    )
+]
+DEFSYM = "--defsym=_zoo_a=_zoo_b"
+LAST = (("words", "__imp_zoo_b", "zoo_a"), *gnu(definition("zoo.dll", "zoo_b")))
+# A program that says that it is safe.
+SAFE = ".text\n.globl _start\n.set @feat.00, 1\n.globl @feat.00\n_start: call *__imp__zoo_{}\n"
+OWN = ("object", ".data\n.globl {_}zoo_b, __imp_{_}zoo_b\n{_}zoo_b: .long 0\n__imp_{_}zoo_b: .long 0\n")
+WHOLE = {
+    "archive-order": ARCHIVE_ORDER,
+    "late-data": LATE_DATA,
+    "weak-reference": WEAK_REFERENCE,
+    "alias-of-data": ALIAS_OF_DATA,
+    "alias-option-last": [
+        Trial(GNU, ("I386",), (), {"__imp_zoo_b": "entry of zoo.dll!zoo_b", "zoo_a": led}, parts=parts)
+        for parts, led in (((DEFSYM, *LAST), "stub of zoo.dll!zoo_b"), ((*LAST, DEFSYM), "nothing"))
+    ],
+    "bare-data": [
+        Trial(linkers, EVERY, flavour(definition("zoo.dll", "animals DATA")), found, or_fails=or_fails)
+        for flavour in (msvc, gnu)
+        for linkers, found, or_fails in (
+            (("lld-link",), Fails(("animals",), "undefined symbol"), None),
+            (("ld.lld",), {"animals": "entry of zoo.dll!animals"}, "_pei386_runtime_relocator"),
+            (GNU, Fails(("animals",), "_pei386_runtime_relocator"), None),
+        )
+    ],
+    "cut-prefix": [
+        in_order(linkers, (machine,), (("words", f"__imp_{name}"), ("cut", definition("zoo.dll", name))), found)
+        for linkers, machine, name, asked in (
+            (ALL, "I386", "zoo_f", "zoo_f"), (LLD, "AMD64", "_zoo_f", "zoo_f"), (GNU, "AMD64", "_zoo_f", "_zoo_f")
+        )
+        for found in [{"zoo.dll": [asked]}]
+    ],
+    "safe-handlers": [
+        in_order(("lld-link",), ("I386",), (("object", SAFE.format(name)), *library), found, is_safe=True)
+        for name, library, found in (
+            ("b", msvc(ALIAS_WITH_LEAD), {"zoo.dll": ["zoo_b"]}),
+            ("a", msvc(ALIAS_WITH_LEAD), "is not compatible with SEH"),
+            ("b", gnu(ALIAS_WITH_LEAD), "is not compatible with SEH"),
+        )
+    ],
+    # A library of `implib_dlltool`; the program may define `zoo_b` itself.
+    "weak-alias": [
+        in_order(linkers, X86, (("words", symbol), *own, ("own", name, ALIAS)), found)
+        for name, own, symbol in product(FLAVOURS, ((), (OWN,)), ("zoo_a", "__imp_zoo_a"))
+        for linkers, found in (
+            (LLD, {"zoo.dll": ["zoo_b"]}),
+            (GNU, "undefined reference to" if name == "msvc" else {"zoo.dll": ["zoo_b"]}),
+        )
+    ],
+}
+
+LINES = NAMES | CONSTANTS | SEVERAL | ALIGNMENT | DLL_NAMES | WHOLE

@@ -7,6 +7,7 @@ not in it.
 `run` gives the status, the output and the line of a fault for an input and the program's arguments.
 Devices never fail here, and memory is ample.
 """
+import re
 import struct
 from dataclasses import dataclass, replace
 
@@ -47,16 +48,14 @@ class Refused(Exception):
 # ---- tokens
 
 # What Rust takes for white space; Python's `isspace` is another.
-WHITE_SPACE = frozenset(map(chr, [
-    *range(0x09, 0x0E), 0x20, 0x85, 0xA0, 0x1680, *range(0x2000, 0x200B),
-    0x2028, 0x2029, 0x202F, 0x205F, 0x3000,
+WHITE_SPACE = "".join(map(chr, [
+    *range(0x09, 0x0E), 0x20, 0x85, 0xA0, 0x1680, *range(0x2000, 0x200B), 0x2028, 0x2029, 0x202F, 0x205F, 0x3000,
 ]))
-WORD_DELIMITERS = frozenset("=,;\r\n \t\x0b")
-KEYWORDS = {
-    "BASE": "KwBase", "CONSTANT": "KwConstant", "DATA": "KwData", "EXPORTS": "KwExports",
-    "HEAPSIZE": "KwHeapsize", "LIBRARY": "KwLibrary", "NAME": "KwName", "NONAME": "KwNoname",
-    "PRIVATE": "KwPrivate", "STACKSIZE": "KwStacksize", "VERSION": "KwVersion",
-}
+GAP = re.compile(rf"(?:[{WHITE_SPACE}]|;[^\n]*\n?)*")
+SIGNS = re.compile(r"(?P<EqualEqual>==)|(?P<Equal>=)|(?P<Comma>,)")
+QUOTED = re.compile(r'"([^"]*)("|\Z)')
+WORD = re.compile(r"[^=,;\r\n \t\x0b]+")
+KEYWORDS = "BASE CONSTANT DATA EXPORTS HEAPSIZE LIBRARY NAME NONAME PRIVATE STACKSIZE VERSION".split()
 
 
 @dataclass(frozen=True)
@@ -65,56 +64,24 @@ class Token:
     value: str
 
 
-def trimmed_end(text):
-    while text and text[-1] in WHITE_SPACE:
-        text = text[:-1]
-    return text
-
-
-def trimmed(text):
-    return trimmed_end(trimmed_end(text)[::-1])[::-1]
-
-
-def after_gap(text, place):
-    """The place after white space and comments."""
-    while place < len(text):
-        if text[place] in WHITE_SPACE:
-            place += 1
-        elif text[place] == ";":
-            end = text.find("\n", place)
-            place = len(text) if end < 0 else end + 1
-        else:
-            break
-    return place
-
-
 def token_at(text, place):
-    """The token at a place that is neither in trivia nor at the end, and the place after it."""
-    if text.startswith("==", place):
-        return Token("EqualEqual", "=="), place + 2
-    if text[place] == "=":
-        return Token("Equal", "="), place + 1
-    if text[place] == ",":
-        return Token("Comma", ","), place + 1
-    if text[place] == '"':
-        end = text.find('"', place + 1)
-        if end < 0:
-            return Token("Identifier", ""), len(text)
-        return Token("Identifier", trimmed(text[place + 1:end])), end + 1
-    end = place
-    while end < len(text) and text[end] not in WORD_DELIMITERS:
-        end += 1
-    value = trimmed_end(text[place:end])
-    return Token(KEYWORDS.get(value, "Identifier"), value), end
+    """The token at a place that is neither in a gap nor at the end, and the place after it."""
+    if found := SIGNS.match(text, place):
+        return Token(found.lastgroup, found[0]), found.end()
+    if found := QUOTED.match(text, place):
+        return Token("Identifier", found[1].strip(WHITE_SPACE) if found[2] else ""), found.end()
+    found = WORD.match(text, place)
+    value = found[0].rstrip(WHITE_SPACE)
+    return Token(f"Kw{value.capitalize()}" if value in KEYWORDS else "Identifier", value), found.end()
 
 
 def tokens_of(text):
     tokens = []
-    place = after_gap(text, 0)
+    place = GAP.match(text).end()
     while place < len(text) and text[place] != "\0":
         token, place = token_at(text, place)
         tokens.append(token)
-        place = after_gap(text, place)
+        place = GAP.match(text, place).end()
     return [*tokens, Token("Eof", "")]
 
 
@@ -123,13 +90,8 @@ U16, U32, U64 = 2**16 - 1, 2**32 - 1, 2**64 - 1
 
 def number_of(value, limit):
     """The number that a text is, or nothing."""
-    digits = value.removeprefix("+")
-    if not digits or any(digit not in "0123456789" for digit in digits):
-        return None
-    digits = digits.lstrip("0") or "0"
-    if len(digits) > 20 or int(digits) > limit:
-        return None
-    return int(digits)
+    found = re.fullmatch(r"\+?0*([0-9]{0,20})", value) if value.strip("+") else None
+    return int(found[1] or "0") if found and int(found[1] or "0") <= limit else None
 
 
 # ---- definitions
@@ -151,7 +113,7 @@ FLAGS = {"KwData": "is_data", "KwConstant": "constant", "KwPrivate": "private"}
 
 
 class Parser:
-    """Reads statements. What no member shows, as sizes and versions, is tested and dropped."""
+    """Reads statements. What no member shows, as sizes and versions, is kept by the name of its statement."""
 
     def __init__(self, text, machine):
         self.tokens = tokens_of(text)
@@ -159,6 +121,7 @@ class Parser:
         self.machine = machine
         self.import_name = ""
         self.exports = []
+        self.numbers = {"Base": [0], "Stacksize": [0, 0], "Heapsize": [0, 0], "Version": [0, 0]}
 
     def peek(self):
         return self.tokens[self.place]
@@ -178,11 +141,14 @@ class Parser:
     def parse(self):
         while (token := self.take()).kind != "Eof":
             if token.kind in ("KwHeapsize", "KwStacksize"):
-                self.sizes()
+                values = [self.identifier()]
+                self.keep(token.kind[2:], values, U64)
+                if self.take_if("Comma"):
+                    self.keep(token.kind[2:], [*values, self.identifier()], U64)
             elif token.kind in ("KwName", "KwLibrary"):
                 self.name()
             elif token.kind == "KwVersion":
-                self.version()
+                self.keep("Version", self.identifier().split(".", 1), U32)
             elif token.kind == "KwExports":
                 while self.peek().kind == "Identifier":
                     self.export()
@@ -195,28 +161,23 @@ class Parser:
             raise Refused(f"expected identifier, found: {token.kind}")
         return token.value
 
-    def number(self, value, limit):
-        if number_of(value, limit) is None:
+    def keep(self, name, values, limit):
+        """Keeps the numbers of a statement; those that it leaves out are 0."""
+        numbers = [number_of(value, limit) for value in values]
+        if None in numbers:
             raise Refused("expected integer")
-
-    def sizes(self):
-        self.number(self.identifier(), U64)
-        if self.take_if("Comma"):
-            self.number(self.identifier(), U64)
+        self.numbers[name] = [*numbers, 0, 0][: len(self.numbers[name])]
 
     def name(self):
         self.import_name = ""
+        self.numbers["Base"] = [0]
         if self.peek().kind == "Identifier":
             self.import_name = self.take().value
             if self.take_if("KwBase"):
                 sign = self.take()
                 if sign.kind != "Equal":
                     raise Refused(f"expected equal, found: {sign.kind}")
-                self.number(self.identifier(), U64)
-
-    def version(self):
-        for part in self.identifier().split(".", 1):
-            self.number(part, U32)
+                self.keep("Base", [self.identifier()], U64)
 
     def export(self):
         """An export, whose first token is an identifier; `@` and `@5` after another export do not
@@ -238,14 +199,11 @@ class Parser:
     def attribute(self, export):
         """Whether one more attribute was there."""
         token = self.peek()
-        if token.kind == "Identifier" and token.value == "@":
-            self.take()
-            self.ordinal(export, self.take())
-        elif token.kind == "Identifier" and token.value.startswith("@"):
-            if number_of(token.value[1:], U16) is None:
+        if token.kind == "Identifier" and token.value.startswith("@"):
+            if token.value != "@" and number_of(token.value[1:], U16) is None:
                 return False
             self.take()
-            self.ordinal(export, Token("Identifier", token.value[1:]))
+            self.ordinal(export, self.take() if token.value == "@" else Token("Identifier", token.value[1:]))
         elif token.kind == "EqualEqual":
             self.take()
             export.alias_target = self.identifier()
@@ -259,10 +217,9 @@ class Parser:
     def ordinal(self, export, token):
         if token.kind == "Eof":
             raise Refused("expected identifier, found: Eof")
-        ordinal = number_of(token.value, U16)
-        if ordinal is None:
+        export.ordinal = number_of(token.value, U16)
+        if export.ordinal is None:
             raise Refused(f"invalid ordinal: {token.value}")
-        export.ordinal = ordinal
         if self.take_if("KwNoname"):
             export.no_name = True
 
@@ -282,30 +239,19 @@ def renamed(export):
 ORDINAL, NAME, NO_PREFIX = 0, 1, 2
 
 
-def has_underscore(export, machine):
-    return machine is I386 and export.name.startswith("_")
-
-
 def name_type(export, machine):
     """A parsed export has no symbol name, so a record's symbol is the export's name."""
-    if export.no_name:
-        return ORDINAL
-    if export.name.startswith("_") and "@" in export.name:
-        return NAME
-    return NO_PREFIX if has_underscore(export, machine) else NAME
+    has_underscore = machine is I386 and export.name.startswith("_")
+    return ORDINAL if export.no_name else NO_PREFIX if has_underscore and "@" not in export.name else NAME
 
 
-def asked_by_record(export, machine):
-    return export.name[1:] if name_type(export, machine) == NO_PREFIX else export.name
+def asked(export, machine):
+    """By a record as by an object."""
+    has_underscore = machine is I386 and export.name.startswith("_")
+    return export.name[1:] if has_underscore and "@" not in export.name else export.name
 
 
-def asked_by_object(export, machine):
-    if has_underscore(export, machine) and "@" not in export.name:
-        return export.name[1:]
-    return export.name
-
-
-def check(import_name, exports, machine, asked):
+def check(import_name, exports, machine):
     if import_name == "":
         raise Refused("import name is empty")
     if "\0" in import_name:
@@ -339,7 +285,7 @@ class Symbol:
     name: str
     section: int
     storage_class: int
-    auxiliary: bytes | None = None
+    auxiliary: bytes = b""
 
 
 @dataclass
@@ -354,58 +300,42 @@ def object_of(machine, sections, symbols, listed=None, characteristics=0):
     none are given, each different one of more than 8 bytes, in order of first use."""
     if listed is None:
         listed = [place for place, symbol in enumerate(symbols) if len(symbol.name.encode()) > 8]
-    headers, contents = b"", b""
-    start = 20 + 40 * len(sections)
+    headers, contents, start = b"", b"", 20 + 40 * len(sections)
     for section in sections:
         data_place = start + len(contents) if section.data else 0
         contents += section.data
         relocations_place = start + len(contents) if section.relocations else 0
-        for relocation in section.relocations:
-            contents += struct.pack("<IIH", *relocation)
-        headers += section.name.encode().ljust(8, b"\0")
-        headers += struct.pack(
-            "<IIIIIIHHI", 0, 0, len(section.data), data_place, relocations_place, 0,
-            len(section.relocations), 0, section.flags,
-        )
+        contents += b"".join(struct.pack("<IIH", *relocation) for relocation in section.relocations)
+        places = (len(section.data), data_place, relocations_place, 0, len(section.relocations), 0, section.flags)
+        headers += struct.pack("<8sIIIIIIHHI", section.name.encode(), 0, 0, *places)
     strings, offsets = b"", {}
     for name in dict.fromkeys(symbols[place].name for place in listed):
         offsets[name] = 4 + len(strings)
         strings += name.encode() + b"\0"
-    records, count = b"", 0
+    records = b""
     for place, symbol in enumerate(symbols):
-        if place in listed:
-            records += struct.pack("<II", 0, offsets[symbol.name])
-        else:
-            records += symbol.name.encode().ljust(8, b"\0")
-        auxiliary = [] if symbol.auxiliary is None else [symbol.auxiliary]
-        records += struct.pack("<IhHBB", 0, symbol.section, 0, symbol.storage_class, len(auxiliary))
-        records += b"".join(auxiliary)
-        count += 1 + len(auxiliary)
-    header = struct.pack(
-        "<HHIIIHH", machine.number, len(sections), 0, start + len(contents), count, 0, characteristics
-    )
-    return header + headers + contents + records + struct.pack("<I", 4 + len(strings)) + strings
-
-
-def weak_external(machine, target, weak):
-    auxiliary = struct.pack("<II", 2, 3) + bytes(10)
-    symbols = [
-        Symbol("@comp.id", ABSOLUTE, STATIC),
-        Symbol("@feat.00", ABSOLUTE, STATIC),
-        Symbol(target, UNDEFINED, EXTERNAL),
-        Symbol(weak, UNDEFINED, WEAK_EXTERNAL, auxiliary),
-    ]
-    return object_of(machine, [Section(".drectve", 0xA00)], symbols, [2, 3])
+        name = struct.pack("<II", 0, offsets[symbol.name]) if place in listed else symbol.name.encode()
+        rest = (0, symbol.section, 0, symbol.storage_class, len(symbol.auxiliary) // 18)
+        records += struct.pack("<8sIhHBB", name, *rest) + symbol.auxiliary
+    count = len(records) // 18
+    fields = machine.number, len(sections), 0, start + len(contents), count, 0, characteristics
+    header, strings = struct.pack("<HHIIIHH", *fields), struct.pack("<I", 4 + len(strings)) + strings
+    return header + headers + contents + records + strings
 
 
 def weak_externals(export, machine):
     """Each with its symbol: of the name, and of its address."""
-    if export.alias_target in ("", export.name):
-        return []
-    return [
-        (prefix + export.name, weak_external(machine, prefix + export.alias_target, prefix + export.name))
-        for prefix in ("", "__imp_")
-    ]
+    found = []
+    for prefix in ("", "__imp_") if export.alias_target not in ("", export.name) else ():
+        target, weak = prefix + export.alias_target, prefix + export.name
+        symbols = [
+            Symbol("@comp.id", ABSOLUTE, STATIC),
+            Symbol("@feat.00", ABSOLUTE, STATIC),
+            Symbol(target, UNDEFINED, EXTERNAL),
+            Symbol(weak, UNDEFINED, WEAK_EXTERNAL, struct.pack("<II10x", 2, 3)),
+        ]
+        found.append((weak, object_of(machine, [Section(".drectve", 0xA00)], symbols, [2, 3])))
+    return found
 
 
 # ---- members for GNU's linker
@@ -483,8 +413,7 @@ def gnu_export(export, head, machine):
         thunk_relocations, hint_and_name = (), b""
     else:
         thunk, thunk_relocations = bytes(machine.thunk_width), ((0, hint_name, kind),)
-        asked = asked_by_object(export, machine).encode()
-        hint_and_name = struct.pack("<H", export.ordinal) + asked + b"\0"
+        hint_and_name = struct.pack("<H", export.ordinal) + asked(export, machine).encode() + b"\0"
     sections = [
         Section(".text", 0x60300020, code, code_relocations),
         Section(".data", 0xC0300040),
@@ -505,17 +434,13 @@ def msvc_members(import_name, exports, machine):
     descriptor = "__IMPORT_DESCRIPTOR_" + base
     null_descriptor = "__NULL_IMPORT_DESCRIPTOR"
     null_thunk = f"\x7f{base}_NULL_THUNK_DATA"
-    members = [
-        Member(import_name, data, [symbol])
-        for symbol, data in (
-            (descriptor, msvc_descriptor(import_name, descriptor, null_descriptor, null_thunk, machine)),
-            (null_descriptor, msvc_null(machine, [".idata$3"], 0xC0300040, 20, null_descriptor)),
-            (null_thunk, msvc_null(
-                machine, [".idata$5", ".idata$4"], 0xC0300040 if machine.is_32bit else 0xC0400040,
-                machine.thunk_width, null_thunk,
-            )),
-        )
-    ]
+    align = 0xC0300040 if machine.is_32bit else 0xC0400040
+    objects = {
+        descriptor: msvc_descriptor(import_name, descriptor, null_descriptor, null_thunk, machine),
+        null_descriptor: msvc_null(machine, [".idata$3"], 0xC0300040, 20, null_descriptor),
+        null_thunk: msvc_null(machine, [".idata$5", ".idata$4"], align, machine.thunk_width, null_thunk),
+    }
+    members = [Member(import_name, data, [symbol]) for symbol, data in objects.items()]
     for export in exports:
         for symbol, data in weak_externals(export, machine):
             members.append(Member(import_name, data, [symbol]))
@@ -564,7 +489,7 @@ def msvc_record(import_name, export, machine):
 
 # ---- the program
 
-FLAVOURS = {"msvc": (asked_by_record, msvc_members), "gnu": (asked_by_object, gnu_members)}
+FLAVOURS = {"msvc": msvc_members, "gnu": gnu_members}
 USAGE = b"usage: implib_tool MACHINE FLAVOUR\n"
 
 
@@ -572,9 +497,8 @@ def members_of(text, machine, flavour):
     parser = Parser(text, machine)
     parser.parse()
     exports = [renamed(export) for export in parser.exports if not export.private]
-    asked, members = FLAVOURS[flavour]
-    check(parser.import_name, exports, machine, asked)
-    return members(parser.import_name, exports, machine)
+    check(parser.import_name, exports, machine)
+    return FLAVOURS[flavour](parser.import_name, exports, machine)
 
 
 def shown(name):
@@ -596,16 +520,7 @@ def listing(members):
 
 def parts_of(text):
     """The parts between lines that are `---`, or that and a carriage return."""
-    parts = [""]
-    for line in text.split("\n"):
-        if line in ("---", "---\r"):
-            parts.append("")
-        else:
-            parts[-1] += line + "\n"
-    # The last line has no line feed, and a line that divides has none that stays.
-    if not text.endswith(("\n---", "\n---\r")) and text not in ("---", "---\r"):
-        parts[-1] = parts[-1][:-1]
-    return parts
+    return re.split(r"(?:\A|(?<=\n))---\r?(?:\n|\Z)", text)
 
 
 def run(data, arguments):

@@ -1,362 +1,250 @@
 /*
- * Holds the inline functions of implib.h to what they pass on: the library's own functions, in whose place
- * these stop at a null pointer, get every argument as it is, or a variable where it is null. Each call has a
- * null pointer in some of the places that allow one.
+ * Holds the inline functions of implib.h to what they pass on: the library's own functions, in whose place these
+ * stop at a null pointer, get every argument as it is, or a variable where it is null. Each call has a null pointer
+ * in some of the places that allow one, and options of each size.
  */
 #include <stdio.h>
 #include <stdlib.h>
+#include <string.h>
 
 #include "implib.h"
 
-static void hold(int holds, const char *what)
+#define MACHINE IMPLIB_MACHINE_ARM64
+#define FLAVOR IMPLIB_FLAVOR_GNU
+#define FLAGS 0x80000003u
+#define ANSWERED IMPLIB_BUFFER_TOO_SMALL
+
+/* What the last call passed on: to which function, and its pointers and numbers, in the order of its stub. */
+static struct {
+    const char *function;
+    const void *pointers[6];
+    uint64_t numbers[8];
+} passed;
+
+static void hold(int holds, const char *function, const char *what)
 {
     if (!holds) {
-        fprintf(stderr, "nulls: %s\n", what);
+        fprintf(stderr, "nulls: %s: %s\n", function, what);
         exit(1);
     }
 }
 
-/* What the last call passed on. */
-static const uint8_t *passed_text;
-static const void *passed_buffer;
-static size_t *passed_first, *passed_second;
+/* ---- the library's own functions */
 
-/* What most functions are given, and how they pass it on. */
+#define LIST(...) __VA_ARGS__
 #define TEXT const uint8_t *text, size_t text_length
-#define OPTIONS const uint8_t *dll, size_t dll_length, uint32_t has_dll, uint16_t machine, uint32_t flavor, uint32_t flags
-#define ANSWER uint8_t *buffer, size_t buffer_length, size_t *length, size_t *place
-#define PASSED_OPTIONS dll, dll_length, has_dll, machine, flavor, flags
-#define PASSED_ANSWER buffer, buffer_length, length, place
+#define OPTIONS const uint8_t *dll, size_t dll_length, uint32_t has_dll, uint16_t machine, uint32_t flavor, \
+                uint32_t flags
+#define BUFFER uint8_t *buffer, size_t buffer_length
+#define ANSWER BUFFER, size_t *length, size_t *place
 
-static uint32_t pass(TEXT, uint16_t machine, uint32_t flavor, ANSWER)
+static uint32_t pass(const char *function, const void *const pointers[6], const uint64_t numbers[8], size_t *first,
+                     size_t *second)
 {
-    hold(text != NULL && buffer != NULL && length != NULL && place != NULL, "a null pointer is passed on");
-    hold(text_length <= 2 && buffer_length <= 3, "another length is passed on");
-    hold(machine == IMPLIB_MACHINE_ARM64 && flavor == IMPLIB_FLAVOR_GNU, "another machine or flavour is passed on");
-    passed_text = text;
-    passed_buffer = buffer;
-    passed_first = length;
-    passed_second = place;
-    *length = 11;
-    *place = 12;
-    return IMPLIB_BUFFER_TOO_SMALL;
+    const struct implib_export *exports = pointers[0];
+    if (strcmp(function, "library_of") == 0)
+        hold(exports->name != NULL && exports->target != NULL, function, "an export has a null pointer");
+    passed.function = function;
+    memcpy(passed.pointers, pointers, sizeof passed.pointers);
+    memcpy(passed.numbers, numbers, sizeof passed.numbers);
+    if (first != NULL)
+        *first = 11;
+    if (second != NULL)
+        *second = 12;
+    return ANSWERED;
 }
 
-uint32_t implib_library_nonnull(TEXT, uint16_t machine, uint32_t flavor, ANSWER)
-{
-    return pass(text, text_length, machine, flavor, PASSED_ANSWER);
-}
+/* A function that passes these on. */
+#define STUB(TYPE, NAME, PARAMETERS, POINTERS, NUMBERS, FIRST, SECOND) \
+    TYPE implib_##NAME##_nonnull PARAMETERS \
+    { \
+        return pass(#NAME, (const void *const[6]){POINTERS}, (const uint64_t[8]){NUMBERS}, FIRST, SECOND); \
+    }
+/* Those with options have the same, in the same order. */
+#define STUB_WITH(NAME, PARAMETERS, ITS, COUNT, MORE, LENGTH) \
+    STUB(uint32_t, NAME, PARAMETERS, LIST(ITS, dll, buffer, length, place, MORE), \
+         LIST(COUNT, dll_length, has_dll, machine, flavor, flags, buffer_length, LENGTH), length, place)
 
-uint32_t implib_members_nonnull(TEXT, uint16_t machine, uint32_t flavor, ANSWER)
-{
-    return pass(text, text_length, machine, flavor, PASSED_ANSWER) + 1;
-}
-
-/* What a call with options passed on beside. */
-static const uint8_t *passed_dll;
-static size_t passed_dll_length;
-static uint32_t passed_has_dll, passed_flags;
-
-uint32_t implib_library_with_nonnull(TEXT, OPTIONS, ANSWER)
-{
-    hold(dll != NULL, "a null pointer is passed on for a name");
-    passed_dll = dll;
-    passed_dll_length = dll_length;
-    passed_has_dll = has_dll;
-    passed_flags = flags;
-    return pass(text, text_length, machine, flavor, PASSED_ANSWER) + 2;
-}
-
-/* Whether the last call was for delayed imports. */
-static int passed_delayed;
-
-uint32_t implib_delayed_library_nonnull(TEXT, OPTIONS, ANSWER)
-{
-    passed_delayed = 1;
-    return implib_library_with_nonnull(text, text_length, PASSED_OPTIONS, PASSED_ANSWER);
-}
-
-/* Whether the last call was for a null descriptor named after the DLL. */
-static int passed_named;
-
-uint32_t implib_named_library_nonnull(TEXT, OPTIONS, ANSWER)
-{
-    passed_named = 1;
-    return implib_library_with_nonnull(text, text_length, PASSED_OPTIONS, PASSED_ANSWER);
-}
-
-/* What a call with exports passed on beside. */
-static const struct implib_export *passed_exports;
-
-uint32_t implib_library_of_nonnull(const struct implib_export *exports, size_t count, OPTIONS, ANSWER)
-{
-    hold(exports != NULL && exports->name != NULL && exports->target != NULL, "a null pointer is passed on for exports");
-    hold(count <= 2, "another count is passed on");
-    passed_exports = exports;
-    return implib_library_with_nonnull((const uint8_t *)exports, 0, PASSED_OPTIONS, PASSED_ANSWER) + 1;
-}
-
-uint32_t implib_warnings_nonnull(TEXT, OPTIONS, ANSWER)
-{
-    return implib_library_with_nonnull(text, text_length, PASSED_OPTIONS, PASSED_ANSWER);
-}
-
-/* The library that a call passed on beside. */
-static const uint8_t *passed_bytes;
-
-uint32_t implib_check_library_nonnull(const uint8_t *bytes, size_t bytes_length, TEXT, OPTIONS, ANSWER)
-{
-    hold(bytes != NULL && bytes_length <= 2, "a null pointer or another length is passed on for a library");
-    passed_bytes = bytes;
-    return implib_library_with_nonnull(text, text_length, PASSED_OPTIONS, PASSED_ANSWER);
-}
-
-uint32_t implib_definition_nonnull(TEXT, uint16_t machine, ANSWER)
-{
-    return pass(text, text_length, machine, IMPLIB_FLAVOR_GNU, PASSED_ANSWER) + 3;
-}
-
-uint32_t implib_exports_nonnull(TEXT, ANSWER)
-{
-    return pass(text, text_length, IMPLIB_MACHINE_ARM64, IMPLIB_FLAVOR_GNU, PASSED_ANSWER) + 3;
-}
-
-uint32_t implib_imports_nonnull(TEXT, uint8_t *buffer, size_t buffer_length, size_t *length)
-{
-    static size_t place;
-    return pass(text, text_length, IMPLIB_MACHINE_ARM64, IMPLIB_FLAVOR_GNU, buffer, buffer_length, length, &place) + 4;
-}
-
-uint32_t implib_check_dll_nonnull(TEXT, const uint8_t *dll, size_t dll_length, const uint8_t *name, size_t name_length,
-                                  ANSWER)
-{
-    hold(dll != NULL && dll_length <= 2, "a null pointer or another length is passed on for a DLL");
-    hold(name != NULL && name_length <= 2, "a null pointer or another length is passed on for a name");
-    passed_bytes = dll;
-    passed_dll = name;
-    passed_dll_length = name_length;
-    return pass(text, text_length, IMPLIB_MACHINE_ARM64, IMPLIB_FLAVOR_GNU, PASSED_ANSWER) + 4;
-}
+STUB_WITH(library_with, (TEXT, OPTIONS, ANSWER), text, text_length, NULL, 0)
+STUB_WITH(delayed_library, (TEXT, OPTIONS, ANSWER), text, text_length, NULL, 0)
+STUB_WITH(named_library, (TEXT, OPTIONS, ANSWER), text, text_length, NULL, 0)
+STUB_WITH(warnings, (TEXT, OPTIONS, ANSWER), text, text_length, NULL, 0)
+STUB_WITH(library_of, (const struct implib_export *exports, size_t count, OPTIONS, ANSWER), exports, count, NULL, 0)
+STUB_WITH(check_library, (const uint8_t *bytes, size_t size, TEXT, OPTIONS, ANSWER), text, text_length, bytes, size)
+STUB(uint32_t, library, (TEXT, uint16_t machine, uint32_t flavor, ANSWER), LIST(text, buffer, length, place),
+     LIST(text_length, buffer_length, machine, flavor), length, place)
+STUB(uint32_t, members, (TEXT, uint16_t machine, uint32_t flavor, ANSWER), LIST(text, buffer, length, place),
+     LIST(text_length, buffer_length, machine, flavor), length, place)
+STUB(uint32_t, definition, (TEXT, uint16_t machine, ANSWER), LIST(text, buffer, length, place),
+     LIST(text_length, buffer_length, machine), length, place)
+STUB(uint32_t, exports, (TEXT, ANSWER), LIST(text, buffer, length, place), LIST(text_length, buffer_length), length,
+     place)
+STUB(uint32_t, imports, (TEXT, BUFFER, size_t *length), LIST(text, buffer, length), LIST(text_length, buffer_length),
+     length, NULL)
+STUB(uint32_t, check_dll, (TEXT, const uint8_t *dll, size_t size, const uint8_t *name, size_t name_length, ANSWER),
+     LIST(text, dll, name, buffer, length, place), LIST(text_length, size, name_length, buffer_length), length, place)
+STUB(size_t, status_text, (uint32_t status, char *buffer, size_t buffer_length), LIST(buffer),
+     LIST(status, buffer_length), NULL, NULL)
 
 void implib_position_nonnull(TEXT, size_t offset, size_t *line, size_t *column)
 {
-    hold(text != NULL && line != NULL && column != NULL, "a null pointer is passed on for a position");
-    hold(text_length <= 2 && offset == 5, "another length or offset is passed on");
-    passed_text = text;
-    passed_first = line;
-    passed_second = column;
-    *line = 13;
-    *column = 14;
+    pass("position", (const void *const[6]){text, line, column}, (const uint64_t[8]){text_length, offset}, line,
+         column);
 }
 
-size_t implib_status_text_nonnull(uint32_t status, char *buffer, size_t buffer_length)
+/* ---- what a call passes on */
+
+#define HOLD(FUNCTION, STATUS, COUNT, POINTERS, NUMBERS) \
+    hold_passed(FUNCTION, STATUS, COUNT, (const void *const[6]){POINTERS}, (const uint64_t[8]){NUMBERS})
+
+/* The status is given, and so many pointers and the numbers are passed on, a null pointer as another one. */
+static void hold_passed(const char *function, uint64_t status, size_t count, const void *const pointers[6],
+                        const uint64_t numbers[8])
 {
-    hold(buffer != NULL, "a null pointer is passed on for a text");
-    hold(status == IMPLIB_NO_NAME_TYPE && buffer_length <= 3, "another status or length is passed on");
-    passed_buffer = buffer;
-    return 31;
+    hold(passed.function != NULL && strcmp(passed.function, function) == 0, function, "it is not called");
+    hold(status == ANSWERED, function, "another status is returned");
+    for (size_t at = 0; at < count; at++) {
+        hold(passed.pointers[at] != NULL, function, "a null pointer is passed on");
+        hold(pointers[at] == NULL || pointers[at] == passed.pointers[at], function, "another pointer is passed on");
+    }
+    hold(memcmp(passed.numbers, numbers, sizeof passed.numbers) == 0, function, "another number is passed on");
+    passed.function = NULL;
 }
 
-/* implib_definition, which has no flavour. */
-static uint32_t definition(TEXT, uint16_t machine, uint32_t flavor, ANSWER)
+/* What is given to a call. */
+struct given {
+    const uint8_t *text, *other, *name;
+    size_t text_length, other_length, name_length;
+    const struct implib_export *exports;
+    size_t count;
+    uint8_t *buffer;
+    size_t buffer_length, *first, *second;
+};
+
+static void hold_plain(struct given it)
 {
-    hold(flavor == IMPLIB_FLAVOR_GNU, "another flavour");
-    return implib_definition(text, text_length, machine, PASSED_ANSWER) - 1;
+    const void *answers[6] = {it.text, it.buffer, it.first, it.second};
+    uint64_t numbers[8] = {it.text_length, it.buffer_length, MACHINE, FLAVOR};
+    uint32_t status;
+    status = implib_library(it.text, it.text_length, MACHINE, FLAVOR, it.buffer, it.buffer_length, it.first, it.second);
+    hold_passed("library", status, 4, answers, numbers);
+    status = implib_members(it.text, it.text_length, MACHINE, FLAVOR, it.buffer, it.buffer_length, it.first, it.second);
+    hold_passed("members", status, 4, answers, numbers);
+    numbers[3] = 0;
+    status = implib_definition(it.text, it.text_length, MACHINE, it.buffer, it.buffer_length, it.first, it.second);
+    hold_passed("definition", status, 4, answers, numbers);
+    numbers[2] = 0;
+    status = implib_exports(it.text, it.text_length, it.buffer, it.buffer_length, it.first, it.second);
+    hold_passed("exports", status, 4, answers, numbers);
+    status = implib_imports(it.text, it.text_length, it.buffer, it.buffer_length, it.first);
+    hold_passed("imports", status, 3, answers, numbers);
+    status = implib_check_dll(it.text, it.text_length, it.other, it.other_length, it.name, it.name_length, it.buffer,
+                              it.buffer_length, it.first, it.second);
+    HOLD("check_dll", status, 6, LIST(it.text, it.other, it.name, it.buffer, it.first, it.second),
+         LIST(it.text_length, it.other_length, it.name_length, it.buffer_length));
+    implib_position(it.text, it.text_length, 5, it.first, it.second);
+    HOLD("position", ANSWERED, 3, LIST(it.text, it.first, it.second), LIST(it.text_length, 5));
+    size_t length = implib_status_text(IMPLIB_NO_NAME_TYPE, (char *)it.buffer, it.buffer_length);
+    HOLD("status_text", length, 1, LIST(it.buffer), LIST(IMPLIB_NO_NAME_TYPE, it.buffer_length));
 }
 
-/* implib_exports, of bytes alone. */
-static uint32_t exports(TEXT, uint16_t machine, uint32_t flavor, ANSWER)
+static const char *const WITH[] = {"library_with", "warnings", "check_library", "library_of"};
+
+static uint32_t called_with(unsigned call, const struct implib_options *options, struct given it)
 {
-    hold(machine == IMPLIB_MACHINE_ARM64 && flavor == IMPLIB_FLAVOR_GNU, "another machine or flavour");
-    return implib_exports(text, text_length, PASSED_ANSWER);
+    if (it.first != NULL)
+        *it.first = 5;
+    if (it.second != NULL)
+        *it.second = 5;
+    if (call == 0)
+        return implib_library_with(options, it.text, it.text_length, it.buffer, it.buffer_length, it.first, it.second);
+    if (call == 1)
+        return implib_warnings(options, it.text, it.text_length, it.buffer, it.buffer_length, it.first, it.second);
+    if (call == 2)
+        return implib_check_library(it.other, it.other_length, it.text, it.text_length, options, it.buffer,
+                                    it.buffer_length, it.first, it.second);
+    return implib_library_of(options, it.exports, it.count, it.buffer, it.buffer_length, it.first, it.second);
 }
 
-/* implib_imports, of bytes alone too, which gives no place. */
-static uint32_t imports(TEXT, uint16_t machine, uint32_t flavor, ANSWER)
+/* A call that is refused by the header alone, at this place. */
+static void hold_refused(unsigned call, uint32_t status, uint32_t wanted, size_t place, struct given it)
 {
-    hold(machine == IMPLIB_MACHINE_ARM64 && flavor == IMPLIB_FLAVOR_GNU, "another machine or flavour");
-    uint32_t status = implib_imports(text, text_length, buffer, buffer_length, length);
-    passed_second = place;
-    if (place != NULL)
-        *place = 12;
-    return status;
+    hold(status == wanted && passed.function == NULL, WITH[call], "a wrong call is passed on");
+    int is_told = (it.first == NULL || *it.first == 0) && (it.second == NULL || *it.second == place);
+    hold(is_told, WITH[call], "it tells more");
 }
 
-/* What is passed on and given of the places of an answer, each of which may be null. */
-static void hold_answer(const void *buffer, const size_t *first, const size_t *second, const char *what)
+/* Calls with options of each size, and without. */
+static void hold_with(unsigned call, struct given it)
 {
-    hold(buffer == NULL || passed_buffer == buffer, what);
-    hold(first == NULL || (passed_first == first && *first == 11), what);
-    hold(second == NULL || (passed_second == second && *second == 12), what);
-}
-
-typedef uint32_t callee_with(const struct implib_options *options, TEXT, ANSWER);
-
-/* Calls with options of each size, with and without a name of the DLL, of three lengths. */
-static void hold_options(callee_with *own, TEXT, uint8_t *buffer, size_t buffer_length, size_t *first, size_t *second)
-{
-    static const uint8_t name[] = {'c', 'd'};
-    for (unsigned given = 0; given < 4; given++) {
-        for (size_t size = 0; size < sizeof(struct implib_options) + 9; size++) {
-            struct implib_options options = {size, IMPLIB_MACHINE_ARM64, IMPLIB_FLAVOR_GNU, 0x80000003,
-                                             given == 0 ? NULL : name, given == 0 ? 2 : given - 1};
-            int is_known = size >= 16 && size <= 40, has_name = size == 40 && given != 0;
-            passed_text = NULL;
-            passed_delayed = 0;
-            passed_named = 0;
-            if (first != NULL)
-                *first = 5;
-            if (second != NULL)
-                *second = 5;
-            uint32_t status = own(&options, text, text_length, buffer, buffer_length, first, second);
-            if (!is_known) {
-                hold(status == IMPLIB_UNKNOWN_OPTIONS && passed_text == NULL, "options of another size are taken");
-                hold((first == NULL || *first == 0) && (second == NULL || *second == 0), "unknown options tell more");
-                continue;
-            }
-            hold(status == IMPLIB_BUFFER_TOO_SMALL + 2, "another status is returned with options");
-            hold(text == NULL || passed_text == text, "another text is passed on with options");
-            hold_answer(buffer, first, second, "another buffer, length or place with options");
-            hold(passed_flags == (size < 20 ? 0 : 0x80000003), "other flags are passed on");
-            hold(!passed_delayed, "a call without the flag is for delayed imports");
-            hold(!passed_named, "a call without the flag is for a named null descriptor");
-            hold(passed_has_dll == (uint32_t)has_name, "a name is passed on, or is not");
-            hold(passed_dll_length == (has_name ? given - 1 : 0), "another length of the name is passed on");
-            hold(passed_dll_length == 0 || passed_dll == name, "another name is passed on");
+    hold_refused(call, called_with(call, NULL, it), IMPLIB_UNKNOWN_OPTIONS, 0, it);
+    for (size_t size = 0; size < sizeof(struct implib_options) + 9; size++) {
+        struct implib_options options = {size, MACHINE, FLAVOR, FLAGS, it.name, it.name_length};
+        uint32_t status = called_with(call, &options, it);
+        if (size < 16 || size > 40) {
+            hold_refused(call, status, IMPLIB_UNKNOWN_OPTIONS, 0, it);
+            continue;
         }
-    }
-    for (unsigned named = 0; own == implib_library_with && named < 2; named++) {
-        struct implib_options beside = {sizeof beside, IMPLIB_MACHINE_ARM64, IMPLIB_FLAVOR_GNU,
-                                        (named ? IMPLIB_NULL_NAMED : IMPLIB_DELAYED) + 0x80000003, name, 2};
-        passed_delayed = 0;
-        passed_named = 0;
-        uint32_t status = own(&beside, text, text_length, buffer, buffer_length, first, second);
-        hold(status == IMPLIB_BUFFER_TOO_SMALL + 2, "another status is returned for a library of another kind");
-        hold(passed_delayed == !named && passed_named == (int)named, "the kind of the library is not passed on");
-        hold(text == NULL || passed_text == text, "another text is passed on for another kind");
-        hold(passed_flags == 0x80000003 && passed_has_dll == 1, "other options are passed on for another kind");
-        hold(passed_dll == name && passed_dll_length == 2, "another name is passed on for another kind");
-        hold_answer(buffer, first, second, "another buffer, length or place for another kind");
-    }
-    hold(own(NULL, text, text_length, buffer, buffer_length, first, second) == IMPLIB_UNKNOWN_OPTIONS,
-         "null options are taken");
-}
-
-/* implib_check_library, of this library. */
-static const uint8_t *checked;
-
-static uint32_t check(const struct implib_options *options, TEXT, ANSWER)
-{
-    passed_bytes = NULL;
-    uint32_t status = implib_check_library(checked, checked == NULL ? 0 : 2, text, text_length, options, PASSED_ANSWER);
-    hold(status == IMPLIB_UNKNOWN_OPTIONS || checked == NULL || passed_bytes == checked, "another library is passed on");
-    return status;
-}
-
-/* A call beside a DLL, each of whose texts may be null. */
-static void hold_dll(const uint8_t *text, uint8_t *buffer, size_t buffer_length, size_t *first, size_t *second)
-{
-    static const uint8_t name[] = {'c', 'd'};
-    size_t text_length = text == NULL ? 0 : 2;
-    for (unsigned given = 0; given < 4; given++) {
-        const uint8_t *dll = given & 1 ? name : NULL, *own = given & 2 ? name : NULL;
-        uint32_t status = implib_check_dll(text, text_length, dll, given & 1 ? 2 : 0, own, given & 2 ? 1 : 0, buffer,
-                                           buffer_length, first, second);
-        hold(status == IMPLIB_BUFFER_TOO_SMALL + 4, "another status is returned beside a DLL");
-        hold(text == NULL || passed_text == text, "another library is passed on beside a DLL");
-        hold(dll == NULL || passed_bytes == dll, "another DLL is passed on");
-        hold(own == NULL || (passed_dll == own && passed_dll_length == 1), "another name of a DLL is passed on");
-        hold_answer(buffer, first, second, "another buffer, length or place beside a DLL");
+        const uint8_t *dll = size == 40 ? it.name : NULL;
+        const void *text = call == 3 ? (const void *)it.exports : it.text;
+        HOLD(WITH[call], status, call == 2 ? 6 : 5, LIST(text, dll, it.buffer, it.first, it.second, it.other),
+             LIST(call == 3 ? it.count : it.text_length, dll == NULL ? 0 : it.name_length, dll != NULL, MACHINE, FLAVOR,
+                  size < 20 ? 0 : FLAGS, it.buffer_length, call == 2 ? it.other_length : 0));
     }
 }
 
-/* Calls with exports, of which one may have a null pointer, and with options of each size. */
-static void hold_exports(uint8_t *buffer, size_t buffer_length, size_t *first, size_t *second)
+/* Libraries of another kind go to functions of their own, without the flag. */
+static void hold_kinds(struct given it)
 {
-    static const uint8_t name[] = {'c', 'd'};
-    struct implib_options options = {sizeof options, IMPLIB_MACHINE_ARM64, IMPLIB_FLAVOR_GNU, 0x80000003, name, 2};
-    for (size_t count = 0; count < 3; count++) {
-        for (unsigned null = 0; null < 5; null++) {
-            struct implib_export exports[2] = {{name, 2, name, 0, 5, 8}, {name, 1, name, 2, 0, 0}};
-            size_t at = null > 2;
-            if (null == 1 || null == 3)
-                exports[at].name = NULL;
-            if (null == 2 || null == 4)
-                exports[at].target = NULL;
-            passed_exports = NULL;
-            uint32_t status = implib_library_of(&options, count == 0 ? NULL : exports, count, buffer, buffer_length,
-                                                first, second);
-            if (null > 0 && at < count) {
-                hold(status == IMPLIB_NULL_IN_EXPORT && passed_exports == NULL, "a null pointer of an export is taken");
-                hold(first == NULL || *first == 0, "a null pointer of an export has a length");
-                hold(second == NULL || *second == at, "a null pointer of an export has another place");
-                continue;
-            }
-            hold(status == IMPLIB_BUFFER_TOO_SMALL + 3, "another status is returned with exports");
-            hold(count == 0 || passed_exports == exports, "other exports are passed on");
-            hold_answer(buffer, first, second, "another buffer, length or place with exports");
-            hold(passed_flags == 0x80000003 && passed_has_dll == 1, "other options are passed on with exports");
-            hold(passed_dll == name && passed_dll_length == 2, "another name is passed on with exports");
-        }
+    for (unsigned named = 0; named < 2; named++) {
+        uint32_t flags = FLAGS + (named ? IMPLIB_NULL_NAMED : IMPLIB_DELAYED);
+        struct implib_options options = {sizeof options, MACHINE, FLAVOR, flags, it.name, it.name_length};
+        uint32_t status = called_with(0, &options, it);
+        HOLD(named ? "named_library" : "delayed_library", status, 5,
+             LIST(it.text, it.name, it.buffer, it.first, it.second),
+             LIST(it.text_length, it.name == NULL ? 0 : it.name_length, it.name != NULL, MACHINE, FLAVOR, FLAGS,
+                  it.buffer_length));
     }
-    for (options.size = 0; options.size < sizeof options + 9; options.size++) {
-        int is_known = options.size >= 16 && options.size <= 40;
-        uint32_t status = implib_library_of(&options, NULL, 0, buffer, buffer_length, first, second);
-        hold(status == (is_known ? IMPLIB_BUFFER_TOO_SMALL + 3 : IMPLIB_UNKNOWN_OPTIONS),
-             "options of another size are taken with exports");
-        hold(!is_known || passed_has_dll == (options.size == 40), "a name is passed on with exports, or is not");
+}
+
+/* Exports of which one has a null pointer. */
+static void hold_exports(struct given it)
+{
+    struct implib_options options = {sizeof options, MACHINE, FLAVOR, FLAGS, it.name, it.name_length};
+    for (unsigned null = 0; null < 4; null++) {
+        struct implib_export exports[2] = {it.exports[0], it.exports[1]};
+        *(null % 2 == 0 ? &exports[null / 2].name : &exports[null / 2].target) = NULL;
+        it.exports = exports;
+        hold_refused(3, called_with(3, &options, it), IMPLIB_NULL_IN_EXPORT, null / 2, it);
+        exports[null / 2] = (struct implib_export){(const uint8_t *)"a", 1, (const uint8_t *)"b", 0, 5, 8};
+        hold(called_with(3, &options, it) == ANSWERED, WITH[3], "exports are refused");
+        passed.function = NULL;
     }
-    hold(implib_library_of(NULL, NULL, 0, buffer, buffer_length, first, second) == IMPLIB_UNKNOWN_OPTIONS,
-         "null options are taken with exports");
 }
 
 int main(void)
 {
     static const uint8_t text[] = {'a', 'b'};
+    static const struct implib_export exports[] = {{text, 2, text, 0, 5, 8}, {text, 1, text, 2, 0, 0}};
     uint8_t buffer[3];
-    char letters[3];
+    size_t first, second;
 
-    /* Bit 0: a text; 1: a buffer; 2: the first number; 3: the second. */
-    for (unsigned given = 0; given < 16; given++) {
-        const uint8_t *some_text = given & 1 ? text : NULL;
-        uint8_t *some_buffer = given & 2 ? buffer : NULL;
-        char *some_letters = given & 2 ? letters : NULL;
-        size_t first = 0, second = 0;
-        size_t *some_first = given & 4 ? &first : NULL, *some_second = given & 8 ? &second : NULL;
-        size_t text_length = given & 1 ? 2 : 0, buffer_length = given & 2 ? 3 : 0;
-
-        for (uint32_t call = 0; call < 5; call++) {
-            uint32_t (*own)(TEXT, uint16_t machine, uint32_t flavor, ANSWER) =
-                call == 0 ? implib_library : call == 1 ? implib_members : call == 2 ? definition : call == 3 ? exports : imports;
-            first = second = 0;
-            hold(own(some_text, text_length, IMPLIB_MACHINE_ARM64, IMPLIB_FLAVOR_GNU, some_buffer, buffer_length,
-                     some_first, some_second) == IMPLIB_BUFFER_TOO_SMALL + call,
-                 "another status is returned");
-            hold(some_text == NULL || passed_text == text, "another text is passed on");
-            hold_answer(some_buffer, some_first, some_second, "another buffer, length or place");
-        }
-
-        hold_options(implib_library_with, some_text, text_length, some_buffer, buffer_length, some_first, some_second);
-        hold_options(implib_warnings, some_text, text_length, some_buffer, buffer_length, some_first, some_second);
-        checked = some_text;
-        hold_options(check, text, 2, some_buffer, buffer_length, some_first, some_second);
-        hold_options(check, some_text, text_length, some_buffer, buffer_length, some_first, some_second);
-        hold_exports(some_buffer, buffer_length, some_first, some_second);
-        hold_dll(some_text, some_buffer, buffer_length, some_first, some_second);
-
-        first = second = 0;
-        implib_position(some_text, text_length, 5, some_first, some_second);
-        hold(some_text == NULL || passed_text == text, "another text is passed on for a position");
-        hold(some_first == NULL || (passed_first == &first && first == 13), "another line is given");
-        hold(some_second == NULL || (passed_second == &second && second == 14), "another column is given");
-
-        hold(implib_status_text(IMPLIB_NO_NAME_TYPE, some_letters, buffer_length) == 31, "another length of a text");
-        hold(some_letters == NULL || passed_buffer == (const void *)letters, "another buffer for a text");
+    /* Which of a text, a buffer, the first number, the second, another text, a name and exports are there. */
+    for (unsigned bits = 0; bits < 128; bits++) {
+        struct given it = {
+            bits & 1 ? text : NULL, bits & 16 ? text + 1 : NULL, bits & 32 ? text : NULL, bits & 1 ? 2 : 0,
+            bits & 16 ? 1 : 0, bits & 32 ? 1 + (bits & 1) : 0, bits & 64 ? exports : NULL, bits & 64 ? 2 : 0,
+            bits & 2 ? buffer : NULL, bits & 2 ? 3 : 0, bits & 4 ? &first : NULL, bits & 8 ? &second : NULL,
+        };
+        hold_plain(it);
+        for (unsigned call = 0; call < 4; call++)
+            hold_with(call, it);
+        hold_kinds(it);
+        if (it.exports != NULL)
+            hold_exports(it);
     }
-
     /* A pointer that is not null is passed on where the length is 0 too, or a variable in its place. */
-    hold(implib_library(text, 0, IMPLIB_MACHINE_ARM64, IMPLIB_FLAVOR_GNU, buffer, 0, NULL, NULL)
-             == IMPLIB_BUFFER_TOO_SMALL,
-         "another status is returned for empty texts");
+    uint32_t status = implib_library(text, 0, MACHINE, FLAVOR, buffer, 0, NULL, NULL);
+    HOLD("library", status, 4, LIST(NULL), LIST(0, 0, MACHINE, FLAVOR));
     return 0;
 }

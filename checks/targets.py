@@ -1,21 +1,23 @@
-"""What programs are linked from: the machines as the tools name them, objects that name imports, and the
-linkers."""
+"""What programs are linked from, and what is found in them: the machines as the tools name them, objects that name
+imports, the linkers, and what a linked file asks for."""
 import os
 import shutil
 import subprocess
 from dataclasses import dataclass
 
 import tools
+from image import MARK, BadImage, Image
 
 
 @dataclass(frozen=True)
 class Target:
-    """A machine as the tools name it: LLVM's assembler, lld-link, `ld.lld -m`, GNU's linker."""
+    """A machine as the tools name it: LLVM's assembler, lld-link, `ld.lld -m`, the prefix of GNU's tools, dlltool."""
 
     triple: str
     lld_link: str
     ld_lld: str
-    gnu_ld: str | None
+    gnu: str | None
+    dlltool: str
     width: int
     # the prefix of each symbol that C names
     lead: str = ""
@@ -26,31 +28,40 @@ class Target:
 
 
 TARGETS = {
-    "I386": Target("i686-windows-gnu", "x86", "i386pe", "i686-w64-mingw32-ld", 4, "_"),
-    "ARMNT": Target("thumbv7-windows-gnu", "arm", "thumb2pe", None, 4),
-    "AMD64": Target("x86_64-windows-gnu", "x64", "i386pep", "x86_64-w64-mingw32-ld", 8),
-    "ARM64": Target("aarch64-windows-gnu", "arm64", "arm64pe", None, 8),
+    "I386": Target("i686-windows-gnu", "x86", "i386pe", "i686-w64-mingw32", "i386", 4, "_"),
+    "ARMNT": Target("thumbv7-windows-gnu", "arm", "thumb2pe", None, "arm", 4),
+    "AMD64": Target("x86_64-windows-gnu", "x64", "i386pep", "x86_64-w64-mingw32", "i386:x86-64", 8),
+    "ARM64": Target("aarch64-windows-gnu", "arm64", "arm64pe", None, "arm64", 8),
 }
+X86 = ("I386", "AMD64")
+GCCS = {machine: f"{TARGETS[machine].gnu}-gcc" for machine in X86}
 
-# In front of a program's words, so that they can be found in the linked file.
-MARK = "sixteen letters:"
+
+def definition(dll, *exports):
+    return "\n".join([f"LIBRARY {dll}", "EXPORTS", *exports, ""])
+
+
+# ---- objects
 
 
 def assembled(folder, machine, source, name="program"):
-    """An object of this source."""
+    """An object of this source, in which `{_}` is in front of a symbol of C, and `{word}` makes an address."""
+    target = TARGETS[machine]
+    source = source.replace("{_}", target.lead).replace("{word}", target.word)
     text, made = tools.file_of(folder, f"{name}.s", source), os.path.join(folder, f"{name}.obj")
-    flags = [f"-triple={TARGETS[machine].triple}", "-filetype=obj", text, "-o", made]
+    flags = [f"-triple={target.triple}", "-filetype=obj", text, "-o", made]
     tools.done([tools.tool("llvm-mc"), *flags])
     return made
 
 
-def program_of_words(folder, machine, symbols):
-    """An object that has, behind the mark, a word with the address of each of these symbols."""
-    target = TARGETS[machine]
-    start = f"{target.lead}start"
-    words = "".join(f'{target.word} "{symbol}"\n' for symbol in symbols)
-    source = f'.text\n.globl {start}\n{start}:\n.data\n.balign 16\n.ascii "{MARK}"\n{words}'
+def program_of_words(folder, machine, symbols, code=""):
+    """An object that has, behind the mark, a word with the address of each of these symbols, and starts with code."""
+    words = "".join(f'{{word}} "{symbol}"\n' for symbol in symbols)
+    source = f'.text\n.globl {{_}}start\n{{_}}start: {code}\n.data\n.balign 16\n.ascii "{MARK}"\n{words}'
     return assembled(folder, machine, source)
+
+
+# ---- linkers
 
 
 @dataclass(frozen=True)
@@ -91,7 +102,100 @@ class Linker:
 def linkers(machine):
     """The linkers at hand that link for a machine."""
     found = [Linker(kind, command, machine) for kind in ("lld-link", "ld.lld") for command in tools.versions(kind)]
-    gnu = TARGETS[machine].gnu_ld
-    if gnu is not None and shutil.which(gnu) is not None:
-        found.append(Linker("GNU ld", gnu, machine))
+    gnu = f"{TARGETS[machine].gnu}-ld"
+    return found + [Linker("GNU ld", gnu, machine)] * (shutil.which(gnu) is not None)
+
+
+# ---- what a linked file asks for
+
+
+class Wrong(Exception):
+    """What is wrong in a linked file."""
+
+
+# What an address leads to that no loader fills.
+LOST = "lost"
+
+
+def entries(dll, *names):
+    """Symbols of addresses, as C has them, each of which is at its entry. A name with a `:` tells behind it what the
+    DLL is asked for, a name or `#` and a number; else that is the name."""
+    pairs = (name.partition(":")[::2] for name in names)
+    return {f"__imp_{symbol}": f"entry of {dll}!{asked or symbol}" for symbol, asked in pairs}
+
+
+def calls(dll, *names):
+    """Symbols of functions, and of their addresses."""
+    pairs = [name.partition(":")[::2] for name in names]
+    return entries(dll, *names) | {symbol: f"stub of {dll}!{asked or symbol}" for symbol, asked in pairs}
+
+
+def symbol_of(machine, symbol):
+    """A symbol of C, as objects have it: on I386 with a `_` in front, unless it has an `@`."""
+    address, name = "__imp_" * symbol.startswith("__imp_"), symbol.removeprefix("__imp_")
+    return address + (name if "@" in name else TARGETS[machine].lead + name)
+
+
+def program_of(folder, machine, symbols, code=""):
+    """An object with a word for each of these symbols of C."""
+    return program_of_words(folder, machine, [symbol_of(machine, symbol) for symbol in symbols], code)
+
+
+def asked(ask):
+    """What a DLL is asked for, without a hint."""
+    return f"#{ask}" if isinstance(ask, int) else ask[0]
+
+
+def hinted(ask):
+    """The same, with a hint that is not 0."""
+    return asked(ask) + (f":{ask[1]}" if isinstance(ask, tuple) and ask[1] else "")
+
+
+def asks(image, shown=asked):
+    """What each DLL of the import directory is asked for, by all descriptors of the DLL."""
+    found = {}
+    for dll in image.imports():
+        found[dll.name] = sorted([*found.get(dll.name, ()), *map(shown, dll.addresses)])
     return found
+
+
+def found_in(image, symbols, shown=asked):
+    """What each symbol leads to, of a program that has words for them."""
+    words, places = image.words(len(symbols)) if symbols else [], image.entries()
+    return {symbol: led_to(image, places, symbol, word, shown) for symbol, word in zip(symbols, words)}
+
+
+def led_to(image, places, symbol, word, shown):
+    """What the address of a symbol leads to: the entry of an import, a stub that jumps by it, or something else."""
+    if word + image.base == 0:
+        return "nothing"
+    kind, entry = "entry", word
+    if word not in places:
+        kind = "stub"
+        try:
+            entry = None if symbol.startswith("__imp_") else image.stub_entry(word)
+        except BadImage:
+            return "no stub"
+    return f"{kind} of {places[entry][0]}!{shown(places[entry][1])}" if entry in places else LOST
+
+
+def hold_image(path, named, folds=False):
+    """Holds a linked file against what its program names: the import tables ask for just that, each once, and each
+    symbol leads where it has to. Names may differ in small and capital letters, if `folds`."""
+    image, fold = Image(path), str.lower if folds else str
+    dlls = image.imports()
+    found = sorted(fold(f"{dll.name}!{asked(ask)}") for dll in dlls for ask in dll.addresses)
+    wanted = sorted({fold(led.split(" of ")[1]) for led in named.values()})
+    if found != wanted:
+        lost, more = ([one for one in these if one not in those] for these, those in ((wanted, found), (found, wanted)))
+        said = f"{LOST} is {', '.join(lost[:5])}" if lost else "asked is for more"
+        raise Wrong(f"{said}; asked is for {more[:5]}" if more else said)
+    if not all(dll.lookups for dll in dlls):
+        raise Wrong("a DLL is asked for nothing")
+    # a table that runs on into the next has entries that are another DLL's, too
+    if len(image.entries()) != len(wanted):
+        raise Wrong("a table goes on in another one")
+    leads = found_in(image, list(named))
+    wrong = {symbol: led for symbol, led in leads.items() if fold(led) != fold(named[symbol])}
+    if wrong:
+        raise Wrong(f"symbols lead elsewhere: {wrong}")

@@ -1,6 +1,10 @@
 """What the checks share: their options, which tools there are, archives, and runs under Wine."""
 import argparse
 import functools
+import glob
+import importlib.machinery
+import importlib.util
+import itertools
 import os
 import re
 import shutil
@@ -10,6 +14,7 @@ import sys
 ROOT = os.path.dirname(os.path.dirname(os.path.abspath(__file__)))
 PROGRAM = os.path.join(ROOT, "crates", "implib_tool", "out", "implib_tool")
 DLLTOOL = os.path.join(ROOT, "crates", "implib_dlltool", "out", "implib_dlltool")
+CHECK = os.path.join(ROOT, "crates", "implib_check", "out", "implib_check")
 PACK = os.path.join(ROOT, "examples", "pack")
 MACHINES = ("I386", "ARMNT", "AMD64", "ARM64")
 FLAVOURS = ("msvc", "gnu")
@@ -32,9 +37,24 @@ def arguments(description, program=PROGRAM, **options):
         parser.add_argument(f"--{name}", type=int, default=default, help=f"{help_}; else {default}")
     options = parser.parse_args()
     options.program = os.path.abspath(options.program)
-    if not os.access(options.program, os.X_OK):
-        sys.exit(f"no {options.program}: `rt run` in the folder of its crate builds it")
+    need(options.program)
     return options
+
+
+def need(*programs):
+    """Ends the check where one of these programs is not built."""
+    for program in programs:
+        if not os.access(program, os.X_OK):
+            sys.exit(f"no {program}: `rt run` in the folder of its crate builds it")
+
+
+def loaded(name):
+    """A check as a module."""
+    loader = importlib.machinery.SourceFileLoader(f"check_{name}", os.path.join(ROOT, "checks", name))
+    module = importlib.util.module_from_spec(importlib.util.spec_from_loader(loader.name, loader))
+    sys.modules[loader.name] = module
+    loader.exec_module(module)
+    return module
 
 
 @functools.cache
@@ -91,6 +111,46 @@ def file_of(folder, name, text):
     return path
 
 
+def script(folder, name, text):
+    """A new program of the shell or of Python."""
+    path = file_of(folder, name, text)
+    os.chmod(path, 0o755)
+    return path
+
+
+def bytes_of(path):
+    with open(path, "rb") as file:
+        return file.read()
+
+
+def text_of(path):
+    with open(path, encoding="utf-8", errors="replace") as file:
+        return file.read()
+
+
+def closed(wrong, said):
+    """Ends a check: says what is wrong, of much the first, and how much is."""
+    for line in wrong[:50]:
+        print(line)
+    print(f"{said}: {len(wrong)} wrong")
+    sys.exit(1 if wrong else 0)
+
+
+def failing_runs(folder, command, before=lambda: None):
+    """Runs of a command with one allocation after the other failing, up to one at which none is left to fail. Each is
+    preceded by a call, and is given with the allocation's number."""
+    shim = os.path.join(folder, "failing_malloc.so")
+    if not os.path.exists(shim):
+        done(["gcc", "-shared", "-fPIC", "-o", shim, os.path.join(ROOT, "checks", "failing_malloc.c")])
+    for number in itertools.count(1):
+        before()
+        failing = {"LD_PRELOAD": os.path.abspath(shim), "FAIL_AT": str(number)}
+        run = subprocess.run(command, capture_output=True, text=True, env=failing)
+        if run.stdout.endswith("not reached\n"):
+            return
+        yield number, run
+
+
 # ---- source packages
 
 # How apt-get tells of a source of binary packages as the source of their sources.
@@ -110,16 +170,29 @@ def fetch_sources(folder, *packages):
     subprocess.run([*apt, "source", "--download-only", *packages], cwd=folder, check=True)
 
 
+def unpacked(folder, package, *patterns):
+    """The folder of what these patterns take of a source package, which is fetched into this folder where it is not."""
+    found = glob.glob(os.path.join(folder, f"{package}[-_]*", ""))
+    if not found:
+        tars = os.path.join(folder, f"{package}_*.orig.tar.*")
+        if not glob.glob(tars):
+            fetch_sources(folder, package)
+        tar = next(path for path in glob.glob(tars) if not path.endswith(".asc"))
+        subprocess.run(["tar", "xf", tar, "--wildcards", *patterns], cwd=folder, check=True)
+        found = glob.glob(os.path.join(folder, f"{package}[-_]*", ""))
+    return found[0]
+
+
 # ---- archives
 
 
-def packed(options, folder, name, machine, flavour, definition, archiver=None):
-    """The archive that `examples/pack` makes of a definition, in a folder of its own."""
+def packed(program, folder, name, machine, flavour, definition, archiver=None):
+    """The archive that `examples/pack` makes of a definition by `implib_tool`, in a folder of its own."""
     os.makedirs(os.path.join(folder, name))
     source = file_of(os.path.join(folder, name), "definition.def", definition)
     archive = os.path.join(folder, name, name)
     chosen = ["--archiver", archiver or tool("llvm-ar")]
-    done([PACK, "--program", options.program, *chosen, machine, flavour, source, archive])
+    done([PACK, "--program", program, *chosen, machine, flavour, source, archive])
     return archive
 
 
