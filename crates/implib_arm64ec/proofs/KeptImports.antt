@@ -77,9 +77,6 @@ module _ (texts : List ℕ) (address_end symbol_end : ℕ) (plain symbol other :
       IsCharBoundary-at_seam texts (codes "__imp_") (plain ++ (auxiliary_symbol plain ++ (symbol ++ other))) has.whole
       (IsUtf8-append plain (auxiliary_symbol plain ++ (symbol ++ other)) has.plain_text later_text)
 
-  pub cut_at_auxiliary : IsCharBoundary texts address_end
-  cut_at_auxiliary = grind (arith, address_size, IsCharBoundary-at_seam, later_text)
-
   pub cut_at_symbol : IsCharBoundary texts (address_end + (address_end + 4))
   cut_at_symbol = grind (arith, symbols_size, IsCharBoundary-at_seam, after_symbols, last_text)
 

@@ -100,9 +100,3 @@ module _ (machine : MachineType) (linked : List ℕ) where
   pub all_kept : (items more : List KeptExport) (k : KeptExport) → more ≡ items ++ k ∷ [] → AllByRecursion (IsKept machine linked) items → IsKept machine linked k
       → AllByRecursion (IsKept machine linked) more
   all_kept items more k is all kept = rw is (AllByRecursion-append (IsKept machine linked) items (k ∷ []) all (kept, tt))
-
-  -- the one at an index
-  pub kept_at : (items : List KeptExport) (index : ℕ) (d : KeptExport) → index < length items → AllByRecursion (IsKept machine linked) items → IsKept machine linked (get_or items index d)
-  kept_at [] index d within all = absurd (omega (arith, within))
-  kept_at (k ∷ items) zero d within all = all.0
-  kept_at (k ∷ items) (suc index) d within all = kept_at items index d (omega (arith, within)) all.1

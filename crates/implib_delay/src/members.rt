@@ -130,9 +130,9 @@ impl<'a> Source<'a> for &'a DelayedMembers {
 }
 
 /// The members of the library by which the exports of a definition are delayed (docs/GUARANTEES.md,
-/// "Delayed imports"): for GNU's linker, on I386 and AMD64. Each export is under its name to link by, and
-/// asks for what it would ask for in an ordinary library for GNU's linker. The library's own name,
-/// or else the DLL's, names the members and their symbols.
+/// "Delayed imports"): for GNU's linker, on I386 and AMD64. Each export is under its name to link
+/// by, and asks for what it would ask for in an ordinary library for GNU's linker. The library's
+/// own name, or else the DLL's, names the members and their symbols.
 ///
 /// # Errors
 ///

@@ -83,12 +83,6 @@ as_name-ok : (index : ℕ) (read : Read (List ℕ × ℕ)) (name : NameEntry) (l
 as_name-ok index (Ok (text, room)) name left is = grind (arith, ok_is)
 as_name-ok index (Err fault) name left is = absurd cc
 
-as_forwarder-ok : (sections : List Section) (entry : Entry) (address : ℕ) (read : Read (List ℕ × ℕ)) (target : Target) (left : ℕ) → is_forwarder entry address ≡ true
-    → ((text : List ℕ) (room : ℕ) → read ≡ Ok (text, room) → IsTextAt sections address text) → as_forwarder read ≡ Ok (target, left) → IsTargetOf sections entry address target
-as_forwarder-ok sections entry address (Ok (text, room)) target left forwards at is =
-    subst (λ (x : Target × ℕ). IsTargetOf sections entry address x.0) (ok_is (Forwarder text, room) (target, left) is) (forwards, at text room refl)
-as_forwarder-ok sections entry address (Err fault) target left forwards at is = absurd cc
-
 target_of-ok : (sections : List Section) (entry : Entry) (address place room left : ℕ) (target : Target)
     → ((rva : ℕ) (text : List ℕ) → text_at sections rva ≡ Some text → IsTextAt sections rva text)
     → target_of sections entry address place room ≡ Ok (target, left) → IsTargetOf sections entry address target

@@ -17,11 +17,6 @@ with_front-twice : (first second : List GivenView) (more : Reading) → with_fro
 with_front-twice first second (Ok more) = ap Ok (sym (append_assoc first second more))
 with_front-twice first second (Err fault) = refl
 
--- no options in front
-pub with_front-none : (more : Reading) → with_front [] more ≡ more
-with_front-none (Ok more) = refl
-with_front-none (Err fault) = refl
-
 -- options were added, and then one
 with_one : (before front middle after : List GivenView) (given : GivenView) (more : Reading) → middle ≡ before ++ front → after ≡ middle ++ given ∷ [] → with_front before (with_front (front ++ given ∷ []) more) ≡ with_front after more
 with_one before front middle after given more is added =

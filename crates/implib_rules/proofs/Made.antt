@@ -121,39 +121,10 @@ read_for naming d machine flavor members made off plain =
     (subst (λ (x : DefinitionView). ReadBack x machine flavor made.all) is made.reads)
     plain (made.is ∙ ap (map member_of) (specs_are naming machine flavor (renamed d) off))
 
--- the members in order, without third texts
-pub made_in_order : (naming : NamingView) (d : DefinitionView) (machine : MachineType) (members : List MemberView)
-    → naming.exports_as ≡ false → AreInOrder d machine Msvc members → AreMadeFor naming d machine Msvc members
-made_in_order naming d machine members off ordered = record {
-  accepted = ap (λ b. if b then export_as_refusal d machine else refusal d machine Msvc) off ∙ ordered.made.accepted;
-  all = ordered.all;
-  made = subst (λ (x : DefinitionView). AreMembersOf x machine Msvc ordered.all) (sym (made_is naming machine Msvc d off)) ordered.made;
-  reads = subst (λ (x : DefinitionView). ReadBack x machine Msvc ordered.all) (sym (made_is naming machine Msvc d off)) ordered.reads;
-  is = ordered.is ∙ sym (ap (map member_of) (specs_are naming machine Msvc d off));
 }
 
--- for GNU's linker
-pub made_for_gnu : (naming : NamingView) (d : DefinitionView) (machine : MachineType) (members : List MemberView)
-    → AreInOrder d machine Gnu members → AreMadeFor naming d machine Gnu members
-made_for_gnu naming d machine members ordered = record {
-  accepted = ordered.made.accepted;
-  all = ordered.all;
-  made = ordered.made;
-  reads = ordered.reads;
-  is = ordered.is;
 }
 
--- and with third texts
-pub made_with_texts : (naming : NamingView) (d : DefinitionView) (machine : MachineType) (members : List MemberView)
-    → naming.exports_as ≡ true → IsExportAsLibrary d machine members → AreMadeFor naming d machine Msvc members
-made_with_texts naming d machine members on made = record {
-  accepted =
-      ap (λ b. if b then export_as_refusal d machine else refusal d machine Msvc) on
-      ∙ ap (λ o. first_of_both o (length_refusal (all_export_as_specs machine d))) made.made.accepted ∙ made.fit;
-  all = made.all;
-  made = subst (λ (x : DefinitionView). AreMembersOf x machine Msvc made.all) (sym (ap (λ b. if b then kept_definition machine d else d) on)) made.made;
-  reads = subst (λ (x : DefinitionView). ReadBack x machine Msvc made.all) (sym (ap (λ b. if b then kept_definition machine d else d) on)) made.reads;
-  is = made.is ∙ sym (ap (λ b. map member_of (if b then export_as_library machine d else library_specs d machine Msvc)) on);
 }
 
 -- the members of the library, in order, are those for the options

@@ -115,10 +115,3 @@ name_passed index heard token left fewer one h =
     let names = names_of heard in
     let long = length-append names (token ∷ []) in
     subst (IsOffsetOf index fewer None) (sym (name_added heard token)) (omega (arith, long, one, h))
-
--- the offset that was found, or 0
-pub offset_known : (index left : ℕ) (found : Option ℕ) (heard : List Heard) → IsOffsetOf index left found (names_of heard) → unwrap_or found 0 ≡ name_offset heard index
-offset_known index left None heard h =
-    let same = length-map (names_of heard) (λ (t : TokenView). t.at) in
-    sym (get_or_past (offsets (names_of heard)) index 0 (omega (arith, same, h)))
-offset_known index left (Some offset) heard h = sym h.1

@@ -24,10 +24,6 @@ and_false : (b : Bool) → (b && false) ≡ false
 and_false true = refl
 and_false false = refl
 
-and_true : (b : Bool) → (b && true) ≡ b
-and_true true = refl
-and_true false = refl
-
 -- a set of texts, as the symbols that it shows, by the test that finds one
 module _ {X : Type 0} (text : X → List ℕ) (k : X) (eq : X → X → Bool) (says : (x : X) → eq k x ≡ bytes_eq (text k) (text x)) where
   pub among-text : (keys : List X) → list_any (eq k) keys ≡ is_among (map text keys) (text k)

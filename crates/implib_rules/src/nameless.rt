@@ -1,6 +1,7 @@
 //! Aliases of exports that the DLL has by their ordinals alone: they ask for the ordinal. It is a
-//! rule of what people write, in a text or as exports of their own; of a DLL's exports none is an
-//! alias.
+//! rule of what people write, in a text or as exports of their own. A DLL's own exports do not go
+//! through it, though a decorated one is an alias too (`_zoo@8 == zoo`): its target is a name that
+//! the DLL has, even where an export without a name stands under the same word.
 
 ghost use Rattle.implib.specs.Definition.{definition_view, export_view};
 ghost use Rattle.implib_rules.specs.Firsts.{AreFirstWords};

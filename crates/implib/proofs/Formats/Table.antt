@@ -48,14 +48,6 @@ next_has_room symbols [] (suc n) rs i d room within = absurd room
 next_has_room symbols (s ∷ ss) (suc zero) rs i d room within = grind (arith, length_part, at_index)
 next_has_room symbols (s ∷ ss) (suc (suc n)) rs i d room within = next_has_room symbols ss (suc n) rs i d room within
 
--- it leads to a symbol
-pub next_has_symbol : (symbols : List AddedSymbol) (ss : List ObjectSection) (n : ℕ) (rs : List Relocation) (i : ℕ) (d : Relocation) →
-    IsSomeAnd (section_numbered ss n) (HasRoomForAll symbols rs) → i < length rs → IsSymbolIndex symbols (get_or rs i d).symbol
-next_has_symbol symbols ss zero rs i d room within = absurd room
-next_has_symbol symbols [] (suc n) rs i d room within = absurd room
-next_has_symbol symbols (s ∷ ss) (suc zero) rs i d room within = (at_index (LiesIn symbols s) rs i d room.each within).symbol
-next_has_symbol symbols (s ∷ ss) (suc (suc n)) rs i d room within = next_has_symbol symbols ss (suc n) rs i d room within
-
 -- the relocations of all rows
 
 -- the sections, with the relocations of the first rows
@@ -97,13 +89,6 @@ row_has_room symbols (row ∷ rows) zero d all within = all.0
 row_has_room symbols (row ∷ rows) (suc i) d all within = row_has_room symbols rows i d all.1 (omega (arith, within))
 
 -- the symbols
-
--- the rows so far and one more
-pub rows_more : {X Y : Type 0} (f : X → Y) (ys : List Y) (xs : List X) (i : ℕ) (d : X) → i < length xs →
-    (ys ++ map f (take i xs)) ++ f (get_or xs i d) ∷ [] ≡ ys ++ map f (take (i + 1) xs)
-rows_more f ys xs i d within =
-    append_assoc ys (map f (take i xs)) (f (get_or xs i d) ∷ [])
-    ∙ ap (λ x. ys ++ x) (sym (map-append f (take i xs) (get_or xs i d ∷ [])) ∙ ap (map f) (sym (take_more xs i d within)))
 
 -- the next symbol can be added
 pub next_can_be_added : (count : ℕ) (rows : List SymbolRow) (i : ℕ) (d : SymbolRow) → AllByRecursion (CanBeAdded count) (map symbol_row rows) → i < length rows →

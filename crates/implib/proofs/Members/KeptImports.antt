@@ -50,10 +50,6 @@ module _ (dll : List ℕ) (k : KeptImport) (kept : IsKept dll k) where
       let text = ap length same in
       omega (arith, whole, own, text, length-address)
 
-  -- and it is no more than a short import may have
-  pub short_kept : 16 + length (string_bytes k.address) + length dll ≤ 0xFFFF_FFFF
-  short_kept = omega (arith, length-address, kept.short)
-
 module _ (machine : MachineType) (dll : NamesOfDll) where
   -- what holds of the member at an index, by what is kept there
   pub at_index : (items : List KeptImport) (index : ℕ) (k : KeptImport) (P : MemberView → Type 0)
