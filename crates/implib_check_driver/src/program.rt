@@ -14,7 +14,7 @@ ghost use Rattle.implib_check_driver.specs.Tasks.{task_of, task_view};
 ghost use Rattle.implib_check_driver.specs.Together.{IsJoinedAnswer, first_none};
 ghost use Rattle.implib_dll.specs.Exports.{exports_in};
 ghost use Rattle.implib_dll.specs.declared.section.Layout.TheVariants.{File};
-ghost use Rattle.implib_dll_check.specs.Folders.{AreKnown};
+ghost use Rattle.implib_compare.specs.DllCheck.Folders.{AreKnown};
 ghost use Rattle.implib_options.specs.Given.{given_view, has};
 ghost use Rattle.implib_options.specs.declared.table.Meaning.TheVariants.{Json};
 ghost use Rattle.implib_read.specs.Archives.{archive_in};
