@@ -21,7 +21,7 @@ use Rattle.implib_rules.specs.Library.{IsRefusalOfMembers, IsSyntaxErrorAt, defi
 use Rattle.implib_rules.specs.Options.{LibraryOptionsView}
 use Rattle.implib_rules.specs.Plain.{beginning, step_of}
 use Rattle.implib_rules.specs.Places.{IsAtExport}
-use Rattle.implib_null_descriptor.specs.Libraries.{IsRefusalOfNamed}
+use Rattle.implib_libraries.specs.NullDescriptor.Libraries.{IsRefusalOfNamed}
 use Rattle.implib_c_calls.specs.LibraryWith.{IsWithin, mark_length}
 
 -- what holds of all tokens holds of those that are heard as names

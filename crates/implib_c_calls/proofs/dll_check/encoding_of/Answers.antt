@@ -1,9 +1,9 @@
 use Rattle.std.proofs.Common.{◌≡◌, ◌∙◌, ◌++◌, ◌<◌, ◌^◌, All, ap, map, subst}
 use Rattle.implib_archive.proofs.Appended.{pushes_as, pushes_then}
 use Rattle.implib_dll.specs.Views.{exports_view}
-use Rattle.implib_dll_check.specs.Imports.{asks_in, judgements}
-use Rattle.implib_dll_check.specs.Missing.{missing}
-use Rattle.implib_dll_check.specs.Verdict.{ask_view}
+use Rattle.implib_compare.specs.DllCheck.Imports.{asks_in, judgements}
+use Rattle.implib_compare.specs.DllCheck.Missing.{missing}
+use Rattle.implib_compare.specs.DllCheck.Verdict.{ask_view}
 use Rattle.implib_read.specs.ClassViews.{member_read_view}
 use Rattle.implib_c_calls.specs.DllCheck.{dll_told, encoded_dll_told, judgement_number, names_given}
 use Rattle.implib_c_calls.specs.Encoding.{encoded_list, encoded_number}
