@@ -8,6 +8,7 @@ from functools import reduce
 from itertools import permutations, product
 from operator import or_
 
+import tools
 from targets import LOST, X86, calls, definition, entries
 
 LLD, GNU = ("lld-link", "ld.lld"), ("GNU ld",)
@@ -274,6 +275,10 @@ ALIAS_OF_DATA = [
         FLAVOURS, (("baz DATA", "bar == {_}baz DATA"), ("bar == {_}baz DATA",)), ((), ("--disable-auto-import",))
     )
 ]
+# GNU's archiver changes the bytes of short imports, and packs members for GNU's linker as they are.
+PACKED = definition("zoo.dll", "zoo_open", "secret @9 NONAME", "animals DATA")
+PACKERS = (("I386", "i686-w64-mingw32-ar"), ("AMD64", "x86_64-w64-mingw32-ar"), ("AMD64", "ar"))
+NOT_TAKEN = Fails(("__imp_zoo_open",), "unknown file type|file format not recognized")
 DEFSYM = "--defsym=_zoo_a=_zoo_b"
 LAST = (("words", "__imp_zoo_b", "zoo_a"), *gnu(definition("zoo.dll", "zoo_b")))
 # A program that says that it is safe.
@@ -281,6 +286,11 @@ SAFE = ".text\n.globl _start\n.set @feat.00, 1\n.globl @feat.00\n_start: call *_
 OWN = ("object", ".data\n.globl {_}zoo_b, __imp_{_}zoo_b\n{_}zoo_b: .long 0\n__imp_{_}zoo_b: .long 0\n")
 WHOLE = {
     "archive-order": ARCHIVE_ORDER,
+    "gnu-archiver": [
+        Trial(ALL, (machine,), (("library", flavour, PACKED, packer),), found)
+        for machine, packer in PACKERS if tools.tool(packer)
+        for flavour, found in (("msvc", NOT_TAKEN), ("gnu", calls("zoo.dll", "zoo_open")))
+    ],
     "late-data": LATE_DATA,
     "weak-reference": WEAK_REFERENCE,
     "alias-of-data": ALIAS_OF_DATA,
