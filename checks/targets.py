@@ -1,5 +1,6 @@
 """What programs are linked from, and what is found in them: the machines as the tools name them, objects that name
 imports, the linkers, and a linked file as a loader sees it, by python3-pefile."""
+import collections
 import os
 import shutil
 import struct
@@ -133,14 +134,9 @@ class Wrong(Exception):
     """What is wrong in a linked file."""
 
 
-@dataclass(frozen=True)
-class Dll:
-    """A DLL of the import directory: what its tables ask for, a name and a hint or a number each, and where the
-    address table is."""
-
-    name: str
-    asks: list
-    table: int
+# A DLL of the import directory: what its tables ask for, a name and a hint or a number each, and where the address
+# table is.
+Dll = collections.namedtuple("Dll", "name asks table")
 
 
 class Image:

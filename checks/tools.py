@@ -88,11 +88,6 @@ def version_of(command):
     return found[0] if found else "of unknown version"
 
 
-def beside(command, name):
-    """The tool of this name that was built with a command."""
-    return os.path.join(os.path.dirname(os.path.realpath(shutil.which(command))), name)
-
-
 def missing(*names):
     """Whether one of these tools, or python3-pefile, is missing, which is then said."""
     lacking = [name for name in names if (pefile if name == "python3-pefile" else tool(name)) is None]
@@ -154,13 +149,6 @@ def file_of(folder, name, contents):
     path = os.path.join(folder, name)
     with open(path, "wb" if isinstance(contents, bytes) else "w") as file:
         file.write(contents)
-    return path
-
-
-def script(folder, name, text):
-    """A new program of the shell or of Python."""
-    path = file_of(folder, name, text)
-    os.chmod(path, 0o755)
     return path
 
 
