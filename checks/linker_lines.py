@@ -3,10 +3,11 @@
 A symbol is named as C names it. What it leads to is the entry of an import, a stub that jumps by this
 entry, or nothing that a loader fills: then it is lost.
 """
-from dataclasses import dataclass, field
+from collections import namedtuple
 from functools import reduce
 from itertools import permutations, product
 from operator import or_
+from typing import NamedTuple
 
 import tools
 from targets import LOST, X86, calls, definition, entries
@@ -17,33 +18,25 @@ EVERY = ("I386", "ARMNT", "AMD64", "ARM64")
 NOT_ARMNT = ("I386", "AMD64", "ARM64")
 
 
-@dataclass(frozen=True)
-class Fails:
-    """A link that fails, of a program that names these symbols. What the linker writes has this, a
-    regular expression."""
-
-    symbols: tuple
-    text: str
+# A link that fails, of a program that names these symbols: what the linker writes has this, a regular expression.
+Fails = namedtuple("Fails", "symbols text")
 
 
-@dataclass(frozen=True)
-class Trial:
+class Trial(NamedTuple):
     """What is linked, by which linkers for which machines, and what is found: what each symbol of the program leads to,
     or how the link fails; and, where it is given, what the import directory has, that is each DLL with what it is asked
     for. Without `parts` a program that names these symbols is linked with the libraries. A part is an option, in which
-    `{_}` is what is in front of a symbol of C, or a file that `Links` makes."""
+    `{_}` is what is in front of a symbol of C, or a file that `Links` makes. A linker may have options in front, and
+    may fail, too; lld-link is told that the program is not safe, unless it is."""
 
     linkers: tuple
     machines: tuple
     libraries: tuple
     found: object
     directory: dict | None = None
-    # options of a linker, in front
-    options: dict = field(default_factory=dict)
+    options: dict = {}
     parts: tuple = ()
-    # how the link may fail, too
     or_fails: str | None = None
-    # whether lld-link is not told that the program is not safe
     is_safe: bool = False
 
 
@@ -82,7 +75,7 @@ OPTIONS = {
 OF_C = Fails(("__imp__feed@8", "_feed@8"), "undefined.*feed@8")
 I386, ARMNT, LLD_LINK, LD_LLD = ("I386",), ("ARMNT",), ("lld-link",), ("ld.lld",)
 FEED, OWN_FEED = definition("zoo.dll", "feed@8"), definition("zoo.dll", "_feed@8")
-NAMES = {
+LINES = {
     "alias-gnu": [
         *(Trial(ALL, NOT_ARMNT, gnu(text), ASKS_A) for text in (ALIAS, ALIAS_ALONE)),
         *(Trial(LLD, ARMNT, gnu(text), entries("zoo.dll", "zoo_a")) for text in (ALIAS, ALIAS_ALONE)),
@@ -109,7 +102,7 @@ NOT_RECOGNIZED = [
     Fails(symbols, "file format not recognized")
     for symbols in (("__imp_limit",), ("limit",), ("__imp_zoo_open", "__imp_limit"))
 ]
-CONSTANTS = {
+LINES |= {
     "constant-gnu": [
         Trial(ALL, NOT_ARMNT, gnu(CONSTANT), calls("zoo.dll", "limit")),
         Trial(LLD, ARMNT, gnu(CONSTANT), entries("zoo.dll", "limit")),
@@ -134,7 +127,7 @@ BEGINNINGS = definition("zoo", "zoo_open"), definition("zoo_a_i.dll", "zoo_close
 ONE_BEGUN = {"zoo": ["zoo_close"], "zoo_a_i.dll": ["zoo_close"]}
 SECOND_BEGUN = entries("zoo_a_i.dll", "zoo_close")
 ONE_ARCHIVE = OPEN + "---\n" + definition("yak.dll", "yak_open")
-SEVERAL = {
+LINES |= {
     "one-archive": both(ALL, X86, ONE_ARCHIVE, calls("zoo.dll", "zoo_open") | calls("yak.dll", "yak_open")),
     "two-archives": [
         Trial(LLD, EVERY, msvc(OPEN, CLOSE), TWO_RIGHT),
@@ -165,7 +158,7 @@ RUNS = [definition(f"{name}.dll", f"{name}_run", f"{name}_size DATA") for name i
 CALLED = [reduce(or_, (calls(f"{name}.dll", f"{name}_run") for name in ANIMALS[:n]), {}) for n in range(6)]
 SIZES = [reduce(or_, (entries(f"{name}.dll", f"{name}_size") for name in ANIMALS[:n]), {}) for n in range(6)]
 MISALIGNED = [Fails(tuple(symbols), "misaligned ldr/str offset") for symbols in CALLED]
-ALIGNMENT = {
+LINES |= {
     "even": [
         Trial(LLD, ("ARM64",), libraries, found)
         for libraries, found in (
@@ -199,7 +192,7 @@ def of_lost_names(is_there, *dlls):
 
 
 OTHER_NAMES = ("zoo.exe", "zoo", "zoo.drv", "zoo.sys", "ZOO.DLL", "zoo.EXE", "a.b.dll")
-DLL_NAMES = {
+LINES |= {
     "dll-names": [
         *of_names(LLD, EVERY, msvc, *OTHER_NAMES),
         *of_names(ALL, EVERY, gnu, *OTHER_NAMES),
@@ -284,7 +277,7 @@ LAST = (("words", "__imp_zoo_b", "zoo_a"), *gnu(definition("zoo.dll", "zoo_b")))
 # A program that says that it is safe.
 SAFE = ".text\n.globl _start\n.set @feat.00, 1\n.globl @feat.00\n_start: call *__imp__zoo_{}\n"
 OWN = ("object", ".data\n.globl {_}zoo_b, __imp_{_}zoo_b\n{_}zoo_b: .long 0\n__imp_{_}zoo_b: .long 0\n")
-WHOLE = {
+LINES |= {
     "archive-order": ARCHIVE_ORDER,
     "gnu-archiver": [
         Trial(ALL, (machine,), (("library", flavour, PACKED, packer),), found)
@@ -332,5 +325,3 @@ WHOLE = {
         )
     ],
 }
-
-LINES = NAMES | CONSTANTS | SEVERAL | ALIGNMENT | DLL_NAMES | WHOLE
