@@ -19,20 +19,16 @@ class Target:
     ld_lld: str
     gnu: str | None
     dlltool: str
-    width: int
-    # the prefix of each symbol that C names
+    # how an assembler makes an address, and the prefix of each symbol that C names
+    word: str
     lead: str = ""
-
-    @property
-    def word(self):
-        return ".quad" if self.width == 8 else ".long"
 
 
 TARGETS = {
-    "I386": Target("i686-windows-gnu", "x86", "i386pe", "i686-w64-mingw32", "i386", 4, "_"),
-    "ARMNT": Target("thumbv7-windows-gnu", "arm", "thumb2pe", None, "arm", 4),
-    "AMD64": Target("x86_64-windows-gnu", "x64", "i386pep", "x86_64-w64-mingw32", "i386:x86-64", 8),
-    "ARM64": Target("aarch64-windows-gnu", "arm64", "arm64pe", None, "arm64", 8),
+    "I386": Target("i686-windows-gnu", "x86", "i386pe", "i686-w64-mingw32", "i386", ".long", "_"),
+    "ARMNT": Target("thumbv7-windows-gnu", "arm", "thumb2pe", None, "arm", ".long"),
+    "AMD64": Target("x86_64-windows-gnu", "x64", "i386pep", "x86_64-w64-mingw32", "i386:x86-64", ".quad"),
+    "ARM64": Target("aarch64-windows-gnu", "arm64", "arm64pe", None, "arm64", ".quad"),
 }
 X86 = ("I386", "AMD64")
 GCCS = {machine: f"{TARGETS[machine].gnu}-gcc" for machine in X86}

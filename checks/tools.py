@@ -113,10 +113,15 @@ def done(command, **more):
     return run.stdout
 
 
+def fail_if(is_wrong, said):
+    """Ends the check if something is wrong."""
+    if is_wrong:
+        sys.exit(said)
+
+
 def hold(what, found, wanted):
     """Ends the check unless this was found."""
-    if found != wanted:
-        sys.exit(f"{what}: {found!r}, and not {wanted!r}")
+    fail_if(found != wanted, f"{what}: {found!r}, and not {wanted!r}")
 
 
 def closed(wrong, said):
