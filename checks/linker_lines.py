@@ -214,23 +214,19 @@ def in_order(linkers, machines, parts, directory, found=None, **more):
 FLAVOURS = ("msvc", "gnu")
 # An archive whose object wants what follows.
 HELPER = ".data\n.globl {_}helper\n{_}helper: {word} "
-BOTH_WAYS = [("words", "helper"), ("archive", HELPER + "{_}zoo_open\n")]
-OPENS = {"zoo.dll": ["zoo_open"]}
-ARCHIVE_ORDER = [
-    trial
-    for name in FLAVOURS
-    for program, archive, library in [(*BOTH_WAYS, ("library", name, OPEN))]
-    for trial in (
-        in_order(LLD, NOT_ARMNT, (program, library, archive), OPENS),
-        in_order(GNU, X86, (program, library, archive), "undefined reference"),
-        in_order(ALL, NOT_ARMNT, (program, archive, library), OPENS),
-        in_order(ALL, NOT_ARMNT, (program, library, archive, library), OPENS),
-        in_order(GNU, X86, (program, "--start-group", library, archive, "--end-group"), OPENS),
+OPENS, PROGRAM, ARCHIVE = {"zoo.dll": ["zoo_open"]}, ("words", "helper"), ("archive", HELPER + "{_}zoo_open\n")
+LINES["archive-order"] = [
+    in_order(linkers, NOT_ARMNT, (PROGRAM, *parts), found)
+    for library in msvc(OPEN) + gnu(OPEN)
+    for linkers, parts, found in (
+        (LLD, (library, ARCHIVE), OPENS), (GNU, (library, ARCHIVE), "undefined reference"),
+        (ALL, (ARCHIVE, library), OPENS), (ALL, (library, ARCHIVE, library), OPENS),
+        (GNU, ("--start-group", library, ARCHIVE, "--end-group"), OPENS),
     )
 ]
 # A library is searched for `zoo_open`, then the helper names `size`, and the library is searched again.
 BOTH = ("words", "helper", "__imp_zoo_open")
-LATE_DATA = [
+LINES["late-data"] = [
     in_order(
         GNU, X86, (BOTH, *[library] * twice, ("archive", HELPER + "__imp_{_}size\n"), library),
         OPENS if name == "msvc" and ask == "#7" and twice else {"zoo.dll": [ask, "zoo_open"]},
@@ -242,7 +238,7 @@ LATE_DATA = [
 ]
 # The plain reference and the library first, or GNU ld with the library last, are right.
 WEAK = {"weak": ("object", ".data\n.weak {_}bar\n{word} {_}bar\n"), "plain": ("words", "bar")}
-WEAK_REFERENCE = [
+LINES["weak-reference"] = [
     in_order(linkers, EVERY, tuple(files[part] for part in order), directory, found)
     for name in FLAVOURS
     for files in [{**WEAK, "library": ("library", name, definition("zoo.dll", "bar"))}]
@@ -259,7 +255,7 @@ STARTED = (
     ".data\n{word} {_}bar\n",
 )
 BY_AUTO_IMPORT = {1: {"zoo.dll": ["bar"]}, 2: {"zoo.dll": ["bar", "baz"]}}
-ALIAS_OF_DATA = [
+LINES["alias-of-data"] = [
     in_order(
         GNU, X86, (*options, STARTED, ("library", name, definition("zoo.dll", *exports))),
         BY_AUTO_IMPORT[len(exports)] if name == "gnu" and not options else "undefined reference to `bar'",
@@ -278,15 +274,11 @@ LAST = (("words", "__imp_zoo_b", "zoo_a"), *gnu(definition("zoo.dll", "zoo_b")))
 SAFE = ".text\n.globl _start\n.set @feat.00, 1\n.globl @feat.00\n_start: call *__imp__zoo_{}\n"
 OWN = ("object", ".data\n.globl {_}zoo_b, __imp_{_}zoo_b\n{_}zoo_b: .long 0\n__imp_{_}zoo_b: .long 0\n")
 LINES |= {
-    "archive-order": ARCHIVE_ORDER,
     "gnu-archiver": [
         Trial(ALL, (machine,), (("library", flavour, PACKED, packer),), found)
         for machine, packer in PACKERS if tools.tool(packer)
         for flavour, found in (("msvc", NOT_TAKEN), ("gnu", calls("zoo.dll", "zoo_open")))
     ],
-    "late-data": LATE_DATA,
-    "weak-reference": WEAK_REFERENCE,
-    "alias-of-data": ALIAS_OF_DATA,
     "alias-option-last": [
         Trial(GNU, ("I386",), (), {"__imp_zoo_b": "entry of zoo.dll!zoo_b", "zoo_a": led}, parts=parts)
         for parts, led in (((DEFSYM, *LAST), "stub of zoo.dll!zoo_b"), ((*LAST, DEFSYM), "nothing"))

@@ -36,9 +36,7 @@ class Failed(Exception):
 
 def arguments(description, program=PROGRAM, **options):
     """The options of a check: the program and, of each option, its number."""
-    parser = argparse.ArgumentParser(
-        description=description, formatter_class=argparse.RawDescriptionHelpFormatter
-    )
+    parser = argparse.ArgumentParser(description=description, formatter_class=argparse.RawDescriptionHelpFormatter)
     parser.add_argument("--program", default=program, help="the built program; else the one of this clone")
     for name, (default, help_) in options.items():
         parser.add_argument(f"--{name}", type=int, default=default, help=f"{help_}; else {default}")
