@@ -6,6 +6,7 @@ author of the code, with the same answers to 6,000 texts.
 that has a fault, and that fault.
 """
 import re
+from collections import namedtuple
 from dataclasses import dataclass
 
 
@@ -26,10 +27,7 @@ WORD = re.compile(r"[^=,;\r\n \t\x0b]+")
 KEYWORDS = "BASE CONSTANT DATA EXPORTS HEAPSIZE LIBRARY NAME NONAME PRIVATE STACKSIZE VERSION".split()
 
 
-@dataclass(frozen=True)
-class Token:
-    kind: str
-    value: str
+Token = namedtuple("Token", "kind value")
 
 
 def token_at(text, place):

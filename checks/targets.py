@@ -4,14 +4,13 @@ import collections
 import os
 import shutil
 import struct
-from dataclasses import dataclass
+from typing import NamedTuple
 
 import tools
 from tools import pefile
 
 
-@dataclass(frozen=True)
-class Target:
+class Target(NamedTuple):
     """A machine as the tools name it: LLVM's assembler, lld-link, `ld.lld -m`, the prefix of GNU's tools, dlltool."""
 
     triple: str
@@ -82,8 +81,7 @@ def compiled(folder, machine, source, name="code"):
 # ---- linkers
 
 
-@dataclass(frozen=True)
-class Linker:
+class Linker(NamedTuple):
     """A linker for a machine: the command, and which of three it is."""
 
     kind: str

@@ -246,12 +246,6 @@ def wine_for(machine):
     return wine
 
 
-@functools.cache
-def wine_version(wine):
-    """What Wine says its name and version are."""
-    return (ran([wine, "--version"]).stdout.split() or ["Wine of unknown version"])[0]
-
-
 def run_by_wine(wine, folder, image):
     """What a program writes under Wine, and its status. Wine keeps its own files in the folder."""
     environment = {**os.environ, "WINEPREFIX": os.path.join(folder, "wine"), "WINEDEBUG": "-all"}
