@@ -173,11 +173,8 @@ class Image:
 
     def entries(self):
         """The entry of each import: its address, and the DLL and what it is asked for."""
-        return {
-            dll.table + self.width * index: (dll.name, ask)
-            for dll in self.imports()
-            for index, ask in enumerate(dll.asks)
-        }
+        asks = ((dll, index, ask) for dll in self.imports() for index, ask in enumerate(dll.asks))
+        return {dll.table + self.width * index: (dll.name, ask) for dll, index, ask in asks}
 
     def words(self, count):
         """The words behind the mark of a program, less the base."""
@@ -275,8 +272,7 @@ def hold_image(path, named, folds=False):
     wanted = sorted({fold(led.split(" of ")[1]) for led in named.values()})
     if found != wanted:
         lost, more = ([one for one in these if one not in those] for these, those in ((wanted, found), (found, wanted)))
-        said = f"{LOST} is {', '.join(lost[:5])}" if lost else "asked is for more"
-        raise Wrong(f"{said}; asked is for {more[:5]}" if more else said)
+        raise Wrong(f"{f'{LOST} is {lost[:5]}; ' * bool(lost)}asked is for more: {more[:5]}")
     if not all(dll.asks for dll in dlls):
         raise Wrong("a DLL is asked for nothing")
     # a table that runs on into the next has entries that are another DLL's, too
