@@ -25,8 +25,6 @@ SIGNS = re.compile(r"(?P<EqualEqual>==)|(?P<Equal>=)|(?P<Comma>,)")
 QUOTED = re.compile(r'"([^"]*)("|\Z)')
 WORD = re.compile(r"[^=,;\r\n \t\x0b]+")
 KEYWORDS = "BASE CONSTANT DATA EXPORTS HEAPSIZE LIBRARY NAME NONAME PRIVATE STACKSIZE VERSION".split()
-
-
 Token = namedtuple("Token", "kind value")
 
 
@@ -97,25 +95,17 @@ class Parser:
     """Reads statements. Of sizes, bases and versions, which no member shows, the numbers are read and not kept."""
 
     def __init__(self, text):
-        self.tokens = tokens_of(text)
-        self.place = 0
-        self.import_name = ""
-        self.exports = []
+        self.tokens, self.import_name, self.exports = tokens_of(text), "", []
 
     def peek(self):
-        return self.tokens[self.place]
+        return self.tokens[0]
 
     def take(self):
-        token = self.tokens[self.place]
-        if token.kind != "Eof":
-            self.place += 1
-        return token
+        """The next token; the last one stays."""
+        return self.tokens.pop(0) if len(self.tokens) > 1 else self.tokens[0]
 
     def take_if(self, kind):
-        if self.peek().kind != kind:
-            return False
-        self.place += 1
-        return True
+        return self.peek().kind == kind and self.take() is not None
 
     def parse(self):
         while (token := self.take()).kind != "Eof":
@@ -153,10 +143,9 @@ class Parser:
         """An export, whose first token is an identifier; `@` and `@5` after another export do not
         come here, since that export took them."""
         export = Export(self.take().value)
-        if self.take_if("Equal"):
-            # what the DLL has it as inside is no matter of imports
-            if self.identifier() == "@":
-                raise Refused("lone @ after =")
+        # what the DLL has it as inside is no matter of imports
+        if self.take_if("Equal") and self.identifier() == "@":
+            raise Refused("lone @ after =")
         while self.attribute(export):
             pass
         self.exports.append(export)
