@@ -6,16 +6,16 @@
  * the same of exports that the caller has in memory, without a text. implib_library takes a text, too, and goes
  * by the rules of the crate `implib`, which has other names for the DLL and its exports; docs/DECISIONS.md says
  * where the two differ. implib_members puts the members of this archive there one by one: objects and short
- * imports, as files, with their names and the symbols that the index lists for them. examples/c has callers.
+ * imports, as files, with their names and the symbols that the index lists for them. implib_library_of_dll makes
+ * the library of a DLL's file. examples/c has callers.
  *
  * Linking
  *
- *     cc program.c libimplib_c.a liblibc_c.a
+ *     cc program.c $(pkg-config --cflags --libs implib)
  *
- * libimplib_c.a is made by `rt lib` in crates/implib_c. liblibc_c.a comes with the Rattle toolchain, in its
- * folder c; it passes what the library allocates to the program's malloc, realloc and free. There is nothing
- * else to link, and nothing to set up. The library is for x86-64 Linux; size_t has 64 bits. Its code wants a
- * processor of the level x86-64-v2, with SSE4.2 and POPCNT.
+ * That is libimplib.a, as scripts/install puts it into lib. It allocates by the program's malloc, realloc and free.
+ * There is nothing else to link, and nothing to set up. The library is for x86-64 Linux; size_t has 64 bits. Its code
+ * wants a processor of the level x86-64-v2, with SSE4.2 and POPCNT.
  *
  * Ownership
  *
@@ -54,7 +54,7 @@ extern "C" {
 #define IMPLIB_MACHINE_I386 0x014C
 #define IMPLIB_MACHINE_ARMNT 0x01C4
 #define IMPLIB_MACHINE_AMD64 0x8664
-#define IMPLIB_MACHINE_ARM64 0xAA64
+#define IMPLIB_MACHINE_ARM64 0xAA64 /* for ARM64EC there is implib_library_arm64ec */
 
 /* The linkers. */
 #define IMPLIB_FLAVOR_MSVC 0 /* Microsoft's: objects for the DLL, and short imports. */
@@ -62,7 +62,7 @@ extern "C" {
 
 /* The version of this header, which grows with every change of what it declares or says. implib_version()
  * gives that of the library. */
-#define IMPLIB_VERSION 12
+#define IMPLIB_VERSION 13
 uint32_t implib_version(void);
 
 /* What a call answers. New statuses get new numbers. */
@@ -114,11 +114,12 @@ enum implib_status {
     IMPLIB_NO_DLL_NAME = 39,     /* no name of the DLL is given, but for a directory */
     IMPLIB_UNKNOWN_OPTIONS = 40, /* the size of the options is of none that this header knows */
     IMPLIB_UNKNOWN_FLAGS = 41,   /* an unknown flag is set */
-    IMPLIB_DLL_NOT_UTF8 = 42,    /* the name of the DLL in the options is not UTF-8 */
+    IMPLIB_DLL_NOT_UTF8 = 42,    /* the name of the DLL in the options, or in its export directory, is not UTF-8 */
 
     /* Of implib_library_of alone; *place is the index of the export, from 0. */
     IMPLIB_UNKNOWN_EXPORT_FLAGS = 43, /* an unknown flag of an export is set */
-    IMPLIB_EXPORT_NOT_UTF8 = 44,      /* the name or the target of an export is not UTF-8 */
+    IMPLIB_EXPORT_NOT_UTF8 = 44,      /* the name or the target of an export is not UTF-8; after implib_library_of_dll
+                                       * *place is the position in the name table */
     IMPLIB_NULL_IN_EXPORT = 45,       /* the name or the target of an export is a null pointer */
 
     /* Of implib_imports, implib_check_library and implib_check_dll; *place is 0. */
@@ -136,13 +137,22 @@ enum implib_status {
     IMPLIB_DELAY_FLAVOR = 50,  /* Microsoft's linkers delay imports of an ordinary library; *place is 0 */
     IMPLIB_DELAY_MACHINE = 51, /* the machine has no code for delayed imports; *place is 0 */
     IMPLIB_DELAY_DATA = 52,    /* no longer: data and constants are left out of a delayed library */
-    IMPLIB_DELAY_ALIAS = 53    /* of an export, and of no text: it is a weak name for another; *place is the offset of its name */
+    IMPLIB_DELAY_ALIAS = 53,   /* of an export, and of no text: it is a weak name for another; *place is the offset of its name */
+
+    /* Of implib_library_of_dll. */
+    IMPLIB_OTHER_MACHINE = 54,      /* the DLL is for another machine than the options; *place is 0 */
+    IMPLIB_EXPORT_OUT_OF_RANGE = 55, /* of an export: its position in the name table, or its ordinal without a name,
+                                      * is above 65,535; *place is this number */
+
+    /* Of implib_library_arm64ec. */
+    IMPLIB_UNREADABLE_NAME = 56, /* of an export: it begins as a name of C++, and is none; *place is its offset */
+    IMPLIB_NATIVE_REFUSED = 57   /* the native definition is refused; *place is the offset in it, or 0 */
 };
 
 /* The flags of the options, and the options of the program that they stand for. */
 #define IMPLIB_KILL_AT 1u               /* -k: on I386 the DLL is asked for names without `@` and the rest */
 #define IMPLIB_NO_LEADING_UNDERSCORE 2u /* --no-leading-underscore: on I386 symbols are as they are written */
-#define IMPLIB_EXPORT_AS 4u             /* --export-as: a name that is not made of its symbol is beside it */
+#define IMPLIB_EXPORTAS 4u              /* --export-as: a name that is not made of its symbol is beside it */
 #define IMPLIB_KEEP_DECORATED 8u        /* --lib: on I386 a name with an `@` is decorated already */
 #define IMPLIB_DELAYED 16u              /* -y: of implib_library_with and implib_write alone, for GNU's linker: the
                                          * DLL is loaded at the first call of one of its functions */
@@ -224,6 +234,36 @@ struct implib_export {
 static inline uint32_t implib_library_of(const struct implib_options *options, const struct implib_export *exports,
                                          size_t count, uint8_t *buffer, size_t buffer_length, size_t *length,
                                          size_t *place);
+
+/*
+ * Puts the import library of all that a DLL exports at the beginning of the buffer, and returns a status: the one that
+ * the program implib_dlltool makes of the DLL's file with these options. Data is told from code by its section, and
+ * each hint is the position in the DLL's name table. Nothing in the file is trusted.
+ *
+ * options      as above; the machine has to be the DLL's; without a name of the DLL it is that of its export directory
+ * bytes        the DLL: the file, whole
+ * length       gets what implib_library_with says of it
+ * place        gets what the status says of it; else 0
+ *
+ * The buffer is as of implib_library. Options are refused first, then the file (IMPLIB_NOT_AN_IMAGE,
+ * IMPLIB_NO_EXPORT_DIRECTORY), its machine, and its exports.
+ */
+static inline uint32_t implib_library_of_dll(const struct implib_options *options, const uint8_t *bytes,
+                                             size_t bytes_length, uint8_t *buffer, size_t buffer_length,
+                                             size_t *length, size_t *place);
+
+/*
+ * Puts the import library for ARM64EC of a definition at the beginning of the buffer, and returns a status: the one
+ * that the program implib_dlltool makes under -m arm64ec, for Microsoft's linkers.
+ *
+ * options      as above; the machine and the flavour have to be known, and are of no effect
+ * native       the definition of what the DLL exports to programs for ARM64, as -N; null for none
+ *
+ * All else is as of implib_library_with, but for the last two statuses.
+ */
+static inline uint32_t implib_library_arm64ec(const struct implib_options *options, const uint8_t *text,
+                                              size_t text_length, const uint8_t *native, size_t native_length,
+                                              uint8_t *buffer, size_t buffer_length, size_t *length, size_t *place);
 
 /*
  * Takes some bytes of a library, in implib_write. context is what the caller passed. It returns 0 to go on, and any
@@ -344,7 +384,7 @@ static inline uint32_t implib_imports(const uint8_t *bytes, size_t bytes_length,
  *     text                 the name that the export directory gives the DLL
  *     number               how many entries the export address table has, and then of each, in their order
  *       number             its ordinal
- *       number             what it leads to, an IMPLIB_EXPORT_..
+ *       number             what it leads to, an IMPLIB_LEADS_..
  *       number             its address from the image's base, or 0
  *       text               of a forwarder, the export of another DLL, as `NTDLL.RtlAllocateHeap` or `NTDLL.#27`
  *       number             how many names it has, and then each, a text, in the order of the name table
@@ -353,11 +393,11 @@ static inline uint32_t implib_exports(const uint8_t *bytes, size_t bytes_length,
                                       size_t buffer_length, size_t *length, size_t *place);
 
 /* What an ordinal of a DLL leads to. New kinds get new numbers. */
-#define IMPLIB_EXPORT_NONE 0u      /* nothing: no export has this ordinal */
-#define IMPLIB_EXPORT_CODE 1u      /* an address in a section that may be executed */
-#define IMPLIB_EXPORT_DATA 2u      /* an address in another section */
-#define IMPLIB_EXPORT_OUTSIDE 3u   /* an address in no section */
-#define IMPLIB_EXPORT_FORWARDER 4u /* an export of another DLL */
+#define IMPLIB_LEADS_NOWHERE 0u      /* no export has this ordinal */
+#define IMPLIB_LEADS_TO_CODE 1u      /* an address in a section that may be executed */
+#define IMPLIB_LEADS_TO_DATA 2u      /* an address in another section */
+#define IMPLIB_LEADS_OUTSIDE 3u      /* an address in no section */
+#define IMPLIB_LEADS_TO_FORWARDER 4u /* an export of another DLL */
 
 /*
  * Puts how a library compares with what a definition means under these options at the beginning of the buffer, and
@@ -501,6 +541,16 @@ static inline uint32_t implib_definition(const uint8_t *text, size_t text_length
                                          uint8_t *buffer, size_t buffer_length, size_t *length,
                                          size_t *place);
 
+/* What is left of an encoding: at first the buffer, and the length that the call gave. */
+struct implib_reader {
+    const uint8_t *bytes;
+    size_t left;
+};
+
+/* Takes a number, or a text, from the front of an encoding. Returns 0, and takes nothing, where none is left. */
+static inline int implib_read_number(struct implib_reader *reader, size_t *number);
+static inline int implib_read_text(struct implib_reader *reader, const uint8_t **text, size_t *length);
+
 /*
  * Gives the line and the column of an offset in a text, as *place is one, both from 1. A line ends behind its
  * line feed, and a column counts bytes, whatever they are, but not those of a byte order mark. An offset behind
@@ -537,6 +587,15 @@ uint32_t implib_library_of_nonnull(const struct implib_export *exports, size_t c
                                    size_t dll_length, uint32_t has_dll, uint16_t machine, uint32_t flavor,
                                    uint32_t flags, uint8_t *buffer, size_t buffer_length, size_t *length,
                                    size_t *place);
+uint32_t implib_library_arm64ec_nonnull(const uint8_t *text, size_t text_length, const uint8_t *native,
+                                        size_t native_length, uint32_t has_native, const uint8_t *dll,
+                                        size_t dll_length, uint32_t has_dll, uint16_t machine, uint32_t flavor,
+                                        uint32_t flags, uint8_t *buffer, size_t buffer_length, size_t *length,
+                                        size_t *place);
+uint32_t implib_library_of_dll_nonnull(const uint8_t *bytes, size_t bytes_length, const uint8_t *dll,
+                                       size_t dll_length, uint32_t has_dll, uint16_t machine, uint32_t flavor,
+                                       uint32_t flags, uint8_t *buffer, size_t buffer_length, size_t *length,
+                                       size_t *place);
 uint32_t implib_warnings_nonnull(const uint8_t *text, size_t text_length, const uint8_t *dll, size_t dll_length,
                                  uint32_t has_dll, uint16_t machine, uint32_t flavor, uint32_t flags,
                                  uint8_t *buffer, size_t buffer_length, size_t *length, size_t *place);
@@ -574,6 +633,31 @@ static inline int implib_private_options(const struct implib_options *options, s
     all->flags = size < offsetof(struct implib_options, flags) + sizeof(uint32_t) ? 0 : options->flags;
     all->dll = size < sizeof(struct implib_options) ? NULL : options->dll;
     all->dll_length = all->dll == NULL ? 0 : options->dll_length;
+    return 1;
+}
+
+static inline int implib_read_number(struct implib_reader *reader, size_t *number)
+{
+    if (reader->left < 8)
+        return 0;
+    *number = 0;
+    for (int place = 7; place >= 0; place--)
+        *number = *number << 8 | reader->bytes[place];
+    reader->bytes += 8;
+    reader->left -= 8;
+    return 1;
+}
+
+static inline int implib_read_text(struct implib_reader *reader, const uint8_t **text, size_t *length)
+{
+    struct implib_reader behind = *reader;
+    size_t stated;
+    if (!implib_read_number(&behind, &stated) || behind.left < stated)
+        return 0;
+    *text = behind.bytes;
+    *length = stated;
+    reader->bytes = behind.bytes + stated;
+    reader->left = behind.left - stated;
     return 1;
 }
 
@@ -629,6 +713,44 @@ static inline uint32_t implib_library_of(const struct implib_options *options, c
                                      all.dll_length == 0 ? &no_dll : all.dll, all.dll_length, all.dll != NULL,
                                      all.machine, all.flavor, all.flags,
                                      buffer_length == 0 ? &no_buffer : buffer, buffer_length, own_length, own_place);
+}
+
+static inline uint32_t implib_library_arm64ec(const struct implib_options *options, const uint8_t *text,
+                                              size_t text_length, const uint8_t *native, size_t native_length,
+                                              uint8_t *buffer, size_t buffer_length, size_t *length, size_t *place)
+{
+    uint8_t no_text = 0, no_native = 0, no_dll = 0, no_buffer = 0;
+    size_t no_length, no_place;
+    size_t *own_length = length == NULL ? &no_length : length, *own_place = place == NULL ? &no_place : place;
+    struct implib_options all;
+    *own_length = *own_place = 0;
+    if (!implib_private_options(options, &all))
+        return IMPLIB_UNKNOWN_OPTIONS;
+    return implib_library_arm64ec_nonnull(text_length == 0 ? &no_text : text, text_length,
+                                          native == NULL || native_length == 0 ? &no_native : native,
+                                          native == NULL ? 0 : native_length, native != NULL,
+                                          all.dll_length == 0 ? &no_dll : all.dll, all.dll_length, all.dll != NULL,
+                                          all.machine, all.flavor, all.flags,
+                                          buffer_length == 0 ? &no_buffer : buffer, buffer_length, own_length,
+                                          own_place);
+}
+
+static inline uint32_t implib_library_of_dll(const struct implib_options *options, const uint8_t *bytes,
+                                             size_t bytes_length, uint8_t *buffer, size_t buffer_length,
+                                             size_t *length, size_t *place)
+{
+    uint8_t no_bytes = 0, no_dll = 0, no_buffer = 0;
+    size_t no_length, no_place;
+    size_t *own_length = length == NULL ? &no_length : length, *own_place = place == NULL ? &no_place : place;
+    struct implib_options all;
+    *own_length = *own_place = 0;
+    if (!implib_private_options(options, &all))
+        return IMPLIB_UNKNOWN_OPTIONS;
+    return implib_library_of_dll_nonnull(bytes_length == 0 ? &no_bytes : bytes, bytes_length,
+                                         all.dll_length == 0 ? &no_dll : all.dll, all.dll_length, all.dll != NULL,
+                                         all.machine, all.flavor, all.flags,
+                                         buffer_length == 0 ? &no_buffer : buffer, buffer_length, own_length,
+                                         own_place);
 }
 
 static inline uint32_t implib_write(const struct implib_options *options, const uint8_t *text, size_t text_length,

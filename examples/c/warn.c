@@ -13,7 +13,6 @@
 
 #include "implib.h"
 #include "inputs.h"
-#include "members.h"
 
 /* Writes a line with a place of the definition. */
 static void tell(const char *path, size_t line, size_t column, const char *kind, struct slice words)
@@ -32,12 +31,12 @@ static void tell_whole(const char *path, const char *kind, struct slice words)
 }
 
 /* Tells the next warning of an encoding, and gives 0 where there is none. */
-static int tell_warning(const char *path, struct reader *reader)
+static int tell_warning(const char *path, struct implib_reader *reader)
 {
     size_t kind, offset, line, column;
     struct slice words;
-    if (!read_number(reader, &kind) || !read_number(reader, &offset) || !read_number(reader, &line)
-        || !read_number(reader, &column) || !read_text(reader, &words))
+    if (!implib_read_number(reader, &kind) || !implib_read_number(reader, &offset) || !implib_read_number(reader, &line)
+        || !implib_read_number(reader, &column) || !implib_read_text(reader, &words.bytes, &words.length))
         return 0;
     if (kind == IMPLIB_WARNING_NO_EXPORT || kind == IMPLIB_WARNING_OTHER_KIND)
         tell_whole(path, "warning", words);
@@ -57,8 +56,8 @@ static uint32_t tell_warnings(const char *path, const struct implib_options *opt
     if (buffer == NULL)
         return IMPLIB_OUT_OF_MEMORY;
     status = implib_warnings(options, definition.bytes, definition.length, buffer, length, &length, NULL);
-    struct reader reader = {buffer, status == IMPLIB_SUCCESS ? length : 0};
-    if (read_number(&reader, &count))
+    struct implib_reader reader = {buffer, status == IMPLIB_SUCCESS ? length : 0};
+    if (implib_read_number(&reader, &count))
         while (count > 0 && tell_warning(path, &reader))
             count--;
     free(buffer);

@@ -6,11 +6,13 @@
 
 ghost use Rattle.implib.specs.Text.Position.{line_and_column};
 ghost use Rattle.implib_c_calls.specs.Answer.{Answers};
+ghost use Rattle.implib_c_calls.specs.Arm64ec.{Arm64ecAnswers, native_given};
 ghost use Rattle.implib_c_calls.specs.CheckAnswer.{CheckAnswers};
 ghost use Rattle.implib_c_calls.specs.DefinitionAnswer.{DefinitionAnswers};
 ghost use Rattle.implib_c_calls.specs.Delayed.{DelayedAnswers};
 ghost use Rattle.implib_c_calls.specs.DllCheckAnswer.{DllCheckAnswers};
 ghost use Rattle.implib_c_calls.specs.DllExportsAnswer.{ExportsAnswers};
+ghost use Rattle.implib_c_calls.specs.DllLibrary.{DllLibraryAnswers};
 ghost use Rattle.implib_c_calls.specs.Given.{length_given, place_given, status_given};
 ghost use Rattle.implib_c_calls.specs.ImportsAnswer.{ImportsAnswers};
 ghost use Rattle.implib_c_calls.specs.Library.{LibraryAnswers};
@@ -23,11 +25,13 @@ ghost use Rattle.implib_c_calls.specs.Version.{version};
 ghost use Rattle.implib_c_calls.specs.WarningsAnswer.{WarningsAnswers};
 ghost use Rattle.std.specs.Prelude.{◌<◌, ◌≡◌, length, map};
 
+use implib_c_calls::arm64ec::arm64ec_library_into;
 use implib_c_calls::check::check_into;
 use implib_c_calls::definition::definition_into;
 use implib_c_calls::delayed::delayed_into;
 use implib_c_calls::dll_check::check_dll_into;
 use implib_c_calls::dll_exports::exports_into;
+use implib_c_calls::dll_library::dll_library_into;
 use implib_c_calls::export::Export;
 use implib_c_calls::imports::imports_into;
 use implib_c_calls::library_of::library_of_into;
@@ -236,6 +240,66 @@ pub extern "C" fn implib_library_of_nonnull(
 {
     let arguments = passed(machine, flavor, flags, has_dll, dll);
     let answer = library_of_into(alloc, exports, arguments, buffer);
+    tell(&answer, length, place)
+}
+
+/// Puts the import library for ARM64EC that a text describes under these options at the beginning of
+/// `buffer`, with the members that a native text describes where `has_native` is not 0, and gives a
+/// status: 0 where it is done.
+///
+/// The options and the buffer are as for `implib_library_with_nonnull`; the machine and the flavour
+/// are of no effect. `place` gets an offset in the text, or in the native one where that is
+/// refused.
+#[unsafe(no_mangle)]
+pub extern "C" fn implib_library_arm64ec_nonnull(
+    alloc: Global,
+    text: &[u8],
+    native: &[u8],
+    has_native: u32,
+    dll: &[u8],
+    has_dll: u32,
+    machine: u16,
+    flavor: u32,
+    flags: u32,
+    buffer: &mut [u8],
+    length: &mut usize,
+    place: &mut usize,
+) -> u32
+    ensures { Arm64ecAnswers text.now (native_given has_native native.now)
+        (options_passed machine flavor flags has_dll dll.now)
+        buffer.old buffer.new length.new place.new result }
+{
+    let arguments = passed(machine, flavor, flags, has_dll, dll);
+    let answer = arm64ec_library_into(alloc, text, native, has_native, arguments, buffer);
+    tell(&answer, length, place)
+}
+
+/// Puts the import library of all that a DLL exports under these options at the beginning of
+/// `buffer`, and gives a status: 0 where it is done.
+///
+/// The options and the buffer are as for `implib_library_with_nonnull`; the machine has to be the
+/// DLL's. `place` gets the offset of the field for which the bytes are no image, the index of an
+/// export at fault, or its position in the name table or its ordinal, where no definition can have
+/// it; and otherwise 0.
+#[unsafe(no_mangle)]
+pub extern "C" fn implib_library_of_dll_nonnull(
+    alloc: Global,
+    bytes: &[u8],
+    dll: &[u8],
+    has_dll: u32,
+    machine: u16,
+    flavor: u32,
+    flags: u32,
+    buffer: &mut [u8],
+    length: &mut usize,
+    place: &mut usize,
+) -> u32
+    ensures { DllLibraryAnswers bytes.now
+        (options_passed machine flavor flags has_dll dll.now)
+        buffer.old buffer.new length.new place.new result }
+{
+    let arguments = passed(machine, flavor, flags, has_dll, dll);
+    let answer = dll_library_into(alloc, bytes, arguments, buffer);
     tell(&answer, length, place)
 }
 

@@ -7,7 +7,7 @@ use Rattle.implib_libraries.specs.Delayed.{IsRefusalOfDelayed, IsRefusalOfDelaye
 use Rattle.implib_rules.specs.declared.library.Refusal.TheVariants as refusal
 use Rattle.implib_rules.specs.Library.{definition_text}
 use Rattle.implib_rules.specs.Options.{LibraryOptionsView}
-use Rattle.implib.specs.Fault.{cause_of, export_index}
+use Rattle.implib.specs.Fault.{cause_of}
 use Rattle.implib_c_calls.specs.Delayed.{IsDelayedWithin}
 use Rattle.implib_c_calls.proofs.Within.{export_within, syntax_within}
 
@@ -15,8 +15,7 @@ use Rattle.implib_c_calls.proofs.Within.{export_within, syntax_within}
 pub delayed_within : (text : List ℕ) (options : LibraryOptionsView) (why : DelayRefusal) → IsRefusalOfDelayedMembers text options why → IsDelayedWithin text why
 delayed_within text options (RefusedBefore (refusal.NotUtf8 position)) is = let short = is.longest.short in omega (arith, short)
 delayed_within text options (RefusedBefore (refusal.Syntax fault position)) is = syntax_within (definition_text text) (cause_of fault) position is.refused
-delayed_within text options (RefusedBefore (refusal.Members fault position)) is =
-    export_within (definition_text text) (export_index (cause_of fault)) position is.placed.1
+delayed_within text options (RefusedBefore (refusal.Members fault position)) is = grind (arith, export_within)
 delayed_within text options (RefusedBefore _) is = tt
 delayed_within text options (CannotDelay (undelayed.Data position)) is =
     export_within (definition_text text) (Some is.placed.0) position is.placed.1.1

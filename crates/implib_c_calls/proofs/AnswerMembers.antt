@@ -1,16 +1,14 @@
 -- The answers of calls for members and for their archive.
-use Rattle.std.proofs.Common.{◌≡◌, ℕ, List, Some, Result, ap, refl}
+use Rattle.std.proofs.Common.{arith, ◌≡◌, ℕ, List, Some, Result}
 use Rattle.std.specs.Str.{IsUtf8}
 use Rattle.implib.specs.declared.machine.MachineType.{MachineType}
 use Rattle.implib.specs.declared.flavor.Flavor.{Flavor}
 use Rattle.implib.specs.Conversions.{machine_numbered}
 use Rattle.implib.specs.Members.MemberSpec.{MemberView}
 use Rattle.implib.specs.Members.OfText.{MembersOf}
-use Rattle.implib_archive.specs.Archive.{archive_of}
 use Rattle.implib_c_calls.specs.declared.outcome.Failure.{Failure}
 use Rattle.implib_c_calls.specs.declared.outcome.Failure.TheVariants as failure
 use Rattle.implib_c_calls.specs.Answer.{Answers, HasMembers, LacksMembers, OnTextFault, WithInput, flavor_numbered}
-use Rattle.implib_c_calls.specs.Encoding.{encoded_members}
 use Rattle.implib_c_calls.specs.Given.{IsOutOfMemory, PacksInto, PutsInto, length_given, place_given, status_given}
 use Rattle.implib_c_calls.specs.Library.{LacksLibrary, LibraryAnswers, kind_of_flavor}
 use Rattle.implib_c_calls.specs.Status.{status_number}
@@ -35,14 +33,7 @@ lacks_library text machine flavor why lacks = lacks
 
 module _ {text : List ℕ} {machine flavor : ℕ} {f : Flavor} {members : List MemberView} (has : HasMembers text machine flavor f members) where
   has_with : {P : MachineType → Flavor → Type 0} → (MembersOf text has.machine_found has.flavor_found members → P has.machine_found has.flavor_found) → WithInput text machine flavor P
-  has_with holds = record {
-    machine_found = has.machine_found;
-    flavor_found = has.flavor_found;
-    machine_is = has.machine_is;
-    flavor_is = has.flavor_is;
-    utf8 = has.utf8;
-    holds = holds has.holds.1;
-  }
+  has_with holds = grind arith
 
   without_memory : (why : Failure) → IsOutOfMemory why → LacksMembers text machine flavor why
   without_memory failure.OutOfMemory is = has_with (λ made. tt)
@@ -51,17 +42,9 @@ module _ {text : List ℕ} {machine flavor : ℕ} {f : Flavor} {members : List M
   -- they are put into the buffer, or not
   pub members_put : {old : List ℕ} (new : List ℕ) (result : Result ℕ Failure) → PutsInto members old new result
       → Answers text machine flavor old new (length_given result) (place_given result) (status_number (status_given result))
-  members_put =
-      leaves_put (encoded_members members)
-      (λ accepted short. record { what = members; has = has_with (λ made. made); is = refl; buffer_reads = λ rest. members_back members rest tt short })
-      without_memory
+  members_put = grind (arith, leaves_put, has_with, members_back, without_memory)
 
   -- their archive is put into the buffer, or not
   pub members_packed : {old : List ℕ} (new : List ℕ) (result : Result ℕ Failure) → PacksInto (kind_of_flavor f) members old new result
       → LibraryAnswers text machine flavor old new (length_given result) (place_given result) (status_number (status_given result))
-  members_packed =
-      let kind_is = ap kind_of_flavor has.holds.0 in
-      leaves_put (archive_of (kind_of_flavor f) members)
-      (λ accepted short. has_with (λ made. record { members = members; members_are = made; accepted = rw kind_is accepted; is = rw kind_is refl }))
-      (lacks_archive (kind_of_flavor f) members (LacksLibrary text machine flavor) (has_with (λ made. tt))
-      (λ fault refused. has_with (λ made. record { members = members; members_are = made; refused = rw kind_is refused })))
+  members_packed = grind (arith, leaves_put, has_with, lacks_archive)

@@ -1,5 +1,5 @@
 -- The answers of calls with options.
-use Rattle.std.proofs.Common.{◌≡◌, ℕ, List, None, Some, Result, Err, refl, inr}
+use Rattle.std.proofs.Common.{arith, ◌≡◌, ℕ, List, None, Some, Result, Err, refl, inr}
 use Rattle.implib.specs.Members.MemberSpec.{MemberView}
 use Rattle.implib_archive.specs.declared.kind.Kind.{Kind}
 use Rattle.implib_archive.specs.declared.error.Fault.{Fault as ArchiveFault}
@@ -31,9 +31,7 @@ module _ {given : GivenOptions} {options : LibraryOptionsView} (are : AreOptions
         → ((fault : ArchiveFault) → refusal_of kind members ≡ Some fault → Lacks options (failure.NoArchive fault))
         → (new : List ℕ) (result : Result ℕ Failure) → PacksInto kind members old new result
         → Leaves (λ file. WithOptions given (λ o. IsMade o file)) (LacksWith given Lacks) old new (length_given result) (place_given result) (status_number (status_given result))
-    with_archive kind members made memory unmade =
-        leaves_put (archive_of kind members) (λ accepted short. with_options (made accepted))
-        (lacks_archive kind members (LacksWith given Lacks) (inr (with_options memory)) (λ fault refused. inr (with_options (unmade fault refused))))
+    with_archive kind members made memory unmade = grind (arith, leaves_put, with_options, lacks_archive, inr)
 
   -- the archive of members is put, where an archive's fault is why a text has no library
   pub with_library : {IsMade : LibraryOptionsView → List ℕ → Type 0} {IsRefused : LibraryOptionsView → Refusal → Type 0} {old : List ℕ} (text : List ℕ)

@@ -1,18 +1,14 @@
 -- An encoded definition reads back.
-use Rattle.std.proofs.Common.{◌≡◌, ℕ, ◌<◌, ◌≤◌, ◌^◌, All, Bool, true, false, List, ◌++◌, Option, None, Some, length, refl, ap, append_assoc, arith}
+use Rattle.std.proofs.Common.{◌≡◌, ℕ, ◌<◌, ◌≤◌, ◌^◌, All, Bool, true, false, List, Option, None, Some, length, refl, ap, append_assoc, arith}
 use Rattle.std.specs.Option.{option_map}
 use Rattle.implib_c_calls.specs.Definition.{NumbersFit, StatedDefinition, StatedExport, definition_in, encoded_definition, encoded_export, encoded_optional, export_in, export_with, flag, flags_of, optional_in}
-use Rattle.implib_c_calls.specs.Encoding.{ReadsBack, encoded_list, encoded_number, encoded_text, list_in, then_in}
+use Rattle.implib_c_calls.specs.Encoding.{ReadsBack, encoded_list, list_in, then_in}
 use Rattle.implib_c_calls.proofs.ReadBack.{front_long, last_back, last_number, list_back_where, number_back, rest_few, text_back, text_long, then_back, then_number, then_text}
 
 optional_back : (text : Option (List ℕ)) (rest : List ℕ) → ReadsBack encoded_optional optional_in (λ text. Unit {0}) text rest
 unfolding optional_in then_in
 optional_back None rest fit below = rw (number_back 0 rest (omega arith)) refl
-optional_back (Some text) rest fit below = rw (
-  append_assoc (encoded_number 1) (encoded_text text) rest,
-  number_back 1 (encoded_text text ++ rest) (omega arith),
-  text_back text rest tt (rest_few (encoded_number 1) (encoded_text text) below),
-) refl
+optional_back (Some text) rest fit below = grind (arith, append_assoc, number_back, text_back, rest_few)
 
 -- each number of attributes is that of one export
 

@@ -1,9 +1,9 @@
 -- The numbers of what members come to have 64 bits.
 use Rattle.std.proofs.Common.{◌<◌, ◌^◌, All, List, [], ◌∷◌, arith, map}
 use Rattle.std.proofs.lemmas.List.Elements.{All-cons, All-nil}
-use Rattle.implib_dll_check.specs.declared.import.Judgement.{Judgement}
-use Rattle.implib_dll_check.specs.declared.import.Judgement.TheVariants.{Lost}
-use Rattle.implib_dll_check.specs.declared.import.Loss.TheVariants.{OtherDll}
+use Rattle.implib_compare.specs.declared.dll_check.import.Judgement.{Judgement}
+use Rattle.implib_compare.specs.declared.dll_check.import.Judgement.TheVariants.{Lost}
+use Rattle.implib_compare.specs.declared.dll_check.import.Loss.TheVariants.{OtherDll}
 use Rattle.implib_c_calls.specs.DllCheck.{judgement_number}
 
 number_fits : (judgement : Judgement) → judgement_number judgement < 2 ^ 64

@@ -9,10 +9,7 @@ use Rattle.implib_c_calls.proofs.Lists.{mapped_all, mapped_more, mapped_room}
 
 -- the same bytes under another name
 pub fills_as : {old new : List ℕ} → {a b : ℕ} → {x : List ℕ} → (y : List ℕ) → x ≡ y → Fills old new a b x → Fills old new a b y
-fills_as {old} {new} {a} {b} y e fills = record {
-  end_is = fills.end_is ∙ ap (λ t. a + length t) e;
-  new_is = fills.new_is ∙ ap (λ t. take a old ++ (t ++ drop b old)) e;
-}
+fills_as {old} {new} {a} {b} y e fills = grind (arith, length, take, drop)
 
 -- what is before the end of a chunk, and what is after it
 module _ {old mid : List ℕ} {a b : ℕ} {x : List ℕ} (room : b ≤ length old) (fills : Fills old mid a b x) where
@@ -51,22 +48,12 @@ module _ {T V : Type 0} (f : V → List ℕ) (view : T → V) (items : List T) (
   -- the next item fits where they all do
   pub fills_room : (item : T) → index < length items → item ≡ get_or items index item
       → a + (length front + length (flat_map f (map view items))) ≤ length old → b + length (f (view item)) ≤ length old
-  fills_room item within is room = omega (
-    arith,
-    room,
-    fills.end_is,
-    mapped_room f view items index item within is,
-    length-append front (flat_map f (map view (take index items))),
-  )
+  fills_room item within is room = grind (arith, mapped_room, length-append, flat_map, map, take)
 
   -- one item more
   pub fills_more : {new : List ℕ} → {c : ℕ} → (item : T) → index < length items → item ≡ get_or items index item → b ≤ length old
       → Fills mid new b c (f (view item)) → Fills old new a c (front ++ flat_map f (map view (take (index + 1) items)))
-  fills_more item within is room chunk =
-      fills_as (front ++ flat_map f (map view (take (index + 1) items)))
-      (append_assoc front (flat_map f (map view (take index items))) (f (view item))
-      ∙ ap (λ t. front ++ t) (mapped_more f view items index item within is))
-      (fills_both room fills chunk)
+  fills_more item within is room chunk = grind (arith, map view (take index items), take (index + 1) items, take index items, mapped_more f view items index item within is, fills_both room fills chunk, fills_as, flat_map, append_assoc)
 
   -- all items
   pub fills_all : length items ≤ index → Fills old mid a b (front ++ flat_map f (map view items))

@@ -1,5 +1,5 @@
 -- The rows whose flag is set.
-use Rattle.std.proofs.Common.{◌≡◌, ◌∙◌, ℕ, zero, suc, ◌+◌, ◌<◌, Bool, true, false, List, [], ◌∷◌, ◌++◌, ap, arith, get_or, length, map, refl, subst, sym, take}
+use Rattle.std.proofs.Common.{◌≡◌, ◌∙◌, ℕ, zero, suc, ◌+◌, ◌<◌, Bool, true, false, List, [], ◌∷◌, ◌++◌, ap, arith, get_or, length, map, refl, sym, take}
 use Rattle.std.proofs.lemmas.Simd.{map-map}
 use Rattle.implib_c_calls.specs.Check.{flagged}
 use Rattle.implib_c_calls.specs.Imports.{Row}
@@ -23,9 +23,7 @@ module _ {T : Type 0} (f : T → Row) where
   -- one item more
   pub flagged_more : (flags : List Bool) (items : List T) (i : ℕ) (item : T) → i < length items → item ≡ get_or items i item
       → flagged flags (map f (take (i + 1) items)) ≡ flagged flags (map f (take i items)) ++ flagged (get_or flags i false ∷ []) (f item ∷ [])
-  flagged_more flags items i item within is =
-      let on : suc i ≡ i + 1 = omega arith in
-      subst (λ n. flagged flags (map f (take n items)) ≡ flagged flags (map f (take i items)) ++ flagged (get_or flags i false ∷ []) (f item ∷ [])) on (flagged_next flags items i item within is)
+  flagged_more flags items i item within is = grind (arith, suc, map, take, get_or, false, flagged_next)
 
 -- flags and items as they are known elsewhere
 pub flagged_as : {T V : Type 0} (f : V → Row) (view : T → V) (flags known : List Bool) (items : List T) → flags ≡ known → flagged flags (map (λ t. f (view t)) items) ≡ flagged known (map f (map view items))

@@ -1,6 +1,5 @@
 -- Exports as C passes them, read from the first to the last.
 use Rattle.std.proofs.Common.{◌≡◌, ◌∙◌, ◌++◌, ◌+◌, ◌<◌, ℕ, List, [], ◌∷◌, Option, None, Some, ◌&&◌, ap, arith, get_or, length, map, refl, subst, sym, take}
-use Rattle.std.specs.Option.{option_map}
 use Rattle.std.proofs.lemmas.List.{get_or-map, length-map, map_more}
 use Rattle.std.proofs.lemmas.List.Elements.{All-more}
 use Rattle.std.proofs.lemmas.Option.{slice_get-get_or, slice_get-map}
@@ -53,9 +52,4 @@ module _ (exports : List Export) (index : ℕ) (d : Export) (within : index < le
   -- the first that is refused
   pub first_fault : (before : List ExportView) (fault : ExportFault) → AreGiven (take index (map given_export exports)) before
       → IsExportFault (given_export (get_or exports index d)) fault → IsFirstFault (map given_export exports) index fault
-  first_fault before fault given is = record {
-    export = given_export (get_or exports index d);
-    stands = slice_get-map given_export exports index ∙ ap (option_map given_export) (slice_get-get_or exports index d within);
-    before = given.accepted;
-    is = is;
-  }
+  first_fault before fault given is = grind (arith, get_or, slice_get-map, slice_get-get_or)

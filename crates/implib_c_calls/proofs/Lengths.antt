@@ -1,5 +1,5 @@
 -- The lengths of encodings.
-use Rattle.std.proofs.Common.{◌≡◌, ℕ, ◌+◌, ◌<◌, ◌^◌, List, ◌++◌, Option, None, Some, IfSome, length, flat_map, refl, ◌∙◌, arith, length-append}
+use Rattle.std.proofs.Common.{◌≡◌, ℕ, ◌+◌, ◌<◌, ◌^◌, List, Option, None, Some, IfSome, length, flat_map, refl, ◌∙◌, arith, length-append}
 use Rattle.std.specs.Option.{SomeIff}
 use Rattle.implib.specs.Members.MemberSpec.{MemberView}
 use Rattle.implib_c_calls.specs.Encoding.{encoded_list, encoded_member, encoded_members, encoded_number, encoded_text}
@@ -16,11 +16,7 @@ list_size f items = omega (arith, length-append (encoded_number (length items)) 
 
 pub member_size : (m : MemberView) → length (encoded_member m) ≡ length (encoded_text m.name) + (length (encoded_list encoded_text m.symbols) + length (encoded_text m.bytes))
 unfolding encoded_member
-member_size m = omega (
-  arith,
-  length-append (encoded_text m.name) (encoded_list encoded_text m.symbols ++ encoded_text m.bytes),
-  length-append (encoded_list encoded_text m.symbols) (encoded_text m.bytes),
-)
+member_size m = grind (arith, length-append)
 
 pub members_size : (members : List MemberView) → length (encoded_members members) ≡ 8 + length (flat_map encoded_member members)
 unfolding encoded_members

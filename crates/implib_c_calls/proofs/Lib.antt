@@ -22,6 +22,8 @@ pub mod AnswerMembers
 pub mod AnswerWith
 pub mod AnswerOf
 pub mod AnswerDelayed
+pub mod AnswerDll
+pub mod AnswerArm64ec
 pub mod GivenExports
 pub mod WrittenAlike
 pub mod PlacesOfRefusals

@@ -7,11 +7,7 @@ module _ {T V : Type 0} (f : V → List ℕ) (view : T → V) (items : List T) (
   -- one item more
   pub mapped_more : (item : T) → index < length items → item ≡ get_or items index item
       → flat_map f (map view (take index items)) ++ f (view item) ≡ flat_map f (map view (take (index + 1) items))
-  mapped_more item within is =
-      let more : take (index + 1) items ≡ take index items ++ item ∷ [] = take_more items index item within ∙ ap (λ t. take index items ++ t ∷ []) (sym is) in
-      ap (λ t. flat_map f (map view (take index items)) ++ t) (sym (append-nil (f (view item))))
-      ∙ sym (flat_map-append f (map view (take index items)) (view item ∷ []))
-      ∙ ap (flat_map f) (sym (map-append view (take index items) (item ∷ [])) ∙ ap (map view) (sym more))
+  mapped_more item within is = grind (arith, take index items, flat_map f, map view (take index items), map view, map-append view (take index items) (item ∷ []), take_more, append-nil, flat_map-append)
 
   -- all items
   pub mapped_all : length items ≤ index → flat_map f (map view (take index items)) ≡ flat_map f (map view items)

@@ -26,8 +26,7 @@ in_bytes text position is =
 of_export : (text : List ℕ) (index : Option ℕ) (at position : Position) → IsAtExport (definition_text text) index at → position_of_export at index ≡ Some position
     → line_and_column (text_before text (place_of_export (mark_length text + at.offset) index)) ≡ (position.line, position.column)
 of_export text None at position is some = absurd (none-some position some)
-of_export text (Some index) at position is some =
-    in_bytes text at (own_offset (definition_text text) _ at is.is) ∙ ap (λ (p : Position). (p.line, p.column)) (same_Some at position some)
+of_export text (Some index) at position is some = grind (arith, in_bytes, own_offset, same_Some)
 
 -- a syntax error is at the position of its offset
 syntax_there : (text : List ℕ) (cause : Cause) (position : Position) → IsSyntaxErrorAt text cause position → position ≡ position_at text position.offset
@@ -36,9 +35,7 @@ syntax_there text cause position (inr (inl parsed)) = parsed.1.1
 syntax_there text cause position (inr (inr misplaced)) = own_offset text misplaced.misplaced.at position misplaced.there
 
 pub places_are_of_refusals : PlacesAreOfRefusals
-places_are_of_refusals text options (refusal.NotUtf8 at) position is some =
-    in_bytes text at is.is ∙ ap (λ (p : Position). (p.line, p.column)) (same_Some at position some)
-places_are_of_refusals text options (refusal.Syntax fault at) position is some =
-    in_bytes text at (syntax_there (definition_text text) (cause_of fault) at is.refused) ∙ ap (λ (p : Position). (p.line, p.column)) (same_Some at position some)
+places_are_of_refusals text options (refusal.NotUtf8 at) position is some = grind (arith, in_bytes, same_Some)
+places_are_of_refusals text options (refusal.Syntax fault at) position is some = grind (arith, in_bytes, syntax_there, same_Some)
 places_are_of_refusals text options (refusal.Members fault at) position is some = of_export text (export_index (cause_of fault)) at position is.1 some
 places_are_of_refusals text options _ position is some = absurd (none-some position some)

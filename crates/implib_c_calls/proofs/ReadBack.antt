@@ -1,5 +1,5 @@
 -- An encoding reads back.
-use Rattle.std.proofs.Common.{◌≡◌, ℕ, ◌<◌, ◌≤◌, ◌^◌, true, All, List, [], ◌∷◌, ◌++◌, Option, Some, length, flat_map, nat_le, refl, ap, append_assoc, arith, length-append, le-leb}
+use Rattle.std.proofs.Common.{rules, ◌≡◌, ℕ, ◌<◌, ◌≤◌, ◌^◌, true, All, List, [], ◌∷◌, ◌++◌, Option, Some, length, flat_map, nat_le, refl, ap, append_assoc, arith, length-append, le-leb}
 use Rattle.std.specs.Int.{w64, from_le_bytes}
 use Rattle.std.specs.Option.{option_map}
 use Rattle.std.proofs.lemmas.List.{drop_at, take_at}
@@ -18,21 +18,15 @@ number_value n below = from_le_bytes-to_le_bytes_8 n below
 
 pub number_back : (n : ℕ) (rest : List ℕ) → n < 2 ^ 64 → number_in (encoded_number n ++ rest) ≡ Some (n, rest)
 unfolding number_in
-number_back n rest below =
-    let e : length (encoded_number n) ≡ 8 = number_size n in
-    rw (within (encoded_number n) rest 8 e, take_at (encoded_number n) rest 8 e, drop_at (encoded_number n) rest 8 e, number_value n below) refl
+number_back n rest below = search (rules, length, number_size, within, take_at, drop_at, number_value)
 
 bytes_back : (bytes rest : List ℕ) → bytes_in (length bytes) (bytes ++ rest) ≡ Some (bytes, rest)
 unfolding bytes_in
-bytes_back bytes rest =
-    rw (within bytes rest (length bytes) refl, take_at bytes rest (length bytes) refl, drop_at bytes rest (length bytes) refl) refl
+bytes_back bytes rest = search (rules, within, length, take_at, drop_at)
 
 pub text_back : (text rest : List ℕ) → ReadsBack encoded_text text_in (λ text. Unit {0}) text rest
 unfolding text_in then_in
-text_back text rest fit below =
-    let short : length text < 2 ^ 64 = omega (arith, below, text_size text) in
-    rw (append_assoc (encoded_number (length text)) text rest, number_back (length text) (text ++ rest) short)
-    (bytes_back text rest)
+text_back text rest fit below = grind (arith, length, text_size, append_assoc, number_back, bytes_back)
 
 -- items that take a byte or more are no more than their bytes
 counted : {Y : Type 0} (g : Y → List ℕ) → ((y : Y) → 1 ≤ length (g y)) → (items : List Y) → length items ≤ length (flat_map g items)
@@ -68,11 +62,7 @@ module _ {X : Type 0} (f : X → List ℕ) (read : List ℕ → Option (X × Lis
 
   pub list_back_where : ((x : X) → 1 ≤ length (f x)) → (items : List X) (rest : List ℕ) → ReadsBack (encoded_list f) (list_in read) (All Fits) items rest
   unfolding list_in then_in
-  list_back_where long items rest fit below =
-      let bytes : List ℕ = flat_map f items in
-      let count : length items < 2 ^ 64 = omega (arith, below, list_size f items, counted f long items) in
-      rw (append_assoc (encoded_number (length items)) bytes rest, number_back (length items) (bytes ++ rest) count)
-      (items_back_where items rest fit (rest_few (encoded_number (length items)) bytes below))
+  list_back_where long items rest fit below = grind (arith, flat_map, length, list_size, counted, append_assoc, number_back, items_back_where, rest_few)
 
 -- items that always read back
 

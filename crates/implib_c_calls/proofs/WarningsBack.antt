@@ -1,17 +1,12 @@
 -- Encoded warnings read back.
-use Rattle.std.proofs.Common.{ℕ, ◌≤◌, All, List, length, refl}
+use Rattle.std.proofs.Common.{rules, ℕ, ◌≤◌, All, List, length}
 use Rattle.implib_c_calls.specs.Encoding.{ReadsBack}
 use Rattle.implib_c_calls.specs.Warnings.{Fits, Said, encoded_said, encoded_warnings, said_in, warnings_in}
 use Rattle.implib_c_calls.proofs.ReadBack.{front_long, last_text, list_back_where, number_long, then_number}
 
 said_back : (s : Said) (rest : List ℕ) → ReadsBack encoded_said said_in Fits s rest
 unfolding said_in encoded_said
-said_back s rest fit below =
-    then_number _ s.warned.kind _ rest fit.kind below (λ below.
-    then_number _ s.warned.offset _ rest fit.offset below (λ below.
-    then_number _ s.warned.line _ rest fit.line below (λ below.
-    then_number _ s.warned.column _ rest fit.column below (λ below.
-    last_text _ s.words rest below refl))))
+said_back s rest fit below = search (rules, then_number, last_text)
 
 said_long : (s : Said) → 1 ≤ length (encoded_said s)
 unfolding encoded_said

@@ -1,24 +1,19 @@
 -- Warnings that are said one by one.
-use Rattle.std.proofs.Common.{◌≡◌, ℕ, ◌+◌, ◌<◌, ◌≤◌, List, [], ◌∷◌, ◌++◌, length, map, flat_map, take, get_or, refl, sym, ap, ◌∙◌, subst, append-nil, append_assoc}
+use Rattle.std.proofs.Common.{arith, ◌≡◌, ℕ, ◌+◌, ◌<◌, ◌≤◌, List, [], ◌∷◌, ◌++◌, length, map, flat_map, take, get_or, sym, ap, ◌∙◌, append-nil, append_assoc}
 use Rattle.std.proofs.lemmas.Grind.{flat_map-append}
 use Rattle.std.proofs.lemmas.List.{length-map, map-append, take_all, take_more}
-use Rattle.std.proofs.lemmas.List.Elements.{All-nil, All-push}
+use Rattle.std.proofs.lemmas.List.Elements.{All-push}
 use Rattle.implib_archive.specs.Pushed.{Pushes}
 use Rattle.implib_archive.proofs.Appended.{pushes_as, pushes_then}
 use Rattle.implib_rules.specs.declared.warnings.Warning.{Warning}
 use Rattle.implib_rules.specs.Warnings.{WarningView, warning_view}
 use Rattle.implib_c_calls.specs.Encoding.{encoded_number}
-use Rattle.implib_c_calls.specs.Warnings.{AreSaid, Fits, Said, encoded_said, encoded_warnings, warned_of}
+use Rattle.implib_c_calls.specs.Warnings.{Fits, Said, encoded_said, encoded_warnings, warned_of}
 use Rattle.implib_c_calls.specs.WarningsAnswer.{IsEncodingOf, PushesWarning, PushesWarnings}
 
 -- after their number alone none is said
 pub pushes_none : (mark count : ℕ) (new mid : List ℕ) → new ≡ [] → Pushes new mid (encoded_number count) → PushesWarnings mark count [] [] mid
-pushes_none mark count new mid none pushes = record {
-  said = [];
-  are = refl;
-  fit = All-nil Fits;
-  pushes = pushes_as (sym (append-nil (encoded_number count))) (subst (λ t. Pushes t mid (encoded_number count)) none pushes);
-}
+pushes_none mark count new mid none pushes = grind (arith, pushes_as, append-nil)
 
 module _ (mark : ℕ) (warnings : List Warning) (index : ℕ) {old mid : List ℕ} (first : PushesWarnings mark (length warnings) (map warning_view (take index warnings)) old mid) where
   -- one warning more
@@ -29,9 +24,7 @@ module _ (mark : ℕ) (warnings : List Warning) (index : ℕ) {old mid : List �
       let front : List ℕ = encoded_number (length warnings) in
       let before : List WarningView = map warning_view (take index warnings) in
       let more : take (index + 1) warnings ≡ take index warnings ++ item ∷ [] = take_more warnings index some within in
-      let all : map (warned_of mark) (map warning_view (take (index + 1) warnings)) ≡ map (warned_of mark) before ++ map (warned_of mark) (warning_view item ∷ [])
-      = ap (λ t. map (warned_of mark) (map warning_view t)) more
-      ∙ (ap (map (warned_of mark)) (map-append warning_view (take index warnings) (item ∷ [])) ∙ map-append (warned_of mark) before (warning_view item ∷ [])) in
+      let all : map (warned_of mark) (map warning_view (take (index + 1) warnings)) ≡ map (warned_of mark) before ++ map (warned_of mark) (warning_view item ∷ []) = grind (arith, map, take, map-append) in
       record {
         said = first.said ++ one.said ∷ [];
         are = map-append (λ (s : Said). s.warned) first.said (one.said ∷ [])
@@ -47,12 +40,4 @@ module _ (mark : ℕ) (warnings : List Warning) (index : ℕ) {old mid : List �
 pub encodes_all : (mark : ℕ) (warnings : List Warning) (index : ℕ) (bytes : List ℕ) → PushesWarnings mark (length warnings) (map warning_view (take index warnings)) [] bytes → length warnings ≤ index
     → IsEncodingOf mark (map warning_view warnings) bytes
 unfolding encoded_warnings
-encodes_all mark warnings index bytes done past =
-    let are : AreSaid mark (map warning_view warnings) done.said = subst (λ t. AreSaid mark (map warning_view t) done.said) (take_all index warnings past) done.are in
-    let count : length warnings ≡ length done.said
-    = sym (sym (length-map done.said (λ (s : Said). s.warned)) ∙ (ap length are ∙ (length-map (map warning_view warnings) (warned_of mark) ∙ length-map warnings warning_view))) in
-    record {
-      what = done.said;
-      has = are;
-      encoding = record { is = done.pushes.whole ∙ ap (λ n. encoded_number n ++ flat_map encoded_said done.said) count; fit = done.fit };
-    }
+encodes_all mark warnings index bytes done past = grind (arith, map, take_all, length, length-map, flat_map)

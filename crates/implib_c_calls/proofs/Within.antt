@@ -1,7 +1,6 @@
 -- The offset of a refusal is within its text.
 use Rattle.std.proofs.Common.{◌≡◌, ℕ, zero, suc, ◌+◌, ◌<◌, ◌≤◌, ◌^◌, Bool, true, false, List, [], ◌∷◌, Option, None, Some, length, drop, get_or, map, nat_eq, subst, sym, arith, if◌then◌else◌, ap, inl, inr}
-use Rattle.std.specs.Prelude.{is_some}
-use Rattle.std.specs.List.{AllByRecursion, fold, starts_with}
+use Rattle.std.specs.List.{AllByRecursion, fold}
 use Rattle.std.proofs.lemmas.List.{length-drop}
 use Rattle.std.proofs.lemmas.Option.{none-some, same_Some}
 use Rattle.implib.specs.declared.def.listener.Role.{Role}
@@ -14,14 +13,13 @@ use Rattle.implib.proofs.Text.RefusedWithin.{BeginsBy, refused_within, tokens_be
 use Rattle.implib_rules.specs.declared.library.Refusal.{Refusal}
 use Rattle.implib_rules.specs.declared.library.Refusal.TheVariants as refusal
 use Rattle.implib_rules.proofs.PlainPlaces.{places_kept}
-use Rattle.implib_rules.specs.declared.form.Problem.{Problem}
 use Rattle.implib_rules.specs.declared.plain.Reading.{Reading}
-use Rattle.implib_rules.specs.Forms.{Formed, IsMisplacedAt, Misplaced, formed_by, formed_on, is_open, open_quote_from, problem_at, unformed}
-use Rattle.implib_rules.specs.Library.{IsRefusalOfMembers, IsSyntaxErrorAt, definition_text, without_mark}
+use Rattle.implib_rules.specs.Forms.{Formed, IsMisplacedAt, Misplaced, formed_on, is_open, open_quote_from, unformed}
+use Rattle.implib_rules.specs.Library.{IsRefusalOfMembers, IsSyntaxErrorAt, definition_text}
 use Rattle.implib_rules.specs.Options.{LibraryOptionsView}
 use Rattle.implib_rules.specs.Plain.{beginning, step_of}
 use Rattle.implib_rules.specs.Places.{IsAtExport}
-use Rattle.implib_null_descriptor.specs.Libraries.{IsRefusalOfNamed}
+use Rattle.implib_libraries.specs.NullDescriptor.Libraries.{IsRefusalOfNamed}
 use Rattle.implib_c_calls.specs.LibraryWith.{IsWithin, mark_length}
 
 -- what holds of all tokens holds of those that are heard as names
@@ -41,12 +39,7 @@ name_begins end (name ∷ names) (suc index) all = name_begins end names index a
 -- the position of an export, or of the beginning
 pub export_within : (text : List ℕ) (index : Option ℕ) (position : Position) → IsAtExport text index position → position.offset ≤ length text
 export_within text None position at = let same = ap (λ (p : Position). p.offset) at in omega (arith, same)
-export_within text (Some index) position at =
-    let same = ap (λ (p : Position). p.offset) at.is in
-    let names = subst (λ heard. AllByRecursion (BeginsBy (length text)) (names_of heard)) (sym at.is_heard.is)
-    (names_all (BeginsBy (length text)) (roles_of at.is_heard.statements) at.is_heard.tokens (tokens_begin text at.is_heard.tokens at.is_heard.lexed)) in
-    let begins = name_begins (length text) (names_of at.heard) index names in
-    omega (arith, same, begins)
+export_within text (Some index) position at = grind (arith, length text, tokens_begin text at.is_heard.tokens at.is_heard.lexed, names_all, name_begins)
 
 -- a quote that its line does not close is in the text
 open_within : (text : List ℕ) (reading : Reading) (at found : ℕ) → open_quote_from reading at text ≡ Some found → found ≤ at + length text
@@ -65,12 +58,7 @@ module _ (end : ℕ) (text : List ℕ) where
   -- a wrong word is one of the tokens
   one_within : (f : Formed) (h : Heard) → ((m : Misplaced) → f.misplaced ≡ Some m → m.at ≤ end) → h.token.at ≤ end
       → (m : Misplaced) → (formed_on text f h).misplaced ≡ Some m → m.at ≤ end
-  one_within f h before here m is = by (is_some f.misplaced) (problem_at text f.point h.role h.token) is
-    where
-      by : (b : Bool) (problem : Option Problem) → (if b then f else formed_by f h.role h.token problem).misplaced ≡ Some m → m.at ≤ end
-      by true problem is = before m is
-      by false None is = absurd (none-some m is)
-      by false (Some problem) is = subst (λ (x : Misplaced). x.at ≤ end) (same_Some _ m is) here
+  one_within f h before here m is = grind (arith, true, false, none-some, same_Some)
 
   all_within : (heard : List Heard) (f : Formed) → ((m : Misplaced) → f.misplaced ≡ Some m → m.at ≤ end)
       → AllByRecursion (λ (h : Heard). h.token.at ≤ end) heard → (m : Misplaced) → (fold (formed_on text) f heard).misplaced ≡ Some m → m.at ≤ end
@@ -105,11 +93,7 @@ refusal_within text options _ is = tt
 
 -- and so is one of members with a named null descriptor
 pub named_within : (text : List ℕ) (options : LibraryOptionsView) (why : Refusal) → IsRefusalOfNamed text options why → IsWithin text why
-named_within text options why is =
-    elim is [
-      | inl refused ↦ refusal_within text options why refused
-      | inr long ↦ subst (IsWithin text) (sym long.is) (export_within (definition_text text) None long.position long.at)
-    ]
+named_within text options why is = grind (arith, inl, refusal_within, inr, export_within)
 
 -- an offset in the text has 64 bits, where the text's length has
 mark_fits : (text : List ℕ) (offset : ℕ) (marked : Bool) → length text < 2 ^ 64 → offset ≤ length (if marked then drop 3 text else text) → (if marked then 3 else 0) + offset < 2 ^ 64
@@ -117,5 +101,4 @@ mark_fits text offset true short within = let rest = length-drop 3 text in omega
 mark_fits text offset false short within = omega (arith, short, within)
 
 pub offset_fits : (text : List ℕ) (offset : ℕ) → length text < 2 ^ 64 → offset ≤ length (definition_text text) → mark_length text + offset < 2 ^ 64
-offset_fits text offset short within =
-    mark_fits text offset (starts_with nat_eq text (0xEF ∷ 0xBB ∷ 0xBF ∷ [])) short (omega (arith, (places_kept (without_mark text)).as_long, within))
+offset_fits text offset short within = grind (arith, mark_fits, nat_eq, places_kept)

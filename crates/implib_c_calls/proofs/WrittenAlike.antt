@@ -22,12 +22,7 @@ use Rattle.implib_c_calls.specs.WrittenAlike.{PutsWhatIsWritten}
 
 -- what is given is one record of options
 options_once : (given : GivenOptions) (options other : LibraryOptionsView) → AreOptions given options → AreOptions given other → options ≡ other
-options_once given options other first second =
-    ap (λ m. record options { machine = m }) (same_Some _ _ (sym first.machine_is ∙ second.machine_is))
-    ∙ ap (λ f. record options { machine = other.machine; flavor = f }) (same_Some _ _ (sym first.flavor_is ∙ second.flavor_is))
-    ∙ ap (λ n. record options { machine = other.machine; flavor = other.flavor; naming = n }) (same_Some _ _ (sym first.naming_is ∙ second.naming_is))
-    ∙ ap (λ a. record options { machine = other.machine; flavor = other.flavor; naming = other.naming; additions = a }) (first.additions_are ∙ sym second.additions_are)
-    ∙ ap (λ d. record other { dll = d }) (first.dll_is ∙ sym second.dll_is)
+options_once given options other first second = grind (arith, same_Some)
 
 -- no failure has the status of success
 

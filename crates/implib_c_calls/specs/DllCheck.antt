@@ -1,19 +1,19 @@
 -- What the members of a library come to in a DLL, member by member, and what of its exports none
 -- asks for; how that is encoded for C, and how an encoding is read (this project's choice). What an
--- import comes to is `implib_dll_check`'s.
+-- import comes to is `implib_compare`'s.
 use Rattle.std.specs.Prelude.{ℕ, ◌<◌, ◌^◌, All, List, [], ◌∷◌, ◌++◌, Option}
 use Rattle.std.specs.Prelude.{if◌then◌else◌, map}
 use Rattle.implib.specs.Import.{is_empty_text}
 use Rattle.implib_dll.specs.Exports.{Exports}
-use Rattle.implib_dll_check.specs.DllName.{loader_name}
-use Rattle.implib_dll_check.specs.Imports.{asks_in, judgements}
-use Rattle.implib_dll_check.specs.Missing.{missing}
-use Rattle.implib_dll_check.specs.declared.import.Judgement.{Judgement}
-use Rattle.implib_dll_check.specs.declared.import.Judgement.TheVariants.{Lost, NoImport, Reached}
-use Rattle.implib_dll_check.specs.declared.import.Judgement.TheVariants.{Searched}
-use Rattle.implib_dll_check.specs.declared.import.Loss.{Loss}
-use Rattle.implib_dll_check.specs.declared.import.Loss.TheVariants.{DataAsFunction, NotFound}
-use Rattle.implib_dll_check.specs.declared.import.Loss.TheVariants.{OtherDll, OtherMachine}
+use Rattle.implib_compare.specs.DllCheck.DllName.{loader_name}
+use Rattle.implib_compare.specs.DllCheck.Imports.{asks_in, judgements}
+use Rattle.implib_compare.specs.DllCheck.Missing.{missing}
+use Rattle.implib_compare.specs.declared.dll_check.import.Judgement.{Judgement}
+use Rattle.implib_compare.specs.declared.dll_check.import.Judgement.TheVariants.{Lost, NoImport, Reached}
+use Rattle.implib_compare.specs.declared.dll_check.import.Judgement.TheVariants.{Searched}
+use Rattle.implib_compare.specs.declared.dll_check.import.Loss.{Loss}
+use Rattle.implib_compare.specs.declared.dll_check.import.Loss.TheVariants.{DataAsFunction, NotFound}
+use Rattle.implib_compare.specs.declared.dll_check.import.Loss.TheVariants.{OtherDll, OtherMachine}
 use Rattle.implib_read.specs.Classes.{MemberRead}
 use Rattle.implib_c_calls.specs.Encoding.{encoded_list, encoded_number, found, list_in}
 use Rattle.implib_c_calls.specs.Encoding.{number_in, then_in}

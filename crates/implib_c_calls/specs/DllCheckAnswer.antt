@@ -1,5 +1,5 @@
 -- What `implib_check_dll` answers: what the imports of a library come to in a DLL, as
--- `implib_dll_check` has it.
+-- `implib_compare` has it.
 use Rattle.std.specs.Prelude.{◌≡◌, ℕ, List, None, Some, Ok}
 use Rattle.std.specs.Option.{IsSome}
 use Rattle.implib_dll.specs.Exports.{Exports, exports_in}

@@ -41,6 +41,9 @@ failure_status (failure.NoExport fault index) = export_status fault
 failure_status failure.NotALibrary = status.NotALibrary
 failure_status (failure.NotAnImage offset) = status.NotAnImage
 failure_status failure.NoExportDirectory = status.NoExportDirectory
+failure_status failure.OtherMachine = status.OtherMachine
+failure_status (failure.Unreadable offset) = status.UnreadableName
+failure_status (failure.OfNative offset) = status.NativeRefused
 failure_status (failure.NotDelayed why offset) = delay_status why
 
 -- the status of what is given
@@ -62,6 +65,8 @@ place_given (Err (failure.Refused fault)) = unwrap_or (export_index (cause_of fa
 place_given (Err (failure.RefusedAt fault offset)) = offset
 place_given (Err (failure.NoExport fault index)) = index
 place_given (Err (failure.NotAnImage offset)) = offset
+place_given (Err (failure.Unreadable offset)) = offset
+place_given (Err (failure.OfNative offset)) = offset
 place_given (Err (failure.NotDelayed why offset)) = offset
 place_given _ = 0
 

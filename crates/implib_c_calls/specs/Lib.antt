@@ -14,6 +14,8 @@ pub mod Imports
 pub mod ImportsAnswer
 pub mod DllExports
 pub mod DllExportsAnswer
+pub mod DllLibrary
+pub mod Arm64ec
 pub mod DllCheck
 pub mod DllCheckAnswer
 pub mod Check

@@ -14,7 +14,8 @@ use Rattle.implib_rules.specs.Nameless.{with_ordinals}
 use Rattle.implib_rules.specs.Options.{LibraryOptionsView}
 use Rattle.implib_c_calls.specs.declared.export.Export.{Export as PassedExport}
 use Rattle.implib_c_calls.specs.declared.export.ExportFault.{ExportFault}
-use Rattle.implib_c_calls.specs.declared.export.ExportFault.TheVariants.{NotUtf8, UnknownFlags}
+use Rattle.implib_c_calls.specs.declared.export.ExportFault.TheVariants.{NotUtf8, OutOfRange}
+use Rattle.implib_c_calls.specs.declared.export.ExportFault.TheVariants.{UnknownFlags}
 use Rattle.implib_c_calls.specs.declared.library_of.GivenError.{GivenError}
 use Rattle.implib_c_calls.specs.declared.library_of.GivenError.TheVariants.{Export, OutOfMemory}
 use Rattle.implib_c_calls.specs.declared.outcome.Failure.{Failure}
@@ -69,6 +70,7 @@ pub record IsAccepted (e : GivenExport) : Type 0 where
 abbrev pub IsExportFault : GivenExport → ExportFault → Type 0
 IsExportFault e UnknownFlags = 16 ≤ e.flags
 IsExportFault e NotUtf8 = (e.flags < 16) × (¬ (IsUtf8 e.name) ⊎ ¬ (IsUtf8 e.target))
+IsExportFault e OutOfRange = ⊥
 
 -- the first of some exports that is refused is at this index, for this fault
 pub record IsFirstFault (exports : List GivenExport) (index : ℕ)

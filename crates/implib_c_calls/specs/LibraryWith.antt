@@ -13,7 +13,7 @@ use Rattle.implib_rules.specs.declared.library.Refusal.TheVariants as refusal
 use Rattle.implib_rules.specs.Library.{IsLibrary, IsRefusalOfBytes, definition_text}
 use Rattle.implib_rules.specs.Linked.{NamingView}
 use Rattle.implib_rules.specs.Options.{LibraryOptionsView}
-use Rattle.implib_null_descriptor.specs.Libraries.{IsNamedLibrary, IsRefusalOfNamedLibrary}
+use Rattle.implib_libraries.specs.NullDescriptor.Libraries.{IsNamedLibrary, IsRefusalOfNamedLibrary}
 use Rattle.implib_c_calls.specs.declared.library_with.OptionsArguments.{OptionsArguments}
 use Rattle.implib_c_calls.specs.declared.outcome.Failure.{Failure}
 use Rattle.implib_c_calls.specs.declared.outcome.Failure.TheVariants.{DllNotUtf8, NoArchive}
@@ -135,7 +135,7 @@ abbrev pub LibraryWithAnswers : List ℕ → GivenOptions → List ℕ → List 
 LibraryWithAnswers text = AnswersAs (IsLibrary text) (IsRefusalOfBytes text) text
 
 -- what one for the same library leaves, with a null descriptor that is named after it
--- (`implib_null_descriptor`)
+-- (`implib_libraries`)
 abbrev pub NamedLibraryAnswers : List ℕ → GivenOptions → List ℕ → List ℕ → ℕ → ℕ → ℕ → Type 0
 NamedLibraryAnswers text = AnswersAs (IsNamedLibrary text) (IsRefusalOfNamedLibrary text) text
 

@@ -60,6 +60,10 @@ status_number status.DelayFlavor = 50
 status_number status.DelayMachine = 51
 status_number status.DelayData = 52
 status_number status.DelayAlias = 53
+status_number status.OtherMachine = 54
+status_number status.ExportOutOfRange = 55
+status_number status.UnreadableName = 56
+status_number status.NativeRefused = 57
 
 -- each status, with its text
 abbrev pub texts : List (Status × List ℕ)
@@ -108,6 +112,10 @@ texts =
     ∷ (status.DelayMachine, codes "no delayed imports on machine")
     ∷ (status.DelayData, codes "data cannot be delayed")
     ∷ (status.DelayAlias, codes "alias cannot be delayed")
+    ∷ (status.OtherMachine, codes "DLL is for another machine")
+    ∷ (status.ExportOutOfRange, codes "hint or ordinal is above 65535")
+    ∷ (status.UnreadableName, codes "no name of C++ for ARM64EC")
+    ∷ (status.NativeRefused, codes "native definition is refused")
     ∷ []
 
 -- the one of these with a number, and its text
@@ -150,6 +158,7 @@ archive_status archive.ArchiveTooLong = status.ArchiveTooLong
 abbrev pub export_status : ExportFault → Status
 export_status export.UnknownFlags = status.UnknownExportFlags
 export_status export.NotUtf8 = status.ExportNotUtf8
+export_status export.OutOfRange = status.ExportOutOfRange
 
 -- the status of imports that are not delayed
 abbrev pub delay_status : NoDelay → Status

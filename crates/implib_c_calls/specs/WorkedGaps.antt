@@ -7,7 +7,7 @@ use Rattle.implib_c_calls.specs.Status.{text_for}
 
 -- the numbers between the statuses, and greater ones
 abbrev pub gaps : List ℕ
-gaps = 7 ∷ 8 ∷ 9 ∷ 10 ∷ 11 ∷ 12 ∷ 13 ∷ 14 ∷ 55 ∷ 100 ∷ 256 ∷ 0x10000 ∷ []
+gaps = 7 ∷ 8 ∷ 9 ∷ 10 ∷ 11 ∷ 12 ∷ 13 ∷ 14 ∷ 58 ∷ 100 ∷ 256 ∷ 0x10000 ∷ []
 
 -- the numbers, and flags that C has no option for
 pub record WorkedGaps : Type 0 where

@@ -47,6 +47,10 @@ pub record WorkedStatuses : Type 0 where
       ≡ 27 ∷ 29 ∷ 30 ∷ 31 ∷ 32 ∷ 33 ∷ 34 ∷ 35 ∷ []
   pub unknown_export_flags : number_of (failure.NoExport export.UnknownFlags 7) ≡ 43
   pub export_not_utf8 : number_of (failure.NoExport export.NotUtf8 7) ≡ 44
+  pub export_out_of_range : number_of (failure.NoExport export.OutOfRange 65536) ≡ 55
+  pub other_machine : number_of failure.OtherMachine ≡ 54
+  pub unreadable_name : number_of (failure.Unreadable 7) ≡ 56
+  pub native_refused : number_of (failure.OfNative 7) ≡ 57
   pub place_of_export : place_given (Err (failure.NoExport export.NotUtf8 7)) ≡ 7
   pub of_alias : delayed_number (delay.Undelayed (undelayed.Alias (at_offset 7))) ≡ 53
   pub alias_at : marked_place (delay.Undelayed (undelayed.Alias (at_offset 8))) ≡ 11

@@ -19,8 +19,8 @@ ghost use Rattle.std.specs.Prelude.{◌≡◌, ◌<◌, ◌^◌, All, IfErr, IfO
 
 use crate::definition::push_number;
 use crate::outcome::{Failure, put_encoding};
+use implib_compare::dll_check::{Judgement, Loss, asks_in, judgements, loader_name, missing};
 use implib_dll::{Exports, ReadError};
-use implib_dll_check::{Judgement, Loss, asks_in, judgements, loader_name, missing};
 use implib_read::{Library, MemberRead};
 use std::alloc::{AllocError, Global};
 

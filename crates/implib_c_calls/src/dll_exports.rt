@@ -9,8 +9,10 @@ ghost use Rattle.implib_c_calls.specs.DllExportsAnswer.{LacksExports, export_row
 ghost use Rattle.implib_c_calls.specs.Encoding.{encoded_list, encoded_text};
 ghost use Rattle.implib_c_calls.specs.Given.{IsEncoding, length_given, place_given, status_given};
 ghost use Rattle.implib_c_calls.specs.Status.{status_number};
+ghost use Rattle.implib_dll.specs.Exports.{exports_in};
 ghost use Rattle.implib_dll.specs.Views.{exports_view, target_view};
-ghost use Rattle.std.specs.Prelude.{◌≡◌, All, IfErr, IfOk, OnOk, map};
+ghost use Rattle.implib_dll.specs.declared.section.Layout.TheVariants.{File};
+ghost use Rattle.std.specs.Prelude.{◌≡◌, All, IfErr, IfOk, Ok, OnOk, Some, map};
 
 use crate::definition::{push_number, push_text};
 use crate::outcome::{Failure, put_encoding};
@@ -110,18 +112,32 @@ fn encoding_of(alloc: Global, exports: &Exports<'_>) -> Result<Vec<u8>, AllocErr
     Ok(bytes)
 }
 
+/// What the DLL in a file exports.
+///
+/// # Errors
+///
+/// `NotAnImage`, `NoExportDirectory`, `OutOfMemory`.
+pub(crate) fn exports_of_file(alloc: Global, file: &[u8]) -> Result<Exports<'_>, Failure>
+    ensures ok { IfOk result
+        (λ exports. exports_in File file.now ≡ Ok (Some (exports_view exports))) }
+    ensures lacks { IfErr result (LacksExports file.now) }
+{
+    match Exports::read(alloc, file) {
+        Ok(Some(exports)) => Ok(exports),
+        Ok(None) => Err(Failure::NoExportDirectory),
+        Err(ReadError::Refused(fault)) => Err(Failure::NotAnImage(fault.offset)),
+        Err(ReadError::OutOfMemory) => Err(Failure::OutOfMemory),
+    }
+}
+
 // What the DLL in a file exports, encoded.
 fn read_exports(alloc: Global, file: &[u8]) -> Result<Vec<u8>, Failure>
     ensures ok { IfOk result (λ bytes. EncodesExports file.now bytes.items) }
     ensures lacks { IfErr result (LacksExports file.now) }
 {
-    let found = match Exports::read(alloc, file) {
-        Ok(found) => found,
-        Err(ReadError::Refused(fault)) => return Err(Failure::NotAnImage(fault.offset)),
-        Err(ReadError::OutOfMemory) => return Err(Failure::OutOfMemory),
-    };
-    let Some(exports) = found else {
-        return Err(Failure::NoExportDirectory);
+    let exports = match exports_of_file(alloc, file) {
+        Ok(exports) => exports,
+        Err(failure) => return Err(failure),
     };
     match encoding_of(alloc, &exports) {
         Ok(bytes) => Ok(bytes),

@@ -39,6 +39,8 @@ pub enum ExportFault {
     UnknownFlags,
     /// A name is not UTF-8.
     NotUtf8,
+    /// Of a DLL's export: the position of its name, or its ordinal without one, is above 65,535.
+    OutOfRange,
 }
 
 // Whether a flag is set.

@@ -4,11 +4,13 @@
 //! ([`outcome`]), by a number ([`status`]) and a place. They keep nothing between calls.
 #![tactic(auto)]
 
+pub mod arm64ec;
 pub mod check;
 pub mod definition;
 pub mod delayed;
 pub mod dll_check;
 pub mod dll_exports;
+pub mod dll_library;
 mod encoding;
 pub mod export;
 pub mod imports;

@@ -7,7 +7,7 @@ ghost use Rattle.implib_c_calls.specs.Status.{status_number};
 
 use crate::library_with::{OptionsArguments, failure_in, options_with};
 use crate::outcome::{Failure, pack_into};
-use implib_null_descriptor::named_members_for;
+use implib_libraries::null_descriptor::named_members_for;
 use implib_rules::library::kind_for;
 use std::alloc::Global;
 

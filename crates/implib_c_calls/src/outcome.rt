@@ -60,7 +60,8 @@ pub enum Failure {
     /// The definition has no members: the fault, and the offset of the export's name in bytes, or
     /// 0.
     RefusedAt(Fault, usize),
-    /// An export is refused by itself: the fault, and its index.
+    /// An export is refused by itself: the fault, and its index, or of a DLL's the position of its
+    /// name or its ordinal.
     NoExport(ExportFault, usize),
     /// The bytes are no archive, or a thin one.
     NotALibrary,
@@ -68,6 +69,12 @@ pub enum Failure {
     NotAnImage(usize),
     /// The image has no export directory.
     NoExportDirectory,
+    /// The DLL is for another machine than the options.
+    OtherMachine,
+    /// The name of an export, at this offset, has no reading as one of C++.
+    Unreadable(usize),
+    /// The native definition is refused, at this offset in it, or 0.
+    OfNative(usize),
     /// The imports are not delayed: why, and the offset of the export's name in bytes, or 0.
     NotDelayed(NoDelay, usize),
 }
@@ -143,6 +150,9 @@ impl Failure {
             Failure::NotALibrary => Status::NotALibrary,
             Failure::NotAnImage(_) => Status::NotAnImage,
             Failure::NoExportDirectory => Status::NoExportDirectory,
+            Failure::OtherMachine => Status::OtherMachine,
+            Failure::Unreadable(_) => Status::UnreadableName,
+            Failure::OfNative(_) => Status::NativeRefused,
             Failure::NotDelayed(why, _) => Status::of_delay(*why),
         }
     }
@@ -179,6 +189,8 @@ pub fn place_of(answer: &Result<usize, Failure>) -> usize
             | Failure::RefusedAt(_, offset)
             | Failure::NoExport(_, offset)
             | Failure::NotAnImage(offset)
+            | Failure::Unreadable(offset)
+            | Failure::OfNative(offset)
             | Failure::NotDelayed(_, offset),
         ) => *offset,
         Err(Failure::Refused(fault)) => fault.export_index().unwrap_or(0),

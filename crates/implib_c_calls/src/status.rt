@@ -100,6 +100,14 @@ pub enum Status {
     DelayData,
     /// An export that is a weak name for another is not delayed.
     DelayAlias,
+    /// The DLL is for another machine than the options.
+    OtherMachine,
+    /// The position of a DLL's name, or an ordinal without a name, is above 65,535.
+    ExportOutOfRange,
+    /// A function's name has no reading as one of C++, by which ARM64EC marks it.
+    UnreadableName,
+    /// The native definition is refused.
+    NativeRefused,
 }
 
 impl Status {
@@ -152,6 +160,10 @@ impl Status {
             Status::DelayMachine => 51,
             Status::DelayData => 52,
             Status::DelayAlias => 53,
+            Status::OtherMachine => 54,
+            Status::ExportOutOfRange => 55,
+            Status::UnreadableName => 56,
+            Status::NativeRefused => 57,
         }
     }
 
@@ -186,6 +198,7 @@ impl Status {
         match fault {
             ExportFault::UnknownFlags => Status::UnknownExportFlags,
             ExportFault::NotUtf8 => Status::ExportNotUtf8,
+            ExportFault::OutOfRange => Status::ExportOutOfRange,
         }
     }
 
@@ -269,6 +282,10 @@ pub fn status_text(number: u32) -> &'static str
         51 => "no delayed imports on machine",
         52 => "data cannot be delayed",
         53 => "alias cannot be delayed",
+        54 => "DLL is for another machine",
+        55 => "hint or ordinal is above 65535",
+        56 => "no name of C++ for ARM64EC",
+        57 => "native definition is refused",
         _ => "unknown status",
     }
 }

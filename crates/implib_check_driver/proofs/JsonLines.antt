@@ -8,12 +8,12 @@ use Rattle.std.proofs.lemmas.Bool.{or_parts}
 use Rattle.implib.specs.Import.{Ask, Name, Ordinal}
 use Rattle.implib_dll.specs.Exports.{Target, Empty, Address, Forwarder}
 use Rattle.implib_dll.specs.Imports.{Ask as Asked, ByName, ByOrdinal}
-use Rattle.implib_dll_check.specs.declared.import.Loss.{Loss}
+use Rattle.implib_compare.specs.declared.dll_check.import.Loss.{Loss}
 use Rattle.implib.specs.declared.def.position.Position.{Position}
 use Rattle.implib_read.specs.Classes.{Class, AnImport, AnAlias, Descriptor, NullDescriptor, NullThunk, Head, Tail, DelayImport, Other, NotUnderstood, MemberRead}
 use Rattle.serde_json.specs.Data.{Data, Members, member, no_members, number, put, string, unsigned}
 use Rattle.serde_json.specs.Written.{has_float, members_have_float}
-use Rattle.implib_dll_check.specs.declared.forwarder.Stop.{Stop}
+use Rattle.implib_compare.specs.declared.dll_check.forwarder.Stop.{Stop}
 use Rattle.implib_check_driver.specs.Json.{Clash, CutApart, Different, FaultOf, FaultView, FindingView, InDefinition, InLibrary, Listed, Missing, MisleadingEntry, NoIndex, NotOnePart, SeveralDlls, SideView, SiteView, UnreadableIndex}
 use Rattle.implib_check_driver.specs.Json.{LostIn, NoExports, NoFile, Unread, UnmetBy, UnmetView, with_ask_of, with_unmet}
 use Rattle.implib_check_driver.specs.Json.{ExportView, Exported, Lost, Searched, StoppedAt, Unasked, address_word, loss_words, stop_words, with_export, with_loss, with_stop, with_named, with_target}

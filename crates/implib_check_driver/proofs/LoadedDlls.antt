@@ -4,10 +4,10 @@ use Rattle.std.specs.List.{list_any}
 use Rattle.std.proofs.lemmas.List.Elements.{All-cons, All-head, All-nil, All-tail}
 use Rattle.implib_dll.specs.Exports.{Exports}
 use Rattle.implib_dll.specs.Outcome.{Read}
-use Rattle.implib_dll_check.specs.Folders.{IsRight, Listing, RightDllsExtend, content_at, content_of, loaded_view}
-use Rattle.implib_dll_check.specs.Forwarding.{End, Holds, Known, ends, is_unknown, known_in}
-use Rattle.implib_dll_check.specs.Laws.{KnownDllsDecide}
-use Rattle.implib_dll_check.specs.declared.folder.Loaded.{Loaded}
+use Rattle.implib_compare.specs.DllCheck.Folders.{IsRight, Listing, RightDllsExtend, content_at, content_of, loaded_view}
+use Rattle.implib_compare.specs.DllCheck.Forwarding.{End, Holds, Known, ends, is_unknown, known_in}
+use Rattle.implib_compare.specs.DllCheck.Laws.{KnownDllsDecide}
+use Rattle.implib_compare.specs.declared.dll_check.folder.Loaded.{Loaded}
 use Rattle.implib_read.specs.Classes.{MemberRead}
 use Rattle.implib_check_driver.specs.Against.{IsAgainst, IsHeldAs, IsHeldThrough, LeadFurther, names_of}
 use Rattle.implib_check_driver.specs.Answer.{AnswerView}

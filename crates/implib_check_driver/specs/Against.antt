@@ -11,11 +11,11 @@ use Rattle.implib_compare.specs.Meant.{IsLibraryFor, IsRefusalFor}
 use Rattle.implib_dll.specs.Exports.{Exports, exports_in}
 use Rattle.implib_dll.specs.Outcome.{Read}
 use Rattle.implib_dll.specs.declared.section.Layout.TheVariants.{File}
-use Rattle.implib_dll_check.specs.DllName.{loader_name}
-use Rattle.implib_dll_check.specs.Forwarding.{Content, End, Known, ends, is_stop, is_unknown}
-use Rattle.implib_dll_check.specs.Forwarding.{known_in}
-use Rattle.implib_dll_check.specs.Imports.{is_import, is_lost, judgements}
-use Rattle.implib_dll_check.specs.declared.import.Judgement.{Judgement}
+use Rattle.implib_compare.specs.DllCheck.DllName.{loader_name}
+use Rattle.implib_compare.specs.DllCheck.Forwarding.{Content, End, Known, ends, is_stop, is_unknown}
+use Rattle.implib_compare.specs.DllCheck.Forwarding.{known_in}
+use Rattle.implib_compare.specs.DllCheck.Imports.{is_import, is_lost, judgements}
+use Rattle.implib_compare.specs.declared.dll_check.import.Judgement.{Judgement}
 use Rattle.implib_read.specs.Archives.{Archive, archive_in}
 use Rattle.implib_read.specs.Classes.{MemberRead, library_in, members_read}
 use Rattle.implib_rules.specs.Additions.{no_additions}

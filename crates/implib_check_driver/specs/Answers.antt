@@ -5,7 +5,7 @@ use Rattle.std.specs.Option.{is_some, option_map}
 use Rattle.implib_dll.specs.Exports.{exports_in}
 use Rattle.implib_dll.specs.Imports.{imports_in}
 use Rattle.implib_dll.specs.declared.section.Layout.TheVariants.{File}
-use Rattle.implib_dll_check.specs.Folders.{AreKnown, listings}
+use Rattle.implib_compare.specs.DllCheck.Folders.{AreKnown, listings}
 use Rattle.implib_options.specs.Given.{all, has}
 use Rattle.implib_options.specs.Table.{help_lines}
 use Rattle.implib_options.specs.Words.{IsRead, Reading}

@@ -19,7 +19,7 @@ use Rattle.implib_read.specs.declared.import.ImportKind.TheVariants.{Delayed}
 use Rattle.implib_rules.specs.Linked.{NamingView, keeps_word}
 use Rattle.implib_rules.specs.Options.{LibraryOptionsView}
 use Rattle.implib_compare.specs.Facts.{tells_constants}
-use Rattle.implib_dll_check.specs.Imports.{is_of_data}
+use Rattle.implib_compare.specs.DllCheck.Imports.{is_of_data}
 use Rattle.implib_read.specs.Identity.{dll_of}
 use Rattle.implib_read.specs.Symbols.{linked_symbol, without_imp}
 

@@ -9,9 +9,9 @@ use Rattle.implib_dll.specs.Imports.{Ask as Asked, ByName, ByOrdinal}
 use Rattle.implib_dll.specs.Views.{ask_view, target_view}
 use Rattle.implib_dll.specs.declared.section.AddressKind.{AddressKind}
 use Rattle.implib_dll.specs.declared.section.AddressKind.TheVariants as address
-use Rattle.implib_dll_check.specs.declared.import.Loss.{Loss}
-use Rattle.implib_dll_check.specs.declared.import.Loss.TheVariants.{OtherDll, OtherMachine}
-use Rattle.implib_dll_check.specs.declared.import.Loss.TheVariants.{NotFound, DataAsFunction}
+use Rattle.implib_compare.specs.declared.dll_check.import.Loss.{Loss}
+use Rattle.implib_compare.specs.declared.dll_check.import.Loss.TheVariants.{OtherDll, OtherMachine}
+use Rattle.implib_compare.specs.declared.dll_check.import.Loss.TheVariants.{NotFound, DataAsFunction}
 use Rattle.implib.specs.declared.def.position.Position.{Position}
 use Rattle.implib_read.specs.Classes.{Class, AnImport, AnAlias, Descriptor, NullDescriptor}
 use Rattle.implib_read.specs.Classes.{NullThunk, Head, Tail, DelayImport, Other, NotUnderstood}
@@ -27,8 +27,8 @@ use Rattle.implib_read.specs.declared.import.ImportKind.TheVariants.{Code, CodeO
 use Rattle.implib_read.specs.declared.import.ImportKind.TheVariants.{Data as OfData, Delayed}
 use Rattle.serde_json.specs.Data.{Data, Members, no_members, number, object, put, string, unsigned}
 use Rattle.serde_json.specs.Written.{compact_text}
-use Rattle.implib_dll_check.specs.declared.forwarder.Stop.{Stop}
-use Rattle.implib_dll_check.specs.declared.forwarder.Stop.TheVariants as stop
+use Rattle.implib_compare.specs.declared.dll_check.forwarder.Stop.{Stop}
+use Rattle.implib_compare.specs.declared.dll_check.forwarder.Stop.TheVariants as stop
 use Rattle.implib_check_driver.specs.declared.finding.Export.{Export}
 use Rattle.implib_check_driver.specs.declared.finding.Fault.{Fault}
 use Rattle.implib_check_driver.specs.declared.finding.Fault.TheVariants as fault

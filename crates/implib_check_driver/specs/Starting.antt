@@ -7,11 +7,11 @@ use Rattle.implib_dll.specs.Exports.{Exports, exports_in}
 use Rattle.implib_dll.specs.Imports.{Ask, ImportedDll, Imports}
 use Rattle.implib_dll.specs.Outcome.{Read}
 use Rattle.implib_dll.specs.declared.section.Layout.TheVariants.{File}
-use Rattle.implib_dll_check.specs.DllName.{loader_name}
-use Rattle.implib_dll_check.specs.Folders.{Listing, dll_path}
-use Rattle.implib_dll_check.specs.Imports.{is_lost}
-use Rattle.implib_dll_check.specs.Programs.{is_asked, judged_ask}
-use Rattle.implib_dll_check.specs.declared.import.Loss.TheVariants.{NotFound, OtherMachine}
+use Rattle.implib_compare.specs.DllCheck.DllName.{loader_name}
+use Rattle.implib_compare.specs.DllCheck.Folders.{Listing, dll_path}
+use Rattle.implib_compare.specs.DllCheck.Imports.{is_lost}
+use Rattle.implib_compare.specs.DllCheck.Programs.{is_asked, judged_ask}
+use Rattle.implib_compare.specs.declared.dll_check.import.Loss.TheVariants.{NotFound, OtherMachine}
 use Rattle.implib_check_driver.specs.Answer.{AnswerView, IsSaid, lines}
 use Rattle.implib_check_driver.specs.Json.{LostIn, NoExports, NoFile, Unread, UnmetBy}
 use Rattle.implib_check_driver.specs.Json.{UnmetView}

@@ -11,12 +11,12 @@ use Rattle.std.specs.Option.{option_map_or}
 use Rattle.implib.specs.Import.{Ask, Name, Ordinal}
 use Rattle.implib_dll.specs.Exports.{Target, Empty, Address, Forwarder}
 use Rattle.implib_dll.specs.Imports.{Ask as Asked, ByName, ByOrdinal}
-use Rattle.implib_dll_check.specs.Forwarding.{split_last}
-use Rattle.implib_dll_check.specs.declared.forwarder.Stop.{Stop}
-use Rattle.implib_dll_check.specs.declared.forwarder.Stop.TheVariants as stop
-use Rattle.implib_dll_check.specs.declared.import.Loss.{Loss}
-use Rattle.implib_dll_check.specs.declared.import.Loss.TheVariants.{OtherDll, OtherMachine}
-use Rattle.implib_dll_check.specs.declared.import.Loss.TheVariants.{NotFound, DataAsFunction}
+use Rattle.implib_compare.specs.DllCheck.Forwarding.{split_last}
+use Rattle.implib_compare.specs.declared.dll_check.forwarder.Stop.{Stop}
+use Rattle.implib_compare.specs.declared.dll_check.forwarder.Stop.TheVariants as stop
+use Rattle.implib_compare.specs.declared.dll_check.import.Loss.{Loss}
+use Rattle.implib_compare.specs.declared.dll_check.import.Loss.TheVariants.{OtherDll, OtherMachine}
+use Rattle.implib_compare.specs.declared.dll_check.import.Loss.TheVariants.{NotFound, DataAsFunction}
 use Rattle.implib_read.specs.Classes.{Class, AnImport, AnAlias, Descriptor, NullDescriptor}
 use Rattle.implib_read.specs.Classes.{NullThunk, Head, Tail, DelayImport, Other, NotUnderstood}
 use Rattle.implib_read.specs.Classes.{MemberRead}

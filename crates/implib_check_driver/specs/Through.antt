@@ -2,8 +2,8 @@
 -- docs/CHECK.md, "Beside a DLL").
 use Rattle.std.specs.Prelude.{◌≡◌, ℕ, true, List, [], None, Option, Some, if◌then◌else◌}
 use Rattle.implib_dll.specs.Exports.{Exports}
-use Rattle.implib_dll_check.specs.Folders.{AreKnown, Listing, content_at}
-use Rattle.implib_dll_check.specs.Forwarding.{Content, End, ends}
+use Rattle.implib_compare.specs.DllCheck.Folders.{AreKnown, Listing, content_at}
+use Rattle.implib_compare.specs.DllCheck.Forwarding.{Content, End, ends}
 use Rattle.implib_read.specs.Classes.{MemberRead}
 use Rattle.implib_check_driver.specs.Calls.{CheckView, is_searching}
 

@@ -13,8 +13,8 @@ ghost use Rattle.implib_check_driver.specs.Through.{through};
 ghost use Rattle.implib_dll.specs.Exports.{Exports as SeenExports, exports_in};
 ghost use Rattle.implib_dll.specs.Views.{exports_view};
 ghost use Rattle.implib_dll.specs.declared.section.Layout.TheVariants.{File};
-ghost use Rattle.implib_dll_check.specs.Folders.{AreKnown, IsRight, Listing, content_at};
-ghost use Rattle.implib_dll_check.specs.Folders.{folder_view, loaded_view};
+ghost use Rattle.implib_compare.specs.DllCheck.Folders.{AreKnown, IsRight, Listing, content_at};
+ghost use Rattle.implib_compare.specs.DllCheck.Folders.{folder_view, loaded_view};
 ghost use Rattle.implib_read.specs.ClassViews.{member_read_view};
 
 use crate::against::{
@@ -28,10 +28,10 @@ use crate::positions::Positions;
 use crate::report::Form;
 use crate::shelf::Shelf;
 use crate::through::{dlls_behind, is_any_unknown};
+use implib_compare::dll_check::laws::{known_dlls_decide, right_dlls_extend};
+use implib_compare::dll_check::{Beside, DllContent, Folder, Loaded, content_of, ends, named_dlls};
 use implib_compare::meant::library_for;
 use implib_dll::Exports;
-use implib_dll_check::laws::{known_dlls_decide, right_dlls_extend};
-use implib_dll_check::{Beside, DllContent, Folder, Loaded, content_of, ends, named_dlls};
 use implib_read::laws::own_members_found;
 use implib_read::{Library, MemberRead};
 use implib_rules::library::Refusal;

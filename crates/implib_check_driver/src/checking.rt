@@ -12,7 +12,7 @@ ghost use Rattle.implib_check_driver.specs.Listing.{broken_if_same, doubts};
 ghost use Rattle.implib_check_driver.specs.Status.{comparison_status};
 ghost use Rattle.implib_check_driver.specs.Through.{through};
 ghost use Rattle.implib_compare.specs.Working.{working_of};
-ghost use Rattle.implib_dll_check.specs.Folders.{AreKnown, folder_view};
+ghost use Rattle.implib_compare.specs.DllCheck.Folders.{AreKnown, folder_view};
 ghost use Rattle.implib_read.specs.ArchiveViews.{archive_view};
 ghost use Rattle.implib_read.specs.Archives.{archive_in};
 ghost use Rattle.implib_read.specs.ClassViews.{member_read_view};
@@ -32,7 +32,7 @@ use crate::status::comparison_status;
 use crate::target::{is_for_arm64ec, is_unfit, options_for};
 use crate::works::tell_working_if_same;
 use implib_compare::compare::Verdict;
-use implib_dll_check::Folder;
+use implib_compare::dll_check::Folder;
 use implib_read::Library;
 use std::alloc::AllocError;
 

@@ -17,9 +17,9 @@ ghost use Rattle.std.specs.Option.{option_map};
 use crate::positions::Positions;
 use crate::target::ARM64EC;
 use crate::text::{DllColumn, ImportColumns, Place, Said, Shown, Site, symbol_of_member};
+use implib_compare::dll_check::{Loss, Stop, split_last};
 use implib_compare::working::Piece;
 use implib_dll::{AddressKind, Ask, Target};
-use implib_dll_check::{Loss, Stop, split_last};
 use implib_read::{CutApart, DeclaredFound, IndexEntry, MemberClass, MemberRead};
 use std::fmt;
 

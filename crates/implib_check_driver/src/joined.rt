@@ -9,7 +9,7 @@ ghost use Rattle.implib_check_driver.specs.Together.{IsJoined, IsJoinedAnswer, c
 ghost use Rattle.implib_check_driver.specs.Together.{claims_of_all, doubts_of_all, first_none};
 ghost use Rattle.implib_check_driver.specs.Together.{members_of_all};
 ghost use Rattle.implib_compare.specs.Comparison.{has_unread};
-ghost use Rattle.implib_dll_check.specs.Folders.{AreKnown};
+ghost use Rattle.implib_compare.specs.DllCheck.Folders.{AreKnown};
 ghost use Rattle.implib_read.specs.ClassViews.{member_read_view};
 ghost use Rattle.implib_read.specs.Classes.{library_in};
 

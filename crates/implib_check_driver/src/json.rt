@@ -27,8 +27,8 @@ use crate::finding::{
 };
 use crate::text::{Site, kind_word};
 use implib::def::Position;
+use implib_compare::dll_check::{Loss, Stop};
 use implib_dll::{Ask, Target};
-use implib_dll_check::{Loss, Stop};
 use implib_read::{AskFound, CutApart, IndexEntry, MemberClass, MemberRead};
 use serde_json::{Map, Value, put};
 use std::alloc::{AllocError, Global};

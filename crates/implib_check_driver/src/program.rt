@@ -14,7 +14,7 @@ ghost use Rattle.implib_check_driver.specs.Tasks.{task_of, task_view};
 ghost use Rattle.implib_check_driver.specs.Together.{IsJoinedAnswer, first_none};
 ghost use Rattle.implib_dll.specs.Exports.{exports_in};
 ghost use Rattle.implib_dll.specs.declared.section.Layout.TheVariants.{File};
-ghost use Rattle.implib_dll_check.specs.Folders.{AreKnown};
+ghost use Rattle.implib_compare.specs.DllCheck.Folders.{AreKnown};
 ghost use Rattle.implib_options.specs.Given.{given_view, has};
 ghost use Rattle.implib_options.specs.declared.table.Meaning.TheVariants.{Json};
 ghost use Rattle.implib_read.specs.Archives.{archive_in};
@@ -46,11 +46,11 @@ use std::{env, io};
 const FRONT: &str = "\
 usage: implib_check LIB DLL [--all] [-D DLL] [--json] [--search DIR]..
        implib_check LIB DEF [-m MACHINE] [-k] [--no-leading-underscore]
-                    [--export-as] [--lib] [-C] [-D DLL] [--flavor FLAVOR]
+                    [--export-as] [--lib] [-C] [-D DLL] [--flavor FLAVOUR]
                     [-N NATIVE] [--json]
-       implib_check DEF DLL [--all] [and the options of LIB DEF] [--search DIR]..
+       implib_check DEF DLL [--all] [options of LIB DEF] [--search DIR]..
        implib_check --def LIB [-m MACHINE] [--no-leading-underscore] [-C]
-                    [--flavor FLAVOR]
+                    [--flavor FLAVOUR]
        implib_check --def DLL and these options but -C
        implib_check PROGRAM --search DIR [--search DIR].. [--json]
        implib_check --exports DLL [--json]

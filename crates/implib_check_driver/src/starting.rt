@@ -18,15 +18,15 @@ ghost use Rattle.implib_dll.specs.Exports.{exports_in};
 ghost use Rattle.implib_dll.specs.Imports.{imports_in};
 ghost use Rattle.implib_dll.specs.Views.{ask_view, exports_view, imported_view, imports_view};
 ghost use Rattle.implib_dll.specs.declared.section.Layout.TheVariants.{File};
-ghost use Rattle.implib_dll_check.specs.DllName.{loader_name};
-ghost use Rattle.implib_dll_check.specs.Folders.{AreKnown, dll_path, folder_view, listings};
+ghost use Rattle.implib_compare.specs.DllCheck.DllName.{loader_name};
+ghost use Rattle.implib_compare.specs.DllCheck.Folders.{AreKnown, dll_path, folder_view, listings};
 
 use crate::answer::{Answer, Halt, bytes_of, said_of};
 use crate::finding::{Finding, Unmet};
 use crate::report::{Form, tell};
 use crate::shelf::Shelf;
+use implib_compare::dll_check::{Folder, Loss, dll_path, is_asked, judge_ask, loader_name};
 use implib_dll::{Ask, Exports, Fault, ImportedDll, Imports, ReadError};
-use implib_dll_check::{Folder, Loss, dll_path, is_asked, judge_ask, loader_name};
 use std::alloc::{AllocError, Global};
 use std::fmt;
 

@@ -7,16 +7,16 @@
 //! Where forwarders lead that no import comes to is not looked at.
 
 ghost use Rattle.implib_check_driver.specs.Answer.{IsHalt};
-ghost use Rattle.implib_dll_check.specs.Folders.{AreKnown, IsRight, folder_view, loaded_view};
-ghost use Rattle.implib_dll_check.specs.Forwarding.{is_unknown as IsUnknown};
-ghost use Rattle.implib_dll_check.specs.ForwardingViews.{end_view};
+ghost use Rattle.implib_compare.specs.DllCheck.Folders.{AreKnown, IsRight, folder_view, loaded_view};
+ghost use Rattle.implib_compare.specs.DllCheck.Forwarding.{is_unknown as IsUnknown};
+ghost use Rattle.implib_compare.specs.DllCheck.ForwardingViews.{end_view};
 ghost use Rattle.std.specs.List.{list_any};
 ghost use Rattle.std.specs.Option.{option_map};
 ghost use Rattle.std.specs.Prelude.{◌≡◌, ℕ, All, IfErr, IfOk, List, map};
 
 use crate::answer::{Halt, bytes_of};
 use crate::shelf::Shelf;
-use implib_dll_check::{
+use implib_compare::dll_check::{
     Beside, DllContent, End, Folder, Loaded, content_of, dll_path, ends, loader_name, named_dlls,
 };
 use implib_read::MemberRead;

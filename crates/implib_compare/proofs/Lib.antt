@@ -5,3 +5,4 @@ pub mod KeyTexts
 pub mod Matching
 pub mod Declared
 pub mod Arm64ecArchives
+pub mod DllCheck

@@ -6,3 +6,4 @@ pub mod Flavors
 pub mod Working
 pub mod Worked
 pub mod WorkedWorking
+pub mod DllCheck

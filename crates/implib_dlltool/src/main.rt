@@ -1,10 +1,10 @@
 //! Makes the import library of a module definition: a program in place of `dlltool`.
 //!
-//! What it does is in the crate `implib_driver`, and what it does it to in `implib_devices`.
+//! What it does is in the crate `implib_driver`, over the system's devices.
 #![tactic(auto)]
 
-use implib_devices::console::Console;
-use implib_devices::files::SystemDisk;
+use implib_driver::devices::console::Console;
+use implib_driver::devices::files::SystemDisk;
 use implib_driver::program::{CommandLine, perform};
 use std::alloc::AllocError;
 use std::env::{Env, FillError};

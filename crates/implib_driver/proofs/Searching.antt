@@ -5,10 +5,10 @@ use Rattle.std.proofs.lemmas.List.Elements.{All-cons, All-head, All-nil, All-tai
 use Rattle.implib.specs.Definition.{ExportView}
 use Rattle.implib_dll.specs.Exports.{Exports}
 use Rattle.implib_dll.specs.Outcome.{Read}
-use Rattle.implib_dll_check.specs.Folders.{IsRight, Listing, RightDllsExtend, content_at, loaded_view}
-use Rattle.implib_dll_check.specs.Forwarding.{Known, known_in}
-use Rattle.implib_dll_check.specs.Kinds.{KnownDllsDecideKinds, is_astray, kinds_followed, unknown_dlls}
-use Rattle.implib_dll_check.specs.declared.folder.Loaded.{Loaded}
+use Rattle.implib_compare.specs.DllCheck.Folders.{IsRight, Listing, RightDllsExtend, content_at, loaded_view}
+use Rattle.implib_compare.specs.DllCheck.Forwarding.{Known, known_in}
+use Rattle.implib_compare.specs.DllCheck.Kinds.{KnownDllsDecideKinds, is_astray, kinds_followed, unknown_dlls}
+use Rattle.implib_compare.specs.declared.dll_check.folder.Loaded.{Loaded}
 use Rattle.implib_options.specs.Given.{has_values}
 use Rattle.implib_driver.specs.Search.{AreFollowed, beside_folders}
 

@@ -7,7 +7,7 @@ use Rattle.implib.specs.Definition.{ExportView}
 use Rattle.implib.specs.Import.{is_empty_text}
 use Rattle.implib.specs.Members.MemberSpec.{MemberView}
 use Rattle.implib_dll.specs.Exports.{Exports}
-use Rattle.implib_dll_check.specs.DllName.{loader_name}
+use Rattle.implib_compare.specs.DllCheck.DllName.{loader_name}
 use Rattle.implib_driver.specs.declared.dll.DllCallError.{DllCallError}
 use Rattle.implib_driver.specs.declared.dll.DllCallError.TheVariants.{Call, Dll}
 use Rattle.implib_driver.specs.declared.dll.DllRefusal.{DllRefusal}

@@ -4,6 +4,7 @@ pub mod Request
 pub mod Dll
 pub mod LibWords
 pub mod Disk
+pub mod SystemDisk
 pub mod Apart
 pub mod Reports
 pub mod Stubs

@@ -4,10 +4,10 @@ use Rattle.std.specs.Prelude.{◌≡◌, ℕ, List, None, Option, Some, count_by
 use Rattle.std.specs.Option.{option_map}
 use Rattle.implib.specs.Definition.{ExportView}
 use Rattle.implib_dll.specs.Exports.{Exports}
-use Rattle.implib_dll_check.specs.DllName.{names_of}
-use Rattle.implib_dll_check.specs.Folders.{AreKnown, Listing, content_at, listings}
-use Rattle.implib_dll_check.specs.Forwarding.{Beside}
-use Rattle.implib_dll_check.specs.Kinds.{is_astray, kinds_followed}
+use Rattle.implib_compare.specs.DllCheck.DllName.{names_of}
+use Rattle.implib_compare.specs.DllCheck.Folders.{AreKnown, Listing, content_at, listings}
+use Rattle.implib_compare.specs.DllCheck.Forwarding.{Beside}
+use Rattle.implib_compare.specs.DllCheck.Kinds.{is_astray, kinds_followed}
 use Rattle.implib_driver.specs.Apart.{AreSame}
 use Rattle.implib_driver.specs.Disk.{DiskView, failing}
 use Rattle.implib_driver.specs.Request.{RequestView}

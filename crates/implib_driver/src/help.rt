@@ -38,7 +38,8 @@ pub(crate) const END: &str = "
 Each with / or -, in letters of any case. The library is for Microsoft's linker,
 with --export-as.
 
-Status: 0 made; 1 FILE or LIB is refused; 2 wrong call; 3 a file or memory failed.
+Status: 0 made; 1 FILE or LIB is refused; 2 wrong call; 3 a file or memory
+failed.
 ";
 
 // What the program prints for `--version`.

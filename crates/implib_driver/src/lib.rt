@@ -4,7 +4,7 @@
 //! What the words of the command line ask for is decided here ([`lib_words`], [`request`]), by
 //! the [`options`] of a table; which bytes a library has, or why there is none, by the crate
 //! `implib_rules`. [`program`] and [`placing`] do that over a [`disk`] and a [`reporter`]; those of
-//! the system are the program's.
+//! the system are in [`devices`].
 #![tactic(auto)]
 
 pub use implib_options as options;
@@ -12,6 +12,7 @@ pub use implib_options as options;
 mod apart;
 mod arm64ec;
 mod definition_program;
+pub mod devices;
 pub mod disk;
 pub mod dll;
 mod dll_program;

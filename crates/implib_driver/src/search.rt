@@ -8,8 +8,8 @@
 ghost use Rattle.implib.specs.Definition.{export_view};
 ghost use Rattle.implib_dll.specs.Exports.{Exports as SeenExports};
 ghost use Rattle.implib_dll.specs.Views.{exports_view};
-ghost use Rattle.implib_dll_check.specs.Folders.{AreKnown, IsRight, Listing, dll_path, folder_view};
-ghost use Rattle.implib_dll_check.specs.Folders.{listings, loaded_view};
+ghost use Rattle.implib_compare.specs.DllCheck.Folders.{AreKnown, IsRight, Listing, dll_path, folder_view};
+ghost use Rattle.implib_compare.specs.DllCheck.Folders.{listings, loaded_view};
 ghost use Rattle.implib_driver.specs.Apart.{AreSame};
 ghost use Rattle.implib_options.specs.Given.{has_values};
 ghost use Rattle.implib_driver.specs.Dll.{ReadsDll};
@@ -26,12 +26,12 @@ use crate::disk::Disk;
 use crate::dll::dll_exports;
 use crate::request::Request;
 use implib::def::ShortExport;
-use implib_dll::Exports;
-use implib_dll_check::laws::{known_dlls_decide_kinds, right_dlls_extend};
-use implib_dll_check::{
+use implib_compare::dll_check::laws::{known_dlls_decide_kinds, right_dlls_extend};
+use implib_compare::dll_check::{
     Beside, Folder, Loaded, count_astray, dll_path, mark_followed, named_dlls, names_of,
     unknown_dlls,
 };
+use implib_dll::Exports;
 use implib_options::given::all;
 use implib_options::table::Meaning;
 use implib_rules::name::last_part;

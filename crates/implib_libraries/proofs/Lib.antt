@@ -2,3 +2,4 @@ pub mod FromDll
 pub mod OfDll
 mod Weak
 pub mod Refusals
+pub mod NullDescriptor

@@ -96,36 +96,37 @@ macro_rules! row {
 /// one meaning messages tell the first.
 pub const OPTIONS: [Row; 91] = [
     row!(Dlltool "input-def" b'd' Value Definition
-"  -d, --input-def FILE     the module definition; - is standard input; also --def"),
+"  -d, --input-def FILE     the module definition; - is standard input; also
+                           --def"),
     row!(Dlltool "def" Value Definition ""),
     row!(Dlltool "dll" Value Definition
-"      --dll FILE           the DLL; its machine is the library's. A FILE that begins
-                           with MZ is a DLL, and any other a definition"),
+"      --dll FILE           the DLL; its machine is the library's. A FILE that
+                           begins with MZ is a DLL, and any other a definition"),
     row!(Dlltool "output-lib" b'l' Value Output
 "  -l, --output-lib OUT     the import library; without it FILE is checked"),
     row!(Dlltool "output-delaylib" b'y' Value DelayedOutput
 "  -y, --output-delaylib OUT
-                           a library by which GNU's linker makes each first call of
-                           a function load the DLL; link it with -ldelayimp. On
-                           i386 and i386:x86-64, of functions alone; names are
-                           asked for as under -k"),
+                           a library by which GNU's linker makes each first call
+                           of a function load the DLL; link it with -ldelayimp.
+                           On i386 and i386:x86-64, of functions alone; names
+                           are asked for as under -k"),
     row!(Dlltool "machine" b'm' Value Machine
-"  -m, --machine MACHINE    i386 or x86; i386:x86-64, amd64, x64 or x86_64; arm or
-                           armnt; arm64 or aarch64; arm64ec; by default the one that
-                           the program's name begins with, as
+"  -m, --machine MACHINE    i386 or x86; i386:x86-64, amd64, x64 or x86_64; arm
+                           or armnt; arm64 or aarch64; arm64ec; by default the
+                           one that the program's name begins with, as
                            i686-w64-mingw32-dlltool, and else i386:x86-64"),
     row!(Dlltool "input-native-def" b'N' Value NativeDefinition
 "  -N, --input-native-def FILE
-                           with -m arm64ec, the definition of what the DLL exports
-                           to programs for arm64"),
+                           with -m arm64ec, the definition of what the DLL
+                           exports to programs for arm64"),
     row!(Dlltool "dllname" b'D' Value Dll
 "  -D, --dllname DLL        the name of the DLL, before that of FILE"),
     row!(Dlltool "flavor" Value Flavor
 "      --flavor FLAVOUR     msvc or gnu: whose linker the library is for; by
-                           default msvc for arm, arm64 and arm64ec and for OUT in
-                           .lib, unless -S, -f, -t or -y is given, and else gnu;
-                           called as llvm-dlltool msvc, and called as another
-                           dlltool gnu but for arm, arm64 and arm64ec"),
+                           default msvc for arm, arm64 and arm64ec and for OUT
+                           in .lib, unless -S, -f, -t or -y is given, and else
+                           gnu; called as llvm-dlltool msvc, and called as
+                           another dlltool gnu but for arm, arm64 and arm64ec"),
     row!(Dlltool "flavour" Value Flavor ""),
     row!(Dlltool "kill-at" b'k' Nothing KillAt
 "  -k, --kill-at            on I386 ask for names without @ and what follows it"),
@@ -142,22 +143,22 @@ pub const OPTIONS: [Row; 91] = [
 "      --add-stdcall-underscore
                            the same of names with @"),
     row!(Dlltool "export-as" Nothing ExportAs
-"      --export-as          for Microsoft's linker, and for lld from 18 on, write a
-                           name that is not made of its symbol beside it"),
+"      --export-as          for Microsoft's linker, and for lld from 18 on, write
+                           a name that is not made of its symbol beside it"),
     row!(Dlltool "decorations" Value Decorations
-"      --decorations FILE   with a DLL for i386, take symbols as _Sleep@4 from FILE, an
-                           import library or a definition"),
+"      --decorations FILE   with a DLL for i386, take symbols as _Sleep@4 from
+                           FILE, an import library or a definition"),
     row!(Dlltool "search" Value Search
-"      --search DIR         with a DLL, make data of exports that are forwarded to
-                           data, through the DLLs of folders; one at a time"),
+"      --search DIR         with a DLL, make data of exports that are forwarded
+                           to data, through the DLLs of folders; one at a time"),
     row!(Dlltool "compat-implib" b'C' Nothing CompatImplib
 "  -C, --compat-implib      for GNU's linker, name each address by ___imp and its
                            symbol too, as in Cygwin's libraries before 2000"),
     row!(Dlltool "verbose" b'v' Nothing Verbose
 "  -v, --verbose            write warnings of FILE on standard error"),
     row!(Dlltool "identify" b'I' Value Identify
-"  -I, --identify LIB       print the names of the DLLs that LIB imports from, and
-                           make nothing"),
+"  -I, --identify LIB       print the names of the DLLs that LIB imports from,
+                           and make nothing"),
     row!(Dlltool "identify-strict" Nothing IdentifyStrict
 "      --identify-strict    refuse a LIB that imports from two DLLs or more"),
     row!(Dlltool "help" b'h' Nothing Help "  -h, --help"),
@@ -183,7 +184,8 @@ pub const OPTIONS: [Row; 91] = [
     row!(Lib "def" Value Definition "  /def:FILE /out:OUT       the definition and the library"),
     row!(Lib "out" Value Output ""),
     row!(Lib "machine" Value Machine
-"  /machine:MACHINE         x86, x64, arm, arm64, arm64ec, or arm64x, which is the same"),
+"  /machine:MACHINE         x86, x64, arm, arm64, arm64ec, or arm64x, which is
+                           the same"),
     row!(Lib "defarm64native" Value NativeDefinition "  /defArm64Native:FILE     as -N"),
     row!(Lib "name" Value Dll
 "  /name:DLL                the name of the DLL, before that of FILE"),
@@ -209,11 +211,13 @@ pub const OPTIONS: [Row; 91] = [
     row!(Lib "llvmlibempty" Refused Refused ""),
     row!(Lib "llvmlibthin" Refused Refused ""),
     row!(Check "machine" b'm' Value Machine
-"  -m, --machine      i386, i386:x86-64, arm, arm64 or arm64ec; without it the
+"  -m, --machine MACHINE
+                     i386, i386:x86-64, arm, arm64 or arm64ec; without it the
                      library's"),
     row!(Check "input-native-def" b'N' Value NativeDefinition
-"  -N, --input-native-def
-                     of arm64ec, the definition of what the DLL exports for arm64"),
+"  -N, --input-native-def FILE
+                     of arm64ec, the definition of what the DLL exports for
+                     arm64"),
     row!(Check "kill-at" b'k' Nothing KillAt
 "  -k, --kill-at      ask for names without @ and the number after it, on i386"),
     row!(Check "no-leading-underscore" Nothing NoLeadingUnderscore
@@ -226,18 +230,19 @@ pub const OPTIONS: [Row; 91] = [
                      are symbols as they are"),
     row!(Check "compat-implib" b'C' Nothing CompatImplib
 "  -C, --compat-implib
-                     as implib_dlltool -C: each address has its symbol ___imp.. too"),
+                     as implib_dlltool -C: each address has its symbol ___imp..
+                     too"),
     row!(Check "dllname" b'D' Value Dll
-"  -D, --dllname      the DLL's name, before the definition's"),
+"  -D, --dllname DLL  the DLL's name, before the definition's"),
     row!(Check "flavor" Value Flavor
-"  --flavor           msvc or gnu; without it the library's"),
+"  --flavor FLAVOUR   msvc or gnu; without it the library's"),
     row!(Check "flavour" Value Flavor ""),
     row!(Check "def" Nothing Define
 "  --def              a definition that means the library's imports and aliases,
                      or which member no definition says; of a DLL, a definition
                      of which implib_dlltool makes the library of the DLL"),
     row!(Check "search" Value Search
-"  --search           a folder, once for each: whether a program, or a DLL, finds
+"  --search DIR       a folder, once for each: whether a program, or a DLL, finds
                      what it imports in the DLLs there; what it does not find.
                      With LIB or DEF and a DLL: where its forwarders lead there"),
     row!(Check "all" Nothing ListsUnasked

@@ -121,12 +121,6 @@ read_for naming d machine flavor members made off plain =
     (subst (λ (x : DefinitionView). ReadBack x machine flavor made.all) is made.reads)
     plain (made.is ∙ ap (map member_of) (specs_are naming machine flavor (renamed d) off))
 
-}
-
-}
-
-}
-
 -- the members of the library, in order, are those for the options
 pub members_made : (bytes text : List ℕ) (options : LibraryOptionsView) (d : DefinitionView) (members : List MemberView)
     → (text ≡ definition_text bytes) × IsUtf8 (definition_text bytes) → DefinitionFor text options d

@@ -4,13 +4,13 @@ use Rattle.std.specs.Option.{option_and_then, option_map, option_map_or}
 use Rattle.implib.specs.Import.{Ask, Name, Ordinal}
 use Rattle.implib_dll.specs.Exports.{Exports, NameEntry, Target, Empty, Address, Forwarder}
 use Rattle.implib_dll.specs.Lookup.{filled, ordinal_index, position_of, target_at}
-use Rattle.implib_dll_check.specs.DllName.{loader_name}
-use Rattle.implib_dll_check.specs.Forwarding.{Arrives, Content, End, Ends, Holds, NoExports, NoFile, Refused, Stops, Unknown, at_target, end_by, forwarder_at, found_behind, in_content, is_stop, is_unknown, known_by, most_forwarders, split_last, then_on}
-use Rattle.implib_dll_check.specs.Imports.{is_called, is_lost, is_of_data, judged_by}
-use Rattle.implib_dll_check.specs.Verdict.{fits_kind, verdict_of}
-use Rattle.implib_dll_check.specs.declared.forwarder.Stop.TheVariants as stop
-use Rattle.implib_dll_check.specs.declared.import.Judgement.TheVariants.{Lost}
-use Rattle.implib_dll_check.specs.declared.import.Loss.TheVariants.{OtherDll, OtherMachine}
+use Rattle.implib_compare.specs.DllCheck.DllName.{loader_name}
+use Rattle.implib_compare.specs.DllCheck.Forwarding.{Arrives, Content, End, Ends, Holds, NoExports, NoFile, Refused, Stops, Unknown, at_target, end_by, forwarder_at, found_behind, in_content, is_stop, is_unknown, known_by, most_forwarders, split_last, then_on}
+use Rattle.implib_compare.specs.DllCheck.Imports.{is_called, is_lost, is_of_data, judged_by}
+use Rattle.implib_compare.specs.DllCheck.Verdict.{fits_kind, verdict_of}
+use Rattle.implib_compare.specs.declared.dll_check.forwarder.Stop.TheVariants as stop
+use Rattle.implib_compare.specs.declared.dll_check.import.Judgement.TheVariants.{Lost}
+use Rattle.implib_compare.specs.declared.dll_check.import.Loss.TheVariants.{OtherDll, OtherMachine}
 use Rattle.implib_libraries.specs.FromDll.Laws.{found}
 use Rattle.implib_system.specs.Laws.{FollowedImportsAreReached, ForwardersAreFollowed}
 use Rattle.implib_system.specs.System.{DllInMemory, address_by, asked_of, called, in_dll}

@@ -4,10 +4,10 @@ use Rattle.std.proofs.lemmas.List.{length-replicate}
 use Rattle.std.specs.Option.{option_and_then, option_map_or}
 use Rattle.implib.specs.Import.{Ask}
 use Rattle.implib_dll.specs.Exports.{Target, Empty, Address, Forwarder}
-use Rattle.implib_dll_check.specs.Imports.{is_called, is_lost, is_of_data, judged_by}
-use Rattle.implib_dll_check.specs.Verdict.{verdict_of}
-use Rattle.implib_dll_check.specs.declared.import.Judgement.TheVariants.{Lost}
-use Rattle.implib_dll_check.specs.declared.import.Loss.TheVariants.{OtherDll, OtherMachine}
+use Rattle.implib_compare.specs.DllCheck.Imports.{is_called, is_lost, is_of_data, judged_by}
+use Rattle.implib_compare.specs.DllCheck.Verdict.{verdict_of}
+use Rattle.implib_compare.specs.declared.dll_check.import.Judgement.TheVariants.{Lost}
+use Rattle.implib_compare.specs.declared.dll_check.import.Loss.TheVariants.{OtherDll, OtherMachine}
 use Rattle.implib_libraries.specs.FromDll.Laws.{found}
 use Rattle.implib_system.specs.Laws.{BytesAreNumbers, FoundImportsAreReached, OneAddress}
 use Rattle.implib_system.specs.System.{DllInMemory, address_by, address_of, asked_of, bytes_of, called, forwarded, given, in_dll}

@@ -10,10 +10,10 @@ use Rattle.implib.specs.Members.ImportTables.{thunk_width}
 use Rattle.implib.specs.declared.machine.MachineType.{MachineType}
 use Rattle.implib_dll.specs.Exports.{Address, Exports, Forwarder, Target}
 use Rattle.implib_dll.specs.declared.section.AddressKind.{AddressKind}
-use Rattle.implib_dll_check.specs.DllName.{loader_name}
-use Rattle.implib_dll_check.specs.Forwarding.{Arrives, Beside, Content, Holds, end_by, end_of}
-use Rattle.implib_dll_check.specs.Forwarding.{is_stop, is_unknown, known_by, most_forwarders}
-use Rattle.implib_dll_check.specs.Imports.{is_lost, judged}
+use Rattle.implib_compare.specs.DllCheck.DllName.{loader_name}
+use Rattle.implib_compare.specs.DllCheck.Forwarding.{Arrives, Beside, Content, Holds, end_by, end_of}
+use Rattle.implib_compare.specs.DllCheck.Forwarding.{is_stop, is_unknown, known_by, most_forwarders}
+use Rattle.implib_compare.specs.DllCheck.Imports.{is_lost, judged}
 use Rattle.implib_libraries.specs.FromDll.Laws.{found}
 use Rattle.implib_link.specs.Gnu.Fields.{CanBranch, DirectCallArrives, HasDirectCall, StubAt}
 use Rattle.implib_link.specs.Gnu.Fields.{DefinesIn, LinkedCode, placed_code}

@@ -6,8 +6,8 @@ use Rattle.std.specs.Prelude.{bytes_eq, if◌then◌else◌, replicate}
 use Rattle.std.specs.Option.{option_and_then, option_map, option_map_or}
 use Rattle.implib.specs.Import.{Ask}
 use Rattle.implib_dll.specs.Exports.{Exports, Target, Empty, Address, Forwarder}
-use Rattle.implib_dll_check.specs.DllName.{loader_name}
-use Rattle.implib_dll_check.specs.Forwarding.{found_behind, split_last}
+use Rattle.implib_compare.specs.DllCheck.DllName.{loader_name}
+use Rattle.implib_compare.specs.DllCheck.Forwarding.{found_behind, split_last}
 use Rattle.implib_libraries.specs.FromDll.Laws.{found}
 
 -- a DLL in memory: the name by which a loader knows it, its base, and what it exports

@@ -43,7 +43,7 @@ pub fn calls_reach_exports()
     stubs_of_any_tables_jump();
 }
 
-/// A forwarder that leads to an address by what is known of DLLs (`implib_dll_check`) leads to one
+/// A forwarder that leads to an address by what is known of DLLs (`implib_compare`) leads to one
 /// in memory, where these DLLs are, each under its name.
 pub fn forwarders_are_followed()
     ensures { ForwardersAreFollowed }
@@ -55,7 +55,7 @@ pub fn followed_imports_are_reached()
     ensures { FollowedImportsAreReached }
 {}
 
-/// An import that is not lost in a DLL (`implib_dll_check`), which is in memory under its name, has
+/// An import that is not lost in a DLL (`implib_compare`), which is in memory under its name, has
 /// a target there; if that is no forwarder, it reaches the address of the export.
 pub fn found_imports_are_reached()
     ensures { FoundImportsAreReached }

@@ -1,11 +1,11 @@
-//! Each caller of `implib_uses` once, where memory is ample.
+//! Each caller of `uses` once, where memory is ample.
 
-use implib::def::Position;
-use implib::{Flavor, MachineType};
-use implib_uses::{
+use crate::uses::{
     data_object, error_in, first_exports, gnu_members_of_text, members_of_export, members_of_text,
     members_to_link, msvc_members_of_text,
 };
+use implib::def::Position;
+use implib::{Flavor, MachineType};
 use std::test::Fail;
 
 // A DLL that one export is imported from by name and one by number.

@@ -1,5 +1,5 @@
-//! Tests of libraries by their public calls, and what was worked by hand of great counts and of the
-//! reader. The libraries have no tests of their own, since a crate with tests is proved twice.
+//! Tests of libraries by their public calls, what was worked by hand of great counts and of the
+//! reader, and proved callers. The libraries have no tests of their own, since a crate with tests is proved twice.
 #![tactic(auto)]
 
 #[cfg(test)]
@@ -16,3 +16,4 @@ mod memory;
 #[cfg(test)]
 mod pass;
 pub mod reader;
+pub mod uses;

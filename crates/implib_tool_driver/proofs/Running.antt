@@ -14,7 +14,7 @@ use Rattle.implib.specs.Beginning.{AppendsBeginning}
 use Rattle.implib_tool_driver.specs.Documents.{Divides, IsUndivided}
 use Rattle.implib_tool_driver.specs.Run.{Devices, FirstRefused, IsRefused, MembersOfDocument}
 use Rattle.implib_tool_driver.specs.Views.{Buffered, MembersOfDocuments, OnDocumentFault, OnTextFault, DocumentsLeft, Passes, WrittenSoFar, buffered}
-use Rattle.implib_tool_driver.specs.Arguments.{Answers, Performs, TurnsDown, target_named}
+use Rattle.implib_tool_driver.specs.Arguments.{Answers, Calls, Performs, TurnsDown, target_named}
 use Rattle.implib_tool_driver.proofs.Dividing.{parting, documents_more}
 
 by_bool : (P : Type 0) (b : Bool) → (b ≡ false → P) → (b ≡ true → P) → P
@@ -183,8 +183,11 @@ refused (Some wanted) before reader writer = record {
 
 -- both, for any words
 pub arguments_answered : (arguments : List (List ℕ)) (before after : Devices) (status : ℕ) → ((status ≡ 2) ↔ IsNone (target_named arguments)) → (IsNone (target_named arguments) → after ≡ before)
-    → IfSome (target_named arguments) (λ w. Answers w.0 w.1 before after status) → Performs arguments before after status
+    → IfSome (target_named arguments) (λ w. Answers w.0 w.1 before after status) → Calls arguments before after status
 arguments_answered arguments before after status other untouched run = answered (target_named arguments) before after status other untouched run
 
 pub arguments_refused : (arguments : List (List ℕ)) (before : Devices) → before.reader_failed ≡ false → before.writer_failed ≡ false → Performs arguments before before 3
-arguments_refused arguments before reader writer = refused (target_named arguments) before reader writer
+arguments_refused arguments before reader writer = record {
+  help = λ asked. record { unread = (refl, refl); written = inr (refl, refl) };
+  call = λ other. refused (target_named arguments) before reader writer;
+}

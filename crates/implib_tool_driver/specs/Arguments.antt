@@ -1,6 +1,7 @@
 -- The arguments of the program, and its exit status (this project's choice).
-use Rattle.std.specs.Prelude.{◌≡◌, ◌⊎◌, ℕ, List, [], ◌∷◌, map, drop, Option, None, Some}
-use Rattle.std.specs.Prelude.{MatchOption, Result, Ok, Err}
+use Rattle.std.specs.Prelude.{◌≡◌, ◌⊎◌, ℕ, Bool, true, false, List, [], ◌∷◌, map, drop, Option}
+use Rattle.std.specs.Prelude.{None, Some, MatchOption, Result, Ok, Err, bytes_eq, codes}
+use Rattle.std.specs.Io.KnownBytes.{Appends}
 use Rattle.std.specs.String.{string_bytes}
 use Rattle.std.specs.declared.io.ErrorKind.{ErrorKind}
 use Rattle.std.specs.declared.io.ErrorKind.TheVariants as io
@@ -10,6 +11,7 @@ use Rattle.implib.specs.declared.flavor.Flavor.{Flavor}
 use Rattle.implib.specs.declared.flavor.Flavor.TheVariants.{Msvc}
 use Rattle.implib.specs.declared.machine.MachineType.{MachineType}
 use Rattle.implib.specs.declared.machine.MachineType.TheVariants.{AMD64}
+use Rattle.implib_tool_driver.specs.declared.program.TheConstants.{HELP}
 use Rattle.implib_tool_driver.specs.declared.run.RunError.{RunError}
 use Rattle.implib_tool_driver.specs.declared.run.RunError.TheVariants.{Refused, NotUtf8, Read}
 use Rattle.implib_tool_driver.specs.declared.run.RunError.TheVariants.{Write, OutOfMemory}
@@ -54,11 +56,36 @@ pub record TurnsDown (before after : Devices) (status : ℕ) : Type 0 where
   pub answer : (status ≡ 2) ⊎ (status ≡ 3)
   pub untouched : after ≡ before
 
--- what the program does with its arguments
-abbrev pub Performs : List (List ℕ) → Devices → Devices → ℕ → Type 0
-Performs arguments before after status =
+-- what the program does with arguments that are not `--help` alone
+abbrev pub Calls : List (List ℕ) → Devices → Devices → ℕ → Type 0
+Calls arguments before after status =
     MatchOption (target_named arguments) (TurnsDown before after status)
     (λ wanted. Answers wanted.0 wanted.1 before after status)
+
+-- whether the arguments are `--help` alone
+abbrev pub asks_help : List (List ℕ) → Bool
+asks_help [] = false
+asks_help (word ∷ []) = bytes_eq word (codes "--help")
+asks_help (word ∷ more ∷ arguments) = false
+
+-- the help is written, and the exit status is 0; or it is 3, where the writer fails
+abbrev pub WritesHelp : Option (List ℕ) → Option (List ℕ) → Bool → ℕ → Type 0
+WritesHelp before after failed status =
+    ((status ≡ 0) × (failed ≡ false) × Appends before after HELP.now)
+    ⊎ ((status ≡ 3) × (failed ≡ true))
+
+-- what the program does for `--help`: nothing is read, and the help is written, or there is no
+-- memory for the arguments
+pub record Helps (before after : Devices) (status : ℕ) : Type 0 where
+  pub unread : (after.remaining ≡ before.remaining) × (after.reader_failed ≡ before.reader_failed)
+  pub written : WritesHelp before.contents after.contents after.writer_failed status
+      ⊎ ((status ≡ 3) × (after ≡ before))
+
+-- what the program does with its arguments
+pub record Performs (arguments : List (List ℕ)) (before after : Devices) (status : ℕ)
+    : Type 0 where
+  pub help : asks_help arguments ≡ true → Helps before after status
+  pub call : asks_help arguments ≡ false → Calls arguments before after status
 
 -- the exit status where the arguments cannot be read: 3 for want of memory, else that of other
 -- arguments

@@ -1,8 +1,8 @@
 //! Calls with buffers of several lengths.
 //!
 //! `call NAME` tells the status and the place of a call: `members`, `library`, `library_with`,
-//! `delayed_library`, `library_of`, `definition`, `warnings`, `imports`, `exports`, `check_dll` or
-//! `check_library`. It is made with an empty buffer first. Where it then tells a length, it is made
+//! `delayed_library`, `library_arm64ec`, `library_of`, `library_of_dll`, `definition`, `warnings`,
+//! `imports`, `exports`, `check_dll` or `check_library`. It is made with an empty buffer first. Where it then tells a length, it is made
 //! with shorter buffers, which have to stay as they were, and with one of this length and longer
 //! ones, which have to begin with the same bytes, and to stay as they were behind these. Else it is
 //! made with a buffer of 4,096 bytes, which has to stay as it was. `once NAME` makes it with the
@@ -10,11 +10,13 @@
 
 use super::given::Given;
 use crate::lines::Line;
+use implib_c_calls::arm64ec::arm64ec_library_into;
 use implib_c_calls::check::check_into;
 use implib_c_calls::definition::definition_into;
 use implib_c_calls::delayed::delayed_into;
 use implib_c_calls::dll_check::check_dll_into;
 use implib_c_calls::dll_exports::exports_into;
+use implib_c_calls::dll_library::dll_library_into;
 use implib_c_calls::export::Export;
 use implib_c_calls::imports::imports_into;
 use implib_c_calls::library_of::library_of_into;
@@ -71,6 +73,20 @@ fn call(given: &Given, name: &str, buffer: &mut [u8]) -> Result<Result<usize, Fa
         "library_with" => library_with_into(alloc, text, options_of(given), buffer),
         "delayed_library" => delayed_into(alloc, text, options_of(given), buffer),
         "library_of" => call_with_exports(given, buffer)?,
+        "library_arm64ec" => {
+            let native = given.native.as_slice();
+            arm64ec_library_into(
+                alloc,
+                text,
+                native,
+                given.has_native,
+                options_of(given),
+                buffer,
+            )
+        }
+        "library_of_dll" => {
+            dll_library_into(alloc, given.dll.as_slice(), options_of(given), buffer)
+        }
         "definition" => definition_into(alloc, text, machine, buffer),
         "warnings" => warnings_into(alloc, text, options_of(given), buffer),
         "imports" => imports_into(alloc, library, buffer),

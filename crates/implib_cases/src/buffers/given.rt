@@ -1,7 +1,7 @@
 //! What a case sets: the arguments of the calls.
 //!
-//! - What a line makes (`crate::lines`) is appended to what is begun. `text`, `library` and `dll`
-//!   have what is begun be that argument, and begin anew.
+//! - What a line makes (`crate::lines`) is appended to what is begun. `text`, `native`, `library` and
+//!   `dll` have what is begun be that argument, and begin anew.
 //! - `made` has the library be what the last call put.
 //! - `machine NUMBER`, `flavor NUMBER` and `flags NUMBER` set these, and `named NAME` the name of
 //!   the DLL.
@@ -26,6 +26,9 @@ pub struct Given {
     pub alloc: Global,
     begun: Vec<u8>,
     pub text: Vec<u8>,
+    /// The native definition, and 1 where there is one.
+    pub native: Vec<u8>,
+    pub has_native: u32,
     pub library: Vec<u8>,
     pub dll: Vec<u8>,
     /// The name of the DLL, and 1 where there is one.
@@ -53,6 +56,8 @@ impl Given {
             alloc,
             begun: Vec::new(alloc),
             text: Vec::new(alloc),
+            native: Vec::new(alloc),
+            has_native: 0,
             library: Vec::new(alloc),
             dll: Vec::new(alloc),
             name: String::new(alloc),
@@ -73,6 +78,10 @@ impl Given {
                 self.begun.extend_from_slice(more.as_slice())?;
             }
             "text" => self.text = self.ended()?,
+            "native" => {
+                self.native = self.ended()?;
+                self.has_native = 1;
+            }
             "library" => self.library = self.ended()?,
             "dll" => self.dll = self.ended()?,
             "made" => self.library = self.put.clone()?,

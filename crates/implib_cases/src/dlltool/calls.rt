@@ -8,8 +8,8 @@ use crate::check::imports_in;
 use crate::lines::{
     Line, push_alike, push_calls, push_escaped, push_lines, short_answer, unescaped,
 };
-use implib_devices::console::Console;
-use implib_devices::files::SystemDisk;
+use implib_driver::devices::console::Console;
+use implib_driver::devices::files::SystemDisk;
 use implib_driver::program::run;
 use implib_rules::name::last_part;
 use std::alloc::{AllocError, Global};

@@ -14,8 +14,8 @@
 use super::calls::{kept_console, push_writes};
 use super::room::mode_in;
 use crate::lines::{Line, bytes_in, number_in, unescaped, word_of};
-use implib_devices::console::Message;
-use implib_devices::files::{Made, SystemDisk, folder_of, settle, with_mode};
+use implib_driver::devices::console::Message;
+use implib_driver::devices::files::{Made, SystemDisk, folder_of, settle, with_mode};
 use implib_driver::disk::Disk;
 use implib_driver::message::NAMES;
 use implib_driver::options::{lookup, table};

@@ -1,4 +1,4 @@
-use Rattle.std.proofs.Common.{◌≡◌, ◌∙◌, List, Bool, ap, map, subst}
+use Rattle.std.proofs.Common.{rules, arith, ◌≡◌, ◌∙◌, List, Bool, ap, map, subst}
 use Rattle.implib_archive.proofs.Appended.{pushes_as}
 use Rattle.implib_compare.specs.Comparison.{differing, verdict}
 use Rattle.implib_compare.specs.Facts.{both_tell}
@@ -22,17 +22,13 @@ returns c =
     let left : List Bool = differing (both_tell members meant) members meant in
     let right : List Bool = differing (both_tell members meant) meant members in
     let seen = c.as_slice-members.ensures.value in
-    let verdict_is : c.in_ok-found.found.verdict ≡ verdict members meant
-    = subst (λ t. c.in_ok-found.found.verdict ≡ verdict (map member_read_view t) meant) seen c.in_ok-found.ensures.verdict in
-    let left_is : c.in_ok-found.found.left.items ≡ left
-    = subst (λ t. c.in_ok-found.found.left.items ≡ differing (both_tell (map member_read_view t) meant) (map member_read_view t) meant) seen c.in_ok-found.ensures.left in
-    let right_is : c.in_ok-found.found.right.items ≡ right
-    = subst (λ t. c.in_ok-found.found.right.items ≡ differing (both_tell (map member_read_view t) meant) meant (map member_read_view t)) seen c.in_ok-found.ensures.right in
+    let verdict_is : c.in_ok-found.found.verdict ≡ verdict members meant = grind (arith, map, c.in_ok-found.ensures.verdict) in
+    let left_is : c.in_ok-found.found.left.items ≡ left = grind (arith, map, c.in_ok-found.ensures.left) in
+    let right_is : c.in_ok-found.found.right.items ≡ right = grind (arith, map, c.in_ok-found.ensures.right) in
     let extra : map row_view c.in_ok-extra.extra.items ≡ flagged left (map row_of members)
     = subst (λ t. map row_view c.in_ok-extra.extra.items ≡ flagged c.deref.result.now (map row_of_found t)) seen c.in_ok-extra.ensures
     ∙ flagged_as row_of member_read_view c.deref.result.now left items (c.deref.ensures.value ∙ left_is) in
-    let missing : map row_view c.in_ok-missing.missing.items ≡ flagged right (map row_of meant)
-    = c.in_ok-missing.ensures ∙ flagged_as row_of member_read_view c.deref-2.result.now right c.args.meant.now (c.deref-2.ensures.value ∙ right_is) in
+    let missing : map row_view c.in_ok-missing.missing.items ≡ flagged right (map row_of meant) = search (rules, map, flagged_as, c.in_ok-missing.ensures, c.deref-2.ensures.value) in
     told_appended (verdict members meant) (working_of (archive_view c.args.library.now.archive) members)
     (flagged left (map row_of members)) (flagged right (map row_of meant)) _ _ _ _ _ c.new-bytes.ensures.items
     (pushes_as (ap encoded_number (c.verdict_number.ensures ∙ ap verdict_number verdict_is)) c.in_ok-push_number.ensures)

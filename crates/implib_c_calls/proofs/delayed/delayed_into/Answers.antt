@@ -1,4 +1,4 @@
-use Rattle.std.proofs.Common.{inl, inr, refl}
+use Rattle.std.proofs.Common.{rules, inl, inr, refl}
 use Rattle.implib_archive.specs.declared.kind.Kind.TheVariants as kind
 use Rattle.implib_libraries.specs.declared.delayed.DelayRefusal.TheVariants as delay
 use Rattle.implib_libraries.proofs.Refusals.{no_archive}
@@ -32,17 +32,7 @@ returns-in-Ok-delayed_members_for c =
     c.pack_into.new.buffer c.pack_into.result c.pack_into.ensures
 
 pub returns-in-Err-delayed_members_for : goal.returns-in-Err-delayed_members_for
-returns-in-Err-delayed_members_for c =
-    let why = c.in-Err-delayed_members_for.refusal in
-    with_nothing c.in-Ok.ensures.ok c.failure_delayed.result
-    (inr (
-      c.in-Gnu.is,
-      record {
-        cause = why;
-        is = of_bytes c.args.text.now (library_options_view c.in-Ok.options) why c.in-Err-delayed_members_for.ensures.refused;
-        told_is = c.failure_delayed.ensures;
-      },
-    ))
+returns-in-Err-delayed_members_for c = search (rules, with_nothing, inr, of_bytes, c.in-Ok.ensures.ok, c.in-Gnu.is, c.in-Err-delayed_members_for.ensures.refused, c.failure_delayed.ensures)
 
 pub returns-in-Err : goal.returns-in-Err
 returns-in-Err c = leaves_lacking c.in-Err.failure (inl c.in-Err.ensures.fault)

@@ -1,9 +1,9 @@
-use Rattle.std.proofs.Common.{◌≡◌, ◌∙◌, ◌++◌, ◌<◌, ◌^◌, All, ap, map, subst}
+use Rattle.std.proofs.Common.{arith, ◌≡◌, ◌∙◌, ◌++◌, ◌<◌, ◌^◌, All, ap, map, subst}
 use Rattle.implib_archive.proofs.Appended.{pushes_as, pushes_then}
 use Rattle.implib_dll.specs.Views.{exports_view}
-use Rattle.implib_dll_check.specs.Imports.{asks_in, judgements}
-use Rattle.implib_dll_check.specs.Missing.{missing}
-use Rattle.implib_dll_check.specs.Verdict.{ask_view}
+use Rattle.implib_compare.specs.DllCheck.Imports.{asks_in, judgements}
+use Rattle.implib_compare.specs.DllCheck.Missing.{missing}
+use Rattle.implib_compare.specs.DllCheck.Verdict.{ask_view}
 use Rattle.implib_read.specs.ClassViews.{member_read_view}
 use Rattle.implib_c_calls.specs.DllCheck.{dll_told, encoded_dll_told, judgement_number, names_given}
 use Rattle.implib_c_calls.specs.Encoding.{encoded_list, encoded_number}
@@ -16,16 +16,9 @@ returns c =
     let exports = exports_view c.args.exports.now in
     let members = map member_read_view c.args.members.now in
     let known = names_given c.args.name.now exports in
-    let found : c.deref-4.result.now ≡ judgements exports known members
-    = c.deref-4.ensures.value
-    ∙ (c.in_ok-found.ensures
-    ∙ ap (λ names. judgements exports names members) (ap (map (λ one. one.items)) c.deref.ensures.value ∙ c.in_ok-names.ensures)) in
-    let asks : map ask_view c.deref-3.result.now ≡ asks_in known members
-    = ap (map ask_view) c.deref-3.ensures.value
-    ∙ (c.in_ok-asks.ensures
-    ∙ ap (λ names. asks_in names members) (ap (map (λ one. one.items)) c.deref-2.ensures.value ∙ c.in_ok-names.ensures)) in
-    let unasked : c.deref-5.result.now ≡ missing exports (asks_in known members)
-    = c.deref-5.ensures.value ∙ (c.in_ok-unasked.ensures ∙ ap (missing exports) asks) in
+    let found : c.deref-4.result.now ≡ judgements exports known members = grind (arith, map, c.deref-4.ensures.value, c.in_ok-found.ensures, c.deref.ensures.value, c.in_ok-names.ensures) in
+    let asks : map ask_view c.deref-3.result.now ≡ asks_in known members = grind (arith, map, c.deref-3.ensures.value, c.in_ok-asks.ensures, c.deref-2.ensures.value, c.in_ok-names.ensures) in
+    let unasked : c.deref-5.result.now ≡ missing exports (asks_in known members) = grind (arith, c.deref-5.ensures.value, c.in_ok-unasked.ensures) in
     let all = pushes_then (pushes_as (ap (λ found. encoded_list encoded_number (map judgement_number found)) found) c.in_ok-push_judgements.ensures)
     (pushes_as (ap (encoded_list encoded_number) unasked) c.in_ok-push_indexes.ensures.appended) in
     record {

@@ -10,24 +10,10 @@ pub put_text-at-requires : goal.put_text-at-requires
 put_text-at-requires c = omega (arith, member_size (member_view c.args.member.now), ap (λ t. length (encoded_text t)) c.as_bytes.ensures.value)
 
 pub put_symbols-at-requires : goal.put_symbols-at-requires
-put_symbols-at-requires c = omega (
-  arith,
-  member_size (member_view c.args.member.now),
-  ap (λ t. length (encoded_text t)) c.as_bytes.ensures.value,
-  ap (λ t. length (encoded_list encoded_text (map string_bytes t))) c.as_slice.ensures.value,
-  c.put_text-at.ensures.end_is,
-)
+put_symbols-at-requires c = grind (arith, member_size, length, map, c.as_bytes.ensures.value, c.as_slice.ensures.value, c.put_text-at.ensures.end_is)
 
 pub put_text-requires : goal.put_text-requires
-put_text-requires c = omega (
-  arith,
-  member_size (member_view c.args.member.now),
-  ap (λ t. length (encoded_text t)) c.as_bytes.ensures.value,
-  ap (λ t. length (encoded_list encoded_text (map string_bytes t))) c.as_slice.ensures.value,
-  ap (λ t. length (encoded_text t)) c.as_slice-2.ensures.value,
-  c.put_text-at.ensures.end_is,
-  c.put_symbols-at.ensures.end_is,
-)
+put_text-requires c = grind (arith, member_size, length, map, c.as_bytes.ensures.value, c.as_slice.ensures.value, c.as_slice-2.ensures.value, c.put_text-at.ensures.end_is, c.put_symbols-at.ensures.end_is)
 
 pub returns : goal.returns
 unfolding encoded_member

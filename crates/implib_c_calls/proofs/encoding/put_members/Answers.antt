@@ -1,4 +1,4 @@
-use Rattle.std.proofs.Common.{◌++◌, arith, ap, flat_map, length, map, sym}
+use Rattle.std.proofs.Common.{rules, arith, flat_map, length, map}
 use Rattle.std.proofs.lemmas.List.{length-map}
 use Rattle.implib.specs.Library.{member_view}
 use Rattle.implib_c_calls.specs.Encoding.{encoded_member, encoded_members, encoded_number}
@@ -26,7 +26,4 @@ loop-member-preserved c =
 
 pub returns : goal.returns
 unfolding encoded_members
-returns c =
-    fills_as (encoded_members (map member_view c.args.members.now))
-    (ap (λ n. encoded_number n ++ flat_map encoded_member (map member_view c.args.members.now)) (sym (length-map c.args.members.now member_view)))
-    (fills_all encoded_member member_view c.args.members.now c.loop-member.member-index (encoded_number (length c.args.members.now)) c.loop-member.invariant c.loop-member-test.false)
+returns c = search (rules, fills_as, map, flat_map, length-map, fills_all, length, c.loop-member.invariant, c.loop-member-test.false)

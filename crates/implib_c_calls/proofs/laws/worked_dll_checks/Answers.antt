@@ -1,7 +1,7 @@
 use Rattle.std.proofs.Common.{refl}
 use Rattle.implib.specs.Worked.Digits.{bytes_of_digits}
 use Rattle.implib_dll.specs.Lookup.{order_at, searched}
-use Rattle.implib_dll_check.specs.Missing.{missing_from}
+use Rattle.implib_compare.specs.DllCheck.Missing.{missing_from}
 use Rattle.implib_c_calls.specs.DllCheck.{dll_told_in, encoded_dll_told}
 use Rattle.implib_c_calls.specs.Encoding.{encoded_number, items_in, list_in, number_in, then_in}
 use Rattle.implib_c_calls.specs.WorkedDllCheck.{WorkedDllTold, WorkedDllToldBytes, small_told_bytes}

@@ -1,4 +1,4 @@
-use Rattle.std.proofs.Common.{inl, inr, refl}
+use Rattle.std.proofs.Common.{rules, inl, inr, refl}
 use Rattle.implib_rules.specs.Library.{kind_of}
 use Rattle.implib_rules.specs.Options.{library_options_view}
 use Rattle.implib_c_calls.proofs.Answer.{leaves_lacking}
@@ -19,9 +19,7 @@ returns-in-Ok-named_members_for c =
     c.pack_into.new.buffer c.pack_into.result (rw (c.kind_for-kind.ensures, c.len.ensures) at c.pack_into.ensures)
 
 pub returns-in-Err-named_members_for : goal.returns-in-Err-named_members_for
-returns-in-Err-named_members_for c =
-    with_nothing c.in-Ok.ensures.ok c.failure_in.result
-    (record { cause = c.in-Err-named_members_for.refusal; is = inl c.in-Err-named_members_for.ensures.refused; told_is = c.failure_in.ensures })
+returns-in-Err-named_members_for c = search (rules, with_nothing, inl, c.in-Ok.ensures.ok, c.in-Err-named_members_for.ensures.refused, c.failure_in.ensures)
 
 pub returns-in-Err : goal.returns-in-Err
 returns-in-Err c = leaves_lacking c.in-Err.failure (inl c.in-Err.ensures.fault)

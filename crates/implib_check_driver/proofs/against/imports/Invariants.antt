@@ -1,6 +1,6 @@
 use Rattle.std.proofs.Common.{◌≡◌, drop}
 use Rattle.std.specs.List.{list_any}
-use Rattle.implib_dll_check.specs.Imports.{is_import}
+use Rattle.implib_compare.specs.DllCheck.Imports.{is_import}
 use Rattle.implib_check_driver.proofs.against.imports.Given as goal
 
 -- it is so of one that is left where it is so of one of all

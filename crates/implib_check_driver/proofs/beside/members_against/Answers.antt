@@ -1,6 +1,6 @@
 use Rattle.std.proofs.Common.{◌∙◌, map, sym}
 use Rattle.implib_dll.specs.Views.{exports_view}
-use Rattle.implib_dll_check.specs.Folders.{folder_view}
+use Rattle.implib_compare.specs.DllCheck.Folders.{folder_view}
 use Rattle.implib_read.specs.ClassViews.{member_read_view}
 use Rattle.implib_check_driver.specs.Answer.{answer_view}
 use Rattle.implib_check_driver.specs.Calls.{check_view}

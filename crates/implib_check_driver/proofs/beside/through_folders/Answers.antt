@@ -1,5 +1,5 @@
 use Rattle.std.proofs.Common.{map}
-use Rattle.implib_dll_check.specs.Folders.{folder_view}
+use Rattle.implib_compare.specs.DllCheck.Folders.{folder_view}
 use Rattle.implib_check_driver.proofs.beside.through_folders.Goals as goal
 
 pub returns-clause-held : goal.returns-clause-held

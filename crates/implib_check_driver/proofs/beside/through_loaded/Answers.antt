@@ -1,7 +1,7 @@
 use Rattle.std.proofs.Common.{◌∙◌, inl, inr, map, sym}
 use Rattle.implib_dll.specs.Views.{exports_view}
-use Rattle.implib_dll_check.specs.Folders.{loaded_view}
-use Rattle.implib_dll_check.specs.ForwardingViews.{known_view}
+use Rattle.implib_compare.specs.DllCheck.Folders.{loaded_view}
+use Rattle.implib_compare.specs.DllCheck.ForwardingViews.{known_view}
 use Rattle.implib_read.specs.ClassViews.{member_read_view}
 use Rattle.implib_check_driver.specs.Answer.{answer_view}
 use Rattle.implib_check_driver.proofs.LoadedDlls.{held_through, leads_further, same_exports}

@@ -4,7 +4,7 @@ use Rattle.implib_check_driver.specs.Answer.{answer_view}
 use Rattle.implib_check_driver.specs.Answers.{IsAnswerWith, native_seen}
 use Rattle.implib_check_driver.specs.Calls.{check_view}
 use Rattle.implib_check_driver.specs.Through.{Through, through}
-use Rattle.implib_dll_check.specs.Folders.{folder_view, listings}
+use Rattle.implib_compare.specs.DllCheck.Folders.{folder_view, listings}
 use Rattle.implib_check_driver.proofs.Answers.{of_three}
 use Rattle.implib_check_driver.proofs.BesideDlls.{native_none, native_read}
 use Rattle.implib_check_driver.proofs.LoadedDlls.{through_same}

@@ -1,6 +1,6 @@
 use Rattle.std.proofs.Common.{◌≡◌, ℕ, List, length, map, take}
 use Rattle.std.specs.String.{string_bytes}
-use Rattle.implib_dll_check.specs.Folders.{AreKnown}
+use Rattle.implib_compare.specs.DllCheck.Folders.{AreKnown}
 use Rattle.implib_check_driver.proofs.joined.all_bytes.Given as goal
 
 -- the bytes so far are those of the first paths

@@ -1,6 +1,6 @@
 use Rattle.std.proofs.Common.{◌≡◌, ℕ, List, map, take}
 use Rattle.std.specs.String.{string_bytes}
-use Rattle.implib_dll_check.specs.Folders.{AreKnown, folder_view, listings}
+use Rattle.implib_compare.specs.DllCheck.Folders.{AreKnown, folder_view, listings}
 use Rattle.implib_check_driver.proofs.starting.folders_of.Given as goal
 
 -- the folders so far are those of the first paths

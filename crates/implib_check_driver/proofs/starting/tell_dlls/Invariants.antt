@@ -1,6 +1,6 @@
 use Rattle.std.proofs.Common.{◌≡◌, ◌++◌, ℕ, List, drop, fold, map, max, take}
 use Rattle.implib_dll.specs.Views.{imported_view}
-use Rattle.implib_dll_check.specs.Folders.{AreKnown, folder_view}
+use Rattle.implib_compare.specs.DllCheck.Folders.{AreKnown, folder_view}
 use Rattle.implib_check_driver.specs.Starting.{dlls_lines, dlls_status, unmet_of, unmet_status}
 use Rattle.implib_check_driver.proofs.starting.tell_dlls.Given as goal
 

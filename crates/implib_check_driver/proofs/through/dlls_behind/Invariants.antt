@@ -1,5 +1,5 @@
 use Rattle.std.proofs.Common.{ℕ, All, List, map}
-use Rattle.implib_dll_check.specs.Folders.{AreKnown, IsRight, folder_view, loaded_view}
+use Rattle.implib_compare.specs.DllCheck.Folders.{AreKnown, IsRight, folder_view, loaded_view}
 use Rattle.implib_check_driver.proofs.through.dlls_behind.Given as goal
 
 -- what was loaded is right

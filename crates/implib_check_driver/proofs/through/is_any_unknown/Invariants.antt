@@ -1,8 +1,8 @@
 use Rattle.std.proofs.Common.{◌≡◌, drop, map}
 use Rattle.std.specs.List.{list_any}
 use Rattle.std.specs.Option.{option_map}
-use Rattle.implib_dll_check.specs.Forwarding.{is_unknown}
-use Rattle.implib_dll_check.specs.ForwardingViews.{end_view}
+use Rattle.implib_compare.specs.DllCheck.Forwarding.{is_unknown}
+use Rattle.implib_compare.specs.DllCheck.ForwardingViews.{end_view}
 use Rattle.implib_check_driver.proofs.through.is_any_unknown.Given as goal
 
 -- one of those that are left is unknown where one of all is

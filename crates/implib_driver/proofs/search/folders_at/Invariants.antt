@@ -1,5 +1,5 @@
 use Rattle.std.proofs.Common.{◌≡◌, ℕ, List, map, take}
-use Rattle.implib_dll_check.specs.Folders.{AreKnown, folder_view, listings}
+use Rattle.implib_compare.specs.DllCheck.Folders.{AreKnown, folder_view, listings}
 use Rattle.implib_driver.proofs.search.folders_at.Given as goal
 
 -- the folders so far are those of the first paths

@@ -1,5 +1,5 @@
 use Rattle.std.proofs.Common.{◌≡◌, ℕ, All, List, map}
-use Rattle.implib_dll_check.specs.Folders.{AreKnown, IsRight, folder_view, loaded_view}
+use Rattle.implib_compare.specs.DllCheck.Folders.{AreKnown, IsRight, folder_view, loaded_view}
 use Rattle.implib_driver.proofs.search.load_all.Given as goal
 
 -- what was loaded so far is right, where what was loaded before is

@@ -4,10 +4,10 @@ use Rattle.implib.specs.Definition.{export_view}
 use Rattle.implib_dll.specs.Exports.{exports_in}
 use Rattle.implib_dll.specs.Views.{exports_view}
 use Rattle.implib_dll.specs.declared.section.Layout.TheVariants.{File}
-use Rattle.implib_dll_check.specs.Folders.{loaded_view}
-use Rattle.implib_dll_check.specs.Forwarding.{Beside, known_in}
-use Rattle.implib_dll_check.specs.ForwardingViews.{known_view}
-use Rattle.implib_dll_check.specs.Kinds.{is_astray, unknown_dlls}
+use Rattle.implib_compare.specs.DllCheck.Folders.{loaded_view}
+use Rattle.implib_compare.specs.DllCheck.Forwarding.{Beside, known_in}
+use Rattle.implib_compare.specs.DllCheck.ForwardingViews.{known_view}
+use Rattle.implib_compare.specs.DllCheck.Kinds.{is_astray, unknown_dlls}
 use Rattle.implib_options.specs.Given.{has_values}
 use Rattle.implib_driver.proofs.Searching.{marked_through, no_values}
 use Rattle.implib_driver.proofs.search.mark_through.Goals as goal

@@ -2,7 +2,7 @@ use Rattle.std.proofs.Common.{◌≡◌, map, rules, subst, sym}
 use Rattle.std.specs.Prelude.{All}
 use Rattle.implib.specs.Definition.{export_view}
 use Rattle.implib_dll.specs.Views.{exports_view}
-use Rattle.implib_dll_check.specs.Folders.{AreKnown, IsRight, folder_view, listings, loaded_view}
+use Rattle.implib_compare.specs.DllCheck.Folders.{AreKnown, IsRight, folder_view, listings, loaded_view}
 use Rattle.implib_driver.specs.Request.{request_view}
 use Rattle.implib_driver.specs.Search.{AreFollowed, beside_folders, own_names}
 use Rattle.implib_driver.proofs.search.search.Goals as goal

@@ -1,6 +1,6 @@
 use Rattle.std.proofs.Common.{refl}
 use Rattle.implib_dll.specs.Lookup.{order_at, searched}
-use Rattle.implib_dll_check.specs.Forwarding.{split_last}
+use Rattle.implib_compare.specs.DllCheck.Forwarding.{split_last}
 use Rattle.implib_system.specs.System.{address_by}
 use Rattle.implib_system.specs.Worked.{WorkedReach}
 use Rattle.implib_system.proofs.laws.worked_reach.Goals as goal

@@ -1,6 +1,0 @@
-//! The devices that the program `implib_dlltool` runs over: the system's disk, and lines of what it
-//! says.
-#![tactic(auto)]
-
-pub mod console;
-pub mod files;

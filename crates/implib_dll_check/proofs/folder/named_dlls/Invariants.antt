@@ -1,7 +1,0 @@
-use Rattle.std.proofs.Common.{◌≡◌, map, take}
-use Rattle.implib_dll_check.specs.ForwardingViews.{known_view}
-use Rattle.implib_dll_check.specs.Folders.{loaded_view}
-use Rattle.implib_dll_check.proofs.folder.named_dlls.Given as goal
-
-abbrev pub invariant-loop-one : goal.invariant-loop-one
-invariant-loop-one l = map known_view l.dlls.items ≡ map loaded_view (take l.one-index l.loaded)

@@ -1,9 +1,0 @@
-use Rattle.std.proofs.Common.{◌≡◌, map, take}
-use Rattle.implib_dll.specs.Views.{exports_view, target_view}
-use Rattle.implib_dll_check.specs.Missing.{missing_from}
-use Rattle.implib_dll_check.specs.Verdict.{ask_view}
-use Rattle.implib_dll_check.proofs.lacking.missing.Given as goal
-
-abbrev pub invariant-loop-index : goal.invariant-loop-index
-invariant-loop-index l =
-    l.found.items ≡ missing_from (exports_view l.exports) (map ask_view l.asks) (map target_view (take l.index l.exports.targets.items)) 0

@@ -1,0 +1,4 @@
+-- Of null descriptors that are named after their library.
+pub mod Headed
+pub mod Symbols
+pub mod Worked

@@ -1,3 +1,0 @@
-pub mod Headed
-pub mod Symbols
-pub mod Worked

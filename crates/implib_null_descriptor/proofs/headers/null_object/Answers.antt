@@ -1,4 +1,0 @@
-use Rattle.implib_null_descriptor.proofs.headers.null_object.Goals as goal
-
-pub returns : goal.returns
-returns c = rw (c.in_ok-add_symbol.ensures.ok, c.in_ok-add_section.ensures.ok, c.new-writer.ensures) at c.written.ensures

@@ -1,4 +1,0 @@
-pub mod Libraries
-pub mod Named
-pub mod Spots
-pub mod Worked

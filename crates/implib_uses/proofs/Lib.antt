@@ -1,4 +1,0 @@
-pub mod Links
-pub mod TokensGiven
-pub mod ByOptions
-pub mod OneFlavor

@@ -1,5 +1,0 @@
-use Rattle.implib_uses.proofs.ByOptions.{link_as_older_part, link_as_part, link_in_programs}
-use Rattle.implib_uses.proofs.options.members_by_options_link.Goals as goal
-
-pub returns : goal.returns
-returns c = record { part = link_as_part; older = link_as_older_part; programs = link_in_programs }
