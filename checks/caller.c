@@ -55,7 +55,9 @@ struct given {
 };
 
 /* The calls, in the order of their names in checks/c. */
-enum name { MEMBERS, LIBRARY, DEFINITION, IMPORTS, EXPORTS, WITH, WARNINGS, LIBRARY_OF, CHECK_LIBRARY, CHECK_DLL };
+enum name {
+    MEMBERS, LIBRARY, DEFINITION, IMPORTS, EXPORTS, WITH, WARNINGS, LIBRARY_OF, CHECK_LIBRARY, CHECK_DLL, OF_DLL, ARM64EC
+};
 
 uint32_t called(int name, const struct given *it, uint8_t *buffer, size_t room, size_t *length, size_t *place)
 {
@@ -83,8 +85,12 @@ uint32_t called(int name, const struct given *it, uint8_t *buffer, size_t room, 
         return implib_library_of(of, it->exports, it->count, buffer, room, length, place);
     case CHECK_LIBRARY:
         return implib_check_library(library, size, text, count, of, buffer, room, length, place);
-    default:
+    case CHECK_DLL:
         return implib_check_dll(library, size, text, count, of->dll, of->dll_length, buffer, room, length, place);
+    case OF_DLL:
+        return implib_library_of_dll(of, text, count, buffer, room, length, place);
+    default:
+        return implib_library_arm64ec(of, text, count, library, size, buffer, room, length, place);
     }
 }
 

@@ -70,6 +70,9 @@ STUB_WITH(delayed_library, (TEXT, OPTIONS, ANSWER), text, text_length, NULL, 0)
 STUB_WITH(named_library, (TEXT, OPTIONS, ANSWER), text, text_length, NULL, 0)
 STUB_WITH(warnings, (TEXT, OPTIONS, ANSWER), text, text_length, NULL, 0)
 STUB_WITH(library_of, (const struct implib_export *exports, size_t count, OPTIONS, ANSWER), exports, count, NULL, 0)
+STUB_WITH(library_of_dll, (TEXT, OPTIONS, ANSWER), text, text_length, NULL, 0)
+STUB_WITH(library_arm64ec, (TEXT, const uint8_t *native, size_t size, uint32_t has_native, OPTIONS, ANSWER), text,
+          text_length, native, 2 * size + has_native)
 STUB_WITH(check_library, (const uint8_t *bytes, size_t size, TEXT, OPTIONS, ANSWER), text, text_length, bytes, size)
 STUB(uint32_t, library, (TEXT, uint16_t machine, uint32_t flavor, ANSWER), LIST(text, buffer, length, place),
      LIST(text_length, buffer_length, machine, flavor), length, place)
@@ -144,7 +147,8 @@ static void hold_plain(struct given it)
     HOLD("position", ANSWERED, 3, LIST(it.text, it.first, it.second), LIST(it.text_length, 5));
 }
 
-static const char *const WITH[] = {"library_with", "warnings", "check_library", "library_of"};
+static const char *const WITH[] = {"library_with", "warnings", "check_library", "library_of", "library_of_dll",
+                                   "library_arm64ec"};
 
 static uint32_t called_with(unsigned call, const struct implib_options *options, struct given it)
 {
@@ -158,7 +162,11 @@ static uint32_t called_with(unsigned call, const struct implib_options *options,
         return implib_warnings(options, ITS, ROOM, it.second);
     if (call == 2)
         return implib_check_library(it.other, it.other_length, ITS, options, ROOM, it.second);
-    return implib_library_of(options, it.exports, it.count, ROOM, it.second);
+    if (call == 3)
+        return implib_library_of(options, it.exports, it.count, ROOM, it.second);
+    if (call == 4)
+        return implib_library_of_dll(options, ITS, ROOM, it.second);
+    return implib_library_arm64ec(options, ITS, it.other, it.other_length, ROOM, it.second);
 }
 
 /* A call that is refused by the header alone, at this place. */
@@ -181,9 +189,10 @@ static void hold_sized(unsigned call, size_t size, uint32_t kind, struct given i
     const char *name = kind == 0 ? WITH[call] : kind == IMPLIB_DELAYED ? "delayed_library" : "named_library";
     const uint8_t *dll = size == 40 ? it.name : NULL;
     const void *text = call == 3 ? (const void *)it.exports : it.text;
-    HOLD(name, status, call == 2 ? 6 : 5, LIST(text, dll, it.buffer, it.first, it.second, it.other),
+    size_t other = call == 2 ? it.other_length : call == 5 ? 2 * it.other_length + (it.other != NULL) : 0;
+    HOLD(name, status, call == 2 || call == 5 ? 6 : 5, LIST(text, dll, it.buffer, it.first, it.second, it.other),
          LIST(call == 3 ? it.count : it.text_length, dll == NULL ? 0 : it.name_length, dll != NULL, MACHINE, FLAVOR,
-              size < 20 ? 0 : FLAGS, it.buffer_length, call == 2 ? it.other_length : 0));
+              size < 20 ? 0 : FLAGS, it.buffer_length, other));
 }
 
 /* Exports of which one has a null pointer. */
@@ -216,7 +225,7 @@ int main(void)
             bits & 2 ? buffer : NULL, bits & 2 ? 3 : 0, bits & 4 ? &first : NULL, bits & 8 ? &second : NULL,
         };
         hold_plain(it);
-        for (unsigned call = 0; call < 4; call++) {
+        for (unsigned call = 0; call < 6; call++) {
             hold_refused(call, called_with(call, NULL, it), IMPLIB_UNKNOWN_OPTIONS, 0, it);
             for (size_t size = 0; size < sizeof(struct implib_options) + 9; size++)
                 hold_sized(call, size, 0, it);
@@ -228,5 +237,11 @@ int main(void)
     }
     /* A pointer that is not null is passed on where the length is 0 too, or a variable in its place. */
     TRY(library, (text, 0, MACHINE, FLAVOR, buffer, 0, NULL, NULL), 4, LIST(NULL), LIST(0, 0, MACHINE, FLAVOR));
+    /* A text of an encoding, and nothing behind it. */
+    static const uint8_t encoding[] = {2, 0, 0, 0, 0, 0, 0, 0, 'h', 'i'};
+    struct implib_reader reader = {encoding, sizeof encoding}, cut = {encoding, sizeof encoding - 1};
+    const uint8_t *read;
+    hold(implib_read_text(&reader, &read, &first) && first == 2 && read == encoding + 8, "read_text", "another text");
+    hold(!implib_read_number(&reader, &first) && !implib_read_text(&cut, &read, &first), "reader", "it reads more");
     return 0;
 }
