@@ -55,9 +55,8 @@ struct given {
 };
 
 /* The calls, in the order of their names in checks/c. */
-enum name {
-    MEMBERS, LIBRARY, DEFINITION, IMPORTS, EXPORTS, WITH, WARNINGS, LIBRARY_OF, CHECK_LIBRARY, CHECK_DLL, OF_DLL, ARM64EC
-};
+enum name { MEMBERS, LIBRARY, DEFINITION, IMPORTS, EXPORTS, WITH, WARNINGS, LIBRARY_OF, CHECK_LIBRARY, CHECK_DLL,
+            OF_DLL, ARM64EC };
 
 uint32_t called(int name, const struct given *it, uint8_t *buffer, size_t room, size_t *length, size_t *place)
 {
