@@ -13,9 +13,6 @@ int has_failed;
 void *__real_malloc(size_t size);
 void *__real_realloc(void *block, size_t size);
 void __real_free(void *block);
-void *__wrap_malloc(size_t size);
-void *__wrap_realloc(void *block, size_t size);
-void __wrap_free(void *block);
 
 static int fails_now(void)
 {
@@ -58,9 +55,9 @@ struct given {
 };
 
 /* The calls, in the order of their names in checks/c. */
-enum name { MEMBERS, LIBRARY, DEFINITION, IMPORTS, EXPORTS, WITH, WARNINGS, LIBRARY_OF, CHECK_LIBRARY, CHECK_DLL };
+enum name { MEMBERS, LIBRARY, DEFINITION, IMPORTS, EXPORTS, WITH, WARNINGS, LIBRARY_OF, CHECK_LIBRARY, CHECK_DLL,
+            OF_DLL, ARM64EC };
 
-uint32_t called(int name, const struct given *it, uint8_t *buffer, size_t room, size_t *length, size_t *place);
 uint32_t called(int name, const struct given *it, uint8_t *buffer, size_t room, size_t *length, size_t *place)
 {
     const struct implib_options *of = &it->options;
@@ -87,24 +84,25 @@ uint32_t called(int name, const struct given *it, uint8_t *buffer, size_t room, 
         return implib_library_of(of, it->exports, it->count, buffer, room, length, place);
     case CHECK_LIBRARY:
         return implib_check_library(library, size, text, count, of, buffer, room, length, place);
-    default:
+    case CHECK_DLL:
         return implib_check_dll(library, size, text, count, of->dll, of->dll_length, buffer, room, length, place);
+    case OF_DLL:
+        return implib_library_of_dll(of, text, count, buffer, room, length, place);
+    default:
+        return implib_library_arm64ec(of, text, count, library, size, buffer, room, length, place);
     }
 }
 
-uint32_t written(const struct given *it, implib_writer *write, size_t *length, size_t *place);
 uint32_t written(const struct given *it, implib_writer *write, size_t *length, size_t *place)
 {
     return implib_write(&it->options, it->text, it->text_length, write, NULL, length, place);
 }
 
-void position(const uint8_t *text, size_t text_length, size_t offset, size_t *line, size_t *column);
 void position(const uint8_t *text, size_t text_length, size_t offset, size_t *line, size_t *column)
 {
     implib_position(text, text_length, offset, line, column);
 }
 
-size_t status_text(uint32_t status, char *buffer, size_t room);
 size_t status_text(uint32_t status, char *buffer, size_t room)
 {
     return implib_status_text(status, buffer, room);

@@ -14,16 +14,12 @@ static long left = -1;
 
 static int fails_now(void)
 {
-    if (left < 0) {
-        const char *number = getenv("FAIL_AT");
-        left = number == NULL ? 0 : atol(number);
-    }
-    if (left == 0)
+    if (left < 0)
+        left = atol(getenv("FAIL_AT"));
+    if (left == 0 || --left > 0)
         return 0;
-    left -= 1;
-    if (left == 0)
-        errno = ENOMEM;
-    return left == 0;
+    errno = ENOMEM;
+    return 1;
 }
 
 void *malloc(size_t size)

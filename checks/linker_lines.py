@@ -3,11 +3,13 @@
 A symbol is named as C names it. What it leads to is the entry of an import, a stub that jumps by this
 entry, or nothing that a loader fills: then it is lost.
 """
-from dataclasses import dataclass, field
+from collections import namedtuple
 from functools import reduce
 from itertools import permutations, product
 from operator import or_
+from typing import NamedTuple
 
+import tools
 from targets import LOST, X86, calls, definition, entries
 
 LLD, GNU = ("lld-link", "ld.lld"), ("GNU ld",)
@@ -16,33 +18,25 @@ EVERY = ("I386", "ARMNT", "AMD64", "ARM64")
 NOT_ARMNT = ("I386", "AMD64", "ARM64")
 
 
-@dataclass(frozen=True)
-class Fails:
-    """A link that fails, of a program that names these symbols. What the linker writes has this, a
-    regular expression."""
-
-    symbols: tuple
-    text: str
+# A link that fails, of a program that names these symbols: what the linker writes has this, a regular expression.
+Fails = namedtuple("Fails", "symbols text")
 
 
-@dataclass(frozen=True)
-class Trial:
+class Trial(NamedTuple):
     """What is linked, by which linkers for which machines, and what is found: what each symbol of the program leads to,
     or how the link fails; and, where it is given, what the import directory has, that is each DLL with what it is asked
     for. Without `parts` a program that names these symbols is linked with the libraries. A part is an option, in which
-    `{_}` is what is in front of a symbol of C, or a file that `Links` makes."""
+    `{_}` is what is in front of a symbol of C, or a file that `Links` makes. A linker may have options in front, and
+    may fail, too; lld-link is told that the program is not safe, unless it is."""
 
     linkers: tuple
     machines: tuple
     libraries: tuple
     found: object
     directory: dict | None = None
-    # options of a linker, in front
-    options: dict = field(default_factory=dict)
+    options: dict = {}
     parts: tuple = ()
-    # how the link may fail, too
     or_fails: str | None = None
-    # whether lld-link is not told that the program is not safe
     is_safe: bool = False
 
 
@@ -81,7 +75,7 @@ OPTIONS = {
 OF_C = Fails(("__imp__feed@8", "_feed@8"), "undefined.*feed@8")
 I386, ARMNT, LLD_LINK, LD_LLD = ("I386",), ("ARMNT",), ("lld-link",), ("ld.lld",)
 FEED, OWN_FEED = definition("zoo.dll", "feed@8"), definition("zoo.dll", "_feed@8")
-NAMES = {
+LINES = {
     "alias-gnu": [
         *(Trial(ALL, NOT_ARMNT, gnu(text), ASKS_A) for text in (ALIAS, ALIAS_ALONE)),
         *(Trial(LLD, ARMNT, gnu(text), entries("zoo.dll", "zoo_a")) for text in (ALIAS, ALIAS_ALONE)),
@@ -108,7 +102,7 @@ NOT_RECOGNIZED = [
     Fails(symbols, "file format not recognized")
     for symbols in (("__imp_limit",), ("limit",), ("__imp_zoo_open", "__imp_limit"))
 ]
-CONSTANTS = {
+LINES |= {
     "constant-gnu": [
         Trial(ALL, NOT_ARMNT, gnu(CONSTANT), calls("zoo.dll", "limit")),
         Trial(LLD, ARMNT, gnu(CONSTANT), entries("zoo.dll", "limit")),
@@ -133,7 +127,7 @@ BEGINNINGS = definition("zoo", "zoo_open"), definition("zoo_a_i.dll", "zoo_close
 ONE_BEGUN = {"zoo": ["zoo_close"], "zoo_a_i.dll": ["zoo_close"]}
 SECOND_BEGUN = entries("zoo_a_i.dll", "zoo_close")
 ONE_ARCHIVE = OPEN + "---\n" + definition("yak.dll", "yak_open")
-SEVERAL = {
+LINES |= {
     "one-archive": both(ALL, X86, ONE_ARCHIVE, calls("zoo.dll", "zoo_open") | calls("yak.dll", "yak_open")),
     "two-archives": [
         Trial(LLD, EVERY, msvc(OPEN, CLOSE), TWO_RIGHT),
@@ -164,7 +158,7 @@ RUNS = [definition(f"{name}.dll", f"{name}_run", f"{name}_size DATA") for name i
 CALLED = [reduce(or_, (calls(f"{name}.dll", f"{name}_run") for name in ANIMALS[:n]), {}) for n in range(6)]
 SIZES = [reduce(or_, (entries(f"{name}.dll", f"{name}_size") for name in ANIMALS[:n]), {}) for n in range(6)]
 MISALIGNED = [Fails(tuple(symbols), "misaligned ldr/str offset") for symbols in CALLED]
-ALIGNMENT = {
+LINES |= {
     "even": [
         Trial(LLD, ("ARM64",), libraries, found)
         for libraries, found in (
@@ -198,7 +192,7 @@ def of_lost_names(is_there, *dlls):
 
 
 OTHER_NAMES = ("zoo.exe", "zoo", "zoo.drv", "zoo.sys", "ZOO.DLL", "zoo.EXE", "a.b.dll")
-DLL_NAMES = {
+LINES |= {
     "dll-names": [
         *of_names(LLD, EVERY, msvc, *OTHER_NAMES),
         *of_names(ALL, EVERY, gnu, *OTHER_NAMES),
@@ -220,23 +214,19 @@ def in_order(linkers, machines, parts, directory, found=None, **more):
 FLAVOURS = ("msvc", "gnu")
 # An archive whose object wants what follows.
 HELPER = ".data\n.globl {_}helper\n{_}helper: {word} "
-BOTH_WAYS = [("words", "helper"), ("archive", HELPER + "{_}zoo_open\n")]
-OPENS = {"zoo.dll": ["zoo_open"]}
-ARCHIVE_ORDER = [
-    trial
-    for name in FLAVOURS
-    for program, archive, library in [(*BOTH_WAYS, ("library", name, OPEN))]
-    for trial in (
-        in_order(LLD, NOT_ARMNT, (program, library, archive), OPENS),
-        in_order(GNU, X86, (program, library, archive), "undefined reference"),
-        in_order(ALL, NOT_ARMNT, (program, archive, library), OPENS),
-        in_order(ALL, NOT_ARMNT, (program, library, archive, library), OPENS),
-        in_order(GNU, X86, (program, "--start-group", library, archive, "--end-group"), OPENS),
+OPENS, PROGRAM, ARCHIVE = {"zoo.dll": ["zoo_open"]}, ("words", "helper"), ("archive", HELPER + "{_}zoo_open\n")
+LINES["archive-order"] = [
+    in_order(linkers, NOT_ARMNT, (PROGRAM, *parts), found)
+    for library in msvc(OPEN) + gnu(OPEN)
+    for linkers, parts, found in (
+        (LLD, (library, ARCHIVE), OPENS), (GNU, (library, ARCHIVE), "undefined reference"),
+        (ALL, (ARCHIVE, library), OPENS), (ALL, (library, ARCHIVE, library), OPENS),
+        (GNU, ("--start-group", library, ARCHIVE, "--end-group"), OPENS),
     )
 ]
 # A library is searched for `zoo_open`, then the helper names `size`, and the library is searched again.
 BOTH = ("words", "helper", "__imp_zoo_open")
-LATE_DATA = [
+LINES["late-data"] = [
     in_order(
         GNU, X86, (BOTH, *[library] * twice, ("archive", HELPER + "__imp_{_}size\n"), library),
         OPENS if name == "msvc" and ask == "#7" and twice else {"zoo.dll": [ask, "zoo_open"]},
@@ -248,7 +238,7 @@ LATE_DATA = [
 ]
 # The plain reference and the library first, or GNU ld with the library last, are right.
 WEAK = {"weak": ("object", ".data\n.weak {_}bar\n{word} {_}bar\n"), "plain": ("words", "bar")}
-WEAK_REFERENCE = [
+LINES["weak-reference"] = [
     in_order(linkers, EVERY, tuple(files[part] for part in order), directory, found)
     for name in FLAVOURS
     for files in [{**WEAK, "library": ("library", name, definition("zoo.dll", "bar"))}]
@@ -265,7 +255,7 @@ STARTED = (
     ".data\n{word} {_}bar\n",
 )
 BY_AUTO_IMPORT = {1: {"zoo.dll": ["bar"]}, 2: {"zoo.dll": ["bar", "baz"]}}
-ALIAS_OF_DATA = [
+LINES["alias-of-data"] = [
     in_order(
         GNU, X86, (*options, STARTED, ("library", name, definition("zoo.dll", *exports))),
         BY_AUTO_IMPORT[len(exports)] if name == "gnu" and not options else "undefined reference to `bar'",
@@ -274,16 +264,21 @@ ALIAS_OF_DATA = [
         FLAVOURS, (("baz DATA", "bar == {_}baz DATA"), ("bar == {_}baz DATA",)), ((), ("--disable-auto-import",))
     )
 ]
+# GNU's archiver changes the bytes of short imports, and packs members for GNU's linker as they are.
+PACKED = definition("zoo.dll", "zoo_open", "secret @9 NONAME", "animals DATA")
+PACKERS = (("I386", "i686-w64-mingw32-ar"), ("AMD64", "x86_64-w64-mingw32-ar"), ("AMD64", "ar"))
+NOT_TAKEN = Fails(("__imp_zoo_open",), "unknown file type|file format not recognized")
 DEFSYM = "--defsym=_zoo_a=_zoo_b"
 LAST = (("words", "__imp_zoo_b", "zoo_a"), *gnu(definition("zoo.dll", "zoo_b")))
 # A program that says that it is safe.
 SAFE = ".text\n.globl _start\n.set @feat.00, 1\n.globl @feat.00\n_start: call *__imp__zoo_{}\n"
 OWN = ("object", ".data\n.globl {_}zoo_b, __imp_{_}zoo_b\n{_}zoo_b: .long 0\n__imp_{_}zoo_b: .long 0\n")
-WHOLE = {
-    "archive-order": ARCHIVE_ORDER,
-    "late-data": LATE_DATA,
-    "weak-reference": WEAK_REFERENCE,
-    "alias-of-data": ALIAS_OF_DATA,
+LINES |= {
+    "gnu-archiver": [
+        Trial(ALL, (machine,), (("library", flavour, PACKED, packer),), found)
+        for machine, packer in PACKERS if tools.tool(packer)
+        for flavour, found in (("msvc", NOT_TAKEN), ("gnu", calls("zoo.dll", "zoo_open")))
+    ],
     "alias-option-last": [
         Trial(GNU, ("I386",), (), {"__imp_zoo_b": "entry of zoo.dll!zoo_b", "zoo_a": led}, parts=parts)
         for parts, led in (((DEFSYM, *LAST), "stub of zoo.dll!zoo_b"), ((*LAST, DEFSYM), "nothing"))
@@ -322,5 +317,3 @@ WHOLE = {
         )
     ],
 }
-
-LINES = NAMES | CONSTANTS | SEVERAL | ALIGNMENT | DLL_NAMES | WHOLE

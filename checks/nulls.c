@@ -70,6 +70,9 @@ STUB_WITH(delayed_library, (TEXT, OPTIONS, ANSWER), text, text_length, NULL, 0)
 STUB_WITH(named_library, (TEXT, OPTIONS, ANSWER), text, text_length, NULL, 0)
 STUB_WITH(warnings, (TEXT, OPTIONS, ANSWER), text, text_length, NULL, 0)
 STUB_WITH(library_of, (const struct implib_export *exports, size_t count, OPTIONS, ANSWER), exports, count, NULL, 0)
+STUB_WITH(library_of_dll, (TEXT, OPTIONS, ANSWER), text, text_length, NULL, 0)
+STUB_WITH(library_arm64ec, (TEXT, const uint8_t *native, size_t size, uint32_t has_native, OPTIONS, ANSWER), text,
+          text_length, native, 2 * size + has_native)
 STUB_WITH(check_library, (const uint8_t *bytes, size_t size, TEXT, OPTIONS, ANSWER), text, text_length, bytes, size)
 STUB(uint32_t, library, (TEXT, uint16_t machine, uint32_t flavor, ANSWER), LIST(text, buffer, length, place),
      LIST(text_length, buffer_length, machine, flavor), length, place)
@@ -94,9 +97,6 @@ void implib_position_nonnull(TEXT, size_t offset, size_t *line, size_t *column)
 
 /* ---- what a call passes on */
 
-#define HOLD(FUNCTION, STATUS, COUNT, POINTERS, NUMBERS) \
-    hold_passed(FUNCTION, STATUS, COUNT, (const void *const[6]){POINTERS}, (const uint64_t[8]){NUMBERS})
-
 /* The status is given, and so many pointers and the numbers are passed on, a null pointer as another one. */
 static void hold_passed(const char *function, uint64_t status, size_t count, const void *const pointers[6],
                         const uint64_t numbers[8])
@@ -111,6 +111,11 @@ static void hold_passed(const char *function, uint64_t status, size_t count, con
     passed.function = NULL;
 }
 
+#define HOLD(FUNCTION, STATUS, COUNT, POINTERS, NUMBERS) \
+    hold_passed(FUNCTION, STATUS, COUNT, (const void *const[6]){POINTERS}, (const uint64_t[8]){NUMBERS})
+#define TRY(NAME, ARGUMENTS, COUNT, POINTERS, NUMBERS) \
+    hold_passed(#NAME, implib_##NAME ARGUMENTS, COUNT, (const void *const[6]){POINTERS}, (const uint64_t[8]){NUMBERS})
+
 /* What is given to a call. */
 struct given {
     const uint8_t *text, *other, *name;
@@ -123,32 +128,27 @@ struct given {
 
 static void hold_plain(struct given it)
 {
-    const void *answers[6] = {it.text, it.buffer, it.first, it.second};
-    uint64_t numbers[8] = {it.text_length, it.buffer_length, MACHINE, FLAVOR};
-    uint32_t status;
-    status = implib_library(it.text, it.text_length, MACHINE, FLAVOR, it.buffer, it.buffer_length, it.first, it.second);
-    hold_passed("library", status, 4, answers, numbers);
-    status = implib_members(it.text, it.text_length, MACHINE, FLAVOR, it.buffer, it.buffer_length, it.first, it.second);
-    hold_passed("members", status, 4, answers, numbers);
-    numbers[3] = 0;
-    status = implib_definition(it.text, it.text_length, MACHINE, it.buffer, it.buffer_length, it.first, it.second);
-    hold_passed("definition", status, 4, answers, numbers);
-    numbers[2] = 0;
-    status = implib_exports(it.text, it.text_length, it.buffer, it.buffer_length, it.first, it.second);
-    hold_passed("exports", status, 4, answers, numbers);
-    status = implib_imports(it.text, it.text_length, it.buffer, it.buffer_length, it.first);
-    hold_passed("imports", status, 3, answers, numbers);
-    status = implib_check_dll(it.text, it.text_length, it.other, it.other_length, it.name, it.name_length, it.buffer,
-                              it.buffer_length, it.first, it.second);
-    HOLD("check_dll", status, 6, LIST(it.text, it.other, it.name, it.buffer, it.first, it.second),
-         LIST(it.text_length, it.other_length, it.name_length, it.buffer_length));
-    implib_position(it.text, it.text_length, 5, it.first, it.second);
+#define ITS it.text, it.text_length
+#define ROOM it.buffer, it.buffer_length, it.first
+#define ANSWERS LIST(it.text, it.buffer, it.first, it.second)
+    TRY(library, (ITS, MACHINE, FLAVOR, ROOM, it.second), 4, ANSWERS,
+        LIST(it.text_length, it.buffer_length, MACHINE, FLAVOR));
+    TRY(members, (ITS, MACHINE, FLAVOR, ROOM, it.second), 4, ANSWERS,
+        LIST(it.text_length, it.buffer_length, MACHINE, FLAVOR));
+    TRY(definition, (ITS, MACHINE, ROOM, it.second), 4, ANSWERS, LIST(it.text_length, it.buffer_length, MACHINE));
+    TRY(exports, (ITS, ROOM, it.second), 4, ANSWERS, LIST(it.text_length, it.buffer_length));
+    TRY(imports, (ITS, ROOM), 3, ANSWERS, LIST(it.text_length, it.buffer_length));
+    TRY(check_dll, (ITS, it.other, it.other_length, it.name, it.name_length, ROOM, it.second), 6,
+        LIST(it.text, it.other, it.name, it.buffer, it.first, it.second),
+        LIST(it.text_length, it.other_length, it.name_length, it.buffer_length));
+    TRY(status_text, (IMPLIB_NO_NAME_TYPE, (char *)it.buffer, it.buffer_length), 1, LIST(it.buffer),
+        LIST(IMPLIB_NO_NAME_TYPE, it.buffer_length));
+    implib_position(ITS, 5, it.first, it.second);
     HOLD("position", ANSWERED, 3, LIST(it.text, it.first, it.second), LIST(it.text_length, 5));
-    size_t length = implib_status_text(IMPLIB_NO_NAME_TYPE, (char *)it.buffer, it.buffer_length);
-    HOLD("status_text", length, 1, LIST(it.buffer), LIST(IMPLIB_NO_NAME_TYPE, it.buffer_length));
 }
 
-static const char *const WITH[] = {"library_with", "warnings", "check_library", "library_of"};
+static const char *const WITH[] = {"library_with", "warnings", "check_library", "library_of", "library_of_dll",
+                                   "library_arm64ec"};
 
 static uint32_t called_with(unsigned call, const struct implib_options *options, struct given it)
 {
@@ -157,13 +157,16 @@ static uint32_t called_with(unsigned call, const struct implib_options *options,
     if (it.second != NULL)
         *it.second = 5;
     if (call == 0)
-        return implib_library_with(options, it.text, it.text_length, it.buffer, it.buffer_length, it.first, it.second);
+        return implib_library_with(options, ITS, ROOM, it.second);
     if (call == 1)
-        return implib_warnings(options, it.text, it.text_length, it.buffer, it.buffer_length, it.first, it.second);
+        return implib_warnings(options, ITS, ROOM, it.second);
     if (call == 2)
-        return implib_check_library(it.other, it.other_length, it.text, it.text_length, options, it.buffer,
-                                    it.buffer_length, it.first, it.second);
-    return implib_library_of(options, it.exports, it.count, it.buffer, it.buffer_length, it.first, it.second);
+        return implib_check_library(it.other, it.other_length, ITS, options, ROOM, it.second);
+    if (call == 3)
+        return implib_library_of(options, it.exports, it.count, ROOM, it.second);
+    if (call == 4)
+        return implib_library_of_dll(options, ITS, ROOM, it.second);
+    return implib_library_arm64ec(options, ITS, it.other, it.other_length, ROOM, it.second);
 }
 
 /* A call that is refused by the header alone, at this place. */
@@ -174,37 +177,22 @@ static void hold_refused(unsigned call, uint32_t status, uint32_t wanted, size_t
     hold(is_told, WITH[call], "it tells more");
 }
 
-/* Calls with options of each size, and without. */
-static void hold_with(unsigned call, struct given it)
+/* A call with options of a size. Libraries of another kind go to functions of their own, without the flag. */
+static void hold_sized(unsigned call, size_t size, uint32_t kind, struct given it)
 {
-    hold_refused(call, called_with(call, NULL, it), IMPLIB_UNKNOWN_OPTIONS, 0, it);
-    for (size_t size = 0; size < sizeof(struct implib_options) + 9; size++) {
-        struct implib_options options = {size, MACHINE, FLAVOR, FLAGS, it.name, it.name_length};
-        uint32_t status = called_with(call, &options, it);
-        if (size < 16 || size > 40) {
-            hold_refused(call, status, IMPLIB_UNKNOWN_OPTIONS, 0, it);
-            continue;
-        }
-        const uint8_t *dll = size == 40 ? it.name : NULL;
-        const void *text = call == 3 ? (const void *)it.exports : it.text;
-        HOLD(WITH[call], status, call == 2 ? 6 : 5, LIST(text, dll, it.buffer, it.first, it.second, it.other),
-             LIST(call == 3 ? it.count : it.text_length, dll == NULL ? 0 : it.name_length, dll != NULL, MACHINE, FLAVOR,
-                  size < 20 ? 0 : FLAGS, it.buffer_length, call == 2 ? it.other_length : 0));
+    struct implib_options options = {size, MACHINE, FLAVOR, FLAGS + kind, it.name, it.name_length};
+    uint32_t status = called_with(call, &options, it);
+    if (size < 16 || size > 40) {
+        hold_refused(call, status, IMPLIB_UNKNOWN_OPTIONS, 0, it);
+        return;
     }
-}
-
-/* Libraries of another kind go to functions of their own, without the flag. */
-static void hold_kinds(struct given it)
-{
-    for (unsigned named = 0; named < 2; named++) {
-        uint32_t flags = FLAGS + (named ? IMPLIB_NULL_NAMED : IMPLIB_DELAYED);
-        struct implib_options options = {sizeof options, MACHINE, FLAVOR, flags, it.name, it.name_length};
-        uint32_t status = called_with(0, &options, it);
-        HOLD(named ? "named_library" : "delayed_library", status, 5,
-             LIST(it.text, it.name, it.buffer, it.first, it.second),
-             LIST(it.text_length, it.name == NULL ? 0 : it.name_length, it.name != NULL, MACHINE, FLAVOR, FLAGS,
-                  it.buffer_length));
-    }
+    const char *name = kind == 0 ? WITH[call] : kind == IMPLIB_DELAYED ? "delayed_library" : "named_library";
+    const uint8_t *dll = size == 40 ? it.name : NULL;
+    const void *text = call == 3 ? (const void *)it.exports : it.text;
+    size_t other = call == 2 ? it.other_length : call == 5 ? 2 * it.other_length + (it.other != NULL) : 0;
+    HOLD(name, status, call == 2 || call == 5 ? 6 : 5, LIST(text, dll, it.buffer, it.first, it.second, it.other),
+         LIST(call == 3 ? it.count : it.text_length, dll == NULL ? 0 : it.name_length, dll != NULL, MACHINE, FLAVOR,
+              size < 20 ? 0 : FLAGS, it.buffer_length, other));
 }
 
 /* Exports of which one has a null pointer. */
@@ -237,14 +225,23 @@ int main(void)
             bits & 2 ? buffer : NULL, bits & 2 ? 3 : 0, bits & 4 ? &first : NULL, bits & 8 ? &second : NULL,
         };
         hold_plain(it);
-        for (unsigned call = 0; call < 4; call++)
-            hold_with(call, it);
-        hold_kinds(it);
+        for (unsigned call = 0; call < 6; call++) {
+            hold_refused(call, called_with(call, NULL, it), IMPLIB_UNKNOWN_OPTIONS, 0, it);
+            for (size_t size = 0; size < sizeof(struct implib_options) + 9; size++)
+                hold_sized(call, size, 0, it);
+        }
+        hold_sized(0, sizeof(struct implib_options), IMPLIB_NULL_NAMED, it);
+        hold_sized(0, sizeof(struct implib_options), IMPLIB_DELAYED, it);
         if (it.exports != NULL)
             hold_exports(it);
     }
     /* A pointer that is not null is passed on where the length is 0 too, or a variable in its place. */
-    uint32_t status = implib_library(text, 0, MACHINE, FLAVOR, buffer, 0, NULL, NULL);
-    HOLD("library", status, 4, LIST(NULL), LIST(0, 0, MACHINE, FLAVOR));
+    TRY(library, (text, 0, MACHINE, FLAVOR, buffer, 0, NULL, NULL), 4, LIST(NULL), LIST(0, 0, MACHINE, FLAVOR));
+    /* A text of an encoding, and nothing behind it. */
+    static const uint8_t encoding[] = {2, 0, 0, 0, 0, 0, 0, 0, 'h', 'i'};
+    struct implib_reader reader = {encoding, sizeof encoding}, cut = {encoding, sizeof encoding - 1};
+    const uint8_t *read;
+    hold(implib_read_text(&reader, &read, &first) && first == 2 && read == encoding + 8, "read_text", "another text");
+    hold(!implib_read_number(&reader, &first) && !implib_read_text(&cut, &read, &first), "reader", "it reads more");
     return 0;
 }

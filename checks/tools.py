@@ -1,4 +1,4 @@
-"""What the checks share: their options, which tools there are, archives, and runs under Wine."""
+"""What the checks share: their options, which tools there are, files and libraries, and runs under Wine."""
 import argparse
 import functools
 import glob
@@ -10,6 +10,13 @@ import re
 import shutil
 import subprocess
 import sys
+
+# Debian's pefile is there for Debian's Python alone.
+sys.path.append("/usr/lib/python3/dist-packages")
+try:
+    import pefile
+except ImportError:
+    pefile = None
 
 ROOT = os.path.dirname(os.path.dirname(os.path.abspath(__file__)))
 PROGRAM = os.path.join(ROOT, "crates", "implib_tool", "out", "implib_tool")
@@ -29,9 +36,7 @@ class Failed(Exception):
 
 def arguments(description, program=PROGRAM, **options):
     """The options of a check: the program and, of each option, its number."""
-    parser = argparse.ArgumentParser(
-        description=description, formatter_class=argparse.RawDescriptionHelpFormatter
-    )
+    parser = argparse.ArgumentParser(description=description, formatter_class=argparse.RawDescriptionHelpFormatter)
     parser.add_argument("--program", default=program, help="the built program; else the one of this clone")
     for name, (default, help_) in options.items():
         parser.add_argument(f"--{name}", type=int, default=default, help=f"{help_}; else {default}")
@@ -77,55 +82,44 @@ def tool(name):
 @functools.cache
 def version_of(command):
     """What a tool says its version is."""
-    output = subprocess.run([command, "--version"], capture_output=True, text=True).stdout
-    found = re.search(r"\d+\.\d+[.\d]*", output)
+    found = re.search(r"\d+\.\d+[.\d]*", ran([command, "--version"]).stdout)
     return found[0] if found else "of unknown version"
 
 
-def beside(command, name):
-    """The tool of this name that was built with a command."""
-    return os.path.join(os.path.dirname(os.path.realpath(shutil.which(command))), name)
-
-
 def missing(*names):
-    """Whether one of these tools is missing, which is then said."""
-    lacking = [name for name in names if tool(name) is None]
+    """Whether one of these tools, or python3-pefile, is missing, which is then said."""
+    lacking = [name for name in names if (pefile if name == "python3-pefile" else tool(name)) is None]
     if lacking:
         print(f"skipped: no {' and no '.join(lacking)}")
     return bool(lacking)
 
 
+# ---- runs, and what is found
+
+
+def ran(command, **more):
+    """A run of a command, with what it wrote."""
+    more = {"text": True, "errors": "replace", **more} if more.get("text", True) else more
+    return subprocess.run(command, capture_output=True, **more)
+
+
 def done(command, **more):
     """Runs a command, which has to succeed, and gives what it wrote."""
-    run = subprocess.run(command, capture_output=True, text=True, errors="replace", **more)
+    run = ran(command, **more)
     if run.returncode != 0:
         raise Failed(f"{command[0]}, status {run.returncode}: {(run.stderr + run.stdout).strip()}")
     return run.stdout
 
 
-def file_of(folder, name, text):
-    """A new file of this text."""
-    path = os.path.join(folder, name)
-    with open(path, "w") as file:
-        file.write(text)
-    return path
+def fail_if(is_wrong, said):
+    """Ends the check if something is wrong."""
+    if is_wrong:
+        sys.exit(said)
 
 
-def script(folder, name, text):
-    """A new program of the shell or of Python."""
-    path = file_of(folder, name, text)
-    os.chmod(path, 0o755)
-    return path
-
-
-def bytes_of(path):
-    with open(path, "rb") as file:
-        return file.read()
-
-
-def text_of(path):
-    with open(path, encoding="utf-8", errors="replace") as file:
-        return file.read()
+def hold(what, found, wanted):
+    """Ends the check unless this was found."""
+    fail_if(found != wanted, f"{what}: {found!r}, and not {wanted!r}")
 
 
 def closed(wrong, said):
@@ -144,11 +138,31 @@ def failing_runs(folder, command, before=lambda: None):
         done(["gcc", "-shared", "-fPIC", "-o", shim, os.path.join(ROOT, "checks", "failing_malloc.c")])
     for number in itertools.count(1):
         before()
-        failing = {"LD_PRELOAD": os.path.abspath(shim), "FAIL_AT": str(number)}
-        run = subprocess.run(command, capture_output=True, text=True, env=failing)
+        run = ran(command, env={"LD_PRELOAD": os.path.abspath(shim), "FAIL_AT": str(number)})
         if run.stdout.endswith("not reached\n"):
             return
         yield number, run
+
+
+# ---- files
+
+
+def file_of(folder, name, contents):
+    """A new file of this text, or of these bytes."""
+    path = os.path.join(folder, name)
+    with open(path, "wb" if isinstance(contents, bytes) else "w") as file:
+        file.write(contents)
+    return path
+
+
+def bytes_of(path):
+    with open(path, "rb") as file:
+        return file.read()
+
+
+def text_of(path):
+    with open(path, encoding="utf-8", errors="replace") as file:
+        return file.read()
 
 
 # ---- source packages
@@ -159,8 +173,7 @@ SOURCE = "deb-src $(REPO_URI) $(RELEASE) $(COMPONENT)"
 
 def fetch_sources(folder, *packages):
     """Fetches source packages into a folder, from where the system has Debian's packages, by lists of its own there."""
-    call = ["apt-get", "indextargets", "--format", SOURCE, "Created-By: Packages", "Origin: Debian"]
-    lines = subprocess.run(call, check=True, capture_output=True, text=True).stdout.splitlines()
+    lines = done(["apt-get", "indextargets", "--format", SOURCE, "Created-By: Packages", "Origin: Debian"]).splitlines()
     lists = os.path.join(folder, "lists")
     os.makedirs(os.path.join(lists, "partial"), exist_ok=True)
     source = file_of(folder, "sources.list", "".join(f"{line}\n" for line in sorted(set(lines))))
@@ -183,7 +196,16 @@ def unpacked(folder, package, *patterns):
     return found[0]
 
 
-# ---- archives
+# ---- libraries
+
+
+def library(command, machine, path, text, *more):
+    """The library that a dlltool makes of a definition at a path, in silence; the machine is in its words."""
+    source = file_of(os.path.dirname(path), f"{os.path.basename(path)}.def", text)
+    run = ran([command, "-m", machine, "-d", source, "-l", path, *more])
+    if run.returncode != 0 or run.stdout or run.stderr:
+        raise Failed(f"{command} {more}: status {run.returncode}, said {run.stderr}{run.stdout}")
+    return path
 
 
 def packed(program, folder, name, machine, flavour, definition, archiver=None):
@@ -191,15 +213,14 @@ def packed(program, folder, name, machine, flavour, definition, archiver=None):
     os.makedirs(os.path.join(folder, name))
     source = file_of(os.path.join(folder, name), "definition.def", definition)
     archive = os.path.join(folder, name, name)
-    chosen = ["--archiver", archiver or tool("llvm-ar")]
+    chosen = ["--archiver", archiver] if archiver is not None else []
     done([PACK, "--program", program, *chosen, machine, flavour, source, archive])
     return archive
 
 
 def archive_members(archive):
     """The contents of an archive's members, its own tables left out."""
-    with open(archive, "rb") as file:
-        data = file.read()
+    data = bytes_of(archive)
     if data[:8] != b"!<arch>\n":
         raise Failed(f"{archive}: no archive")
     place, found = 8, []
@@ -225,16 +246,8 @@ def wine_for(machine):
     return wine
 
 
-@functools.cache
-def wine_version(wine):
-    """What Wine says its name and version are."""
-    output = subprocess.run([wine, "--version"], capture_output=True, text=True).stdout.split()
-    return output[0] if output else "Wine of unknown version"
-
-
 def run_by_wine(wine, folder, image):
     """What a program writes under Wine, and its status. Wine keeps its own files in the folder."""
     environment = {**os.environ, "WINEPREFIX": os.path.join(folder, "wine"), "WINEDEBUG": "-all"}
-    pipes = {"stdout": subprocess.PIPE, "stderr": subprocess.DEVNULL}
-    ran = subprocess.run([wine, image], env=environment, **pipes)
-    return ran.stdout.strip(), ran.returncode
+    run = subprocess.run([wine, image], env=environment, stdout=subprocess.PIPE, stderr=subprocess.DEVNULL)
+    return run.stdout.strip(), run.returncode
