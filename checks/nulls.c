@@ -9,6 +9,8 @@
 
 #include "implib.h"
 
+_Static_assert(sizeof(struct implib_export) == 40 && offsetof(struct implib_export, flags) == 36, "as in Rattle");
+_Static_assert(sizeof(struct implib_options) == 40 && sizeof(size_t) == 8, "as callers were built");
 #define MACHINE IMPLIB_MACHINE_ARM64
 #define FLAVOR IMPLIB_FLAVOR_GNU
 #define FLAGS 0x80000003u
