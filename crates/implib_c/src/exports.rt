@@ -3,6 +3,13 @@
 //! C passes nothing for `alloc`, and for a slice a pointer to its first element and its length. No
 //! pointer may be null: the header has inline functions without the ending `_nonnull`, which put a
 //! variable of their own in a null pointer's place.
+//!
+//! A function with a `buffer` puts what it is for at its beginning, and gives a status: 0 where that
+//! is done. `length` gets its length in bytes where the status is 0 or 1 (the buffer is too small),
+//! else 0. `place` gets an offset in the text, of the first byte that is not UTF-8 or of the token at
+//! which it is refused, or what the function says of it, else 0. Where the status is not 0 the
+//! buffer is as it was, and where it is 0, what follows there. `machine` is a number of the PE/COFF
+//! specification, "Machine Types"; `flavor` is 0 for Microsoft's linker and 1 for GNU's.
 
 ghost use Rattle.implib.specs.Text.Position.{line_and_column};
 ghost use Rattle.implib_c_calls.specs.Answer.{Answers};
@@ -76,16 +83,8 @@ fn passed<'a>(
     }
 }
 
-/// Puts the members of the import library that a text describes at the beginning of `buffer`,
-/// encoded as `specs/Encoding.antt` says, and gives a status: 0 where it is done.
-///
-/// `machine` is a number of the PE/COFF specification, "Machine Types"; `flavor` is 0 for
-/// Microsoft's linker and 1 for GNU's. `length` gets the length of the encoding in bytes, where the
-/// status is 0 or 1 (the buffer is too small), and otherwise 0. `place` gets the length of the
-/// longest beginning that is UTF-8, where the text is not; the offset in bytes of the token at
-/// which a text is refused; the index of the export, from 0, where one is at fault; and otherwise
-/// 0. Where the status is not 0 the buffer is as it was, and where it is 0, what follows the
-/// encoding.
+/// The members of the import library that a text describes, encoded as `specs/Encoding.antt` says.
+/// `place` gets the index of the export that is at fault, where one is.
 #[unsafe(no_mangle)]
 pub extern "C" fn implib_members_nonnull(
     alloc: Global,
@@ -102,14 +101,8 @@ pub extern "C" fn implib_members_nonnull(
     tell(&answer, length, place)
 }
 
-/// Puts the import library that a text describes at the beginning of `buffer`: the archive of the
-/// members that `implib_members_nonnull` has for the same arguments, of the COFF kind for
-/// Microsoft's linker and of the GNU kind for GNU's. Gives a status: 0 where it is done.
-///
-/// `length` gets the length of the archive in bytes, where the status is 0 or 1 (the buffer is too
-/// small), and otherwise 0. `place` gets what `implib_members_nonnull` says of it, and 0 where the
-/// members have no archive. Where the status is not 0 the buffer is as it was, and where it is 0,
-/// what follows the archive.
+/// The archive of the members that `implib_members_nonnull` has for the same arguments: of the COFF
+/// kind for Microsoft's linker, of the GNU kind for GNU's.
 #[unsafe(no_mangle)]
 pub extern "C" fn implib_library_nonnull(
     alloc: Global,
@@ -127,18 +120,9 @@ pub extern "C" fn implib_library_nonnull(
     tell(&answer, length, place)
 }
 
-/// Puts the import library that the program `implib_dlltool` makes of a text under these options at
-/// the beginning of `buffer`. Gives a status: 0 where it is done.
-///
-/// `dll` is the name of the DLL, before the text's own, unless `has_dll` is 0. `machine` and
-/// `flavor` are as for `implib_members_nonnull`; in `flags`, 1 stands for the program's option
-/// `-k`, and 2 for `--no-leading-underscore`.
-///
-/// `length` gets the length of the library in bytes, where the status is 0 or 1 (the buffer is too
-/// small), and otherwise 0. `place` gets an offset in the text: that of the first byte that is not
-/// UTF-8; that of the token at which it is refused; that of the name of the export that is at
-/// fault; and otherwise 0. Where the status is not 0 the buffer is as it was, and where it is 0,
-/// what follows the library.
+/// The library that the program `implib_dlltool` makes of a text under these options: `dll` is the
+/// name of the DLL, before the text's own, unless `has_dll` is 0; `flags` are those of the header.
+/// `place` gets the offset of the name of the export that is at fault, where one is.
 #[unsafe(no_mangle)]
 pub extern "C" fn implib_library_with_nonnull(
     alloc: Global,
@@ -161,9 +145,8 @@ pub extern "C" fn implib_library_with_nonnull(
     tell(&answer, length, place)
 }
 
-/// Puts the library that `implib_library_with_nonnull` puts for the same arguments at the beginning
-/// of `buffer`, but with a null descriptor whose symbol is named after the library; for GNU's
-/// linker it is the same library. Gives a status: 0 where it is done.
+/// The same, but with a null descriptor whose symbol is named after the library; for GNU's linker it
+/// is the same library.
 #[unsafe(no_mangle)]
 pub extern "C" fn implib_named_library_nonnull(
     alloc: Global,
@@ -186,12 +169,8 @@ pub extern "C" fn implib_named_library_nonnull(
     tell(&answer, length, place)
 }
 
-/// Puts the library of delayed imports that the program `implib_dlltool` makes of a text under
-/// these options, by `-y`, at the beginning of `buffer`. Gives a status: 0 where it is done.
-///
-/// The arguments and what is given are as for `implib_library_with_nonnull`; names are asked for as
-/// under `-k` in any case. Status 50 is given for Microsoft's linkers, 51 for a machine without
-/// code for delayed imports, and 52 and 53 for data and for a weak name for another export.
+/// The library of delayed imports that the program makes of a text by `-y`; names are asked for as
+/// under `-k` in any case.
 #[unsafe(no_mangle)]
 pub extern "C" fn implib_delayed_library_nonnull(
     alloc: Global,
@@ -214,13 +193,9 @@ pub extern "C" fn implib_delayed_library_nonnull(
     tell(&answer, length, place)
 }
 
-/// Puts the import library of exports under these options at the beginning of `buffer`: the one
-/// that the program `implib_dlltool` makes of a text of such exports and no name of the DLL. Gives
-/// a status: 0 where it is done.
-///
-/// The options and the buffer are as for `implib_library_with_nonnull`. `place` gets the index of
-/// the export, from 0, that is at fault, and otherwise 0. The exports are refused one by one, after
-/// the options: the flags of one before its names.
+/// The library that the program makes of a text of such exports and no name of the DLL. `place` gets
+/// the index of the export that is at fault. The exports are refused one by one, after the options:
+/// the flags of one before its names.
 #[unsafe(no_mangle)]
 pub extern "C" fn implib_library_of_nonnull(
     alloc: Global,
@@ -243,13 +218,9 @@ pub extern "C" fn implib_library_of_nonnull(
     tell(&answer, length, place)
 }
 
-/// Puts the import library for ARM64EC that a text describes under these options at the beginning of
-/// `buffer`, with the members that a native text describes where `has_native` is not 0, and gives a
-/// status: 0 where it is done.
-///
-/// The options and the buffer are as for `implib_library_with_nonnull`; the machine and the flavour
-/// are of no effect. `place` gets an offset in the text, or in the native one where that is
-/// refused.
+/// The library for ARM64EC of a text, with the members of a native text where `has_native` is not 0;
+/// the machine and the flavour are of no effect. `place` may be an offset in the native text, where
+/// that is refused.
 #[unsafe(no_mangle)]
 pub extern "C" fn implib_library_arm64ec_nonnull(
     alloc: Global,
@@ -274,13 +245,9 @@ pub extern "C" fn implib_library_arm64ec_nonnull(
     tell(&answer, length, place)
 }
 
-/// Puts the import library of all that a DLL exports under these options at the beginning of
-/// `buffer`, and gives a status: 0 where it is done.
-///
-/// The options and the buffer are as for `implib_library_with_nonnull`; the machine has to be the
-/// DLL's. `place` gets the offset of the field for which the bytes are no image, the index of an
-/// export at fault, or its position in the name table or its ordinal, where no definition can have
-/// it; and otherwise 0.
+/// The library of all that a DLL exports, whose machine that of the options has to be. `place` gets
+/// the offset of the field for which the bytes are no image, the index of an export at fault, or its
+/// position in the name table or its ordinal, where no definition can have it.
 #[unsafe(no_mangle)]
 pub extern "C" fn implib_library_of_dll_nonnull(
     alloc: Global,
@@ -303,13 +270,7 @@ pub extern "C" fn implib_library_of_dll_nonnull(
     tell(&answer, length, place)
 }
 
-/// Puts what a text states on a machine at the beginning of `buffer`, encoded as
-/// `specs/Definition.antt` says, and gives a status: 0 where it is done.
-///
-/// `length` gets the length of the encoding in bytes, where the status is 0 or 1 (the buffer is too
-/// small), and otherwise 0. `place` gets the length of the longest beginning that is UTF-8, where
-/// the text is not; the offset in bytes of the token at which a text is refused; and otherwise 0.
-/// Where the status is not 0 the buffer is as it was, and where it is 0, what follows the encoding.
+/// What a text states on a machine, encoded as `specs/Definition.antt` says.
 #[unsafe(no_mangle)]
 pub extern "C" fn implib_definition_nonnull(
     alloc: Global,
@@ -325,17 +286,9 @@ pub extern "C" fn implib_definition_nonnull(
     tell(&answer, length, place)
 }
 
-/// Puts the warnings that the program `implib_dlltool` has of a text under these options at the
-/// beginning of `buffer`, encoded as `specs/Warnings.antt` says, and gives a status: 0 where it is
-/// done, also where there are none.
-///
-/// The arguments are those of `implib_library_with_nonnull`. No contract says in which words a
-/// warning is; they are those that the program writes.
-///
-/// `length` gets the length of the encoding in bytes, where the status is 0 or 1 (the buffer is too
-/// small), and otherwise 0. `place` gets an offset in the text: that of the first byte that is not
-/// UTF-8; that of the token at which it is refused; and otherwise 0.
-/// Where the status is not 0 the buffer is as it was, and where it is 0, what follows the encoding.
+/// The warnings that the program has of a text under these options, encoded as
+/// `specs/Warnings.antt` says; there may be none. No contract says in which words a warning is; they
+/// are those that the program writes.
 #[unsafe(no_mangle)]
 pub extern "C" fn implib_warnings_nonnull(
     alloc: Global,
@@ -358,13 +311,8 @@ pub extern "C" fn implib_warnings_nonnull(
     tell(&answer, length, place)
 }
 
-/// Puts what the members of a library are for, and import, at the beginning of `buffer`, encoded as
-/// `specs/Imports.antt` says, and gives a status: 0 where it is done. The library may be of any
-/// maker.
-///
-/// `length` gets the length of the encoding in bytes, where the status is 0 or 1 (the buffer is too
-/// small), and otherwise 0. Where the status is not 0 the buffer is as it was, and where it is 0,
-/// what follows the encoding.
+/// What the members of a library of any maker are for, and import, encoded as `specs/Imports.antt`
+/// says.
 #[unsafe(no_mangle)]
 pub extern "C" fn implib_imports_nonnull(
     alloc: Global,
@@ -379,14 +327,9 @@ pub extern "C" fn implib_imports_nonnull(
     status_of(&answer).number()
 }
 
-/// Puts what the DLL in a file exports at the beginning of `buffer`, encoded as
-/// `specs/DllExports.antt` says, and gives a status: 0 where it is done. The file is of a PE32 or
-/// PE32+ image, for any machine; nothing in it is trusted.
-///
-/// `length` gets the length of the encoding in bytes, where the status is 0 or 1 (the buffer is too
-/// small), and otherwise 0. `place` gets the offset of the field for which a file is no image,
-/// where the status says that it is none, and otherwise 0. Where the status is not 0 the buffer is
-/// as it was, and where it is 0, what follows the encoding.
+/// What the DLL in a file exports, encoded as `specs/DllExports.antt` says. The file is of a PE32 or
+/// PE32+ image, for any machine; nothing in it is trusted. `place` gets the offset of the field for
+/// which it is none.
 #[unsafe(no_mangle)]
 pub extern "C" fn implib_exports_nonnull(
     alloc: Global,
@@ -401,17 +344,10 @@ pub extern "C" fn implib_exports_nonnull(
     tell(&answer, length, place)
 }
 
-/// Puts what the imports of a library, of any maker, come to in the DLL of a file at the beginning
-/// of `buffer`, encoded as `specs/DllCheck.antt` says, and gives a status: 0 where it is done,
-/// whatever they come to.
-///
-/// `bytes` is the library. `name` is the name of the DLL, without a folder; where it is empty, that
-/// in its export directory counts. A library that is no archive is refused first.
-///
-/// `length` gets the length of the encoding in bytes, where the status is 0 or 1 (the buffer is too
-/// small), and otherwise 0. `place` gets the offset of the field for which the DLL is no image,
-/// where the status says that it is none, and otherwise 0. Where the status is not 0 the buffer is
-/// as it was, and where it is 0, what follows the encoding.
+/// What the imports of a library, of any maker, come to in the DLL of a file, encoded as
+/// `specs/DllCheck.antt` says. `name` is the name of the DLL, without a folder; where it is empty,
+/// that in its export directory counts. A library that is no archive is refused first; `place` is as
+/// for `implib_exports_nonnull`.
 #[unsafe(no_mangle)]
 pub extern "C" fn implib_check_dll_nonnull(
     alloc: Global,
@@ -429,18 +365,10 @@ pub extern "C" fn implib_check_dll_nonnull(
     tell(&answer, length, place)
 }
 
-/// Puts how a library, of any maker, compares with what a text means under these options at the
-/// beginning of `buffer`, encoded as `specs/Check.antt` says, and gives a status: 0 where it is
-/// done, whatever the verdict. The library is compared as the program `implib_check` does it with
-/// these options: with the library that the program `implib_dlltool` makes of the text.
-///
-/// `bytes` is the library; the other arguments are those of `implib_library_with_nonnull`. The
-/// options are refused first, then bytes that are no archive, and then the text.
-///
-/// `length` gets the length of the encoding in bytes, where the status is 0 or 1 (the buffer is too
-/// small), and otherwise 0. `place` gets an offset in the text, as `implib_library_with_nonnull`
-/// says of it. Where the status is not 0 the buffer is as it was, and where it is 0, what follows
-/// the encoding.
+/// How a library, of any maker, compares with what a text means under these options, encoded as
+/// `specs/Check.antt` says: with the library that the program `implib_dlltool` makes of the text, as
+/// the program `implib_check` does it. The options are refused first, then bytes that are no
+/// archive, and then the text.
 #[unsafe(no_mangle)]
 pub extern "C" fn implib_check_library_nonnull(
     alloc: Global,

@@ -250,8 +250,7 @@ tables_read machine t gives n written tables wide reads = grind (arith, director
 pub tables_end : (machine : MachineType) (t : Tables) (gives : List ℕ → Ask → List ℕ) → AreTables machine t →
     (written : List Range) × ReadsAndWrites t.image (thunk_width machine) gives (length t.tables) t.directory written
 tables_end machine t gives tables =
-    subst (λ n. (written : List Range) × ReadsAndWrites t.image (thunk_width machine) gives n t.directory written) (length-map t.tables imported_by_table)
-    (directory_can_be_read t.image (thunk_width machine) gives t.directory (map imported_by_table t.tables) tables.directory)
+    grind (arith, length-map t.tables imported_by_table, directory_can_be_read t.image (thunk_width machine) gives t.directory (map imported_by_table t.tables) tables.directory, map imported_by_table t.tables)
 
 -- what a loader can write that is handed the imports
 pub tables_can_be_written : (machine : MachineType) (t : Tables) (gives : List ℕ → Ask → List ℕ) → AreTables machine t →

@@ -1,5 +1,5 @@
 -- The whole way for libraries of both flavours, by the laws on it.
-use Rattle.std.proofs.Common.{arith, ◌+◌, ◌*◌, Bool, List, ℕ, map, ◌∙◌, ◌≡◌, true, false, [], ◌∷◌, ◌++◌, Option, None, Some, refl, ap, sym, subst, inl, inr}
+use Rattle.std.proofs.Common.{rules, arith, ◌+◌, ◌*◌, Bool, List, ℕ, map, ◌∙◌, ◌≡◌, true, false, [], ◌∷◌, ◌++◌, Option, None, Some, refl, ap, sym, subst, inl, inr}
 use Rattle.std.specs.List.{AllByRecursion, Contains, IsDistinct, cons_option, filter, filter_map, flat_map, list_any}
 use Rattle.implib.specs.declared.machine.MachineType.{MachineType}
 use Rattle.implib.specs.Formats.Object.{Object, object_in}
@@ -97,9 +97,7 @@ pub lines_lead_to_both : (machine : MachineType) (ending : Ending) (libraries : 
     AreGiven machine libraries (given_with (expanded_in machine) is_given (objects_given inputs) (members_at members taken)) →
     AreLinkedFor machine ending libraries (given_with (expanded_in machine) is_given (objects_given inputs) (members_at members taken)) (others_of is_given (members_at members taken)) arranged bases objects →
     CallsArrive machine ending libraries (given_with (expanded_in machine) is_given (objects_given inputs) (members_at members taken)) (others_of is_given (members_at members taken)) arranged bases objects
-lines_lead_to_both machine ending libraries members inputs is_given taken arranged bases objects searches archive given linked =
-    both_arrive machine ending libraries (given_with (expanded_in machine) is_given (objects_given inputs) (members_at members taken)) (others_of is_given (members_at members taken)) arranged bases objects archive given
-    (takes_of_libraries (expanded_in machine) (archive_of_both libraries) members inputs is_given taken searches) linked
+lines_lead_to_both machine ending libraries members inputs is_given taken arranged bases objects searches archive given linked = search (rules, objects, both_arrive, takes_of_libraries)
 
 -- The way for lld, from the bytes of an archive to the DLL.
 
@@ -418,9 +416,7 @@ module _ (machine : MachineType) (libraries : List Library) (archive : IsMsvcArc
 
 pub bytes_lead_to_lld_calls : (kind : Kind) (linker : LinkerMember) (machine : MachineType) (libraries : List Library) (own : List Object) → HaveArchive kind linker (archive_of libraries) → IsMsvcArchive machine libraries → AreCalledAlike libraries →
     TakesJust kind linker (archive_of libraries) (read_by_lld machine) own (LldArrives machine libraries own)
-bytes_lead_to_lld_calls kind linker machine libraries own ready archive alike =
-    takes_just kind linker (archive_of libraries) (read_by_lld machine) own (LldArrives machine libraries own) ready
-    (lld_arrives machine libraries archive alike own)
+bytes_lead_to_lld_calls kind linker machine libraries own ready archive alike = grind (arith, takes_just, lld_arrives)
 
 -- What lld takes of a command line's files arrives.
 

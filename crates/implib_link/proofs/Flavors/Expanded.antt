@@ -98,8 +98,7 @@ ends_of_null_thunk machine b = record b { lookups = b.lookups + thunk_width mach
 pub placed-descriptor : (machine : MachineType) (dll : NamesOfDll) (b : Bases) (rest : List Object) → AreWide machine b →
     placed_from b (taken_descriptor machine dll ∷ rest) ≡ placed_descriptor machine dll b ∷ placed_from (ends_of_descriptor dll b) rest
 unfolding with_section_symbols object_of descriptor entries_of name_text
-placed-descriptor machine dll b rest even =
-    grind (arith, aligned b.descriptors even.descriptors, aligned b.lookups (of_four machine b.lookups even.lookups), of_four machine b.lookups even.lookups, aligned b.addresses (of_four machine b.addresses even.addresses), of_four machine b.addresses even.addresses, plus_none b.lookups, plus_none b.addresses)
+placed-descriptor machine dll b rest even = grind (arith, aligned, of_four, plus_none)
 
 pub placed-asking : (machine : MachineType) (dll : NamesOfDll) (b : Bases) (symbol : List ℕ) (ask : Ask) (use_kind : Use) (rest : List Object) → AreWide machine b →
     placed_from b (import_object machine dll.text symbol ask use_kind ∷ rest) ≡ placed_asking machine dll b symbol ask use_kind ∷ placed_from (ends_of_asking machine b ask) rest

@@ -10,7 +10,7 @@ use Rattle.implib.specs.Definition.{ExportView, DefinitionView}
 use Rattle.implib.specs.Members.Gnu.{export_object, head_object, tail_object}
 use Rattle.implib.specs.Import.{Ask, Name, Ordinal, imp_symbol, public_exports}
 use Rattle.implib.specs.Formats.Layout.{entries_of, name_text, object_of, HasNoNul}
-use Rattle.implib.specs.Members.Msvc.{short_import_symbols, short_import_symbol, name_type_of, short_import_of}
+use Rattle.implib.specs.Members.Msvc.{short_import_symbols, short_import_of}
 use Rattle.implib.specs.Members.MsvcObjects.{descriptor, descriptor_symbol, null_descriptor, null_descriptor_symbol, null_thunk, null_thunk_symbol}
 use Rattle.implib.specs.Formats.Object.{Object, object_in}
 use Rattle.implib.proofs.Link.LinkedMembers.{among_contains, among_map, exports_fit, members_among, objects_are, symbols_are, among_reverse}
@@ -155,9 +155,7 @@ ask_fits false ordinal text small free = (small, free)
 
 pub export_fits : (machine : MachineType) (e : ExportView) → Sound e → FitsIn Msvc machine e
 unfolding FitsIn
-export_fits machine e good =
-    ask_fits e.no_name e.ordinal _ (ltb-true e.ordinal 0x1_0000 good.ordinal)
-    (asked_free (name_type_of machine e) (short_import_symbol e) (symbol_without_nul e.symbol_name e.name good.symbol_name good.name))
+export_fits machine e good = grind (arith, ask_fits, ltb-true, asked_free, symbol_without_nul)
 
 -- a file that reads as another is taken as that
 taken_by : (machine : MachineType) (bytes : List ℕ) (file : File) → file_in bytes ≡ Some file → expanded_in machine bytes ≡ expanded_as machine file

@@ -41,11 +41,7 @@ abbrev pub bare_symbol : ShortImport → ObjectSymbol
 bare_symbol r = record { name = r.symbol; value = 0; section = 1; kind = 0; class = class_external }
 
 pub thunk_defines : (machine : MachineType) (d : LinkedCode) (r : ShortImport) → IsThunk machine d r → DefinesIn d (bare_symbol r)
-thunk_defines machine d r thunk = record {
-  held = grind (arith, among_contains, among_first);
-  external = refl;
-  here = sym thunk.number;
-}
+thunk_defines machine d r thunk = grind (arith, among_contains, among_first)
 
 module _ (image_base : ℕ) (linked : List Placed) (codes : List LinkedCode) (memory : List Range) (r : ShortImport) (bytes : List ℕ) (d : LinkedCode) (held : Contains codes d) where
   x86_thunk : (machine : MachineType) → length (thunk_code machine) ≡ 6 → (x : InstructionArrives machine image_base linked memory (d.position + 0) (0xFF ∷ 0x25 ∷ []) [] (imp_symbol r.symbol) bytes) →

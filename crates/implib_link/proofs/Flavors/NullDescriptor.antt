@@ -120,8 +120,7 @@ module _ (machine : MachineType) (b : Bases) (xs ys : List Object) (none : AllBy
   unfolding with_section_symbols object_of null_descriptor entries_of name_text ends_behind
   with_null =
       let place : ℕ = next_multiple 4 last.directory_ends in
-      let same : next_multiple 4 last.directory_ends ≡ b.directory_ends =
-      ap (next_multiple 4) (ends_behind_kept b xs (all_parts EndsNothing xs ys none).0) ∙ aligned b.directory_ends even in
+      let same : next_multiple 4 last.directory_ends ≡ b.directory_ends = grind (arith, ends_behind_kept b xs (all_parts EndsNothing xs ys none).0, all_parts EndsNothing xs ys none, aligned) in
       placed_parts b xs (taken_null machine ∷ ys)
       ∙ ap (λ ps. front ++ record { object = taken_null machine; section_addresses = At DirectoryEnds place ∷ [] } ∷ ps) (placed_same (place + 20) last ys (all_parts EndsNothing xs ys none).1)
       ∙ ap (λ n. front ++ record { object = taken_null machine; section_addresses = At DirectoryEnds n ∷ [] } ∷ back) same
@@ -144,12 +143,7 @@ module _ (machine : MachineType) (b : Bases) (xs ys : List Object) (none : AllBy
   -- the null descriptor alone is in `.idata$3`
   ends_are : (linked : List Placed) → contributions machine linked DirectoryEnds (placed_from b (xs ++ taken_null machine ∷ ys)) ≡ record { address = b.directory_ends; bytes = zeros 20 } ∷ []
   unfolding with_section_symbols object_of null_descriptor entries_of name_text
-  ends_are linked =
-      ap (contributions machine linked DirectoryEnds) with_null
-      ∙ flat_insert (contributions_of machine linked DirectoryEnds) front back own
-      ∙ ap (λ cs. cs ++ (record { address = b.directory_ends; bytes = zeros 20 } ∷ contributions machine linked DirectoryEnds back))
-      (objects_none machine linked b xs (all_parts EndsNothing xs ys none).0)
-      ∙ ap (λ cs. record { address = b.directory_ends; bytes = zeros 20 } ∷ cs) (objects_none machine linked last ys (all_parts EndsNothing xs ys none).1)
+  ends_are linked = grind (arith, objects_none machine linked b xs (all_parts EndsNothing xs ys none).0, objects_none machine linked last ys (all_parts EndsNothing xs ys none).1, all_parts EndsNothing xs ys none, with_null, flat_insert)
 
   pub null_filled : (linked : List Placed) →
       filled b.directory_ends (contributions machine linked DirectoryEnds (placed_from b (xs ++ taken_null machine ∷ ys))) ≡ zeros 20

@@ -1,6 +1,6 @@
 -- The members and the null descriptor are a program by themselves.
 use Rattle.std.proofs.lemmas.Grind.{common_steps}
-use Rattle.std.proofs.Common.{rules, ◌≡◌, true, List, [], ◌∷◌, ◌++◌, map, refl, ap, sym, ◌∙◌, subst, ℕ, Option, Some, zero, suc, ◌+◌, length, ◌*◌, ◌-◌, ◌%◌, false, arith, inl, inr, ◌^◌, ◌<◌, ◌≤◌}
+use Rattle.std.proofs.Common.{rules, ◌≡◌, true, List, [], ◌∷◌, ◌++◌, map, refl, ap, sym, ◌∙◌, subst, ℕ, Option, Some, zero, suc, ◌+◌, length, ◌*◌, ◌%◌, false, arith, inl, inr, ◌^◌, ◌<◌, ◌≤◌}
 use Rattle.std.specs.Prelude.{not, bytes_eq, option_map, slice_get}
 use Rattle.std.specs.List.{AllByRecursion, filter, IsDistinct, Contains, flat_map}
 use Rattle.implib.specs.declared.machine.MachineType.{MachineType}
@@ -451,12 +451,7 @@ module _ (machine : MachineType) (b : Bases) (inputs : List FlavorInput) (object
 -- The linker's null descriptor is where the descriptors end.
 linker_null : (machine : MachineType) (linked : List Placed) (ranges : List Range) (b : Bases) → AreAligned b →
     BytesAt ranges b.descriptors (filled b.descriptors (contributions machine linked Descriptors (placed_from b (null_descriptor ∷ [])))) → BytesAt ranges b.descriptors (zeros 20)
-linker_null machine linked ranges b even located =
-    let position : next_multiple 4 b.descriptors ≡ b.descriptors = aligned b.descriptors even.descriptors in
-    let same : b.descriptors - b.descriptors ≡ 0 = omega arith in
-    let all : List ℕ = zeros (next_multiple 4 b.descriptors - b.descriptors) ++ (zeros 20 ++ []) in
-    let is : all ≡ zeros 20 = rw (position, same) refl in
-    subst (BytesAt ranges b.descriptors) is located
+linker_null machine linked ranges b even located = grind (arith, even, located, aligned)
 
 -- whatever ends the directory
 pub null_there : (machine : MachineType) (ending : Ending) (b : Bases) (inputs : List FlavorInput) (objects : List Object) → AllByRecursion (IsMadeFor machine) inputs →

@@ -1,5 +1,5 @@
 -- Parts of instructions, and pages at two bases that differ by whole ones.
-use Rattle.std.proofs.Common.{◌≡◌, ℕ, suc, ◌+◌, ◌-◌, ◌/◌, ◌%◌, ◌^◌, List, [], ◌∷◌, ◌++◌, length, Some, refl, sym, subst, arith, ◌≤◌, ap, ◌∙◌, inr, zero, ◌<◌, Bool, true, false, take, drop, None, inl, ◌*◌, map, Option}
+use Rattle.std.proofs.Common.{rules, ◌≡◌, ℕ, suc, ◌+◌, ◌-◌, ◌/◌, ◌%◌, ◌^◌, List, [], ◌∷◌, ◌++◌, length, Some, refl, sym, subst, arith, ◌≤◌, ap, ◌∙◌, inr, zero, ◌<◌, Bool, true, false, take, drop, None, inl, ◌*◌, map, Option}
 use Rattle.implib.specs.declared.machine.MachineType.TheVariants.{I386, ARMNT, AMD64, ARM64}
 use Rattle.implib.specs.Link.Image.{Range, range_end, byte_at}
 use Rattle.implib.specs.Link.Load.{BytesAt, number_in}
@@ -10,7 +10,7 @@ use Rattle.implib.specs.declared.machine.MachineType.{MachineType}
 use Rattle.implib.specs.Link.Placement.{Placed}
 use Rattle.implib.proofs.Link.LinkedMembers.{among_contains}
 use Rattle.implib.proofs.Link.Ranges.{among_flat, Among}
-use Rattle.implib_link.specs.Gnu.Fields.{AreLinkedBeside, IsRelocated, LinkedCode, range_of_code, ranges_of_codes, amd64_addr64, arm64_addr64, field_width, i386_rel32, FieldHolds, MeetsAlone, meets, HasInstructions, IsAside, moved_by, placed_code, Names, PairArrives, Place, absolute_width, covers, table_places, moved_number, places_at}
+use Rattle.implib_link.specs.Gnu.Fields.{AreLinkedBeside, IsRelocated, LinkedCode, range_of_code, ranges_of_codes, arm64_addr64, field_width, i386_rel32, FieldHolds, MeetsAlone, meets, HasInstructions, IsAside, moved_by, placed_code, Names, PairArrives, Place, absolute_width, covers, table_places, moved_number, places_at}
 use Rattle.implib_link.specs.Gnu.Moves.{AreMoved, AreInMemory, ArePaged, CanBeMoved, places_of_code}
 use Rattle.implib_link.proofs.Gnu.Choices.{PlaceIn, all_widths, can_rebase, places_apart, places_in, places_widths, among_place, apart_back, places_from, covered_bounds, narrow}
 use Rattle.implib_link.proofs.Search.Lists.{contains_among, passes as among_filter, among_filter as filter_among, any_of}
@@ -68,10 +68,7 @@ module _ (machine : MachineType) (image_base : ℕ) (targets : LinkedCode → �
 -- where its code stores an address whole, there is a place
 pub code_places : (machine : MachineType) (codes : List LinkedCode) (c : LinkedCode) (r : Relocation) (width : ℕ) → Contains codes c → Contains c.code.relocations r → absolute_width machine r.kind ≡ Some width →
     Contains (flat_map (places_of_code machine) codes) (record { address = c.position + r.offset; width = width })
-code_places machine codes c r width held m is =
-    among_contains (record { address = c.position + r.offset; width = width }) (flat_map (places_of_code machine) codes)
-    (among_flat (places_of_code machine) c codes (record { address = c.position + r.offset; width = width }) (contains_among c codes held)
-    (among_place machine c.position r width c.code.relocations is (contains_among r c.code.relocations m)))
+code_places machine codes c r width held m is = search (rules, c, is, among_contains, among_flat, contains_among, among_place)
 
 -- at the places where its code stores addresses whole
 pub moved_exists : (machine : MachineType) (from to : ℕ) (image : List Range) (linked : List Placed) (codes : List LinkedCode) (targets : LinkedCode → ℕ → ℕ) → table_places machine linked ≡ [] →
@@ -213,36 +210,19 @@ not_arm64 type width other is same low high = grind arith
 
 pub holds_moved : (machine : MachineType) (type width from to position target : ℕ) (old new : ℕ → ℕ) → absolute_width machine type ≡ Some width → FieldHolds machine type from position target old new →
     FieldHolds machine type to position target old (λ w. moved_number w from to (new w))
-holds_moved I386 type width from to position target old new is holds = record {
-  dir32 = λ dir. moved_by_32 (old 4) (new 4) from to target (holds.dir32 dir);
-  rel32 = λ rel. absurd (not_i386 type width is rel);
-}
+holds_moved I386 type width from to position target old new is holds = grind (arith, is, moved_by_32, not_i386)
 holds_moved ARMNT type width from to position target old new is holds = tt
-holds_moved AMD64 type width from to position target old new is holds = record {
-  addr64 = λ addr. moved_by_64 (old 8) (new 8) from to target (holds.addr64 addr);
-  rel32 = λ further small rel. absurd (not_amd64 type width further is rel);
-}
-holds_moved ARM64 type width from to position target old new is holds = record {
-  addr64 = λ addr. moved_by_64 (old 8) (new 8) from to target (holds.addr64 addr);
-  branch = λ other none near far. absurd (not_arm64 type width 3 is other (omega arith) (omega arith));
-  page_of = λ other. absurd (not_arm64 type width 4 is other (omega arith) (omega arith));
-  offset_of = λ other eight. absurd (not_arm64 type width 7 is other (omega arith) (omega arith));
-}
+holds_moved AMD64 type width from to position target old new is holds = grind (arith, is, moved_by_64, not_amd64)
+holds_moved ARM64 type width from to position target old new is holds = grind (arith, is, moved_by_64, not_arm64)
 
 stored : (machine : MachineType) (type own width : ℕ) → absolute_width machine own ≡ Some width → type ≡ own → absolute_width machine type ≡ None → ⊥
 stored machine type own width whole is none = let same : Some width ≡ None = sym whole ∙ subst (λ t. absolute_width machine t ≡ None) is none in cc
 
 pub holds_steady : (machine : MachineType) (type from to position target : ℕ) (old new : ℕ → ℕ) → absolute_width machine type ≡ None → ArePaged machine from to →
     FieldHolds machine type from position target old new → FieldHolds machine type to position target old new
-holds_steady I386 type from to position target old new none paged holds = record {
-  dir32 = λ dir. absurd (stored I386 type i386_dir32 4 refl dir none);
-  rel32 = holds.rel32;
-}
+holds_steady I386 type from to position target old new none paged holds = grind (arith, stored)
 holds_steady ARMNT type from to position target old new none paged holds = tt
-holds_steady AMD64 type from to position target old new none paged holds = record {
-  addr64 = λ addr. absurd (stored AMD64 type amd64_addr64 8 refl addr none);
-  rel32 = holds.rel32;
-}
+holds_steady AMD64 type from to position target old new none paged holds = grind (arith, stored)
 holds_steady ARM64 type from to position target old new none paged holds = record {
   addr64 = λ addr. absurd (stored ARM64 type arm64_addr64 8 refl addr none);
   branch = holds.branch;

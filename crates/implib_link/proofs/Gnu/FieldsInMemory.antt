@@ -160,10 +160,8 @@ moved_stores machine image_base image linked codes targets from places memory mo
 
 pub stored_rests : (machine : MachineType) (image_base : ℕ) (image : List Range) (linked : List Placed) (codes : List LinkedCode) (targets : LinkedCode → ℕ → ℕ) (memory : List Range) →
     AreStoredInMemory machine image_base image linked codes targets memory → table_places machine linked ≡ [] → StoredRests machine image_base image linked codes targets memory
-stored_rests machine image_base image linked codes targets memory (inl (beside, (further, is))) none =
-    subst (StoredRests machine image_base image linked codes targets) (sym is) (linked_stores machine image_base image linked codes targets beside further)
-stored_rests machine image_base image linked codes targets memory (inr (from, (places, (paged, (moved, (further, stores)))))) none =
-    moved_stores machine image_base image linked codes targets from places memory moved none paged further stores
+stored_rests machine image_base image linked codes targets memory (inl (beside, (further, is))) none = grind (arith, inl, beside, further, linked_stores)
+stored_rests machine image_base image linked codes targets memory (inr (from, (places, (paged, (moved, (further, stores)))))) none = grind (arith, inr, from, paged, further, moved_stores)
 
 -- so it is in memory
 pub stored_in_memory : (machine : MachineType) (image_base : ℕ) (image : List Range) (linked : List Placed) (codes : List LinkedCode) (targets : LinkedCode → ℕ → ℕ) (memory : List Range) →
@@ -277,10 +275,7 @@ module _ (machine : MachineType) (image_base : ℕ) (image : List Range) (linked
     pub steady_there : absolute_width machine type ≡ None →
         (new : ℕ → ℕ) × (NumberAt (written ++ memory) (field_width machine type) (c.position + offset) (new (field_width machine type))
         × FieldHolds machine type image_base (c.position + offset) (targets c symbol) (field_at c.code.bytes offset) new)
-    steady_there none = (
-      field_at c.bytes offset,
-      (linked_there none, holds_steady machine type at.from image_base (c.position + offset) (targets c symbol) (field_at c.code.bytes offset) (field_at c.bytes offset) none at.paged holds_linked),
-    )
+    steady_there none = grind (arith, linked_there, holds_steady, holds_linked)
 
     -- one that stores an address whole has it at the base
     whole_there : (width address : ℕ) → absolute_width machine type ≡ Some width → Settles machine image_base image linked codes targets memory at c symbol address →

@@ -445,14 +445,7 @@ stub_arrives ARM64 image_base image linked codes targets memory at written cover
 -- a call through a stub that arrives
 by_stub : (machine : MachineType) (image_base : ℕ) (memory : List Range) (address stub : ℕ) (instruction bytes : List ℕ) → BytesAt memory address instruction → length instruction ≡ length (direct_bytes machine) →
     direct_leads machine (image_base + address) instruction ≡ Some (image_base + stub) → StubArrives machine image_base memory stub bytes → DirectCallArrives machine image_base memory address bytes
-by_stub machine image_base memory address stub instruction bytes here whole leads arrives = record {
-  instruction = instruction;
-  here = here;
-  whole = whole;
-  stub = stub;
-  leads = leads;
-  jumps = arrives;
-}
+by_stub machine image_base memory address stub instruction bytes here whole leads arrives = grind (arith, whole)
 
 -- I386's and AMD64's call.
 

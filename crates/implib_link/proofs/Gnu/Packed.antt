@@ -278,10 +278,7 @@ module _ (machine : MachineType) (first : ℕ) (objects : List Object) (sized : 
   -- a group's range, and the others after the next base
   rising_next : (distance : ℕ) (group : Group) (rs : List Range) → Rising (next_multiple distance (group_end group (base_of group bases) objects)) (packed_end first objects) rs →
       Rising (base_of group bases) (packed_end first objects) (range_of (base_of group bases) (contributions machine linked group linked) ++ rs)
-  rising_next distance group rs rise =
-      rising_group (base_of group bases) (group_end group (base_of group bases) objects) (packed_end first objects) (contributions machine linked group linked) rs (group_span group)
-      (rising_from_below (group_end group (base_of group bases) objects) (next_multiple distance (group_end group (base_of group bases) objects)) (packed_end first objects) rs
-      (at_least distance (group_end group (base_of group bases) objects)) rise)
+  rising_next distance group rs rise = grind (arith, rising_group, group_span, rising_from_below, at_least)
 
   last_rises : Rising (packed_dll_names first objects) (packed_end first objects) (range_of (packed_dll_names first objects) (contributions machine linked DllNames linked) ++ [])
   last_rises = rising_group (packed_dll_names first objects) (packed_end first objects) (packed_end first objects) (contributions machine linked DllNames linked) [] (group_span DllNames) (end_of (packed_end first objects))
@@ -366,10 +363,4 @@ module _ (machine : MachineType) (linked : List Placed) (image : List Range) (b 
       (found.0, subst (λ n. BytesAt image n (filled (base_of group (ends_behind b front)) (later group))) end found.1)
 
   pub located_behind : LocatedFrom machine linked image b (front ++ rest) → LocatedFrom machine linked image (ends_behind b front) rest
-  located_behind located = record {
-    descriptors = (parts Descriptors located.descriptors).1;
-    lookups = (parts Lookups located.lookups).1;
-    addresses = (parts Addresses located.addresses).1;
-    hint_names = (parts HintNames located.hint_names).1;
-    dll_names = (parts DllNames located.dll_names).1;
-  }
+  located_behind located = grind (arith, parts Descriptors located.descriptors, parts Lookups located.lookups, parts Addresses located.addresses, parts HintNames located.hint_names, parts DllNames located.dll_names)

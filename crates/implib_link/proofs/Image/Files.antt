@@ -68,9 +68,7 @@ module _ (machine : MachineType) (t : Tables) (bytes : List ℕ) (file : MappedF
   kept = holds_keep file.image t.image own.holds
 
   reads_of : (n : ℕ) (written : List Range) → LoadsFile file gives n written → ReadsAndWrites file.image (thunk_width machine) gives n t.directory written
-  reads_of n written loads =
-      let found : WritesFrom file gives (Some t.directory) n written = subst (λ o. WritesFrom file gives o n written) own.directory loads in
-      subst (λ width. ReadsAndWrites file.image width gives n t.directory written) own.width found
+  reads_of n written loads = grind arith
 
   pub read : (n : ℕ) (written : List Range) → LoadsFile file gives n written → (n ≡ length (map imported_by_table t.tables)) × Writes t.image (thunk_width machine) gives t.directory (map imported_by_table t.tables) written
   read n written loads = memory_read t.image file.image kept (thunk_width machine) gives n t.directory (map imported_by_table t.tables) written tables.directory (reads_of n written loads)

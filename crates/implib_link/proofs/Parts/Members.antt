@@ -1,5 +1,5 @@
 -- What is linked of a definition for GNU's linker is a part, and parts that store no address whole are steady.
-use Rattle.std.proofs.Common.{◌≡◌, ℕ, ◌+◌, ◌*◌, ◌-◌, ◌%◌, ◌/◌, ◌^◌, ◌<◌, true, false, List, [], ◌∷◌, ◌++◌, codes, map, Option, Some, None, refl, ap, sym, ◌∙◌, subst, inl, inr, arith, ◌≤◌, zero, suc, length}
+use Rattle.std.proofs.Common.{rules, ◌≡◌, ℕ, ◌+◌, ◌*◌, ◌-◌, ◌%◌, ◌/◌, ◌^◌, ◌<◌, true, false, List, [], ◌∷◌, ◌++◌, codes, map, Option, Some, None, refl, ap, sym, ◌∙◌, subst, inl, inr, arith, ◌≤◌, zero, suc, length}
 use Rattle.std.specs.Prelude.{◌||◌, Bool, bytes_eq, not, slice_get, take, if◌then◌else◌, ◌&&◌, ◌==◌}
 use Rattle.std.specs.List.{AllByRecursion, filter_map, list_all, list_any, Contains, cons_option}
 use Rattle.std.proofs.lemmas.List.{append_assoc}
@@ -96,8 +96,7 @@ tail_named machine dll = rw (same_text (iname_symbol machine dll.linked)) refl
 
 head_name : (machine : MachineType) (dll : NamesOfDll) (more : ExportView → List AddedSymbol) (es : List ExportView) → HasNoNul dll.text → dll_text (after_by machine dll more es) (slice_get (head machine dll).entries 5) ≡ Some dll.text
 unfolding head_object
-head_name machine dll more es free =
-    rw (last_named machine dll more (iname_symbol machine dll.linked) es, tail_named machine dll) (before_nul-ended dll.text [] free)
+head_name machine dll more es free = grind (arith, free, last_named, tail_named, before_nul-ended)
 
 -- An export.
 
@@ -288,10 +287,7 @@ module _ (machine : MachineType) (dll : NamesOfDll) (more : ExportView → List 
   part_stores_none objects es are = grind (arith, and_from, head, head_none, exports_none)
 
 pub members_store_none : (machine : MachineType) (p : LinkInput) → IsMade machine p → list_all (stores_none machine) (part_of machine p).objects ≡ true
-members_store_none machine p made =
-    let dll : NamesOfDll = names_for Gnu p.definition in
-    let es : List ExportView = chosen_exports p.definition p.chosen in
-    part_stores_none machine dll (λ e. []) (part_of machine p).objects es (members_objects machine p made)
+members_store_none machine p made = search (rules, part_stores_none, members_objects)
 
 -- What is linked of a definition whose members have older symbols: members of it, and a part.
 

@@ -245,9 +245,7 @@ module _ (machine : MachineType) (b : Bases) (parts : List Part) (objects : List
 
   group_located : (group : Group) → BytesAt image (base_of group b) (filled (base_of group b) (contributions machine linked group linked)) →
       BytesAt image (base_of group b) (filled (base_of group b) (contributions machine linked group (placed_from b kept)))
-  group_located group located =
-      subst (λ os. BytesAt image (base_of group b) (filled (base_of group b) (contributions machine linked group (placed_from b os)))) program.tables
-      (subst (λ cs. BytesAt image (base_of group b) (filled (base_of group b) cs)) (contributions_kept machine linked group b objects) located)
+  group_located group located = grind (arith, contributions_kept machine linked group b objects, located)
 
   located : LocatedFrom machine linked image b kept
   located =
@@ -276,9 +274,7 @@ module _ (machine : MachineType) (b : Bases) (parts : List Part) (objects : List
       ∙ only_definition d defined m (among_distinct (map (λ (x : SymbolDefinition). x.name) defined) names among program.distinct)
 
   links : PartsLink machine linked image (starts machine b objects program.admissible) (ends machine b objects program.admissible) b parts (null_descriptor ∷ [])
-  links =
-      parts_link machine linked image (starts machine b objects program.admissible) (ends machine b objects program.admissible) parts b (null_descriptor ∷ []) are
-      (even machine b objects program.admissible) located only
+  links = grind (arith, parts_link, starts, ends, even, located, only)
 
   pub parts_tables : AreTables machine (tables_at machine b objects (map (λ (p : Part). p.table) parts))
   parts_tables =

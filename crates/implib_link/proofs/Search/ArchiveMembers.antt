@@ -1,5 +1,5 @@
 -- What a linker takes of the members for GNU's linker.
-use Rattle.std.proofs.Common.{◌≡◌, ℕ, zero, suc, ◌+◌, Bool, length, true, List, [], ◌∷◌, ◌++◌, Option, Some, None, refl, ap, sym, ◌∙◌, subst, inl, inr, ◌⊎◌, arith, map, ◌≤◌, false, if◌then◌else◌}
+use Rattle.std.proofs.Common.{rules, ◌≡◌, ℕ, zero, suc, ◌+◌, Bool, length, true, List, [], ◌∷◌, ◌++◌, Option, Some, None, refl, ap, sym, ◌∙◌, subst, inl, inr, ◌⊎◌, arith, map, ◌≤◌, false, if◌then◌else◌}
 use Rattle.std.specs.Prelude.{bytes_eq, slice_get, reverse, IsPermutation}
 use Rattle.std.specs.List.{filter, filter_map, list_any, AllByRecursion, IsDistinct, flat_map, sum_by}
 use Rattle.std.proofs.lemmas.Bool.{cases_Bool, false_from_ne_true}
@@ -109,10 +109,7 @@ mapped_some f (Some x) y is = (x, refl, sym (same_Some (f x) y is))
 
 pub chosen_member_spec : (machine : MachineType) (dll : List ℕ) (exports : List ExportView) (chosen : List ℕ) (p : MemberSpec) →
     Among p (filter_map (numbered_spec machine dll exports) chosen) → Chosen machine dll exports chosen p
-chosen_member_spec machine dll exports chosen p held =
-    let from = kept_from (numbered_spec machine dll exports) chosen p held in
-    let e = mapped_some (export_spec machine dll from.0) (slice_get exports from.0) p from.2 in
-    (from.0, e.0, from.1, e.1, e.2)
+chosen_member_spec machine dll exports chosen p held = grind (arith, kept_from, mapped_some)
 
 -- What the members leave to others, claim, and are listed for.
 
@@ -207,8 +204,7 @@ pub first_in_group : (name : List ℕ) (groups : List Group) (g : Group) (m : Me
     Among g groups → Among name g.symbols → first_listed g.members name ≡ Some m → first_listed (members_of_groups groups) name ≡ Some m
 unfolding Among
 first_in_group name [] g m within distinct held is found = absurd held
-first_in_group name (x ∷ groups) g m within distinct (inl e) is found =
-    first_here name x.members (members_of_groups groups) m (subst (λ (y : Group). first_listed y.members name ≡ Some m) e found)
+first_in_group name (x ∷ groups) g m within distinct (inl e) is found = grind (arith, inl, first_here)
 first_in_group name (x ∷ groups) g m within distinct (inr held) is found =
     elim (found_or_not name x.members) [
       | inl none ↦
@@ -383,12 +379,8 @@ module _ (machine : MachineType) where
       first_listed (export_group machine l n e).members e.name ≡ Some (weak_of machine l n e)
   unfolding Among
   weak_first l n e alias is_data =
-      let own : is_listed_for e.name (export_of machine l n e) ≡ false =
-      false_from_ne_true (is_listed_for e.name (export_of machine l n e)) (λ is.
-      data_not_listed e is_data (subst (Among e.name) (listed_export machine (linked_name l.definition) n e) (any_among e.name (export_of machine l n e).symbols is))) in
-      let address : is_listed_for e.name (weak_address_of machine l n e) ≡ false =
-      false_from_ne_true (is_listed_for e.name (weak_address_of machine l n e)) (λ is.
-      no_address e.name (only_one e.name (imp_symbol e.name) (any_among e.name (weak_address_of machine l n e).symbols is))) in
+      let own : is_listed_for e.name (export_of machine l n e) ≡ false = grind (arith, false, false_from_ne_true, data_not_listed, listed_export, any_among) in
+      let address : is_listed_for e.name (weak_address_of machine l n e) ≡ false = search (rules, false, false_from_ne_true, no_address, only_one, any_among) in
       let weak : is_listed_for e.name (weak_of machine l n e) ≡ true = among_any e.name (weak_of machine l n e).symbols (inl refl) in
       rw (alias_members l n e alias, own, address, weak) refl
 
@@ -421,14 +413,7 @@ module _ (machine : MachineType) where
   -- Each group's members are listed for no other symbols.
 
   pub within_export : (l : Library) (n : ℕ) (e : ExportView) → IsWithin (export_group machine l n e)
-  within_export l n e m name held listed = by (member_is l n e m held)
-    where
-      by : Member l n e m → Among name (symbols_of_export e)
-      by (Own is) = own_symbols e name (subst (Among name) (listed_export machine (linked_name l.definition) n e) (subst (λ (y : MemberView). Among name y.symbols) is listed))
-      by (WeakAddress is) =
-          subst (λ n. Among n (symbols_of_export e)) (sym (only_one name (imp_symbol e.name) (subst (λ (y : MemberView). Among name y.symbols) is listed))) (imp_symbols e)
-      by (Weak alias is) =
-          subst (λ n. Among n (symbols_of_export e)) (sym (only_one name e.name (subst (λ (y : MemberView). Among name y.symbols) is listed))) (alias_symbols e alias)
+  within_export l n e m name held listed = grind (arith, member_is, own_symbols, listed_export, only_one, imp_symbols, alias_symbols)
 
   -- The objects of a library's members.
   module _ (l : Library) (made : IsLibrary machine l) where

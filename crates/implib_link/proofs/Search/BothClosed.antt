@@ -1,5 +1,5 @@
 -- A closed program of an archive of both flavours links, however a linker reads members.
-use Rattle.std.proofs.Common.{arith, ◌≡◌, ℕ, ◌+◌, ◌*◌, ◌⊎◌, Bool, true, false, List, [], ◌∷◌, ◌++◌, Option, Some, refl, ap, sym, ◌∙◌, subst, inl, inr}
+use Rattle.std.proofs.Common.{rules, arith, ◌≡◌, ℕ, ◌+◌, ◌*◌, ◌⊎◌, Bool, true, false, List, [], ◌∷◌, ◌++◌, Option, Some, refl, ap, sym, ◌∙◌, subst, inl, inr}
 use Rattle.std.specs.Prelude.{◌<◌, ◌^◌, IsPermutation, not, slice_get}
 use Rattle.std.specs.List.{AllByRecursion, Contains, filter}
 use Rattle.std.proofs.lemmas.Bool.{true≢false, not_from_false}
@@ -124,9 +124,7 @@ module _ (machine : MachineType) (libraries : List FlavorLibrary) (archive : IsF
   of_other = listed_other reads members weak taken first_each
 
   pub listed_linked : (name : List ℕ) → Among name (symbols_listed (all_members machine inputs)) → Listed name
-  listed_linked name held =
-      let m = among_flat_map (λ (y : MemberView). y.symbols) name (all_members machine inputs) held in
-      of_other name m.0 (member_other m.0 m.1) m.2
+  listed_linked name held = grind (arith, held, among_flat_map, of_other, member_other)
 
   pub others_claim : (names : List (List ℕ)) → ((name : List ℕ) → Among name names → Listed name) → AllByRecursion (ClaimsNone names) (filter (λ o. not (has_tables o)) objects)
   others_claim names listed = others_claim_none reads members weak taken first_each own (filter (λ o. not (has_tables o)) objects) names is.claims is.others listed
@@ -214,9 +212,7 @@ module _ (machine : MachineType) (libraries : List FlavorLibrary) (archive : IsF
   of_role : (m : MemberView) (flavor : Flavor) (l : Library) (r : Role) → flavor ≡ Gnu → Among (in_flavor flavor l) libraries → IsRole libraries (in_flavor flavor l) r → m ≡ member machine flavor l r →
       expanded_in machine m.bytes ≡ object_in m.bytes
   of_role m Msvc l r is held so same = cc
-  of_role m Gnu l r is held so same =
-      subst (λ (y : MemberView). expanded_in machine y.bytes ≡ object_in y.bytes) (sym same)
-      ((expands machine libraries archive).taken Gnu l r held so ∙ sym (plain_as machine l (made_of machine libraries archive Gnu l held) libraries r so))
+  of_role m Gnu l r is held so same = grind (arith, expands machine libraries archive, plain_as machine l (made_of machine libraries archive Gnu l held) libraries r so, made_of machine libraries archive Gnu l held, held, so, same)
 
   of_linked : (m : MemberView) (l : FlavorLibrary) → l.flavor ≡ Gnu → Among l libraries → IsLinked machine names l m → expanded_in machine m.bytes ≡ object_in m.bytes
   of_linked m l is held (TheTop same) = of_role m l.flavor l.library Top is held tt same
@@ -408,9 +404,4 @@ closed_links_of_both machine ending libraries own taken arranged bases objects a
 pub packed_both : (machine : MachineType) (ending : Ending) (libraries : List FlavorLibrary) (own : List Object) (taken : List MemberView) (arranged : List FlavorLibrary) (first : ℕ) (objects : List Object) →
     IsFlavorArchive machine libraries → AreClosed machine ending libraries own taken arranged objects → 0 < first → packed_end first objects < 2 ^ 31 →
     IsClosed machine ending libraries own taken arranged (packed first objects) objects
-packed_both machine ending libraries own taken arranged first objects archive closed above below =
-    let inputs : List FlavorInput = inputs_in machine arranged own taken in
-    let made : AllByRecursion (IsMadeFor machine) inputs = both_made machine libraries archive arranged closed.order (wanted_for machine own taken) in
-    let program : IsProgramOf machine ending (packed first objects) inputs objects =
-    packed_objects machine ending first inputs objects made (both_held machine ending libraries archive own taken arranged objects closed) above below in
-    record { closed = closed; admissible = program.admissible; lookups = program.lookups; addresses = program.addresses; follows = program.follows }
+packed_both machine ending libraries own taken arranged first objects archive closed above below = search (rules, both_made, packed_objects, both_held)

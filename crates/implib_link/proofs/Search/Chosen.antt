@@ -1,5 +1,5 @@
 -- What is linked of libraries in either flavour, for names that want their exports.
-use Rattle.std.proofs.Common.{◌≡◌, ℕ, ◌<◌, Bool, length, arith, true, List, [], ◌∷◌, map, Option, Some, None, refl, ap, sym, ◌∙◌, subst, inl, inr, ◌⊎◌, ◌+◌, ◌≤◌, ◌++◌}
+use Rattle.std.proofs.Common.{rules, ◌≡◌, ℕ, ◌<◌, Bool, length, arith, true, List, [], ◌∷◌, map, Option, Some, None, refl, ap, sym, ◌∙◌, subst, inl, inr, ◌⊎◌, ◌+◌, ◌≤◌, ◌++◌}
 use Rattle.std.specs.Prelude.{slice_get, IsPermutation, bytes_eq}
 use Rattle.std.specs.List.{cons_option, filter, filter_map, AllByRecursion, IsDistinct, flat_map}
 use Rattle.implib.specs.declared.flavor.Flavor.{Flavor}
@@ -131,12 +131,8 @@ module _ (machine : MachineType) (names : List (List ℕ)) where
   linked_in : (flavor : Flavor) (l : Library) (m : MemberView) → IsLinked machine names (in_flavor flavor l) m → Among m (members_linked machine (input_in names (in_flavor flavor l)))
   linked_in Msvc l m (TheTop same) = as_spec Msvc l m (descriptor_spec machine (names_for Msvc l.definition)) same (among_first _ _)
   linked_in Gnu l m (TheTop same) = as_spec Gnu l m (head_spec machine (linked_name l.definition)) same (among_first _ _)
-  linked_in Msvc l m (TheLast same) =
-      as_spec Msvc l m (null_thunk_spec machine (linked_dll l.definition)) same (among_later _ _ _
-      (among_back _ (map (short_import_spec machine (names_for Msvc l.definition)) (chosen_exports l.definition (imports_wanted l names))) _ (among_first _ _)))
-  linked_in Gnu l m (TheLast same) =
-      as_spec Gnu l m (tail_spec machine (names_for Gnu l.definition)) same (among_later _ _ _
-      (among_back _ (filter_map (numbered_spec machine (linked_name l.definition) (exports_of l)) (exports_wanted l.definition names)) _ (among_first _ _)))
+  linked_in Msvc l m (TheLast same) = search (rules, as_spec, among_later, among_back, map, among_first)
+  linked_in Gnu l m (TheLast same) = search (rules, as_spec, among_later, among_back, among_first)
   linked_in Msvc l m (AnOwn n e is same want) =
       let all : List MemberSpec = map (short_import_spec machine (names_for Msvc l.definition)) (chosen_exports l.definition (imports_wanted l names)) in
       as_spec Msvc l m (short_import_spec machine (names_for Msvc l.definition) e) same (among_later _ _ _ (among_front _ all _
@@ -226,14 +222,7 @@ module _ (machine : MachineType) where
 
   one_more : (name : List ℕ) (names : List (List ℕ)) (flavor : Flavor) (l : Library) (others : List FlavorInput) →
       times name (of_inputs (cons_option (flavor_input names flavor l) others)) ≤ times name (of_library machine flavor l) + times name (of_inputs others)
-  one_more name names flavor l others =
-      subst (λ o. times name (of_inputs (cons_option o others)) ≤ times name (of_library machine flavor l) + times name (of_inputs others)) (sym (input_if flavor names l))
-      (by (numbers_in flavor names l) (library_fewer name names flavor l))
-    where
-      by : (chosen : List ℕ) → IsFewer name flavor l chosen → times name (of_inputs (cons_option (if_any flavor l chosen) others)) ≤ times name (of_library machine flavor l) + times name (of_inputs others)
-      by [] few = omega arith
-      by (n ∷ chosen) few =
-          (let both = times_both name (symbols_of machine flavor (names_for flavor l.definition) (chosen_exports l.definition (n ∷ chosen))) (of_inputs others) in omega arith)
+  one_more name names flavor l others = grind (arith, of_library machine flavor l, input_if flavor names l, library_fewer name names flavor l, times, few, times_both, symbols_of)
 
   inputs_fewer : (name : List ℕ) (libraries : List FlavorLibrary) (names : List (List ℕ)) → times name (of_inputs (flavor_inputs libraries names)) ≤ times name (of_libraries machine libraries)
   unfolding times
@@ -263,8 +252,7 @@ module _ (machine : MachineType) where
           let most : times name (null_of shorts) + times name (of_libraries machine libraries) ≤ 1 = few machine libraries archive name in
           let turned : times name (of_libraries machine arranged) ≡ times name (of_libraries machine libraries) = times_moved (λ (l : FlavorLibrary). of_library machine l.flavor l.library) name libraries arranged moved in
           let less : times name (of_inputs (flavor_inputs arranged names)) ≤ times name (of_libraries machine arranged) = inputs_fewer name arranged names in
-          let some : times name (null_of shorts ++ of_inputs (flavor_inputs arranged names)) ≡ times name (null_of shorts) + times name (of_inputs (flavor_inputs arranged names)) =
-          times_both name (null_of shorts) (of_inputs (flavor_inputs arranged names)) in
+          let some : times name (null_of shorts ++ of_inputs (flavor_inputs arranged names)) ≡ times name (null_of shorts) + times name (of_inputs (flavor_inputs arranged names)) = grind (arith, times, null_of, times_both) in
           omega arith
 
       with_null_distinct : IsDistinct bytes_eq (null_of shorts ++ symbols_listed (all_members machine (flavor_inputs arranged names)))
@@ -274,12 +262,7 @@ module _ (machine : MachineType) where
 
       pub both_distinct : (l : Library) → Among l (msvc_among libraries) → IsDistinct bytes_eq (null_descriptor_symbol ∷ symbols_listed (all_members machine (flavor_inputs arranged names)))
       unfolding Among
-      both_distinct l held = by (msvc_among libraries) held with_null_distinct
-        where
-          by : (ls : List Library) → Among l ls → IsDistinct bytes_eq (null_of ls ++ symbols_listed (all_members machine (flavor_inputs arranged names))) →
-              IsDistinct bytes_eq (null_descriptor_symbol ∷ symbols_listed (all_members machine (flavor_inputs arranged names)))
-          by [] none distinct = absurd none
-          by (x ∷ ls) some distinct = distinct
+      both_distinct l held = grind (arith, with_null_distinct, null_of)
 
       pub members_distinct : IsDistinct bytes_eq (symbols_listed (all_members machine (flavor_inputs arranged names)))
       members_distinct = distinct_later (null_of shorts) (symbols_listed (all_members machine (flavor_inputs arranged names))) with_null_distinct

@@ -1,5 +1,5 @@
 -- What a linker takes for given objects, and a program of both: for any way to read members.
-use Rattle.std.proofs.Common.{arith, ◌≡◌, ℕ, ◌⊎◌, Bool, false, List, [], ◌∷◌, ◌++◌, Option, Some, refl, ap, sym, ◌∙◌, subst, inl, inr}
+use Rattle.std.proofs.Common.{rules, arith, ◌≡◌, ℕ, ◌⊎◌, Bool, false, List, [], ◌∷◌, ◌++◌, Option, Some, refl, ap, sym, ◌∙◌, subst, inl, inr}
 use Rattle.std.specs.Prelude.{bytes_eq, not}
 use Rattle.std.specs.List.{AllByRecursion, Contains, filter, flat_map, list_any}
 use Rattle.std.proofs.lemmas.Bool.{cases_Bool, false_from_ne_true, true≢false, not_from_false}
@@ -223,11 +223,7 @@ module _ (reads : List ℕ → Option Object) (archive : List MemberView) where
     listed_other name m held listed = grind (arith, passing, from_not, listed)
 
     weak_apart : (name : List ℕ) → IsListed name → Among name (flat_map claimed_names (objects_as reads (filter weak taken))) → ⊥
-    weak_apart name m claimed =
-        let x = claimed_listed name (filter weak taken) (λ y held. (passing weak y taken held).0) claimed in
-        let is_weak_one = passing weak x.0 taken x.1 in
-        let same : m.0 ≡ x.0 = same_Some m.0 x.0 (sym ((each_first m.0 m.1).first name m.3) ∙ (each_first x.0 is_weak_one.0).first name x.2) in
-        true≢false (sym is_weak_one.1 ∙ sym (ap weak same) ∙ m.2)
+    weak_apart name m claimed = search (rules, claimed_listed, passing, same_Some, true≢false)
 
     -- objects that are given or of weak externals claim none of such names, where the given ones do not
     pub others_claim_none : (own others : List Object) (names : List (List ℕ)) → AllByRecursion (ClaimsNone (listed_in taken ++ left_as reads taken)) own →
@@ -332,9 +328,7 @@ module _ (reads : List ℕ → Option Object) (archive : List MemberView) where
       -- a name that the program leaves is left by what is given and taken
       pub still_unresolved : (name : List ℕ) → Contains (unresolved objects) name → Among name (unresolved (own ++ objects_as reads taken))
       unfolding undefined_in
-      still_unresolved name left =
-          let parts = unresolved_parts objects name (contains_among name (unresolved objects) left) in
-          unresolved_from (own ++ objects_as reads taken) name (from_sources undefined_in refl name parts.0) (λ claimed. parts.1 (into_objects claimed_names name claimed))
+      still_unresolved name left = grind (arith, unresolved_parts, contains_among, unresolved_from, from_sources, into_objects)
 
       -- no name is left that the archive lists
       pub none_left : TakesIntoAs reads archive own taken → (name : List ℕ) → Contains (unresolved objects) name → Contains (listed_in archive) name → ⊥

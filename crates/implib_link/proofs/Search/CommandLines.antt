@@ -69,22 +69,13 @@ module _ (reads : List ℕ → Option Object) (members : List MemberView) where
   Keeps some before after = (n : ℕ) → (Among n before → Among n after) × (Among n after → Among n before ⊎ Among n some)
 
   keeps_on : (first second before between after : List ℕ) → Keeps first before between → Keeps second between after → Keeps (first ++ second) before after
-  keeps_on first second before between after one two n = (
-    λ held. (two n).0 ((one n).0 held),
-    λ held. elim ((two n).1 held) [
-      | inl held ↦ grind (arith, among_front)
-      | inr new ↦ inr (among_back n first second new)
-    ],
-  )
+  keeps_on first second before between after one two n = grind (arith, inl, among_front, inr, among_back)
 
   keeps_same : (some before after : List ℕ) → before ≡ after → Keeps some before after
   keeps_same some before after is n = (λ held. subst (Among n) is held, λ held. inl (subst (Among n) (sym is) held))
 
   archive_keeps : (own : List Object) (archive before after : List ℕ) → IsSwept reads members own archive before after → Keeps archive before after
-  archive_keeps own archive before after is n = (
-    λ held. subst (Among n) is.taken (sweeps_keep reads members own (index_at members archive) is.count before n held),
-    λ held. sweeps_add own archive is.count before n (subst (Among n) (sym is.taken) held),
-  )
+  archive_keeps own archive before after is n = search (rules, sweeps_keep, sweeps_add)
 
   archives_keep : (own : List Object) (archives : List (List ℕ)) (before after : List ℕ) → AreSwept reads members own archives before after → Keeps (numbers_of (Archives archives)) before after
   unfolding AreSwept
@@ -410,10 +401,7 @@ module _ (reads : List ℕ → Option Object) (members : List MemberView) where
         subst (λ y. Among y other) (sym here) (one_taken taken other is.0.0 m first is.0.1 (λ y held. all_taken taken other first is.1 takes y held) takes)
 
     pub searches_alike : (taken other : List MemberView) → AreFirst members (names_left reads own taken) taken → AreFirst members (names_left reads own other) other → TakesIntoAs reads members own taken → TakesIntoAs reads members own other → HaveSame taken other
-    searches_alike taken other first second one two x = (
-      λ held. among_contains x other (all_taken taken other second one.in_turn two x (contains_among x taken held)),
-      λ held. among_contains x taken (all_taken other taken first two.in_turn one x (contains_among x other held)),
-    )
+    searches_alike taken other first second one two x = grind (arith, among_contains, all_taken, contains_among)
 
     -- Members that are taken are as if they were given.
 
@@ -435,11 +423,7 @@ module _ (reads : List ℕ → Option Object) (members : List MemberView) where
 
       -- a member is among those that are given or among the others
       given_or_not : (some : List MemberView) (x : MemberView) → Among x some → Among x (filter is_given some) ⊎ Among x (others_of is_given some)
-      given_or_not some x held =
-          elim (cases_Bool (is_given x)) [
-            | inl is ↦ inl (passes is_given x some held is)
-            | inr is ↦ inr (passes (λ m. not (is_given m)) x some held (not_from_false (is_given x) is))
-          ]
+      given_or_not some x held = search (rules, cases_Bool, inl, passes, inr, not_from_false)
 
       -- names of members' objects, by which list they are in
       names_apart : (f : Object → List (List ℕ)) (some full : List MemberView) (name : List ℕ) → ((x : MemberView) → Among x some → Among x full) → Among name (flat_map f (objects_as reads some)) →
@@ -567,15 +551,11 @@ module _ (reads : List ℕ → Option Object) (of_libraries members : List Membe
 pub takes_alike : (reads : List ℕ → Option Object) (members : List MemberView) (inputs : List Input) (taken : List ℕ) (other : List MemberView) → TakesFirst members (names_left reads (objects_given inputs) (members_at members taken)) taken →
     AreFirst members (names_left reads (objects_given inputs) other) other → AreListedWhole reads members → AreUnclaimedBehind members [] inputs → IsOrdered reads members inputs → SearchesCommandLine reads members inputs taken →
     TakesIntoAs reads members (objects_given inputs) other → HaveSame (members_at members taken) other
-takes_alike reads members inputs taken other first second whole none ordered gnu lld =
-    searches_alike reads members (objects_given inputs) whole (members_at members taken) other (first_by_numbers members (names_left reads (objects_given inputs) (members_at members taken)) taken first) second
-    (gnu_searches reads members inputs taken first none ordered gnu) lld
+takes_alike reads members inputs taken other first second whole none ordered gnu lld = search (rules, searches_alike, first_by_numbers, gnu_searches)
 
 -- Where all symbols differ, each member is the first for its names.
 pub first_of_distinct : (members : List MemberView) (names : List (List ℕ)) (taken : List ℕ) → IsDistinct bytes_eq (all_listed members) → TakesFirst members names taken
-first_of_distinct members names taken distinct name n k m x left held at listed other again =
-    let same : n ≡ k = once_by members name distinct n k m x at (contains_among name m.symbols listed) other (contains_among name x.symbols again) in omega arith
+first_of_distinct members names taken distinct name n k m x left held at listed other again = grind (arith, contains_among name m.symbols listed, contains_among name x.symbols again, once_by)
 
 pub are_first_of_distinct : (members : List MemberView) (names : List (List ℕ)) (taken : List MemberView) → IsDistinct bytes_eq (all_listed members) → ((x : MemberView) → Among x taken → Among x members) → AreFirst members names taken
-are_first_of_distinct members names taken distinct are name m left held listed =
-    listed_once members name m distinct (are m (contains_among m taken held)) (contains_among name m.symbols listed)
+are_first_of_distinct members names taken distinct are name m left held listed = search (rules, listed_once, contains_among)

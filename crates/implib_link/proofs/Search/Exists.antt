@@ -2,7 +2,7 @@
 use Rattle.std.proofs.lemmas.Grind.{common_steps}
 use Rattle.std.proofs.Common.{◌≡◌, ℕ, ◌+◌, ◌-◌, ◌%◌, ◌<◌, ◌≤◌, List, [], ◌∷◌, ◌++◌, length, map, Option, Some, None, refl, ap, sym, ◌∙◌, subst, inl, inr, arith, if◌then◌else◌, Bool, true, false, ◌^◌}
 use Rattle.std.specs.Prelude.{not, unwrap_or, IsPermutation}
-use Rattle.std.specs.List.{filter, sum_by, before_first, position_or_len, AllByRecursion, cons_option, Contains}
+use Rattle.std.specs.List.{filter, sum_by, before_first, position_or_len, AllByRecursion, cons_option}
 use Rattle.std.proofs.Math.Nat.{mod-lt}
 use Rattle.std.proofs.lemmas.List.{length-append, length-replicate, append-nil, append_assoc}
 use Rattle.std.proofs.lemmas.List.Filters.{sum_by-filter_both}
@@ -272,13 +272,7 @@ kept_near : (machine : MachineType) (ending : Ending) (inputs : List FlavorInput
     linked_rooms machine inputs (rest_of ending) ≤ room + all_rooms (rest_of ending) → all_rooms (filter has_tables objects) ≤ room + 24
 unfolding all_rooms
 kept_near machine OfLinker inputs objects room made ended rooms = grind (arith, linker_null_near, linker_kept, made)
-kept_near machine OfMember inputs objects room made ended rooms =
-    let front : List Object = objects_taken machine ended.before in
-    let back : List Object = objects_taken machine ended.behind in
-    let put : all_rooms (front ++ taken_null machine ∷ back) ≡ own_rooms (taken_null machine) + all_rooms (front ++ back) = rooms_put front back (taken_null machine) in
-    let parts : all_rooms (front ++ back) ≡ linked_rooms machine inputs [] = ap all_rooms (parts_are machine inputs objects made ended) in
-    let null = null_near machine in
-    subst (λ os. all_rooms os ≤ room + 24) (sym (kept_are machine inputs objects made ended)) (omega arith)
+kept_near machine OfMember inputs objects room made ended rooms = grind (arith, taken_null machine, parts_are machine inputs objects made ended, kept_are machine inputs objects made ended, made, rooms_put, null_near)
 
 -- packed, they end as far as their room reaches
 pub tables_near : (machine : MachineType) (ending : Ending) (first : ℕ) (libraries arranged : List FlavorLibrary) (names : List (List ℕ)) (objects : List Object) →
@@ -313,9 +307,7 @@ tables_last own weak tables plain none all = grind (arith, append_assoc, filter-
 
 pub others_first : (own weak tables : List Object) → NoneHave own → NoneHave weak → AllByRecursion (λ o. has_tables o ≡ true) tables →
     HaveSame (filter (λ o. not (has_tables o)) (own ++ (weak ++ tables))) (own ++ weak)
-others_first own weak tables plain none all =
-    let are : filter (λ o. not (has_tables o)) (own ++ (weak ++ tables)) ≡ own ++ weak = grind (arith, append_assoc, filter-append, none_left, append-nil, plain_left, all_append) in
-    λ o. (λ held. subst (λ zs. Contains zs o) are held, λ held. subst (λ zs. Contains zs o) (sym are) held)
+others_first own weak tables plain none all = grind (arith, append_assoc, filter-append, none_left, append-nil, plain_left, all_append)
 
 -- The objects of a program, packed where there is room for the libraries' tables.
 module _ (machine : MachineType) (ending : Ending) (libraries arranged : List FlavorLibrary) (names : List (List ℕ)) (first : ℕ) (objects : List Object) (made : AllByRecursion (IsMadeFor machine) (flavor_inputs arranged names))

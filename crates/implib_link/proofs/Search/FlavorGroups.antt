@@ -1,5 +1,5 @@
 -- Libraries for GNU's linker that are named apart are an archive.
-use Rattle.std.proofs.Common.{◌≡◌, ℕ, ◌+◌, ◌≤◌, ◌⊎◌, true, false, List, [], ◌∷◌, ◌++◌, map, refl, ap, sym, ◌∙◌, subst, inl, inr, arith, codes, Some, Bool, Option}
+use Rattle.std.proofs.Common.{rules, ◌≡◌, ℕ, ◌+◌, ◌≤◌, ◌⊎◌, true, false, List, [], ◌∷◌, ◌++◌, map, refl, ap, sym, ◌∙◌, subst, inl, inr, arith, codes, Some, Bool, Option}
 use Rattle.std.specs.Prelude.{bytes_eq, not, reverse, ◌==◌, ◌&&◌, slice_get}
 use Rattle.std.specs.List.{AllByRecursion, IsDistinct, flat_map, list_any, cons_option}
 use Rattle.std.proofs.lemmas.Bool.{cases_Bool, false_from_ne_true, true≢false}
@@ -11,7 +11,6 @@ use Rattle.implib.specs.declared.machine.MachineType.TheVariants.{I386, ARMNT, A
 use Rattle.implib.specs.Definition.{ExportView}
 use Rattle.implib.specs.Import.{imp_symbol, is_alias, underscore}
 use Rattle.implib.specs.Members.Gnu.{head_symbol, iname_symbol, mangled_name}
-use Rattle.implib.specs.Underscore.{leading_underscore}
 use Rattle.implib.proofs.Link.Ranges.{Among, all_among, among_back, among_front, among_first, among_flat, among_later}
 use Rattle.implib_link.specs.Search.Search.{IsArchive, IsLibrary, Library, exports_of, symbols_of_export, symbols_of_library, archive_of, first_listed, is_listed_for, has_weak, undefined_in}
 use Rattle.implib_link.specs.Search.Libraries.{heads_of, tails_of, FlavorLibrary, IsFlavorArchive, archive_of_both, gnu_among, msvc_among, IsMsvcArchive, symbols_of_all_shorts, if_gnu, if_msvc, symbols_of_shorts, is_weak_in}
@@ -63,30 +62,21 @@ h_is_no_i xs ys same = two_numbers 0x68 0x69 0x68 0x69 (first_byte 0x68 0x69 xs 
 
 tail_no_head : (machine : MachineType) (dll other : List ℕ) → begins_plain (mangled_name dll) ≡ true → iname_symbol machine dll ≡ head_symbol machine other → ⊥
 unfolding iname_symbol head_symbol
-tail_no_head machine dll other plain same =
-    plain_apart (mangled_name dll) (codes "_iname") (codes "head_" ++ mangled_name other) plain
-    (append_cancel_left (leading_underscore machine) (mangled_name dll ++ codes "_iname") (codes "_head_" ++ mangled_name other) same)
+tail_no_head machine dll other plain same = grind (arith, same, plain_apart, codes, append_cancel_left)
 
 tail_no_imp : (machine : MachineType) (dll name : List ℕ) → begins_plain (mangled_name dll) ≡ true → iname_symbol machine dll ≡ imp_symbol name → ⊥
 unfolding iname_symbol
-tail_no_imp I386 dll name plain same =
-    plain_apart (mangled_name dll) (codes "_iname") (codes "imp_" ++ name) plain (later_bytes underscore underscore (mangled_name dll ++ codes "_iname") (codes "_imp_" ++ name) same)
+tail_no_imp I386 dll name plain same = grind (arith, same, plain_apart, codes, later_bytes)
 tail_no_imp ARMNT dll name plain same = plain_apart (mangled_name dll) (codes "_iname") (codes "_imp_" ++ name) plain same
 tail_no_imp AMD64 dll name plain same = plain_apart (mangled_name dll) (codes "_iname") (codes "_imp_" ++ name) plain same
 tail_no_imp ARM64 dll name plain same = plain_apart (mangled_name dll) (codes "_iname") (codes "_imp_" ++ name) plain same
 
 head_no_imp : (machine : MachineType) (dll name : List ℕ) → head_symbol machine dll ≡ imp_symbol name → ⊥
 unfolding head_symbol
-head_no_imp I386 dll name same =
-    h_is_no_i (codes "ead_" ++ mangled_name dll) (codes "mp_" ++ name)
-    (later_bytes underscore underscore (codes "head_" ++ mangled_name dll) (codes "imp_" ++ name)
-    (later_bytes underscore underscore (codes "_head_" ++ mangled_name dll) (codes "_imp_" ++ name) same))
-head_no_imp ARMNT dll name same =
-    h_is_no_underscore (codes "ead_" ++ mangled_name dll) (codes "imp_" ++ name) (later_bytes underscore underscore (codes "head_" ++ mangled_name dll) (codes "_imp_" ++ name) same)
-head_no_imp AMD64 dll name same =
-    h_is_no_underscore (codes "ead_" ++ mangled_name dll) (codes "imp_" ++ name) (later_bytes underscore underscore (codes "head_" ++ mangled_name dll) (codes "_imp_" ++ name) same)
-head_no_imp ARM64 dll name same =
-    h_is_no_underscore (codes "ead_" ++ mangled_name dll) (codes "imp_" ++ name) (later_bytes underscore underscore (codes "head_" ++ mangled_name dll) (codes "_imp_" ++ name) same)
+head_no_imp I386 dll name same = grind (arith, same, h_is_no_i, codes, later_bytes)
+head_no_imp ARMNT dll name same = grind (arith, same, h_is_no_underscore, codes, later_bytes)
+head_no_imp AMD64 dll name same = grind (arith, same, h_is_no_underscore, codes, later_bytes)
+head_no_imp ARM64 dll name same = grind (arith, same, h_is_no_underscore, codes, later_bytes)
 
 -- Texts that differ where others do.
 
@@ -105,13 +95,11 @@ distinct_mapped {X = X} g h back (x ∷ xs) distinct = (others xs distinct.0, di
 
 stem_of_tail : (machine : MachineType) (l k : Library) → iname_symbol machine (linked_name l.definition) ≡ iname_symbol machine (linked_name k.definition) → stem l ≡ stem k
 unfolding iname_symbol
-stem_of_tail machine l k same =
-    append_cancel_right (stem l) (stem k) (codes "_iname") (append_cancel_left (leading_underscore machine) (stem l ++ codes "_iname") (stem k ++ codes "_iname") same)
+stem_of_tail machine l k same = grind (arith, same, append_cancel_right, codes, append_cancel_left)
 
 stem_of_head : (machine : MachineType) (l k : Library) → head_symbol machine (linked_name l.definition) ≡ head_symbol machine (linked_name k.definition) → stem l ≡ stem k
 unfolding head_symbol
-stem_of_head machine l k same =
-    append_cancel_left (codes "_head_") (stem l) (stem k) (append_cancel_left (leading_underscore machine) (codes "_head_" ++ stem l) (codes "_head_" ++ stem k) same)
+stem_of_head machine l k same = grind (arith, same, append_cancel_left, codes)
 
 map_same : (names : List (List ℕ)) → map (λ (name : List ℕ). name) names ≡ names
 map_same [] = refl
@@ -168,8 +156,7 @@ module _ (machine : MachineType) where
 
     -- a name of an export is no symbol that is made of a name
     plain_name : (name : List ℕ) → Among name names → Among name (tails ++ (heads ++ imps)) → ⊥
-    plain_name name held made =
-        there_not name (tails ++ (heads ++ imps)) (all_among (λ n. list_any (bytes_eq n) (tails_of machine libraries ++ (heads_of machine libraries ++ map imp_symbol (names_in libraries))) ≡ false) name names held apart.plain) made
+    plain_name name held made = search (rules, held, there_not, all_among, map, false)
 
     names_and_imps : IsDistinct bytes_eq (names_in libraries ++ map imp_symbol (names_in libraries))
     names_and_imps =
@@ -211,10 +198,7 @@ module _ (machine : MachineType) where
         omega arith
 
 pub named_apart : (machine : MachineType) (libraries : List Library) → AllByRecursion (IsLibrary machine) libraries → AreNamedApart machine libraries → IsArchive machine libraries
-named_apart machine libraries made apart = record {
-  made = made;
-  distinct = distinct_from (flat_map (symbols_of_library machine) libraries) (listed_few machine libraries apart);
-}
+named_apart machine libraries made apart = grind (arith, distinct_from, listed_few)
 
 -- An archive of libraries for one linker is one of libraries in either flavour. Of those for GNU's a linker that reads members as
 -- objects alone takes each member for what others do.
@@ -242,11 +226,7 @@ short_members libraries = members_of_flavor Msvc libraries
 
 pub shorts_archive : (machine : MachineType) (libraries : List Library) → IsMsvcArchive machine libraries → IsFlavorArchive machine (short_libraries libraries)
 unfolding IsDistinct
-shorts_archive machine libraries archive = record {
-  gnu = subst (IsArchive machine) (sym (no_gnu libraries)) (record { made = tt; distinct = tt });
-  msvc = subst (IsMsvcArchive machine) (sym (shorts_alone libraries)) archive;
-  apart = subst (λ ls. AllByRecursion (λ name. list_any (bytes_eq name) (symbols_of_all_shorts (msvc_among (short_libraries libraries))) ≡ false) (flat_map (symbols_of_library machine) ls)) (sym (no_gnu libraries)) tt;
-}
+shorts_archive machine libraries archive = grind (arith, no_gnu, shorts_alone, false)
 
 -- An archive of both flavours as groups of members: of each library the member with its descriptor, the one that ends its tables, and
 -- the members of each export. The null descriptors are apart.
@@ -269,14 +249,10 @@ module _ (libraries : List FlavorLibrary) where
   msvc_there l held = kept_into (λ (x : FlavorLibrary). if_msvc x.flavor x.library) libraries l (in_flavor Msvc l) held refl
 
   pub there_gnu : (l : Library) → Among l (gnu_among libraries) → Among (in_flavor Gnu l) libraries
-  there_gnu l held =
-      let from = kept_from (λ (x : FlavorLibrary). if_gnu x.flavor x.library) libraries l held in
-      subst (λ (x : FlavorLibrary). Among x libraries) (sym (gnu_is from.0.flavor from.0.library l from.2)) from.1
+  there_gnu l held = grind (arith, held, kept_from, gnu_is)
 
   pub there_msvc : (l : Library) → Among l (msvc_among libraries) → Among (in_flavor Msvc l) libraries
-  there_msvc l held =
-      let from = kept_from (λ (x : FlavorLibrary). if_msvc x.flavor x.library) libraries l held in
-      subst (λ (x : FlavorLibrary). Among x libraries) (sym (msvc_is from.0.flavor from.0.library l from.2)) from.1
+  there_msvc l held = grind (arith, held, kept_from, msvc_is)
 
   pub first_held : (l : Library) (rest : List Library) → msvc_among libraries ≡ l ∷ rest → Among l (msvc_among libraries)
   first_held l rest is = subst (Among l) (sym is) (among_first l rest)
@@ -455,10 +431,8 @@ module _ (machine : MachineType) where
       times name (of_libraries rest) ≡ times name (flat_map (symbols_of_library machine) (gnu_among rest)) + times name (flat_map symbols_of_shorts (msvc_among rest)) →
       times name (of_library flavor l) + times name (of_libraries rest)
       ≡ times name (flat_map (symbols_of_library machine) (cons_option (if_gnu flavor l) (gnu_among rest))) + times name (flat_map symbols_of_shorts (cons_option (if_msvc flavor l) (msvc_among rest)))
-  sums_first name Msvc l rest later =
-      (let both = times_both name (symbols_of_shorts l) (flat_map symbols_of_shorts (msvc_among rest)) in omega arith)
-  sums_first name Gnu l rest later =
-      (let both = times_both name (symbols_of_library machine l) (flat_map (symbols_of_library machine) (gnu_among rest)) in omega arith)
+  sums_first name Msvc l rest later = grind (arith, times_both)
+  sums_first name Gnu l rest later = grind (arith, times_both)
 
   sums : (name : List ℕ) (libraries : List FlavorLibrary) →
       times name (of_libraries libraries) ≡ times name (flat_map (symbols_of_library machine) (gnu_among libraries)) + times name (flat_map symbols_of_shorts (msvc_among libraries))
@@ -647,8 +621,7 @@ module _ (machine : MachineType) (libraries : List FlavorLibrary) (archive : IsF
   finds Gnu l (Own n e) name held is listed = export_finds machine libraries archive Gnu l n e name _ held is.0 (own_symbols e name listed) (own_first machine l n e name listed)
   finds Msvc l (Own n e) name held is listed = export_finds machine libraries archive Msvc l n e name _ held is.0 (short_symbol e name is.1 listed) (short_first machine l e name is.1 listed)
   finds Gnu l (Weak n e true) name held is listed = absurd is.1
-  finds Gnu l (Weak n e false) name held is listed =
-      as_one name e.name _ listed (export_finds machine libraries archive Gnu l n e e.name _ held is.0 (alias_symbols e is.1.0) (weak_first machine l n e is.1.0 is.1.1))
+  finds Gnu l (Weak n e false) name held is listed = search (rules, false, held, is, listed, as_one, export_finds, alias_symbols, weak_first)
   finds Msvc l (Weak n e b) name held is listed =
       as_one name (weak_symbol Msvc e b) _ listed (export_finds machine libraries archive Msvc l n e (weak_symbol Msvc e b) _ held is.0
       (pair_symbol e (weak_symbol Msvc e b) (weak_target e b) is.1 (pair e b)) (pair_first machine l e (weak_symbol Msvc e b) (weak_target e b) is.1 (pair e b)))
@@ -666,20 +639,13 @@ module _ (machine : MachineType) (libraries : List FlavorLibrary) (archive : IsF
 
   module _ (reads : List ℕ → Option Object) (weak : MemberView → Bool) (reader : IsReader reads weak) (m : MemberView) (x : HasRole m) where
     pub weak_by_role : weak m ≡ is_weak_role x.role
-    weak_by_role =
-        reader.weak_is m
-        ∙ ap has_weak (ap (λ (y : MemberView). reads y.bytes) x.same ∙ reader.taken x.library.flavor x.library.library x.role x.held x.is)
-        ∙ weak_as machine x.library.flavor x.library.library x.role
+    weak_by_role = grind (arith, weak_as)
 
     pub left_by_role : (o : Object) (name : List ℕ) → reads m.bytes ≡ Some o → Among name (undefined_in o) → Among name (left machine x.library.flavor x.library.library x.role)
-    left_by_role o name read held =
-        names_read reads undefined_in (left machine x.library.flavor x.library.library x.role) name m _ o _ x.same (reader.taken x.library.flavor x.library.library x.role x.held x.is) read
-        (left_as_role machine x.library.flavor x.library.library x.role (by_name x.library.flavor x.library.library x.held)) held
+    left_by_role o name read held = grind (arith, held, names_read, left, left_as_role, by_name)
 
     pub tables_by_role : (o : Object) → reads m.bytes ≡ Some o → has_tables o ≡ not (is_weak_role x.role)
-    tables_by_role o read =
-        tables_read reads (not (is_weak_role x.role)) m _ o _ x.same (reader.taken x.library.flavor x.library.library x.role x.held x.is) read
-        (tables_as machine x.library.flavor x.library.library x.role)
+    tables_by_role o read = grind (arith, tables_read, is_weak_role, tables_as)
 
     pub first_by_role : IsFirstAs reads (archive_of_both libraries) m
     first_by_role =

@@ -145,11 +145,7 @@ module _ (reads : List ℕ → Option Object) where
           ]
 
       pub left : (taken : List MemberView) (name : List ℕ) → Contains (left_plainly reads own taken) name → (Contains (unresolved (own ++ objects_as reads taken)) name → ⊥) → IsWeakAmong reads taken name
-      left taken name held not_left =
-          elim (either taken name held) [
-            | inl other ↦ absurd (not_left other)
-            | inr by ↦ (by.member, by.object, among_contains by.member taken by.held, by.taken, among_contains name (weak_names by.object) by.among)
-          ]
+      left taken name held not_left = grind (arith, either taken name held, inl, inr, among_contains)
 
       module _ (archive : List MemberView) where
         pulls_plain : (taken : List MemberView) (name : List ℕ) (m : MemberView) → PullsIntoAs reads archive own taken name m → PullsIntoAs (plainly reads) archive (map without_weak own) taken name m
@@ -158,13 +154,7 @@ module _ (reads : List ℕ → Option Object) where
         -- a weak external of a member that is taken pulls in none
         pulls_weak : (taken : List MemberView) → AreFirst reads archive taken → (name : List ℕ) (m : MemberView) → PullsIntoAs (plainly reads) archive (map without_weak own) taken name m →
             PullsIntoAs reads archive own taken name m
-        pulls_weak taken first name m pulls =
-            elim (either taken name pulls.named) [
-              | inl named ↦ record { named = named; listed = pulls.listed; new = pulls.new }
-              | inr by ↦
-                  let same : by.member ≡ m = same_Some by.member m (sym (first by.member by.object name by.held by.taken by.among) ∙ pulls.listed) in
-                  absurd (pulls.new (among_contains m taken (subst (λ x. Among x taken) same by.held)))
-            ]
+        pulls_weak taken first name m pulls = grind (arith, either taken name pulls.named, inl, inr, same_Some, among_contains)
 
         turn_plain : (taken : List MemberView) → AreTakenIntoAs reads archive own taken → AreTakenIntoAs (plainly reads) archive (map without_weak own) taken
         unfolding AreTakenIntoAs
@@ -215,10 +205,8 @@ module _ (machine : MachineType) (libraries : List FlavorLibrary) (archive : IsF
 
   pub libraries_plain : (own : List Object) (taken : List MemberView) → HaveNoWeak own → TakesIntoFor machine (archive_of_both libraries) own taken →
       TakesPlainly (expanded_in machine) (archive_of_both libraries) own taken
-  libraries_plain own taken none takes =
-      plain_takes (expanded_in machine) own none (archive_of_both libraries) taken (are_first (expanded_in machine) own taken takes.in_turn) takes
+  libraries_plain own taken none takes = search (rules, plain_takes, are_first)
 
   pub libraries_weak : (own : List Object) (taken : List MemberView) → HaveNoWeak own → TakesPlainly (expanded_in machine) (archive_of_both libraries) own taken →
       TakesIntoFor machine (archive_of_both libraries) own taken
-  libraries_weak own taken none takes =
-      weak_takes (expanded_in machine) own none (archive_of_both libraries) taken (are_first (plainly (expanded_in machine)) (map without_weak own) taken takes.in_turn) takes
+  libraries_weak own taken none takes = search (rules, weak_takes, are_first, map)

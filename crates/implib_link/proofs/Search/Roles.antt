@@ -1,5 +1,5 @@
 -- The members of a library in either flavour, by their roles: what each is listed for, and what a linker takes it for.
-use Rattle.std.proofs.Common.{arith, ◌≡◌, ℕ, Bool, true, false, List, [], ◌∷◌, Some, refl, ap, sym, ◌∙◌, inl, inr}
+use Rattle.std.proofs.Common.{rules, arith, ◌≡◌, ℕ, Bool, true, false, List, [], ◌∷◌, Some, refl, ap, sym, ◌∙◌, inl, inr}
 use Rattle.std.specs.Prelude.{not, slice_get}
 use Rattle.implib.specs.declared.flavor.Flavor.{Flavor}
 use Rattle.implib.specs.declared.flavor.Flavor.TheVariants.{Gnu, Msvc}
@@ -248,5 +248,4 @@ taken_as machine libraries Msvc l Top made is = descriptor_is machine l made
 taken_as machine libraries Msvc l Last made is = thunk_is machine l made
 taken_as machine libraries Msvc l Null made is = null_is machine l made
 taken_as machine libraries Msvc l (Own n e) made is = short_is machine l made e (among_at e (exports_of l) n is.0)
-taken_as machine libraries Msvc l (Weak n e b) made is =
-    weak_is machine l made e (weak_symbol Msvc e b) (weak_target e b) (among_at e (exports_of l) n is.0) is.1 (pair e b)
+taken_as machine libraries Msvc l (Weak n e b) made is = search (rules, weak_is, among_at, pair)

@@ -98,11 +98,7 @@ entry_number number (Some m) e held =
 
 -- an entry of an index is of a member of its numbers
 pub entries_of : (archive : List MemberView) (numbers : List ℕ) (e : IndexEntry) → Among e (index_at archive numbers) → IsEntry archive e × Among e.number numbers
-entries_of archive numbers e held =
-    let from = among_flat_map (λ (number : ℕ). entries_at number (slice_get archive number)) e numbers held in (
-      entry_at archive from.0 (slice_get archive from.0) e refl from.2,
-      subst (λ k. Among k numbers) (sym (entry_number from.0 (slice_get archive from.0) e from.2)) from.1,
-    )
+entries_of archive numbers e held = grind (arith, among_flat_map, entry_at, entry_number)
 
 all_entries : (archive : List MemberView) (e : IndexEntry) → Among e (index_of archive) → IsEntry archive e
 all_entries archive e held = (entries_of archive (numbers_from (length archive) 0) e held).0

@@ -12,12 +12,12 @@ use Rattle.implib.specs.Import.{imp_symbol, is_alias}
 use Rattle.implib.specs.LibraryName.{linked_dll, linked_name}
 use Rattle.implib.specs.Link.LinkedMembers.{all_linked}
 use Rattle.implib.specs.Members.MemberSpec.{MemberView}
-use Rattle.implib.specs.Members.Msvc.{short_import_symbol, short_import_symbols}
+use Rattle.implib.specs.Members.Msvc.{short_import_symbol}
 use Rattle.implib.proofs.Link.LinkedMembers.{among_contains, among_map}
 use Rattle.implib.proofs.Link.Ranges.{Among, all_among, among_back, among_first, among_front, among_later, among_flat}
 use Rattle.implib_link.specs.Flavors.Program.{all_members, HaveSame, AreEnded, Ending, objects_taken, ClaimsNone, has_tables}
-use Rattle.implib_link.specs.Search.Search.{Library, exports_of, inputs_wanted, first_listed, left_as, objects_as, undefined_in, listed_in, unresolved, is_wanted}
-use Rattle.implib_link.specs.Search.Libraries.{FlavorLibrary, IsFlavorArchive, IsWeakOfLibraries, NamesNoMembers, TakesOfLibraries, archive_of_both, gnu_among, msvc_among, first_null, is_weak_in, short_inputs, shorts_linked, wanted_with_weak, AreClosed, AreGiven, headers_of_both, inputs_in, symbols_kept, symbols_in, targets_of_both, wanted_at_most, alias_targets, heads_of, is_data_alias, symbols_wanted, tails_of, is_import_wanted, is_short_alias, weak_in, TakesIntoFor, headers_of, import_symbols_wanted}
+use Rattle.implib_link.specs.Search.Search.{Library, exports_of, inputs_wanted, first_listed, left_as, objects_as, undefined_in, listed_in, unresolved}
+use Rattle.implib_link.specs.Search.Libraries.{FlavorLibrary, IsFlavorArchive, IsWeakOfLibraries, NamesNoMembers, TakesOfLibraries, archive_of_both, gnu_among, msvc_among, first_null, is_weak_in, short_inputs, shorts_linked, wanted_with_weak, AreClosed, AreGiven, headers_of_both, inputs_in, symbols_kept, symbols_in, targets_of_both, wanted_at_most, alias_targets, heads_of, is_data_alias, symbols_wanted, tails_of, is_short_alias, weak_in, TakesIntoFor, headers_of, import_symbols_wanted}
 use Rattle.implib_link.specs.Flavors.Expansion.{expanded_in}
 use Rattle.implib_link.proofs.Search.Chosen.{AnOwn, AnyOf, IsLinked, TheLast, TheTop, chosen_by, chosen_name, is_chosen, linked_are, linked_from, linked_into, own_chosen, shorts_are, chosen_too}
 use Rattle.implib_link.proofs.Search.Closing.{AreTakenInTurnAs, IsFirstAs, TakesAs, left_by as left_as_by, pulled, reached as reached_as, still_named as still_as, there_not, in_turn_for, none_claimed, not_there}
@@ -26,7 +26,7 @@ use Rattle.implib_link.proofs.Search.Lists.{all_from as all_each, among_at, amon
 use Rattle.implib_link.proofs.Search.MsvcMembers.{member_with, null_or_member, null_with, null_of}
 use Rattle.implib_link.proofs.Search.Roles.{IsNull, IsRole, Last, Null, Own, Role, Top, Weak, in_flavor, is_weak_role, last_symbol, left, left_as_role, left_top, member, object, symbols, weak_symbol, listed_as, top_symbol, weak_target}
 use Rattle.implib_link.proofs.Search.ArchiveMembers.{only_one}
-use Rattle.implib.specs.Members.Gnu.{archive_symbols, head_symbol, iname_symbol}
+use Rattle.implib.specs.Members.Gnu.{head_symbol, iname_symbol}
 use Rattle.implib.specs.Members.MsvcObjects.{descriptor_symbol, null_descriptor_symbol, null_thunk_symbol}
 
 module _ (machine : MachineType) (libraries : List FlavorLibrary) (archive : IsFlavorArchive machine libraries) where
@@ -272,15 +272,7 @@ module _ (machine : MachineType) (libraries : List FlavorLibrary) (archive : IsF
         weak_in_role : (m : MemberView) (flavor : Flavor) (l : Library) (r : Role) → Among (in_flavor flavor l) libraries → IsRole libraries (in_flavor flavor l) r → Why all_wanted (in_flavor flavor l) r →
             m ≡ member machine flavor l r → is_weak_role r ≡ true → IsWeakOfLibraries libraries all_wanted m
         weak_in_role m Gnu l (Weak n e true) held is why same one = absurd is.1
-        weak_in_role m Gnu l (Weak n e false) held is why same one = inr (record {
-          library = l;
-          held = among_contains l (gnu_among libraries) (gnu_there libraries l held);
-          export = e;
-          among = among_contains e (exports_of l) (among_at e (exports_of l) n is.0);
-          data_alone = is.1.1;
-          named = among_contains e.name all_wanted why;
-          listed = ap (λ (y : MemberView). y.symbols) same;
-        })
+        weak_in_role m Gnu l (Weak n e false) held is why same one = grind (arith, gnu_there libraries l held, among_at e (exports_of l) n is.0, false, why, inr, among_contains)
         weak_in_role m Msvc l (Weak n e b) held is why same one = inl (record {
           library = l;
           held = among_contains l (msvc_among libraries) (msvc_there libraries l held);
@@ -376,14 +368,8 @@ module _ (machine : MachineType) (libraries : List FlavorLibrary) (archive : IsF
 
   pub own_kept : (flavor : Flavor) (l : Library) (e : ExportView) (name : List ℕ) → Among (in_flavor flavor l) libraries → Among e (exports_of l) → is_chosen flavor most e ≡ true → Among name (symbols_in flavor e) →
       Among name kept
-  own_kept Gnu l e name held there want listed =
-      symbol_kept name (among_front name (symbols_wanted (gnu_among libraries) most) (import_symbols_wanted (msvc_among libraries) most)
-      (among_flat (λ (x : Library). flat_map archive_symbols (filter (is_wanted most) (exports_of x))) l (gnu_among libraries) name (gnu_there libraries l held)
-      (among_flat archive_symbols e (filter (is_wanted most) (exports_of l)) name (passes (is_wanted most) e (exports_of l) there want) listed)))
-  own_kept Msvc l e name held there want listed =
-      symbol_kept name (among_back name (symbols_wanted (gnu_among libraries) most) (import_symbols_wanted (msvc_among libraries) most)
-      (among_flat (λ (x : Library). flat_map short_import_symbols (filter (is_import_wanted most) (exports_of x))) l (msvc_among libraries) name (msvc_there libraries l held)
-      (among_flat short_import_symbols e (filter (is_import_wanted most) (exports_of l)) name (passes (is_import_wanted most) e (exports_of l) there want) listed)))
+  own_kept Gnu l e name held there want listed = search (rules, symbol_kept, among_front, among_flat, gnu_there, passes)
+  own_kept Msvc l e name held there want listed = search (rules, symbol_kept, among_back, among_flat, msvc_there, passes)
 
   abbrev own_targets : ExportView → List (List ℕ)
   own_targets e = e.alias_target ∷ imp_symbol e.alias_target ∷ []
@@ -432,10 +418,7 @@ module _ (machine : MachineType) (libraries : List FlavorLibrary) (archive : IsF
     fewer fixed none = not_there fixed wanted (λ want. there_not fixed most none (within_most fixed want))
 
     pub names_none : NamesNoMembers machine libraries (unresolved own ++ left_as reads (filter weak taken))
-    names_none = record {
-      gnu = grind (arith, all_each, all_among, fewer);
-      msvc = grind (arith, all_each, all_among, fewer);
-    }
+    names_none = grind (arith, all_each, all_among, fewer)
 
     needed_here : (m : MemberView) → Among m taken → Needed machine libraries archive wanted m
     needed_here m held = needed machine libraries archive reads weak reader (unresolved own) taken names_none taken (λ x there. there) turn m held
@@ -452,8 +435,7 @@ module _ (machine : MachineType) (libraries : List FlavorLibrary) (archive : IsF
     listed_kept l Top name held is why listed = inl (kept_as name _ (top_kept l.flavor l.library held) listed)
     listed_kept l Last name held is why listed = inl (kept_as name _ (last_kept l.flavor l.library held) listed)
     listed_kept l Null name held is (x, there, any) listed = inl (kept_as name _ (null_kept x there) listed)
-    listed_kept l (Own n e) name held is why listed =
-        inl (own_kept l.flavor l.library e name held (among_at e (exports_of l.library) n is.0) (chosen_too l.flavor wanted most e within_most why) listed)
+    listed_kept l (Own n e) name held is why listed = grind (arith, among_at e (exports_of l.library) n is.0, chosen_too l.flavor wanted most e within_most why, why, inl, own_kept, within_most)
     listed_kept l (Weak n e b) name held is why listed =
         elim (among_either name (unresolved own) (targets_of_both libraries) (within_most name (subst (λ x. Among x wanted) (sym (only_one name _ listed)) why))) [
           | inl by_own ↦ inr by_own

@@ -103,18 +103,7 @@ worked_links = closed_links_of_both AMD64 OfMember foo_and_zed own mixed_taken z
 
 pub worked_both : WorkedBoth
 unfolding searched group_end sections_end
-worked_both = record {
-  archive = archive;
-  takes = takes;
-  wanted = refl;
-  just = worked_links.taken_is;
-  chosen = refl;
-  closed = closed;
-  links = worked_links;
-  left = refl;
-  queue = refl;
-  baz = refl;
-}
+worked_both = grind (arith, archive, takes, closed, worked_links)
 
 given : AreGiven AMD64 foo_and_zed (choosing ∷ [])
 unfolding searched

@@ -1,5 +1,5 @@
 -- Closed programs that the linker's null descriptor ends, and a list of names in an object's place, by computing and by the laws.
-use Rattle.std.proofs.Common.{List, [], arith, codes, inl, inr, map, refl, ◌++◌, ◌<◌, ◌^◌, ◌∷◌}
+use Rattle.std.proofs.Common.{rules, List, [], arith, codes, inl, inr, map, refl, ◌++◌, ◌<◌, ◌^◌, ◌∷◌}
 use Rattle.std.specs.List.{AllByRecursion}
 use Rattle.implib.specs.declared.machine.MachineType.TheVariants.{AMD64, I386}
 use Rattle.implib.specs.Formats.Object.{Object}
@@ -29,10 +29,7 @@ turn x y z (inr (inl e)) = inl e
 turn x y z (inr (inr none)) = absurd none
 
 swapped : {X : Type 0} (a b : X) → HaveSame (a ∷ b ∷ []) (b ∷ a ∷ [])
-swapped a b x = (
-  λ has. among_contains x (b ∷ a ∷ []) (turn x a b (contains_among x (a ∷ b ∷ []) has)),
-  λ has. among_contains x (a ∷ b ∷ []) (turn x b a (contains_among x (b ∷ a ∷ []) has)),
-)
+swapped a b x = grind (arith, among_contains, turn, contains_among)
 
 archive : IsFlavorArchive AMD64 with_far
 unfolding searched
@@ -71,18 +68,7 @@ given = grind arith
 
 pub worked_by_linker : WorkedByLinker
 unfolding searched group_end sections_end
-worked_by_linker = record {
-  archive = archive;
-  takes = takes;
-  chosen = refl;
-  closed = closed;
-  links = closed_links_of_both AMD64 OfLinker with_far own closed_taken zed_first closed_bases closed_objects archive closed;
-  left = refl;
-  queue = refl;
-  baz = refl;
-  given = given;
-  exists = both_exists AMD64 with_far own 0x2000 archive given (refl, tt) (omega arith) room;
-}
+worked_by_linker = search (rules, archive, takes, closed, closed_links_of_both, given, both_exists, room)
 
 wanting_claims : AllByRecursion (ClaimsNone (listed_in closed_taken ++ left_in AMD64 closed_taken)) with_names
 unfolding searched

@@ -1,5 +1,5 @@
 -- What a linker takes files for, by computing.
-use Rattle.std.proofs.Common.{refl}
+use Rattle.std.proofs.Common.{arith}
 use Rattle.implib.specs.Formats.Bytes.{u16_bytes}
 use Rattle.implib.specs.Formats.Object.{bytes_at, object_in, u16_at, u32_at}
 use Rattle.implib.specs.Formats.ShortImport.{short_import_in}
@@ -8,15 +8,4 @@ use Rattle.implib_link_instances.specs.Worked.Expansion.{WorkedExpansion}
 
 pub worked_expansion : WorkedExpansion
 unfolding expanded_in short_import_in u16_at u32_at u16_bytes import_object descriptor_symbol_by_name with_section_symbols object_in bytes_at
-worked_expansion = record {
-  bar = refl;
-  cord = refl;
-  pi = refl;
-  other_machine = refl;
-  other_type = refl;
-  other_name = refl;
-  drv = refl;
-  plain = refl;
-  stops = refl;
-  symbols = refl;
-}
+worked_expansion = grind arith

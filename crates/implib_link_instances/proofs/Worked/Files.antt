@@ -1,5 +1,5 @@
 -- Files that linkers wrote, by computing.
-use Rattle.std.proofs.Common.{Bool, List, [], arith, refl, sym, true, ℕ, ◌++◌, ◌∷◌, ◌≡◌}
+use Rattle.std.proofs.Common.{Bool, List, [], arith, refl, true, ℕ, ◌++◌, ◌∷◌, ◌≡◌}
 use Rattle.std.specs.List.{AllByRecursion, list_all}
 use Rattle.std.proofs.lemmas.Bool.{and_parts}
 use Rattle.implib.specs.declared.machine.MachineType.{MachineType}
@@ -64,14 +64,4 @@ worked_files = record {
 
 pub worked_headers : (gives : List ℕ → Ask → List ℕ) → WorkedHeaders gives
 unfolding lld_opened file_opened worked_pe32
-worked_headers gives = record {
-  thirteen = refl;
-  twelve = refl;
-  one = refl;
-  base = refl;
-  base_4 = refl;
-  bss = refl;
-  none = (refl, refl);
-  at_0 = (refl, refl);
-  none_more = λ x. differ 0 1 (sym x.0) (omega arith);
-}
+worked_headers gives = grind (arith, differ)

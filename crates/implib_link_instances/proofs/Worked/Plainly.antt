@@ -35,11 +35,7 @@ kernel_archive = archive_by {machine = AMD64} {libraries = library} tt (record {
 -- a name pulls in a member that is not taken, by the first symbol that it is listed for
 pulls : (taken : List MemberView) (name : List ℕ) (m : MemberView) → list_any (bytes_eq name) (unresolved (own ++ objects_as (expanded_in AMD64) taken)) ≡ true →
     first_listed (archive_of_both library) name ≡ Some m → list_any (bytes_eq (first_symbol m)) (map first_symbol taken) ≡ false → PullsIntoAs (expanded_in AMD64) (archive_of_both library) own taken name m
-pulls taken name m left listed new = record {
-  named = among_contains name (unresolved (own ++ objects_as (expanded_in AMD64) taken)) (any_among name (unresolved (own ++ objects_as (expanded_in AMD64) taken)) left);
-  listed = listed;
-  new = new_by taken m new;
-}
+pulls taken name m left listed new = grind (arith, among_contains, any_among, new_by)
 
 kernel_takes : TakesIntoFor AMD64 (archive_of_both library) own kernel_taken
 unfolding searched AreTakenIntoAs

@@ -13,8 +13,8 @@ use Rattle.implib_link.specs.Flavors.Program.{has_tables, ClaimsNone}
 use Rattle.implib_link.specs.Search.Search.{archive_of, is_weak, symbols_of_library, claims_of, references_of, claimed_as, left_as, undefined_in, first_listed, AreTakenIntoAs, unresolved, listed_in, TakesIntoAs, SweepsTake, sweeps, swept}
 use Rattle.implib_link.specs.Search.Libraries.{is_weak_in, symbols_of_shorts}
 use Rattle.implib_link_instances.proofs.Worked.Programs.{opened, distinct_by, opened as opened_of_programs}
-use Rattle.std.proofs.Common.{Bool, List, Option, Some, [], ap, arith, codes, false, inl, inr, map, refl, subst, sym, true, ℕ, ◌++◌, ◌<◌, ◌^◌, ◌∙◌, ◌∷◌, ◌≡◌}
-use Rattle.std.specs.Prelude.{bytes_eq, is_none, length, nat_lt, not, ◌&&◌, ◌||◌}
+use Rattle.std.proofs.Common.{rules, Bool, List, Option, Some, [], arith, codes, false, inl, inr, map, refl, subst, sym, true, ℕ, ◌++◌, ◌<◌, ◌^◌, ◌∙◌, ◌∷◌, ◌≡◌}
+use Rattle.std.specs.Prelude.{bytes_eq, is_none, nat_lt, not, ◌&&◌, ◌||◌}
 use Rattle.std.specs.List.{IsDistinct, list_all, list_any, AllByRecursion}
 use Rattle.std.proofs.lemmas.Bool.{and_parts, ltb-true, not-true, true≢false}
 use Rattle.implib.specs.declared.machine.MachineType.TheVariants.{AMD64}
@@ -54,8 +54,7 @@ all_settled P (n ∷ names) name all (inr held) = all_settled P names name (and_
 -- a search is at its end where each name is settled
 pub settled_ends : (reads : List ℕ → Option Object) (archive : List MemberView) (names : List (List ℕ)) (taken : List MemberView) → list_all (is_settled reads archive taken) (names ++ left_as reads taken) ≡ true →
     (name : List ℕ) (m : MemberView) → PullsInAs reads archive names taken name m → ⊥
-settled_ends reads archive names taken all name m pulls =
-    grind (arith, all_settled (is_settled reads archive taken) (names ++ left_as reads taken) name all (contains_among name (names ++ left_as reads taken) pulls.named), contains_among name (names ++ left_as reads taken) pulls.named)
+settled_ends reads archive names taken all name m pulls = grind (arith, contains_among name (names ++ left_as reads taken) pulls.named, all_settled)
 
 -- the first symbol that a member is listed for
 abbrev first_of : List (List ℕ) → List ℕ
@@ -128,14 +127,7 @@ worked_sweeps = record {
 
 pub worked_found : WorkedFound
 unfolding base_name descriptor_symbol descriptor_symbol_by_name
-worked_found = record {
-  plain = refl;
-  drv = refl;
-  capitals = refl;
-  no_ending = refl;
-  drv_nameless = λ found. let lengths : 23 ≡ 27 = ap length found in omega arith;
-  with_ending = λ found. let lengths : 23 ≡ 27 = ap length found in omega arith;
-}
+worked_found = grind arith
 
 apart : AreNamedApart AMD64 two_libraries
 unfolding opened_of_programs
@@ -143,9 +135,4 @@ apart = grind (arith, distinct_by)
 
 pub worked_named_apart : WorkedNamedApart
 unfolding opened_of_programs refusal renamed_refusal alias_specs encoded_size weak_object
-worked_named_apart = record {
-  stems = refl;
-  names = refl;
-  apart = apart;
-  archive = named_apart AMD64 two_libraries (record { accepted = refl; made = refl; ordinals = refl }, (record { accepted = refl; made = refl; ordinals = refl }, tt)) apart;
-}
+worked_named_apart = search (rules, apart, named_apart)
