@@ -1,5 +1,5 @@
 -- What no search in bytes takes, and what does not arrive, by computing.
-use Rattle.std.proofs.Common.{List, None, Option, Some, [], ap, arith, codes, false, length, map, refl, suc, subst, sym, true, zero, ℕ, ◌∙◌, ◌∷◌, ◌≡◌}
+use Rattle.std.proofs.Common.{List, None, Option, Some, [], ap, arith, codes, false, length, map, refl, suc, subst, sym, true, zero, ℕ, ◌∙◌, ◌∷◌, ◌≡◌, ◌≤◌}
 use Rattle.std.specs.Prelude.{Bool, slice_get, unwrap_or}
 use Rattle.std.specs.Fmt.{digits}
 use Rattle.std.specs.List.{Contains, filter}
@@ -30,14 +30,15 @@ use Rattle.implib_link.proofs.Search.Lists.{among_any, any_among, contains_among
 use Rattle.implib_link_instances.proofs.Archives.Files.{opened_files}
 use Rattle.implib_link_instances.proofs.Archives.WorkedBothWay.{worked_both_way}
 use Rattle.implib_link_instances.proofs.Archives.WorkedLldWay.{worked_lld_way}
-use Rattle.implib_link_instances.proofs.Refused.Links.{first_letter}
-use Rattle.implib_link_instances.proofs.Worked.Calls.{one_of, wide}
+use Rattle.implib_link_instances.proofs.Refused.Links.{first_letter, refused_links_closed}
+use Rattle.implib_link_instances.proofs.Worked.Calls.{one_of, wide, worked_reading}
 use Rattle.implib_link_instances.proofs.Worked.Lemmas.{differ, none_at, none_in}
 use Rattle.implib_link_instances.proofs.Worked.Programs.{lld_opened}
 use Rattle.implib_link_instances.proofs.Worked.Search.{searched}
 use Rattle.implib_link_instances.specs.Refused.Archives.{RefusedAreMembersAt, RefusedCallsArrive, RefusedHasMembersAs, RefusedInBytes, RefusedIsHeaderOf, RefusedIsInDirectory, RefusedIsSearchOf, RefusedIsWantedBy, RefusedLeadsToFirst, RefusedLldArrives, ways_taken, with_header_in}
 use Rattle.implib_link_instances.specs.Archives.WorkedWays.{bar_short, lld_taken}
-use Rattle.implib_link_instances.specs.Refused.Links.{f_library, listing, own}
+use Rattle.implib_link_instances.specs.Refused.Links.{f_library, listing, own, f_export}
+use Rattle.implib_link_instances.specs.Worked.Operands.{given_on}
 use Rattle.implib.specs.Formats.Object.{object_in, bytes_at}
 use Rattle.implib_link.specs.Search.Search.{claims_of, references_of, undefined_in}
 use Rattle.implib.specs.Worked.Digits.{bytes_of_digits}
@@ -52,7 +53,10 @@ unfolding opened_bytes headers_among headers_in with_header archive_of end_from 
 opened_archive = tt
 
 pub refused_is_header_of : RefusedIsHeaderOf
-refused_is_header_of = grind (arith, none_at)
+refused_is_header_of = record {
+  header_is = λ x. none_at x.number 8 x.header_is;
+  member_is = λ x. none_at x.number listing x.member_is;
+}
 
 these : (xs ys : List ℕ) → Some xs ≡ Some ys → xs ≡ ys
 these xs ys is = cc
@@ -79,7 +83,12 @@ nothing_read (m ∷ found) is = cc
 
 pub refused_are_members_at : RefusedAreMembersAt
 unfolding AreHeadersOf opened_archive
-refused_are_members_at = grind (arith, not_header, these, of_none, nothing_read)
+refused_are_members_at = record {
+  located = λ x. not_header x.headers x.found (these (8 ∷ []) x.headers x.located) x.at;
+  at = λ x. of_none x.headers 8 x.found x.at;
+  read = λ x. nothing_read x.found x.read;
+  holds = λ x. x.holds;
+}
 
 f_found : header_by First worked_gnu (codes "f") ≡ Some 182
 unfolding opened_bytes
@@ -109,10 +118,16 @@ is_read (Some r) = true
 
 pub refused_leads_to_first : RefusedLeadsToFirst
 unfolding opened_archive
-refused_leads_to_first = grind (arith, true≢false)
+refused_leads_to_first = record {
+  somewhere = λ x. true≢false x.somewhere;
+  read = λ x. true≢false (sym (ap is_read x.read));
+}
 
 pub refused_calls_arrive : RefusedCallsArrive
-refused_calls_arrive = grind (arith, differ, wide)
+refused_calls_arrive = record {
+  links = λ x. refused_links_closed.closed x.links;
+  ends = λ x. let read = worked_reading.amd64_ends in differ 0 2 (sym (x.ends (given_on AMD64) 2 read.0 (wide AMD64) read.1)) (omega arith);
+}
 
 f_wanted : IsWantedBy AMD64 (f_library ∷ []) own [] f_library (plain_export (codes "f"))
 unfolding searched
@@ -170,7 +185,15 @@ none_left name held = none_in name held
 
 pub refused_is_wanted_by : RefusedIsWantedBy
 unfolding searched
-refused_is_wanted_by = grind (arith, none_in, true≢false, among_any, codes, contains_among, one_of)
+refused_is_wanted_by = record {
+  library = λ x. none_in f_library x.library;
+  export = λ x. none_in f_export x.export;
+  plain = λ x. true≢false x.plain;
+  listed = λ x. true≢false (sym (among_any (codes "g") (short_import_symbols f_export) (contains_among (codes "g") (short_import_symbols f_export)
+      (subst (Contains (short_import_symbols f_export)) (one_of x.name (codes "g") (contains_among x.name (codes "g" ∷ []) x.left)) x.listed))));
+  left = λ x. none_in x.name x.left;
+  unclaimed = λ x. true≢false (sym (among_any x.name (short_import_symbols f_export) (contains_among x.name (short_import_symbols f_export) x.listed)) ∙ x.unclaimed);
+}
 
 pub refused_lld_arrives : RefusedLldArrives
 refused_lld_arrives = record {
@@ -180,7 +203,10 @@ refused_lld_arrives = record {
 }
 
 pub refused_is_in_directory : RefusedIsInDirectory
-refused_is_in_directory = grind arith
+refused_is_in_directory = record {
+  from = λ x. let from : 0x1000 ≤ 0x0FFF = x.from in omega (arith, from);
+  to = λ x. let to : 0x1009 ≤ 0x1008 = x.to in omega (arith, to);
+}
 
 no_entries : (headers : List ℕ) → entries_by headers [] ≡ []
 unfolding entries_by
@@ -189,7 +215,11 @@ no_entries (header ∷ headers) = refl
 
 pub refused_has_members_as : RefusedHasMembersAs
 unfolding opened_files
-refused_has_members_as = grind (arith, differ, length, no_entries)
+refused_has_members_as = record {
+  located = λ x. let none : None ≡ Some x.headers = x.located in cc;
+  read = λ x. differ 0 1 (ap length x.read) (omega arith);
+  ordered = λ x. differ 0 1 (sym (ap length (x.ordered ∙ no_entries x.headers))) (omega arith);
+}
 
 pub refused_in_bytes : RefusedInBytes
 unfolding AreHeadersOf

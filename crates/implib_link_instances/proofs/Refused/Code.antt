@@ -3,9 +3,10 @@ use Rattle.std.proofs.Common.{List, None, Option, Some, [], ap, append-nil, arit
 use Rattle.implib.specs.declared.machine.MachineType.TheVariants.{AMD64, ARM64}
 use Rattle.implib.specs.Formats.Constants.{class_external}
 use Rattle.implib.specs.Formats.Object.{ASymbol}
-use Rattle.implib.specs.Link.Load.{BytesAt, NumberAt}
+use Rattle.implib.specs.Link.Resolution.{symbol_address}
+use Rattle.implib.specs.Link.Load.{BytesAt, NumberAt, number_in}
 use Rattle.implib.proofs.Link.Loading.{number_once}
-use Rattle.implib_link.specs.Gnu.Fields.{direct_leads, branch_leads}
+use Rattle.implib_link.specs.Gnu.Fields.{direct_leads, branch_leads, operand_leads}
 use Rattle.implib_link.specs.Stub.{adrp_immediate, bits_of, jump_reads, ldr_immediate, page, plus_signed, with_adrp, with_bits}
 use Rattle.implib_link.proofs.Gnu.Loaded.{byte_first}
 use Rattle.implib_link_instances.proofs.Worked.Lemmas.{are_located, differ, number, same_bytes, value}
@@ -29,7 +30,10 @@ absent a width n some there = nothing_at there.bytes a width there.count some th
 
 -- `nop`s are no such code
 no_code : (reads : List ℕ → Option ℕ) (found code : List ℕ) (target : ℕ) → BytesAt nops 0x1000 found → BytesAt nops 0x1000 code → length found ≡ length code → reads code ≡ None → reads found ≡ Some target → ⊥
-no_code reads found code target here there whole none is = grind (arith, same_bytes)
+no_code reads found code target here there whole none is =
+    let same : found ≡ code = same_bytes nops found code 0x1000 here there whole in
+    let no : None ≡ Some target = sym none ∙ ap reads (sym same) ∙ is in
+    cc
 
 abbrev four : List ℕ
 four = 0x90 ∷ 0x90 ∷ 0x90 ∷ 0x90 ∷ []
@@ -73,10 +77,21 @@ load_back : NumberAt page_back 4 20 0xF940_0108
 load_back = number page_back 4 20 0xF940_0108 (8 ∷ 1 ∷ 0x40 ∷ 0xF9 ∷ []) refl refl refl
 
 in_front : (adrp load entry : ℕ) → adrp ≡ 0xF0FF_FFE8 → load ≡ 0xF940_0108 → plus_signed 21 4096 (adrp_immediate adrp) (page 0x1_4000_0010 * 4096) + ldr_immediate load ≡ 0x1_4000_0000 + entry → ⊥
-in_front adrp load entry first second is = grind arith
+in_front adrp load entry first second is =
+    let led : 0x1_3FFF_F000 ≡ 0x1_4000_0000 + entry =
+    sym (ap (λ n. plus_signed 21 4096 (adrp_immediate n) (page 0x1_4000_0010 * 4096) + ldr_immediate 0xF940_0108) first) ∙ (sym (ap (λ n. plus_signed 21 4096 (adrp_immediate adrp) (page 0x1_4000_0010 * 4096) + ldr_immediate n) second) ∙ is) in
+    omega arith
 
 pub refused_pair_arrives : RefusedPairArrives
-refused_pair_arrives = grind (arith, absent, differ, nop, codes, in_front, number_once, adrp_back, load_back, nothing_there)
+refused_pair_arrives = record {
+  adrp_there = λ x. absent 16 4 x.adrp (omega arith) x.adrp_there;
+  is_adrp = λ x. differ 0 0x9000_0010 (sym (sym (ap (with_adrp 0) (nop x.adrp x.adrp_there)) ∙ x.is_adrp)) (omega arith);
+  load_there = λ x. absent 20 4 x.load (omega arith) x.load_there;
+  is_load = λ x. differ 0 0x9080_0090 (sym (sym (ap (with_bits 10 12 0) (nop x.load x.load_there)) ∙ x.is_load)) (omega arith);
+  own = λ x. let none : [] ≡ record { name = codes "f"; address = Some x.entry } ∷ [] = x.own in cc;
+  leads = λ x. in_front x.adrp x.load x.entry (number_once page_back 4 16 x.adrp 0xF0FF_FFE8 x.adrp_there adrp_back) (number_once page_back 4 20 x.load 0xF940_0108 x.load_there load_back) x.leads;
+  located = λ x. nothing_there one x.entry (omega arith) x.located;
+}
 
 pub refused_sum_arrives : RefusedSumArrives
 refused_sum_arrives = record {
@@ -100,16 +115,33 @@ before : (entry : ℕ) → Some 0x1_3FFF_0004 ≡ Some (0x1_4000_0000 + entry) �
 before entry is = let same : 0x1_3FFF_0004 ≡ 0x1_4000_0000 + entry = value 0x1_3FFF_0004 (0x1_4000_0000 + entry) is in omega arith
 
 pub refused_operand_arrives : RefusedOperandArrives
-refused_operand_arrives = grind (arith, absent, codes, before, led_back, nothing_there)
+refused_operand_arrives = record {
+  there = λ x. absent 0 4 x.number (omega arith) x.there;
+  own = λ x. let none : [] ≡ record { name = codes "f"; address = Some x.entry } ∷ [] = x.own in cc;
+  leads = λ x. before x.entry (sym (ap (operand_leads AMD64 0x1_4000_0000 0) (led_back x.number x.there)) ∙ x.leads);
+  located = λ x. nothing_there one x.entry (omega arith) x.located;
+}
 
 sized : (xs : List ℕ) → length xs ≡ 4 → length (xs ++ []) ≡ 4
 sized xs is = ap length (append-nil xs) ∙ is
 
 pub refused_instruction_arrives : RefusedInstructionArrives
-refused_instruction_arrives = grind (arith, nothing_at, sized, codes, same_bytes, are_located, before, append-nil, nothing_there)
+refused_instruction_arrives = record {
+  four = λ x. nothing_at (x.field ++ []) 0 4 (sized x.field x.four) (omega arith) x.there;
+  there = λ x. nothing_at (x.field ++ []) 0 4 (sized x.field x.four) (omega arith) x.there;
+  own = λ x. let none : [] ≡ record { name = codes "f"; address = Some x.entry } ∷ [] = x.own in cc;
+  leads = λ x.
+      let whole : x.field ++ [] ≡ 0 ∷ 0 ∷ 0xFF ∷ 0xFF ∷ [] = same_bytes back (x.field ++ []) (0 ∷ 0 ∷ 0xFF ∷ 0xFF ∷ []) 0 x.there (are_located back (0 ∷ 0 ∷ 0xFF ∷ 0xFF ∷ []) 0 refl) (sized x.field x.four) in
+      before x.entry (sym (ap (λ f. operand_leads AMD64 0x1_4000_0000 0 (number_in f)) (sym (append-nil x.field) ∙ whole)) ∙ x.leads);
+  located = λ x. nothing_there one x.entry (omega arith) x.located;
+}
 
 pub refused_pointer_arrives : RefusedPointerArrives
-refused_pointer_arrives = grind (arith, codes, absent, nothing_there)
+refused_pointer_arrives = record {
+  own = λ x. let none : [] ≡ record { name = codes "f"; address = Some x.entry } ∷ [] = x.own in cc;
+  there = λ x. absent 0 8 (0x1_4000_0000 + x.entry) (omega arith) x.there;
+  located = λ x. nothing_there one x.entry (omega arith) x.located;
+}
 
 pub refused_branch_arrives : RefusedBranchArrives
 refused_branch_arrives = record {
@@ -118,7 +150,10 @@ refused_branch_arrives = record {
 }
 
 pub refused_branch_arrives_by_thunk : RefusedBranchArrivesByThunk
-refused_branch_arrives_by_thunk = grind (arith, absent, nothing_at)
+refused_branch_arrives_by_thunk = record {
+  leads = λ x. absent 0 4 x.leads.number (omega arith) x.leads.there;
+  jumps = λ x. nothing_at x.jumps.code x.thunk 6 x.jumps.whole (omega arith) x.jumps.there;
+}
 
 pub refused_branch_stays : RefusedBranchStays
 refused_branch_stays = record {
@@ -150,10 +185,23 @@ refused_hold_address = record {
 }
 
 pub refused_holds_further : RefusedHoldsFurther
-refused_holds_further = grind (arith, differ)
+refused_holds_further = record {
+  relative = λ x. let is : 0x4000_1020 ≡ 0x1020 = x.relative refl in differ 0x1020 0x4000_1020 (sym is) (omega arith);
+  added = λ x. let is : 0x2D ≡ 0x2C = (x.added refl refl refl).1 in differ 0x2C 0x2D (sym is) (omega arith);
+}
 
 pub refused_stub_at : RefusedStubAt
-refused_stub_at = grind (arith, differ, length, codes)
+refused_stub_at = record {
+  bytes = λ x. differ 0 8 (ap length x.bytes) (omega arith);
+  relocations = λ x. differ 0 1 (ap length x.relocations) (omega arith);
+  begins = λ x. differ 0 8 (sym x.begins) (omega arith);
+  held = λ x. let none : None ≡ Some x.symbol = x.held in cc;
+  placed = λ x.
+      let both : Some (ASymbol (symbol_of_class (codes "h") 0 class_external)) ≡ Some x.symbol = x.held in
+      let same : ASymbol (symbol_of_class (codes "h") 0 class_external) ≡ x.symbol = cc in
+      let none : None ≡ Some 0 = ap (symbol_address [] empty_code.from) same ∙ x.placed in
+      cc;
+}
 
 pub refused_resolves : RefusedResolves
 refused_resolves = record {

@@ -1,6 +1,6 @@
 -- What is said of no import tables, by computing.
-use Rattle.std.proofs.Common.{List, None, Some, [], ap, arith, codes, inl, inr, length, refl, sym, ℕ, ◌++◌, ◌<◌, ◌∷◌, ◌≡◌, ◌≤◌, ◌⊎◌, map, suc, zero}
-use Rattle.std.specs.Prelude.{slice_index, slice_get}
+use Rattle.std.proofs.Common.{List, None, Some, [], ap, arith, codes, inl, inr, length, refl, subst, sym, ℕ, ◌*◌, ◌++◌, ◌+◌, ◌<◌, ◌∷◌, ◌≡◌, ◌≤◌, ◌⊎◌, map, suc, zero, ◌∙◌}
+use Rattle.std.specs.Prelude.{slice_index, bytes_eq, slice_get}
 use Rattle.std.specs.List.{Contains}
 use Rattle.implib.specs.Formats.Constants.{class_external}
 use Rattle.implib.specs.Formats.Object.{ASymbol}
@@ -11,15 +11,16 @@ use Rattle.implib.specs.Link.Resolution.{symbol_address, SymbolDefinition}
 use Rattle.implib.specs.Members.ImportTables.{zeros}
 use Rattle.implib.proofs.Link.Loading.{number_once}
 use Rattle.implib_link.specs.Directory.{DirectoryAt, WalkFinds}
-use Rattle.implib_link.specs.Flavors.Program.{SymbolsAt, SymbolsGet, members_linked, objects_taken}
+use Rattle.implib_link.specs.Flavors.Program.{SymbolsAt, SymbolsGet, FlavorInput, OfMember, exports_chosen, gnu_input, members_linked, objects_taken, own_names}
 use Rattle.implib_link.specs.Gnu.Writing.{Writes, ReadsAndWrites, FillsTable, WritesAsItGoes}
 use Rattle.implib_link.specs.Tables.{RiseFrom, Table}
 use Rattle.implib_link.proofs.Search.Lists.{contains_among, any_among}
 use Rattle.implib_link_instances.proofs.Refused.Code.{absent, nothing_there}
 use Rattle.implib_link_instances.proofs.Worked.Calls.{one_of}
 use Rattle.implib_link_instances.proofs.Worked.Lemmas.{differ, none_in, number, no_definition, none_at, none_passes}
-use Rattle.implib_link_instances.specs.Refused.Links.{RefusedAreTables, RefusedAreTablesLoaded, RefusedFillsBy, RefusedFindsBy, RefusedHoldsAt, RefusedIsInTable, RefusedLoaders, asking, table_at, table_of_f, zero_image, RefusedFlavorTextLinks, RefusedFlavorTextsLink, RefusedInputImports, RefusedIsImportedBy, RefusedIsImported, RefusedIsTaken, RefusedLinksClosed, RefusedLldLinks, RefusedProgramLinks, f_library, f_short, for_gnu, later_short, nul_within}
+use Rattle.implib_link_instances.specs.Refused.Links.{RefusedAreTables, RefusedAreTablesLoaded, RefusedFillsBy, RefusedFindsBy, RefusedHoldsAt, RefusedIsInTable, RefusedLoaders, asking, table_at, table_of_f, zero_image, RefusedFlavorTextLinks, RefusedFlavorTextsLink, RefusedInputImports, RefusedIsImportedBy, RefusedIsImported, RefusedIsTaken, RefusedLinksClosed, RefusedLldLinks, RefusedProgramLinks, asking_entry, f_input, f_library, f_short, for_gnu, later_short, listing, nul_within, unchosen}
 use Rattle.implib_link_instances.specs.Worked.Programs.{symbol_of_class, touching_8}
+use Rattle.implib.specs.declared.flavor.Flavor.TheVariants.{Gnu}
 use Rattle.implib.specs.declared.machine.MachineType.TheVariants.{AMD64}
 use Rattle.implib.specs.Formats.ShortImport.{ShortImport}
 use Rattle.implib.specs.Members.MemberSpec.{MemberView}
@@ -30,6 +31,7 @@ use Rattle.implib_link.specs.Search.Libraries.{IsImported, archive_of_both, IsWe
 use Rattle.implib_link.specs.Search.Search.{listed_in}
 use Rattle.implib_link_instances.proofs.Worked.Programs.{lld_opened}
 use Rattle.implib_link_instances.proofs.Worked.Search.{searched}
+use Rattle.implib_link_instances.specs.Worked.Flavors.{source_in, zed_meant, zed_text}
 
 -- a field that is 0 leads to nothing
 zero_field : (a n : ℕ) → NumberAt zero_image 4 a n → NumberAt zero_image 4 a 0 → 0 < n → ⊥
@@ -59,20 +61,44 @@ refused_finds_by = record {
 
 pub refused_fills_by : RefusedFillsBy
 unfolding FillsTable
-refused_fills_by = grind (arith, absent, zero_field, name_zero, nothing_there, codes, addresses_zero)
+refused_fills_by = record {
+  name_field = λ x. absent 0x100C 4 x.name (omega arith) x.name_field;
+  has_name = λ x. zero_field 0x100C x.name x.name_field name_zero x.has_name;
+  name_text = λ x. nothing_there (codes "f.dll" ++ 0 ∷ []) x.name (omega arith) x.name_text.located;
+  addresses_field = λ x. absent 0x1010 4 x.addresses (omega arith) x.addresses_field;
+  has_addresses = λ x. zero_field 0x1010 x.addresses x.addresses_field addresses_zero x.has_addresses;
+  lookups_field = λ x. absent 0x1000 4 x.lookups (omega arith) x.lookups_field;
+  fills = λ x. absent x.lookups 8 x.fills.0.thunk (omega arith) x.fills.0.located;
+}
 
 pub refused_holds_at : RefusedHoldsAt
-refused_holds_at = grind (arith, codes, nothing_there)
+refused_holds_at = record {
+  once = λ x. let none : [] ≡ record { name = codes "f"; address = Some x.address } ∷ [] = x.once in cc;
+  located = λ x. nothing_there (zeros 8) x.address (omega arith) x.located;
+}
 
 only_table : (x : Table) → Contains (table_at 0x1000 ∷ []) x → x ≡ table_at 0x1000
 only_table x held = one_of x (table_at 0x1000) (contains_among x (table_at 0x1000 ∷ []) held)
 
 pub refused_is_in_table : RefusedIsInTable
-refused_is_in_table = grind (arith, none_in, only_table, length)
+refused_is_in_table = record {
+  held = λ x. none_in x.table x.held;
+  from = λ x. let from : 0x1000 ≤ 0xFFF = subst (λ (t : Table). t.address ≤ 0xFFF) (only_table x.table x.held) x.from in omega arith;
+  to = λ x. let to : 0x1001 ≤ 0x1000 = subst (λ (t : Table). 0x1001 ≤ t.address + 8 * length t.entries) (only_table x.table x.held) x.to in omega arith;
+}
 
 pub refused_are_tables : RefusedAreTables
 unfolding DirectoryAt RiseFrom
-refused_are_tables = grind (arith, nothing_there, absent, codes)
+refused_are_tables = record {
+  starts = λ x. let some : 0 < 0 = x.starts.0 in omega arith;
+  ends = λ x. let below : 0x8000_0000 < 0x8000_0000 = x.ends.0 in omega arith;
+  directory = λ x. nothing_there (zeros 20) 0x1000 (omega arith) x.directory;
+  addresses = λ x. absent 0x1010 4 0x1000 (omega arith) (x.addresses 0 (table_at 0x1000) refl);
+  rise = λ x. let low : 0x1000 ≤ 0xFFF = x.rise.1.0 in omega arith;
+  symbols = λ x.
+      let none : [] ≡ record { name = codes "f"; address = Some 0x1000 } ∷ [] = x.symbols 0 0 table_of_f (record { ask = Ordinal 5; symbol = Some (codes "f") }) (codes "f") refl refl refl in
+      cc;
+}
 
 pub refused_are_tables_loaded : RefusedAreTablesLoaded
 refused_are_tables_loaded = record {
@@ -122,7 +148,13 @@ no_addresses n there = number_once zero_image 4 0x1010 n 0 there (number zero_im
 
 pub refused_input_imports : RefusedInputImports
 unfolding searched SymbolsAt SymbolsGet
-refused_input_imports = grind (arith, no_definition, absent, differ, no_addresses, nowhere, codes)
+refused_input_imports = record {
+  top = λ x. no_definition _ x.top;
+  loads = λ x. absent 0x1000 4 x.loads.plain.lookups (omega arith) x.loads.plain.lookups_field;
+  table_located = λ x. differ 0 0x1000 (sym (no_addresses x.loads.plain.addresses x.loads.plain.addresses_field) ∙ x.table_located) (omega arith);
+  entries = λ x. no_definition _ x.entries.0;
+  gets = λ x. nowhere 0x1000 (x.gets.0 asking_entry (symbol_of_class (codes "__imp_f") 0 class_external) (0, omega arith, refl) (0, omega arith, refl) refl refl);
+}
 
 -- there is one group, of one short import
 first_group : (i : ℕ) (group : List ShortImport) → slice_get (grouped (f_short ∷ [])) i ≡ Some group → (i ≡ 0) × (group ≡ f_short ∷ [])
@@ -136,11 +168,26 @@ no_other_time (suc j) is = none_at j later_short is
 
 pub refused_is_imported_by : RefusedIsImportedBy
 unfolding lld_opened
-refused_is_imported_by = grind (arith, no_other_time, first_group, absent, zero, no_addresses, no_definition, nowhere, codes)
+refused_is_imported_by = record {
+  its_group = λ x. no_other_time x.j (subst (λ g. slice_get g x.j ≡ Some later_short) (first_group x.i x.group x.its_group).1 x.its_place);
+  its_place = λ x. no_other_time x.j (subst (λ g. slice_get g x.j ≡ Some later_short) (first_group x.i x.group x.its_group).1 x.its_place);
+  loads = λ x. absent (0x1000 + 20 * x.i) 4 x.loads.plain.lookups (omega arith) x.loads.plain.lookups_field;
+  its_table = λ x.
+      let first : x.i ≡ 0 = (first_group x.i x.group x.its_group).0 in
+      let zero : x.loads.plain.addresses ≡ 0 = no_addresses x.loads.plain.addresses (subst (λ i. NumberAt zero_image 4 (0x1000 + 20 * i + 16) x.loads.plain.addresses) first x.loads.plain.addresses_field) in
+      let table = x.its_table in
+      omega arith;
+  once = λ x. no_definition _ x.once;
+  gets = λ x. nowhere _ (x.gets asking_entry (symbol_of_class (codes "__imp_f") 0 class_external) (0, omega arith, refl) (0, omega arith, refl) refl refl);
+}
 
 pub refused_lld_links : RefusedLldLinks
 unfolding lld_opened DirectoryAt
-refused_lld_links = grind (arith, nothing_there, no_definition, differ)
+refused_lld_links = record {
+  directory = λ x. nothing_there (zeros 20) 0x1000 (omega arith) x.directory;
+  imported = λ x. no_definition _ (x.imported f_short (0, omega arith, refl)).once;
+  only = λ x. differ 70 102 (ap first_letter x.only.0.1.0.1) (omega arith);
+}
 
 -- three members, of which two are read
 few_read : length (map (λ (m : MemberView). expanded_in AMD64 m.bytes) (members_linked AMD64 nul_within)) ≡ length (map Some (objects_taken AMD64 (members_linked AMD64 nul_within))) → ⊥
@@ -149,11 +196,25 @@ few_read is = differ 2 3 (sym is) (omega arith)
 
 pub refused_is_taken : RefusedIsTaken
 unfolding searched
-refused_is_taken = grind (arith, none_in, few_read, length)
+refused_is_taken = record {
+  from_members = λ x. none_in _ x.from_members.0;
+  read = λ x. few_read (ap length x.read);
+  null = λ x. none_in _ (x.null refl);
+}
 
 pub refused_program_links : RefusedProgramLinks
 unfolding searched DirectoryAt
-refused_program_links = grind (arith, none_in, no_definition, nothing_there, differ, nowhere, none_passes, codes)
+refused_program_links = record {
+  linked = λ x. none_in _ x.linked.0.from_members.0;
+  imports = λ x. no_definition _ (x.imports 0 (gnu_input f_input) refl).top;
+  directory = λ x. nothing_there (zeros 20) 4 (omega arith) x.directory;
+  null = λ x. no_definition _ x.null;
+  ended = λ x. differ 4 5 (sym x.ended) (omega arith);
+  targets = λ x. nowhere x.targets.0.0.0.0 x.targets.0.0.0.1;
+  defined = λ x. no_definition _ x.defined.0.1;
+  listed = λ x. no_definition _ x.listed.0.1;
+  claimed = λ x. none_passes (bytes_eq (codes "more")) (codes "more") (own_names OfMember AMD64 []) refl ((x.claimed (codes "more")).0 (0, omega arith, refl)) refl;
+}
 
 f_listed_for_both : Contains (listed_in (archive_of_both (for_gnu f_library))) (codes "f")
 unfolding searched
@@ -166,7 +227,13 @@ not_resolved_for_both (inr x) = none_in x.0 x.1
 
 pub refused_links_closed : RefusedLinksClosed
 unfolding searched
-refused_links_closed = grind (arith, none_in, not_resolved_for_both, codes, f_listed_for_both)
+refused_links_closed = record {
+  taken_is = λ x. none_in listing ((x.taken_is.inputs listing).0 (0, omega arith, refl));
+  program = λ x. none_in x.program.held.ended.null_from x.program.held.ended.null_held;
+  links = λ x. none_in _ x.links.linked.0.from_members.0;
+  resolved = λ x. not_resolved_for_both (x.resolved (codes "f") (0, omega arith, refl) f_listed_for_both);
+  closed = λ x. x.closed (codes "f") (0, omega arith, refl) f_listed_for_both;
+}
 
 -- the only input
 only_one : {X : Type 0} (only x : X) (n : ℕ) → slice_get (only ∷ []) n ≡ Some x → only ≡ x
@@ -178,11 +245,20 @@ undefined name address (inl x) = no_definition _ x.1
 undefined name address (inr x) = no_definition _ x.2.1
 
 pub refused_is_imported : RefusedIsImported
-refused_is_imported = grind (arith, none_at, only_one, undefined, codes)
+refused_is_imported = record {
+  input_is = λ x. none_at x.number x.input x.input_is;
+  export_is = λ x. none_at x.index x.export (subst (λ (p : FlavorInput). slice_get (exports_chosen p) x.index ≡ Some x.export) (sym (only_one (gnu_input unchosen) x.input x.number x.input_is)) x.export_is);
+  by = λ x. undefined (codes "f") _ x.by;
+}
 
 pub refused_flavor_text_links : RefusedFlavorTextLinks
-refused_flavor_text_links = grind (arith, no_definition)
+refused_flavor_text_links = record {
+  imports = λ x. no_definition _ x.imports.top;
+}
 
 pub refused_flavor_texts_link : RefusedFlavorTextsLink
 unfolding DirectoryAt
-refused_flavor_texts_link = grind (arith, nothing_there, no_definition)
+refused_flavor_texts_link = record {
+  among = λ x. nothing_there (zeros 20) 4 (omega arith) x.among.directory;
+  imports = λ x. no_definition _ (x.imports 0 (source_in Gnu AMD64 zed_text (zed_meant AMD64) (0 ∷ [])) refl).imports.top;
+}

@@ -1,11 +1,13 @@
 -- What no search takes, by computing.
-use Rattle.std.proofs.Common.{List, [], ap, arith, codes, inl, inr, length, refl, subst, sym, ℕ, ◌∙◌, ◌∷◌, ◌≡◌, ◌⊎◌}
+use Rattle.std.proofs.Common.{List, None, Some, [], ap, arith, codes, inl, inr, length, refl, subst, sym, ℕ, ◌∙◌, ◌∷◌, ◌≡◌, ◌⊎◌}
 use Rattle.std.specs.Prelude.{slice_index}
 use Rattle.std.specs.List.{Contains}
 use Rattle.std.proofs.lemmas.Bool.{true≢false}
 use Rattle.implib.specs.Definition.{ExportView}
+use Rattle.implib.specs.Import.{imp_symbol}
 use Rattle.implib.specs.Members.MemberSpec.{MemberView}
-use Rattle.implib_link.specs.Search.Libraries.{IsWeakOfLibraries}
+use Rattle.implib.specs.Members.Msvc.{short_import_symbol}
+use Rattle.implib_link.specs.Search.Libraries.{is_short_alias, IsWeakOfLibraries}
 use Rattle.implib_link.specs.Search.Search.{Library, exports_of, AreTakenIntoAs}
 use Rattle.implib_link.proofs.Search.Lists.{contains_among}
 use Rattle.implib_link_instances.proofs.Worked.Calls.{one_of}
@@ -15,7 +17,11 @@ use Rattle.implib_link_instances.specs.Refused.Links.{f_library, listing, Refuse
 
 pub refused_pulls_into : RefusedPullsIntoAs
 unfolding searched
-refused_pulls_into = grind (arith, none_in, codes)
+refused_pulls_into = record {
+  named = λ x. none_in (codes "f") x.named;
+  listed = λ x. let none : None ≡ Some listing = x.listed in cc;
+  new = λ x. x.new (0, omega arith, refl);
+}
 
 pub refused_takes_into : RefusedTakesIntoAs
 unfolding searched AreTakenIntoAs
@@ -47,7 +53,13 @@ first_letter text = slice_index text 0
 
 pub refused_is_weak_data : RefusedIsWeakData
 unfolding searched
-refused_is_weak_data = grind (arith, none_in, no_export, true≢false, export_is, differ, length)
+refused_is_weak_data = record {
+  held = λ x. none_in x.library x.held;
+  among = λ x. no_export x.library x.export x.held x.among;
+  data_alone = λ x. true≢false (sym x.data_alone ∙ ap (λ (e : ExportView). e.is_data) (export_is x.library x.export x.held x.among));
+  named = λ x. none_in x.export.name x.named;
+  listed = λ x. differ 0 1 (ap length x.listed) (omega arith);
+}
 
 other_name : (name : List ℕ) → name ≡ codes "g" → (name ≡ codes "f") ⊎ (name ≡ codes "__imp_f") → ⊥
 other_name name is (inl by) = differ 102 103 (sym (ap first_letter (sym is ∙ by))) (omega arith)
@@ -55,7 +67,15 @@ other_name name is (inr by) = differ 95 103 (sym (ap first_letter (sym is ∙ by
 
 pub refused_is_weak_short : RefusedIsWeakShort
 unfolding searched
-refused_is_weak_short = grind (arith, none_in, no_export, true≢false, export_is, other_name, one_of, codes, contains_among, differ, length)
+refused_is_weak_short = record {
+  held = λ x. none_in x.library x.held;
+  among = λ x. no_export x.library x.export x.held x.among;
+  alias = λ x. true≢false (sym x.alias ∙ ap (λ (e : ExportView). is_short_alias e) (export_is x.library x.export x.held x.among));
+  is = λ x. other_name x.name (one_of x.name (codes "g") (contains_among x.name (codes "g" ∷ []) x.named))
+      (subst (λ (e : ExportView). (x.name ≡ short_import_symbol e) ⊎ (x.name ≡ imp_symbol (short_import_symbol e))) (export_is x.library x.export x.held x.among) x.is);
+  named = λ x. none_in x.name x.named;
+  listed = λ x. differ 0 1 (ap length x.listed) (omega arith);
+}
 
 pub refused_searches : RefusedSearches
 unfolding searched AreTakenIntoAs
