@@ -86,7 +86,8 @@ enum implib_status {
 
     /* The definition has no members. Where the status is of an export, *place is its index among all exports
      * of the text, private ones counted, from 0, and after implib_library_of among those that are passed; after
-     * implib_library_with it is the offset of its name. */
+     * implib_library_with it is the offset of its name, and after implib_library_of_dll its index among the names that
+     * lead somewhere and, behind these, the ordinals without a name. */
     IMPLIB_EMPTY_IMPORT_NAME = 22,  /* the name of the DLL is empty, or there is none */
     IMPLIB_NUL_IN_IMPORT_NAME = 23, /* the name of the DLL holds a NUL */
     IMPLIB_EMPTY_NAME = 24,         /* of an export: its name is empty */
@@ -110,13 +111,13 @@ enum implib_status {
     IMPLIB_NUL_IN_LIBRARY_NAME = 37,      /* it holds a NUL; of no text */
     IMPLIB_LINE_END_IN_LIBRARY_NAME = 38, /* it holds a line feed, as the name of the DLL does */
 
-    /* Of implib_library_with and implib_library_of; *place is 0. */
+    /* Of the calls with options; *place is 0. */
     IMPLIB_NO_DLL_NAME = 39,     /* no name of the DLL is given, but for a directory */
     IMPLIB_UNKNOWN_OPTIONS = 40, /* the size of the options is of none that this header knows */
     IMPLIB_UNKNOWN_FLAGS = 41,   /* an unknown flag is set */
     IMPLIB_DLL_NOT_UTF8 = 42,    /* the name of the DLL in the options, or in its export directory, is not UTF-8 */
 
-    /* Of implib_library_of alone; *place is the index of the export, from 0. */
+    /* Of implib_library_of; *place is the index of the export, from 0. */
     IMPLIB_UNKNOWN_EXPORT_FLAGS = 43, /* an unknown flag of an export is set */
     IMPLIB_EXPORT_NOT_UTF8 = 44,      /* the name or the target of an export is not UTF-8; after implib_library_of_dll
                                        * *place is the position in the name table */
@@ -128,7 +129,7 @@ enum implib_status {
     /* Of implib_write alone; *place is 0. */
     IMPLIB_WRITE_FAILED = 47, /* the caller's function did not take a piece */
 
-    /* Of implib_exports and implib_check_dll. */
+    /* Of implib_exports, implib_check_dll and implib_library_of_dll. */
     IMPLIB_NOT_AN_IMAGE = 48,       /* the bytes are no PE32 or PE32+ image, or a part of it is cut; *place is the
                                      * offset of the field for which they are none */
     IMPLIB_NO_EXPORT_DIRECTORY = 49, /* the image exports nothing; *place is 0 */
@@ -146,7 +147,8 @@ enum implib_status {
 
     /* Of implib_library_arm64ec. */
     IMPLIB_UNREADABLE_NAME = 56, /* of an export: it begins as a name of C++, and is none; *place is its offset */
-    IMPLIB_NATIVE_REFUSED = 57   /* the native definition is refused; *place is the offset in it, or 0 */
+    IMPLIB_NATIVE_REFUSED = 57   /* the native definition is refused, *place is the offset in it; or, with one, the
+                                  * name of the DLL, and *place is 0 */
 };
 
 /* The flags of the options, and the options of the program that they stand for. */
