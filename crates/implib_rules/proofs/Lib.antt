@@ -13,6 +13,7 @@ pub mod PlainNames
 pub mod PlainPlaces
 pub mod PlainStays
 pub mod PlainWords
+pub mod Shortcuts
 pub mod Made
 pub mod OneDefinition
 pub mod ByOrdinal

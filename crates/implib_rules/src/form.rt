@@ -6,13 +6,13 @@ ghost use Rattle.implib.specs.Fault.{cause_of};
 ghost use Rattle.implib_rules.specs.Forms.{begins_statement, cause_of_problem, is_between};
 ghost use Rattle.implib_rules.specs.Forms.{is_in_quotes, is_open, is_ordinal, is_quote_closed};
 ghost use Rattle.implib_rules.specs.Forms.{is_meant_as_ordinal, is_same_line, is_sign, open_quote};
-ghost use Rattle.implib_rules.specs.Forms.{point_after};
-ghost use Rattle.implib_rules.specs.Forms.{problem_at};
-ghost use Rattle.implib_rules.specs.Forms.{unformed};
+ghost use Rattle.implib_rules.specs.Forms.{open_quote_from, point_after, problem_at, unformed};
 ghost use Rattle.implib_rules.specs.Plain.{after_all};
 ghost use Rattle.implib_rules.specs.Heard.{formed_view, misplaced_view};
 ghost use Rattle.std.specs.Option.{option_map};
-ghost use Rattle.std.specs.Prelude.{◌≡◌, ◌-◌, IfOk, None, Some, drop, length, take, take_while};
+ghost use Rattle.implib_rules.specs.declared.plain.Reading.{Reading};
+ghost use Rattle.std.specs.Prelude.{◌≡◌, ◌-◌, ℕ, IfOk, None, Some, drop, length, take, take_while};
+ghost use Rattle.std.specs.Prelude.{true};
 
 use crate::linked::has_at_sign;
 use crate::name::{FirstHeading, is_identifier};
@@ -71,6 +71,15 @@ fn is_open(reading: Reading, byte: u8, rest: &[u8]) -> bool
     byte == b'"' && is_between(reading.part) && !is_quote_closed(rest)
 }
 
+// Whether no quote follows a byte of a text: that is tested at the first byte, and at each quote.
+#[tactic(auto, using(crate::proofs::Shortcuts::none_open))]
+fn is_past_quotes(offset: usize, byte: u8, rest: &[u8]) -> bool
+    ensures { result ≡ true
+        → (reading : Reading) (at : ℕ) → open_quote_from reading at rest.now ≡ None }
+{
+    (offset == 0 || byte == b'"') && !rest.contains(&b'"')
+}
+
 /// The offset of the first quote of a text that its line does not close.
 #[tactic(auto, unfolding(crate::specs::Forms::open_quote_from))]
 pub(crate) fn open_quote(text: &[u8]) -> Option<usize>
@@ -82,6 +91,9 @@ pub(crate) fn open_quote(text: &[u8]) -> Option<usize>
     while let [byte, rest @ ..] = left {
         if is_open(reading, *byte, rest) {
             return Some(offset);
+        }
+        if is_past_quotes(offset, *byte, rest) {
+            return None;
         }
         reading = step_of(reading, left, *byte, rest).reading;
         offset += 1;

@@ -21,7 +21,7 @@ ghost use Rattle.implib_rules.specs.Plain.{step_in_word, with_digit, word_step};
 ghost use Rattle.std.specs.Char.{is_ascii_digit};
 ghost use Rattle.std.specs.List.{fold};
 ghost use Rattle.std.specs.Prelude.{◌≡◌, ◌<◌, ◌≤◌, IfOk, IfSome, Some, length, slice_index};
-ghost use Rattle.std.specs.Prelude.{take_while, true};
+ghost use Rattle.std.specs.Prelude.{false, take_while, true};
 
 use implib::def::lexer::is_delimiter;
 use std::alloc::{AllocError, Global};
@@ -483,6 +483,17 @@ fn after_sign(before: Before) -> Before
     }
 }
 
+// Whether the second byte of a text is a capital, as it is in each keyword.
+#[tactic(auto, using(crate::proofs::Shortcuts::no_keyword))]
+fn may_be_keyword(text: &[u8]) -> bool
+    ensures name { result ≡ false → wants_name text.now ≡ false }
+    ensures number { result ≡ false → wants_number text.now ≡ false }
+    ensures statement { result ≡ false → is_statement text.now ≡ false }
+    ensures sections { result ≡ false → is_sections text.now ≡ false }
+{
+    byte_at(text, 1).is_ascii_uppercase()
+}
+
 // Whether a keyword that a name follows is in front of a text.
 fn wants_name(text: &[u8]) -> bool
     ensures { result ≡ wants_name text.now }
@@ -511,10 +522,10 @@ fn begins_digit(text: &[u8]) -> bool
 fn after_this_word(before: Before, text: &[u8]) -> Before
     ensures { result ≡ after_this_word before text.now }
 {
-    if wants_name(text) {
+    if may_be_keyword(text) && wants_name(text) {
         return Before::Sign;
     }
-    if wants_number(text) {
+    if may_be_keyword(text) && wants_number(text) {
         return Before::Number;
     }
     if is_after_name(before) && begins_word(b"@", text) {
@@ -620,7 +631,7 @@ fn name_step(before: Before, text: &[u8], byte: u8, rest: &[u8]) -> Step
 fn begins_statement(before: Before, text: &[u8]) -> bool
     ensures { result ≡ begins_statement before text.now }
 {
-    is_line_start(before) && is_statement(text)
+    is_line_start(before) && may_be_keyword(text) && is_statement(text)
 }
 
 // Whether SECTIONS, or one of its lines, is in front of a text, at the beginning of a line.
@@ -628,7 +639,8 @@ fn begins_statement(before: Before, text: &[u8]) -> bool
 fn begins_sections(before: Before, text: &[u8]) -> bool
     ensures { result ≡ begins_sections before text.now }
 {
-    is_line_start(before) && is_sections(text) || is_section_start(before) && is_section_line(text)
+    is_line_start(before) && may_be_keyword(text) && is_sections(text)
+        || is_section_start(before) && is_section_line(text)
 }
 
 // The first byte of a word.
@@ -723,6 +735,7 @@ fn step_in_word(inside: Step, before: Before, text: &[u8], byte: u8, rest: &[u8]
 }
 
 // One byte of a definition.
+#[inline(always)]
 pub(crate) fn step_of(reading: Reading, text: &[u8], byte: u8, rest: &[u8]) -> Step
     ensures { result ≡ step_of reading byte text.now rest.now }
 {
