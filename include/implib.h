@@ -62,7 +62,7 @@ extern "C" {
 
 /* The version of this header, which grows with every change of what it declares or says. implib_version()
  * gives that of the library. */
-#define IMPLIB_VERSION 13
+#define IMPLIB_VERSION 14
 uint32_t implib_version(void);
 
 /* What a call answers. New statuses get new numbers. */
@@ -331,6 +331,7 @@ static inline uint32_t implib_warnings(const struct implib_options *options, con
 #define IMPLIB_WARNING_STANDS_ALONE 13u    /* a keyword of other tools is a name here */
 #define IMPLIB_WARNING_LATE 14u            /* an attribute follows the name of EXPORTAS */
 #define IMPLIB_WARNING_COMMENT_LIKE 15u    /* a name begins as a comment of other tools */
+#define IMPLIB_WARNING_WEAK 16u            /* GNU ld leaves the symbol of `==` undefined; GNU's flavour serves it */
 
 /*
  * Puts what each member of a library is for, and imports, at the beginning of the buffer, and returns a status:

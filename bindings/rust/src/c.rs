@@ -8,7 +8,7 @@ use crate::error::{Error, Fault, Position};
 use crate::{Flavor, MachineType};
 
 /// `IMPLIB_VERSION` of the header that this file was written for.
-pub(crate) const VERSION: u32 = 13;
+pub(crate) const VERSION: u32 = 14;
 
 /// `IMPLIB_STATUS_TEXT_SIZE`: no text of a status is longer, its NUL counted.
 const STATUS_TEXT_SIZE: usize = 32;

@@ -4,4 +4,4 @@ use Rattle.std.specs.Prelude.{ℕ}
 
 -- the version
 abbrev pub version : ℕ
-version = 13
+version = 14

@@ -35,6 +35,7 @@ kind_number rules.EndsEarly = 12
 kind_number (rules.StandsAlone word) = 13
 kind_number (rules.IsLate word) = 14
 kind_number (rules.IsCommentLike word) = 15
+kind_number (rules.IsWeak word) = 16
 
 -- a warning of a text whose byte order mark has this length
 abbrev pub warned_of : ℕ → WarningView → Warned

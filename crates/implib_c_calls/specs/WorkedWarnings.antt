@@ -20,5 +20,6 @@ pub record WorkedWarnings : Type 0 where
       ∷ rules.RepeatsOrdinal ordinal first ∷ rules.OpensLine attribute word
       ∷ rules.IsLowered word attribute ∷ rules.IsOrdinalLike word ∷ rules.IsStdcall word
       ∷ rules.IsNotExported word ∷ rules.IsSecondHeading ∷ rules.IsSkipped ∷ rules.EndsEarly
-      ∷ rules.StandsAlone word ∷ rules.IsLate word ∷ rules.IsCommentLike word ∷ [])
-      ≡ 1 ∷ 2 ∷ 3 ∷ 4 ∷ 5 ∷ 6 ∷ 7 ∷ 8 ∷ 9 ∷ 10 ∷ 11 ∷ 12 ∷ 13 ∷ 14 ∷ 15 ∷ []
+      ∷ rules.StandsAlone word ∷ rules.IsLate word ∷ rules.IsCommentLike word ∷ rules.IsWeak word
+      ∷ [])
+      ≡ 1 ∷ 2 ∷ 3 ∷ 4 ∷ 5 ∷ 6 ∷ 7 ∷ 8 ∷ 9 ∷ 10 ∷ 11 ∷ 12 ∷ 13 ∷ 14 ∷ 15 ∷ 16 ∷ []

@@ -42,6 +42,7 @@ fn kind_number(notice: &Notice<'_>) -> u64
         Notice::StandsAlone(_) => 13,
         Notice::Late(_) => 14,
         Notice::CommentLike(_) => 15,
+        Notice::Weak(_) => 16,
     }
 }
 

@@ -20,7 +20,7 @@ use Rattle.implib_rules.specs.Options.{LibraryOptionsView}
 use Rattle.implib_rules.specs.Firsts.{first_declared, first_of_ordinal, first_of_word}
 use Rattle.implib_rules.specs.Warnings.{Ascends, NoticeView, OpensLine, WarningView, asked_warnings, heading_notice, if_export, index_after}
 use Rattle.implib_rules.specs.Warnings.{lowered_notice, no_export_notice, ordinal_like_notice, ordinal_notice, other_kind_notice, repeat_notice, stdcall_notice}
-use Rattle.implib_rules.specs.Warnings.{target_notice, warned, warnings_at, warnings_at_site, warnings_from, warnings_of, whole, word_before}
+use Rattle.implib_rules.specs.Warnings.{target_notice, warned, weak_notice, warnings_at, warnings_at_site, warnings_from, warnings_of, whole, word_before}
 
 -- each token is at this offset or after it, and none is before the one that it follows
 abbrev TokensFrom : ℕ → List TokenView → Type 0
@@ -132,8 +132,10 @@ asked_before : (options : LibraryOptionsView) (exports : List ExportView) (is_le
 asked_before options exports true position e = λ rest from. from
 asked_before options exports false position e =
     both_before position _ _
+    (both_before position _ _
     (one_before (stdcall_notice options.machine options.naming e) position)
-    (one_before (target_notice options.flavor e (first_of_word e.alias_target exports)) position)
+    (one_before (target_notice options.flavor e (first_of_word e.alias_target exports)) position))
+    (one_before (weak_notice options e) position)
 
 -- the warnings of an export
 export_before : (options : LibraryOptionsView) (exports : List ExportView) (index : ℕ) (position : Position) (found : Option ExportView)

@@ -10,6 +10,7 @@ use Rattle.implib.specs.declared.def.position.Position.{Position}
 use Rattle.implib.specs.declared.flavor.Flavor.{Flavor}
 use Rattle.implib.specs.declared.flavor.Flavor.TheVariants.{Msvc, Gnu}
 use Rattle.implib.specs.declared.machine.MachineType.{MachineType}
+use Rattle.implib.specs.declared.machine.MachineType.TheVariants.{AMD64, I386}
 use Rattle.implib.specs.Ascii.{at_sign, begins_with, question_mark}
 use Rattle.implib.specs.Definition.{ExportView}
 use Rattle.implib.specs.Import.{is_empty_text}
@@ -25,7 +26,8 @@ use Rattle.implib_rules.specs.declared.warnings.words.Attribute.{Attribute}
 use Rattle.implib_rules.specs.declared.warnings.words.Attribute.TheVariants.{Data, Constant}
 use Rattle.implib_rules.specs.declared.warnings.words.Attribute.TheVariants.{Private, NoName}
 use Rattle.implib_rules.specs.Firsts.{first_declared, first_of_ordinal, first_of_word}
-use Rattle.implib_rules.specs.Linked.{NamingView, has_at_sign, is_at_sign, is_number, word_of}
+use Rattle.implib_rules.specs.Linked.{NamingView, has_at_sign, is_apart, is_at_sign, is_number}
+use Rattle.implib_rules.specs.Linked.{word_of}
 use Rattle.implib_rules.specs.Places.{places_in}
 use Rattle.implib_rules.specs.Repeats.{repeats}
 use Rattle.implib_rules.specs.Options.{LibraryOptionsView}
@@ -99,6 +101,8 @@ pub data NoticeView : Type 0 where
   IsLate : List ℕ → NoticeView
   -- a name begins as a comment of other tools
   IsCommentLike : List ℕ → NoticeView
+  -- the symbol is weak for that of an import
+  IsWeak : List ℕ → NoticeView
 
 -- the view of a notice of the program
 abbrev pub notice_view : Notice → NoticeView
@@ -117,6 +121,7 @@ notice_view notice.EndsEarly = EndsEarly
 notice_view (notice.StandsAlone word) = StandsAlone word.now
 notice_view (notice.Late word) = IsLate word.now
 notice_view (notice.CommentLike word) = IsCommentLike word.now
+notice_view (notice.Weak word) = IsWeak word.now
 
 -- a warning: what it says, and where it is
 pub record WarningView : Type 0 where
@@ -168,6 +173,24 @@ target_notice Msvc e first =
     if is_none first && is_asked_by_word e && not (is_empty_text e.alias_target)
     then Some (IsNotExported e.alias_target) else None
 
+-- whether GNU's flavour serves GNU `ld` on a machine: its stubs run there
+abbrev pub serves_gnu : MachineType → Bool
+serves_gnu I386 = true
+serves_gnu AMD64 = true
+serves_gnu _ = false
+
+abbrev pub weak_in : Flavor → ExportView → Option NoticeView
+weak_in Gnu e = None
+weak_in Msvc e = Some (IsWeak (word_of e))
+
+-- For Microsoft's linker the symbol is weak for that of the import which asks for the word after
+-- `==`. GNU `ld` leaves such a symbol undefined (docs/LINKERS.md, `weak-alias`).
+abbrev pub weak_notice : LibraryOptionsView → ExportView → Option NoticeView
+weak_notice options e =
+    if serves_gnu options.machine && not options.naming.exports_as
+    && is_apart options.machine options.naming e
+    then weak_in options.flavor e else None
+
 -- the name of the DLL is given twice, and neither time on the command line
 abbrev pub heading_notice : Option (List ℕ) → Option NoticeView
 heading_notice None = Some IsSecondHeading
@@ -195,6 +218,7 @@ asked_warnings options exports true position e = []
 asked_warnings options exports false position e =
     warned (stdcall_notice options.machine options.naming e) position
     ++ warned (target_notice options.flavor e (first_of_word e.alias_target exports)) position
+    ++ warned (weak_notice options e) position
 
 -- the warnings of an export at its position, by its index
 abbrev pub warnings_of_export : LibraryOptionsView → List ExportView → ℕ → Position → ExportView →

@@ -10,15 +10,15 @@ ghost use Rattle.implib_rules.specs.Warnings.{index_after, lowered_notice, notic
 ghost use Rattle.implib_rules.specs.Warnings.{ordinal_like_notice, ordinal_notice};
 ghost use Rattle.implib_rules.specs.Warnings.{other_kind_notice, no_export_notice};
 ghost use Rattle.implib_rules.specs.Warnings.{repeat_notice, stdcall_notice, target_notice};
-ghost use Rattle.implib_rules.specs.Warnings.{warned, warning_view, warnings_at};
-ghost use Rattle.implib_rules.specs.Warnings.{warnings_of, word_before};
+ghost use Rattle.implib_rules.specs.Warnings.{serves_gnu, warned, warning_view, warnings_at};
+ghost use Rattle.implib_rules.specs.Warnings.{warnings_of, weak_notice, word_before};
 ghost use Rattle.std.specs.Option.{option_map};
 ghost use Rattle.std.specs.Prelude.{◌≡◌, ◌++◌, ◌-◌, ◌<◌, ◌^◌, IfOk, OnOk, map};
 
 pub mod words;
 
 use crate::firsts::{first_declared, first_ordinals, first_words};
-use crate::linked::{Naming, word_of};
+use crate::linked::{Naming, is_apart, word_of};
 use crate::options::LibraryOptions;
 use crate::places::{Place, Site};
 use crate::shown::Shown;
@@ -62,6 +62,8 @@ pub enum Notice<'a> {
     Late(&'a str),
     /// The name of an export begins as a comment of other tools.
     CommentLike(&'a str),
+    /// The symbol is weak for that of an import, which GNU `ld` does not link.
+    Weak(&'a str),
 }
 
 /// A warning.
@@ -190,6 +192,34 @@ fn target_notice<'a>(
     }
 }
 
+// Whether GNU's flavour serves GNU `ld` on a machine, by stubs that run.
+fn serves_gnu(machine: MachineType) -> bool
+    ensures { result ≡ serves_gnu machine }
+{
+    matches!(machine, MachineType::I386 | MachineType::AMD64)
+}
+
+// That the symbol of an export is weak for that of an import.
+fn weak_notice<'a>(
+    alloc: Global,
+    options: &LibraryOptions<'_>,
+    export: &'a ShortExport,
+) -> Result<Option<Notice<'a>>, AllocError>
+    ensures { IfOk result (λ notice. option_map notice_view notice
+        ≡ weak_notice (library_options_view options.now) (export_view export.now)) }
+{
+    if !serves_gnu(options.machine)
+        || options.naming.exports_as
+        || !is_apart(alloc, options.machine, options.naming, export)?
+    {
+        return Ok(None);
+    }
+    Ok(match options.flavor {
+        Flavor::Gnu => None,
+        Flavor::Msvc => Some(Notice::Weak(word_of(export))),
+    })
+}
+
 // That there is a second `LIBRARY` or `NAME`, unless the name is given otherwise.
 fn heading_notice<'a>(dll: Option<&str>) -> Option<Notice<'a>>
     ensures { option_map notice_view result
@@ -280,7 +310,10 @@ fn push_asked<'a>(
         warnings,
         target_notice(options.flavor, export, first),
         position,
-    )
+    )?;
+    let weak = weak_notice(*warnings.allocator(), options, export)?;
+    push_notice(warnings, weak, position)?;
+    Ok(())
 }
 
 // Appends the warnings of an export by its index.
@@ -495,6 +528,11 @@ impl<'a> fmt::Display for NoticeMessage<'a> {
             Notice::CommentLike(word) => write!(
                 f,
                 "`{word}` begins an export's name here; a comment begins with `;`"
+            ),
+            Notice::Weak(word) => write!(
+                f,
+                "`{}` is a weak symbol here, which GNU ld leaves undefined; --flavor gnu serves it",
+                Shown(word)
             ),
         }
     }
