@@ -8,6 +8,5 @@ pub mod Stubs
 pub mod Fields
 pub mod FieldsInMemory
 pub mod Operands
-pub mod LinkedBytes
 pub mod Filling
-pub mod Choices
+pub mod Places

@@ -10,7 +10,6 @@ pub mod FlavorGroups
 pub mod Taken
 pub mod Chosen
 pub mod BothClosed
-pub mod Exists
 pub mod Sweeps
 pub mod CommandLines
 pub mod Wanting

@@ -12,8 +12,8 @@ use Rattle.implib.specs.Link.Resolution.{definitions_of}
 use Rattle.implib.specs.Members.ImportTables.{thunk_width}
 use Rattle.implib.proofs.Link.LinkedMembers.{among_contains}
 use Rattle.implib.proofs.Link.Ranges.{Among, all_among}
-use Rattle.implib_link.specs.Gnu.Fields.{field_width, DefinesIn, FieldHolds, LinkedCode, MeetsAlone, field_at, HasPageField, HasPointer, IsPointer, Names, absolute_width, StubAt, AreLinkedBeside, placed_code, StubArrives}
-use Rattle.implib_link.specs.Gnu.Stored.{HasAddField, HasRelative, HoldAddress, HoldsFurther, IsImageRelative, SumArrives, arm64_pageoffset_12a, AreFurtherHeld, AreStoredInMemory, PointsTo}
+use Rattle.implib_link.specs.Gnu.Fields.{field_width, DefinesIn, FieldHolds, LinkedCode, MeetsAlone, field_at, HasPageField, HasPointer, IsPointer, Names, absolute_width, StubAt, placed_code, StubArrives}
+use Rattle.implib_link.specs.Gnu.Stored.{HasAddField, HasRelative, HoldAddress, HoldsFurther, IsImageRelative, SumArrives, arm64_pageoffset_12a, AreStoredInMemory, PointsTo}
 use Rattle.implib_link.proofs.Gnu.FieldsInMemory.{Settles, StoredRests, field_there, linked_there, own_end, settled_in_tables, stored_in_memory, stored_rests}
 use Rattle.implib_link.proofs.Gnu.Loaded.{Covers}
 use Rattle.implib_link.proofs.Gnu.Operands.{addr64_is, dir32_is, page_leads, pair_leads, pointer_width}
@@ -23,11 +23,10 @@ use Rattle.std.specs.Prelude.{slice_get}
 use Rattle.implib.specs.Formats.ShortImport.{ShortImport}
 use Rattle.implib.specs.Import.{Ask, imp_symbol}
 use Rattle.implib_link.specs.Flavors.LldImports.{IsThunk, ThunkArrives}
-use Rattle.implib_link.specs.Gnu.Moves.{AreInMemory, ArePaged, CanBeMoved}
+use Rattle.implib_link.specs.Gnu.Moves.{AreInMemory}
 use Rattle.implib_link.specs.Gnu.Writing.{ReadsAndWrites}
 use Rattle.implib_link.specs.Tables.{AreSteady, AreTables, CanReadFrom, Table, TableEntry, Tables}
 use Rattle.implib_link.proofs.Flavors.LldThunks.{bare_symbol, thunk_defines}
-use Rattle.implib_link.proofs.Gnu.Fields.{code_places, moved_exists}
 use Rattle.implib_link.proofs.Tables.{covering, entry_in, stub_in_memory, thunk_in_memory}
 
 -- Numbers of fields.
@@ -205,9 +204,3 @@ module _ (machine : MachineType) (image_base : ℕ) (t : Tables) (codes : List L
   thunks_stored i j x e is asked can r d symbol d_held thunk c offset fits held has =
       points_to (λ a. ThunkArrives machine image_base (written ++ memory) a (gives x.dll e.ask)) d (bare_symbol r) d_held (thunk_defines machine d r thunk) refl
       (thunk_in_memory machine image_base t codes targets memory gives tables steady in_memory n written wide reads i j x e is asked can r d symbol d_held thunk) c offset fits held has
-
--- there is such memory at any base
-pub stored_memory_exists : (machine : MachineType) (from to : ℕ) (image : List Range) (linked : List Placed) (codes : List LinkedCode) (targets : LinkedCode → ℕ → ℕ) → AreSteady machine linked →
-    AreLinkedBeside machine from image linked codes targets → AreFurtherHeld machine from codes targets → CanBeMoved machine codes → ArePaged machine from to →
-    (memory : List Range) × AreStoredInMemory machine to image linked codes targets memory
-stored_memory_exists machine from to image linked codes targets none beside further can paged = grind (arith, moved_exists machine from to image linked codes targets none beside can, code_places)

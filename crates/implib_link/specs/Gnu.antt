@@ -3,5 +3,4 @@ pub mod Fields
 pub mod Moves
 pub mod Stored
 pub mod Writing
-pub mod Choices
 pub mod Aliases

@@ -3,7 +3,6 @@
 
 pub mod archives;
 pub mod both_flavors;
-pub mod choices;
 pub mod command_lines;
 pub mod image;
 pub mod lld;

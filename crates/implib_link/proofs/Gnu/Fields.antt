@@ -1,7 +1,7 @@
 -- Parts of instructions, and pages at two bases that differ by whole ones.
 use Rattle.std.proofs.Common.{rules, ◌≡◌, ℕ, suc, ◌+◌, ◌-◌, ◌/◌, ◌%◌, ◌^◌, List, [], ◌∷◌, ◌++◌, length, Some, refl, sym, subst, arith, ◌≤◌, ap, ◌∙◌, inr, zero, ◌<◌, Bool, true, false, take, drop, None, inl, ◌*◌, map, Option}
 use Rattle.implib.specs.declared.machine.MachineType.TheVariants.{I386, ARMNT, AMD64, ARM64}
-use Rattle.implib.specs.Link.Image.{Range, range_end, byte_at}
+use Rattle.implib.specs.Link.Image.{Range, byte_at}
 use Rattle.implib.specs.Link.Load.{BytesAt, number_in}
 use Rattle.implib_link.specs.Stub.{jump_reads, page, adrp_immediate, ldr_immediate, plus_signed, with_adrp, with_bits, word_at}
 use Rattle.std.specs.List.{AllByRecursion, Contains, flat_map, list_any, filter}
@@ -10,9 +10,9 @@ use Rattle.implib.specs.declared.machine.MachineType.{MachineType}
 use Rattle.implib.specs.Link.Placement.{Placed}
 use Rattle.implib.proofs.Link.LinkedMembers.{among_contains}
 use Rattle.implib.proofs.Link.Ranges.{among_flat, Among}
-use Rattle.implib_link.specs.Gnu.Fields.{AreLinkedBeside, IsRelocated, LinkedCode, range_of_code, ranges_of_codes, arm64_addr64, field_width, i386_rel32, FieldHolds, MeetsAlone, meets, HasInstructions, IsAside, moved_by, placed_code, Names, PairArrives, Place, absolute_width, covers, table_places, moved_number, places_at}
-use Rattle.implib_link.specs.Gnu.Moves.{AreMoved, AreInMemory, ArePaged, CanBeMoved, places_of_code}
-use Rattle.implib_link.proofs.Gnu.Choices.{PlaceIn, all_widths, can_rebase, places_apart, places_in, places_widths, among_place, apart_back, places_from, covered_bounds, narrow}
+use Rattle.implib_link.specs.Gnu.Fields.{LinkedCode, arm64_addr64, field_width, i386_rel32, FieldHolds, MeetsAlone, meets, HasInstructions, IsAside, moved_by, placed_code, Names, PairArrives, absolute_width, covers, moved_number, places_at}
+use Rattle.implib_link.specs.Gnu.Moves.{ArePaged, places_of_code}
+use Rattle.implib_link.proofs.Gnu.Places.{among_place, covered_bounds, narrow}
 use Rattle.implib_link.proofs.Search.Lists.{contains_among, passes as among_filter, among_filter as filter_among, any_of}
 use Rattle.std.specs.Prelude.{◌==◌, if◌then◌else◌, cond, slice_get}
 use Rattle.std.proofs.lemmas.Bool.{eqb-true}
@@ -48,50 +48,10 @@ four_of (a ∷ b ∷ c ∷ d ∷ e ∷ rest) four = absurd (omega arith)
 pub jump_field : (address : ℕ) (field : List ℕ) → length field ≡ 4 → jump_reads I386 address (0xFF ∷ 0x25 ∷ (field ++ 0x90 ∷ 0x90 ∷ [])) ≡ Some (number_in field)
 jump_field address field four = let f = four_of field four in subst (λ xs. jump_reads I386 address (0xFF ∷ 0x25 ∷ (xs ++ 0x90 ∷ 0x90 ∷ [])) ≡ Some (number_in xs)) (sym f.is) refl
 
--- There is memory of a linked program at any base that it can be moved to.
-
-module _ (machine : MachineType) (image_base : ℕ) (targets : LinkedCode → ℕ → ℕ) where
-  below_end : (c : LinkedCode) → length c.bytes ≡ length c.code.bytes → (ps : List Place) → AllByRecursion (λ (p : Place). p.address + p.width ≤ c.position + length c.code.bytes) ps →
-      AllByRecursion (λ (p : Place). p.address + p.width ≤ range_end (range_of_code c)) ps
-  below_end c size [] below = tt
-  below_end c size (p ∷ ps) below = let end : p.address + p.width ≤ c.position + length c.code.bytes = below.0 in (omega arith, below_end c size ps below.1)
-
-  all_in_code : (codes : List LinkedCode) → AllByRecursion (λ (c : LinkedCode). IsRelocated machine image_base (targets c) c.position c.code c.bytes) codes →
-      AllByRecursion (λ (c : LinkedCode). AllByRecursion (λ (p : Place). p.address + p.width ≤ c.position + length c.code.bytes) (places_of_code machine c)) codes →
-      AllByRecursion (λ (c : LinkedCode). AllByRecursion (PlaceIn (range_of_code c)) (places_of_code machine c)) codes
-  all_in_code [] relocated within = tt
-  all_in_code (c ∷ codes) relocated within = (
-    places_in (range_of_code c) (places_of_code machine c) (places_from machine c.position c.code.relocations) (below_end c relocated.0.size (places_of_code machine c) within.0),
-    all_in_code codes relocated.1 within.1,
-  )
-
 -- where its code stores an address whole, there is a place
 pub code_places : (machine : MachineType) (codes : List LinkedCode) (c : LinkedCode) (r : Relocation) (width : ℕ) → Contains codes c → Contains c.code.relocations r → absolute_width machine r.kind ≡ Some width →
     Contains (flat_map (places_of_code machine) codes) (record { address = c.position + r.offset; width = width })
 code_places machine codes c r width held m is = search (rules, c, is, among_contains, among_flat, contains_among, among_place)
-
--- at the places where its code stores addresses whole
-pub moved_exists : (machine : MachineType) (from to : ℕ) (image : List Range) (linked : List Placed) (codes : List LinkedCode) (targets : LinkedCode → ℕ → ℕ) → table_places machine linked ≡ [] →
-    AreLinkedBeside machine from image linked codes targets → CanBeMoved machine codes → (memory : List Range) × AreMoved machine from to image linked codes targets (flat_map (places_of_code machine) codes) memory
-moved_exists machine from to image linked codes targets none beside can =
-    let ranges : List Range = ranges_of_codes codes in
-    let places : List Place = flat_map (places_of_code machine) codes in
-    let rebased = can_rebase from to (image ++ ranges) places
-    (places_apart range_of_code (places_of_code machine) codes (all_in_code machine from targets codes beside.relocated can.within) can.apart (apart_back image ranges beside.apart))
-    (all_widths (places_of_code machine) (λ c. places_widths machine c.position c.code.relocations) codes) in (
-      rebased.0,
-      record {
-        beside = beside;
-        within = can.within;
-        needed = λ c r width address entry held m is symbol own. code_places machine codes c r width held m is;
-        only = λ a byte is covered. ap (λ ps. list_any (covers a) (ps ++ flat_map (places_of_code machine) codes)) none ∙ covered;
-        rebased = rebased.1;
-      },
-    )
-
-pub moved_memory_exists : (machine : MachineType) (from to : ℕ) (image : List Range) (linked : List Placed) (codes : List LinkedCode) (targets : LinkedCode → ℕ → ℕ) → table_places machine linked ≡ [] →
-    AreLinkedBeside machine from image linked codes targets → CanBeMoved machine codes → ArePaged machine from to → (memory : List Range) × AreInMemory machine to image linked codes targets memory
-moved_memory_exists machine from to image linked codes targets none beside can paged = grind (arith, moved_exists machine from to image linked codes targets none beside can)
 
 -- Fields of relocations: which of them meet bytes, and what they hold at another base.
 

@@ -20,7 +20,7 @@ use Rattle.implib_link.specs.Gnu.Moves.{AreInMemory, AreMoved, ArePaged, places_
 use Rattle.implib_link.specs.Gnu.Stored.{AreFurtherHeld, AreStoredInMemory, StoresAreMoved}
 use Rattle.implib_link.proofs.Gnu.Fields.{alone_among, alone_same, covering_one, get_drop, get_take, holds_moved, holds_steady, located_each, located_from, meets_bounds, meets_from, meeting, whole_width}
 use Rattle.implib_link.proofs.Gnu.Loaded.{Keeps, kept_outside, Covers, byte_front, code_untouched, holder, not_in_both}
-use Rattle.implib_link.proofs.Gnu.Choices.{apart_back, covering, none_covers, one_code, places_from}
+use Rattle.implib_link.proofs.Gnu.Places.{apart_back, covering, none_covers, one_code, places_from}
 
 -- What memory has of a program at a base, wherever its code was linked for: the image, the bytes of code where no field
 -- stores an address whole, and in such fields of the tables' symbols the number, moved.

@@ -19,7 +19,7 @@ use Rattle.implib.specs.Formats.Object.{Object, u32_at}
 use Rattle.implib.specs.Link.Placement.{Addresses, Bases, Descriptors, DirectoryEnds, DllNames, Group, HintNames, Lookups, Placed, base_of, placed_from, next_multiple}
 use Rattle.implib.proofs.Link.LinkedBlocks.{ends, group_located, starts}
 use Rattle.implib.proofs.Link.Ranges.{Among, among_back, among_front, is_in_from, address_bounds, among_first, among_later, located_parts}
-use Rattle.implib_link.proofs.Gnu.Choices.{apart_back as back_apart}
+use Rattle.implib_link.proofs.Gnu.Places.{apart_back as back_apart}
 use Rattle.implib_link.proofs.Search.Lists.{all_parts, among_either, any_of}
 use Rattle.implib.specs.Definition.{ExportView}
 use Rattle.implib.specs.Formats.Bytes.{u32_bytes}

@@ -9,7 +9,6 @@ use Rattle.implib.specs.Formats.Object.{Entry}
 use Rattle.implib.specs.Link.Image.{Range, byte_at}
 use Rattle.implib.specs.Link.Placement.{Placed}
 use Rattle.implib.specs.Link.Resolution.{symbol_address}
-use Rattle.implib_link.specs.Gnu.Choices.{ArePlacesApart}
 use Rattle.implib_link.specs.Gnu.Fields.{AreLinkedBeside, LinkedCode, ranges_of_codes, IsRebased}
 use Rattle.implib_link.specs.Gnu.Fields.{Place, absolute_width, covers, places_at, table_places}
 
@@ -65,12 +64,3 @@ AreInMemory machine image_base image linked codes targets memory =
     × (memory ≡ image ++ ranges_of_codes codes))
     ⊎ ((from : ℕ) × ((places : List Place) × (ArePaged machine from image_base
     × AreMoved machine from image_base image linked codes targets places memory)))
-
--- Fields of each section that store addresses whole are within it, and no two of them have an
--- address in common.
-pub record CanBeMoved (machine : MachineType) (codes : List LinkedCode) : Type 0 where
-  pub within : AllByRecursion
-      (λ c. AllByRecursion (λ p. p.address + p.width ≤ c.position + length c.code.bytes)
-      (places_of_code machine c))
-      codes
-  pub apart : AllByRecursion (λ c. ArePlacesApart (places_of_code machine c)) codes

@@ -13,11 +13,11 @@ ghost use Rattle.implib_link.specs.Flavors.Expansion.{before_last_stop};
 ghost use Rattle.implib_link.specs.Flavors.Program.{AreEnded, Ending, IsFoundByName, objects_taken};
 ghost use Rattle.implib_link.specs.Flavors.Program.{ClaimsNone, HaveSame, has_tables, packed};
 ghost use Rattle.implib_link.specs.Flavors.Program.{packed_end};
-ghost use Rattle.implib_link.specs.Search.Libraries.{HasClosed, tables_end_by, AreClosed, AreGiven};
+ghost use Rattle.implib_link.specs.Search.Libraries.{AreClosed, AreGiven};
 ghost use Rattle.implib_link.specs.Search.Libraries.{FlavorLibrary, IsFlavorArchive, IsClosed};
 ghost use Rattle.implib_link.specs.Search.Libraries.{LinksClosed, NamesNoMembers, TakesOfLibraries};
 ghost use Rattle.implib_link.specs.Search.Libraries.{archive_of_both, inputs_in, left_in};
-ghost use Rattle.implib_link.specs.Search.Libraries.{wanted_for, LieWithin, weak_in, TakesIntoFor};
+ghost use Rattle.implib_link.specs.Search.Libraries.{wanted_for, weak_in, TakesIntoFor};
 ghost use Rattle.implib_link.specs.Search.Search.{listed_in, unresolved};
 ghost use Rattle.std.specs.List.{AllByRecursion, filter};
 ghost use Rattle.std.specs.Prelude.{◌≡◌, ◌<◌, ◌^◌, ◌++◌, ℕ, IsPermutation, List, Some, false, not};
@@ -65,13 +65,8 @@ pub fn closed_program_links()
 
 /// Whatever a linker takes of libraries of either flavour for objects that may be given closes the
 /// program, as what is linked. Nothing is asked of the search.
-///
-/// If none of these objects holds a part of the import tables, there is such a program (`exists`).
-/// Objects that close a program do so in their packed placement from an address on (`packed`), of
-/// which nothing is asked but room: that the address is above 0, and that the tables of the
-/// libraries, whose sizes the definitions alone bound, end below 2^31; there they lie (`within`).
 pub fn given_objects_are_closed()
-    ensures closes { (machine : MachineType) (ending : Ending) (libraries : List FlavorLibrary)
+    ensures { (machine : MachineType) (ending : Ending) (libraries : List FlavorLibrary)
         (own : List Object) (taken : List MemberView) (arranged : List FlavorLibrary)
         (objects : List Object) →
         IsFlavorArchive machine libraries →
@@ -82,32 +77,6 @@ pub fn given_objects_are_closed()
         (own ++ objects_taken machine (weak_in machine taken)) →
         AreEnded ending machine (inputs_in machine arranged own taken) objects →
         AreClosed machine ending libraries own taken arranged objects }
-    ensures packed { (machine : MachineType) (ending : Ending) (libraries : List FlavorLibrary)
-        (own : List Object) (taken : List MemberView) (arranged : List FlavorLibrary) (first : ℕ)
-        (objects : List Object) →
-        IsFlavorArchive machine libraries →
-        AreClosed machine ending libraries own taken arranged objects →
-        0 < first →
-        tables_end_by first libraries < 2 ^ 31 →
-        IsClosed machine ending libraries own taken arranged (packed first objects)
-        objects }
-    ensures within { (machine : MachineType) (ending : Ending) (libraries : List FlavorLibrary)
-        (own : List Object) (taken : List MemberView) (arranged : List FlavorLibrary) (first : ℕ)
-        (objects : List Object) →
-        IsFlavorArchive machine libraries →
-        AreClosed machine ending libraries own taken arranged objects →
-        0 < first →
-        tables_end_by first libraries < 2 ^ 31 →
-        LieWithin first (tables_end_by first libraries)
-        (image_of machine (packed first objects) (placed_from (packed first objects) objects)) }
-    ensures exists { (machine : MachineType) (libraries : List FlavorLibrary) (own : List Object)
-        (first : ℕ) →
-        IsFlavorArchive machine libraries →
-        AreGiven machine libraries own →
-        AllByRecursion (λ o. has_tables o ≡ false) own →
-        0 < first →
-        tables_end_by first libraries < 2 ^ 31 →
-        HasClosed machine libraries own first }
 {}
 
 /// Linkers find the descriptor of a library for Microsoft's linker by its DLL's name, whatever the

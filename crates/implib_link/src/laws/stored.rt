@@ -1,9 +1,13 @@
 //! The law of the addresses that code and data hold as numbers.
 
 ghost use Rattle.implib.specs.Formats.Object.{ObjectSymbol};
+ghost use Rattle.implib.specs.Link.Image.{Range};
+ghost use Rattle.implib.specs.Link.Placement.{Placed};
 ghost use Rattle.implib.specs.Members.ImportTables.{thunk_width};
+ghost use Rattle.implib.specs.declared.machine.MachineType.{MachineType};
 ghost use Rattle.implib_link.specs.Flavors.LldImports.{ThunkArrives};
 ghost use Rattle.implib_link.specs.Gnu.Fields.{DefinesIn, LinkedCode, HasPointer, StubArrives};
+ghost use Rattle.implib_link.specs.Gnu.Moves.{AreInMemory};
 ghost use Rattle.implib_link.specs.Gnu.Stored.{AreStoredInMemory, HoldAddress, PointsTo};
 ghost use Rattle.implib_link.specs.InMemory.{OfStubs, OfThunks, WhereLoaded};
 ghost use Rattle.implib_link.specs.Tables.{Table, TableEntry};
@@ -17,6 +21,8 @@ ghost use Rattle.std.specs.Prelude.{◌≡◌, ◌+◌, ◌*◌, ◌++◌, ◌<�
 /// So a field that stores the bare name of an import whole points to the stub (`stubs`), or to
 /// lld's thunk (`thunks`), which jumps to what the DLL gives, and a call through the pointer goes
 /// there. All of the image is below what a pointer can hold.
+///
+/// Memory with such addresses is memory for all other laws (`plain`).
 pub fn fields_hold_addresses()
     ensures names { WhereLoaded AreStoredInMemory
         (λ machine image_base t codes targets memory gives n written.
@@ -52,4 +58,9 @@ pub fn fields_hold_addresses()
         HasPointer machine c offset r.symbol →
         PointsTo machine image_base (written ++ memory) (c.position + offset)
         (λ a. ThunkArrives machine image_base (written ++ memory) a given))) }
+    ensures plain { (machine : MachineType) (image_base : ℕ) (image : List Range)
+        (linked : List Placed) (codes : List LinkedCode) (targets : LinkedCode → ℕ → ℕ)
+        (memory : List Range) →
+        AreStoredInMemory machine image_base image linked codes targets memory →
+        AreInMemory machine image_base image linked codes targets memory }
 {}

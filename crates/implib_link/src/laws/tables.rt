@@ -13,7 +13,7 @@ ghost use Rattle.implib_link.specs.Gnu.Fields.{CanBranch, AreLinkedBeside, Defin
 ghost use Rattle.implib_link.specs.Gnu.Fields.{field_at, AllLead, AreKept, BranchArrives};
 ghost use Rattle.implib_link.specs.Gnu.Fields.{BranchStays, HasBranch};
 ghost use Rattle.implib_link.specs.Gnu.Writing.{Writes, ReadsAndWrites};
-ghost use Rattle.implib_link.specs.Gnu.Moves.{AreInMemory, ArePaged, CanBeMoved};
+ghost use Rattle.implib_link.specs.Gnu.Moves.{AreInMemory};
 ghost use Rattle.implib_link.specs.Gnu.Stored.{AreFurtherHeld, AreStoredInMemory};
 ghost use Rattle.implib_link.specs.InMemory.{AreAsWide, OfEntries, WhereLoaded};
 ghost use Rattle.implib_link.specs.Tables.{AreSteady, AreTables, AreTablesLoaded, Tables};
@@ -130,32 +130,4 @@ pub fn fields_lead_to_any_tables()
     ensures kept { WhereLoaded AreInMemory
         (λ machine image_base t codes targets memory gives n written.
         AreKept machine codes (written ++ memory)) }
-{}
-
-/// Linked code can be in memory beside any import tables at any base that its machine can move it
-/// to, if in each section the fields that store addresses whole are within it, and no two of them
-/// have an address in common; with the addresses that it holds as numbers, too (`stored`). Memory
-/// with these is memory for all other laws (`plain`).
-pub fn any_tables_can_be_moved()
-    ensures moved { (machine : MachineType) (from to : ℕ) (image : List Range)
-        (linked : List Placed) (codes : List LinkedCode) (targets : LinkedCode → ℕ → ℕ) →
-        AreSteady machine linked →
-        AreLinkedBeside machine from image linked codes targets →
-        CanBeMoved machine codes →
-        ArePaged machine from to →
-        (memory : List Range) × AreInMemory machine to image linked codes targets memory }
-    ensures stored { (machine : MachineType) (from to : ℕ) (image : List Range)
-        (linked : List Placed) (codes : List LinkedCode) (targets : LinkedCode → ℕ → ℕ) →
-        AreSteady machine linked →
-        AreLinkedBeside machine from image linked codes targets →
-        AreFurtherHeld machine from codes targets →
-        CanBeMoved machine codes →
-        ArePaged machine from to →
-        (memory : List Range) ×
-        AreStoredInMemory machine to image linked codes targets memory }
-    ensures plain { (machine : MachineType) (image_base : ℕ) (image : List Range)
-        (linked : List Placed) (codes : List LinkedCode) (targets : LinkedCode → ℕ → ℕ)
-        (memory : List Range) →
-        AreStoredInMemory machine image_base image linked codes targets memory →
-        AreInMemory machine image_base image linked codes targets memory }
 {}

@@ -1,5 +1,6 @@
 -- The whole way for libraries of both flavours by hand, by computing and by the laws.
-use Rattle.std.proofs.Common.{List, [], arith, codes, map, refl, ℕ, ◌++◌, ◌<◌, ◌∷◌, ◌≡◌}
+use Rattle.std.proofs.Common.{[], arith, codes, refl, ℕ, ◌++◌, ◌∷◌}
+use Rattle.std.specs.Prelude.{if◌then◌else◌, ◌==◌, ◌^◌}
 use Rattle.std.specs.List.{AllByRecursion}
 use Rattle.implib.specs.declared.flavor.Flavor.TheVariants.{Gnu, Msvc}
 use Rattle.implib.specs.declared.machine.MachineType.TheVariants.{AMD64}
@@ -7,24 +8,23 @@ use Rattle.implib.specs.Worked.Statements.{plain_export}
 use Rattle.implib_archive.specs.declared.kind.Kind.TheVariants.{Coff}
 use Rattle.implib_link.specs.Archives.Ways.{AreLinkedFor, CallsArrive}
 use Rattle.implib_link.specs.Archives.InBytes.{Second, HaveArchive}
-use Rattle.implib_link_instances.specs.Archives.WorkedWays.{WorkedBothWay, bar_for_gnu, bases, before_null, both, calls_bar, calls_queue, code, linked, objects, own, placed, queue_for_msvc, taken}
+use Rattle.implib_link_instances.specs.Archives.WorkedWays.{WorkedBothWay, bar_for_gnu, bases, before_null, both, calls_bar, calls_queue, linked, objects, own, placed, queue_for_msvc, taken}
 use Rattle.implib_link.proofs.Archives.Ways.{both_arrive}
 use Rattle.implib_link.proofs.Archives.InBytes.{search_of}
 use Rattle.implib_link.specs.Flavors.Program.{AreEnded, FlavorInput, OfMember, ClaimsNone, group_end, sections_end}
-use Rattle.implib_link.specs.Gnu.Choices.{AreSections, DefineOnce}
-use Rattle.implib_link.specs.Gnu.Fields.{AreBeside, LinkedCode, placed_code}
+use Rattle.implib_link.specs.Gnu.Fields.{PlacedCode}
 use Rattle.implib_link.specs.Search.Libraries.{AreGiven, IsClosed, IsFlavorArchive, archive_of_both, inputs_in, left_in, TakesIntoFor}
 use Rattle.implib_link.specs.Search.Search.{listed_in}
-use Rattle.implib_link_instances.specs.Worked.Operands.{given_on}
+use Rattle.implib_link_instances.specs.Worked.Operands.{CodesBeside, as_placed, code_ranges, given_on, linked_codes}
 use Rattle.implib_link_instances.specs.Worked.Search.{thunk_named}
-use Rattle.implib_link.proofs.Gnu.Choices.{found, found_in}
-use Rattle.implib_link.proofs.Gnu.LinkedBytes.{codes_can_be_linked}
+use Rattle.implib.proofs.Link.Ranges.{apart_as_they_rise}
+use Rattle.implib.specs.Link.Image.{image_of}
 use Rattle.implib_link.proofs.Search.BothClosed.{packed_both}
 use Rattle.implib_link.proofs.Search.Taken.{both_given_closes}
 use Rattle.implib_link_instances.proofs.Worked.BothFlavors.{archive_by}
-use Rattle.implib_link_instances.proofs.Worked.Calls.{once_by, wide}
+use Rattle.implib_link_instances.proofs.Worked.Calls.{beside_by, codes_tested, resolved_at, wide}
+use Rattle.implib_link_instances.proofs.Worked.Programs.{claims_none_by, relocated_test}
 use Rattle.implib_link_instances.proofs.Worked.Search.{searched, archived, below_limit, into_by}
-use Rattle.implib_link_instances.proofs.Worked.Programs.{claims_none_by}
 use Rattle.implib_link.specs.Flavors.Expansion.{expanded_in}
 
 archive : IsFlavorArchive AMD64 both
@@ -65,19 +65,25 @@ linked_for : AreLinkedFor AMD64 OfMember both own taken both bases objects
 unfolding searched
 linked_for = grind (arith, ended, closed)
 
-sections : AreSections AMD64 bases objects placed
-unfolding searched group_end sections_end
-sections = grind arith
+-- where the fields of each code lead
+abbrev lead_to : PlacedCode → ℕ
+lead_to c = if c.position == 0x3000 then 0x2060 else 0x2070
 
-once : DefineOnce linked placed
-unfolding searched group_end sections_end found found_in
-once = once_by linked placed refl refl
+abbrev targets : PlacedCode → ℕ → ℕ
+targets c index = lead_to c
 
-beside : (codes : List LinkedCode) × ((targets : LinkedCode → ℕ → ℕ) × ((map placed_code codes ≡ placed) × AreBeside AMD64 0x1_4000_0000 bases objects codes targets))
-unfolding searched group_end sections_end
+beside : CodesBeside AMD64 0x1_4000_0000 bases objects placed targets
+unfolding searched group_end sections_end relocated_test codes_tested
 beside =
-    let small : AllByRecursion (λ (b : ℕ). b < 256) code.bytes = (omega arith, (omega arith, (omega arith, (omega arith, (omega arith, (omega arith, (omega arith, (omega arith, (omega arith, (omega arith, (omega arith, (omega arith, (omega arith, (omega arith, (omega arith, tt))))))))))))))) in
-    codes_can_be_linked AMD64 0x1_4000_0000 bases objects placed sections once (small, (small, tt))
+    beside_by AMD64 0x1_4000_0000 bases objects placed targets
+    (record {
+      held = ((0, omega arith, refl), ((1, omega arith, refl), tt));
+      sections = (refl, (refl, tt));
+      ends = (omega arith, (omega arith, tt));
+      apart = apart_as_they_rise (2 ^ 31) (image_of AMD64 bases linked ++ code_ranges AMD64 0x1_4000_0000 targets placed) refl;
+      resolved = resolved_at linked placed lead_to refl refl;
+    })
+    refl
 
 arrive : CallsArrive AMD64 OfMember both own taken both bases objects
 unfolding searched
@@ -92,21 +98,20 @@ worked_both_way = record {
   leaves = refl;
   takes = search_of Coff Second (archive_of_both both) (expanded_in AMD64) own taken ready takes;
   linked_for = linked_for;
-  sections = sections;
   bar_entry = refl;
   queue_entry = refl;
   arrive = (
-    beside.0,
+    linked_codes AMD64 0x1_4000_0000 targets placed,
     (
-      beside.1.0,
+      as_placed targets,
       (
-        beside.1.1.0,
+        refl,
         (
-          beside.1.1.1,
+          beside,
           λ n written reads. (
             arrive.ends (given_on AMD64) n written (wide AMD64) reads,
-            arrive.leads 0x1_4000_0000 beside.0 beside.1.0 (given_on AMD64) n written 0 0 bar_input (plain_export (codes "bar")) tt beside.1.1.1 (wide AMD64) reads refl refl,
-            arrive.leads 0x1_4000_0000 beside.0 beside.1.0 (given_on AMD64) n written 1 0 queue_input (plain_export (codes "queue")) tt beside.1.1.1 (wide AMD64) reads refl refl,
+            arrive.leads 0x1_4000_0000 (linked_codes AMD64 0x1_4000_0000 targets placed) (as_placed targets) (given_on AMD64) n written 0 0 bar_input (plain_export (codes "bar")) tt beside (wide AMD64) reads refl refl,
+            arrive.leads 0x1_4000_0000 (linked_codes AMD64 0x1_4000_0000 targets placed) (as_placed targets) (given_on AMD64) n written 1 0 queue_input (plain_export (codes "queue")) tt beside (wide AMD64) reads refl refl,
           ),
         ),
       ),

@@ -129,7 +129,6 @@ refused_loaders = record {
   gets_address = λ x. gets_none 0x1000 (x asking (symbol_of_class (codes "f") 0 class_external) (0, omega arith, refl) (0, omega arith, refl) refl refl);
   rise_from = λ x. let low : 0x1001 ≤ 0x1000 = x.0 in omega arith;
   are_steady = λ x. differ 0 1 (sym (ap length x)) (omega arith);
-  lie_within = λ x. let from : 0x1001 ≤ 0x1000 = x.0.0 in omega arith;
   where_member = λ x. differ 102 103 (ap (λ (text : List ℕ). slice_index text 0) x) (omega arith);
   are_claimed = λ x. differ 0 1 (ap length x) (omega arith);
 }

@@ -1,5 +1,5 @@
 -- Programs of texts by hand, by computing and by the laws.
-use Rattle.std.proofs.Common.{[], ◌∷◌, arith, map, refl, ◌≡◌, ℕ, ◌^◌, Bool, true, List, ◌++◌, codes, Option, None, Some, ap, sym, ◌∙◌, subst, true≢false}
+use Rattle.std.proofs.Common.{[], ◌∷◌, arith, map, refl, ◌≡◌, ℕ, ◌^◌, Bool, true, List, ◌++◌, codes, Option, Some, subst}
 use Rattle.std.specs.List.{AllByRecursion, list_all}
 use Rattle.implib.specs.declared.flavor.Flavor.TheVariants.{Msvc}
 use Rattle.implib.specs.declared.machine.MachineType.{MachineType}
@@ -23,8 +23,8 @@ use Rattle.implib_link_instances.proofs.Worked.Flavors.{opened, flavor_objects_b
 use Rattle.implib_link_instances.proofs.Worked.Programs.{distinct_by, claims_none_by, admissible_by, relocated_test}
 use Rattle.implib_link_instances.proofs.Worked.Search.{below_limit}
 use Rattle.implib_link_instances.proofs.Worked.Lemmas.{IsX86}
-use Rattle.implib_link.specs.Gnu.Fields.{LinkedCode, PlacedCode, Resolves}
-use Rattle.std.specs.Prelude.{◌==◌, if◌then◌else◌}
+use Rattle.implib_link.specs.Gnu.Fields.{LinkedCode}
+use Rattle.std.specs.Prelude.{if◌then◌else◌}
 use Rattle.std.specs.Option.{option_and_then}
 use Rattle.std.proofs.lemmas.Bool.{eqb-true}
 use Rattle.implib.specs.Formats.Bytes.{u32_bytes}
@@ -32,7 +32,7 @@ use Rattle.implib.specs.Formats.Object.{ASymbol, Auxiliary, Entry, u32_at}
 use Rattle.implib.specs.Import.{imp_symbol}
 use Rattle.implib.specs.Link.Image.{image_of}
 use Rattle.implib.specs.Link.Placement.{Placed}
-use Rattle.implib.specs.Link.Resolution.{definitions_of, first_address, is_undefined_external, symbol_address}
+use Rattle.implib.specs.Link.Resolution.{definitions_of, first_address, is_undefined_external}
 use Rattle.implib.proofs.Link.Ranges.{apart_as_they_rise}
 use Rattle.implib_link.specs.Gnu.Aliases.{ResolvesAliases, weak_target}
 use Rattle.implib_link_instances.specs.Worked.OtherNames.{WorkedAlias, alias_codes, alias_objects, alias_placed, all_at, opened_name}
@@ -40,7 +40,7 @@ use Rattle.implib_link_instances.specs.Worked.Operands.{CodesBeside, code_ranges
 use Rattle.implib_link_instances.specs.Worked.Programs.{both_inputs, touching_8}
 use Rattle.implib_link.proofs.Tables.{weak_is_weak}
 use Rattle.implib_link.proofs.Search.Lists.{among_at, contains_among, each_of}
-use Rattle.implib_link_instances.proofs.Worked.Calls.{is_none, all_unwanted, none_wanted, beside_by, codes_tested}
+use Rattle.implib_link_instances.proofs.Worked.Calls.{beside_by, codes_tested, is_at, resolved_at}
 
 foo : (machine : MachineType) → IsX86 machine → Parses foo_text machine (foo_meant machine)
 unfolding text_opened
@@ -86,26 +86,7 @@ program : IsProgram AMD64 touching_8 (both_inputs AMD64) alias_objects
 unfolding opened alias_specs encoded_size weak_object has_tables object_of entries_of name_text u32_bytes
 program = grind (arith, gnu_objects, distinct_by, claims_none_by, admissible_by)
 
--- Code of which no entry is in the tables, and whose symbols no placed code defines: its symbols may be taken to be anywhere.
-
-abbrev in_no_table : List Placed → PlacedCode → Bool
-in_no_table linked c = list_all (λ x. is_none (symbol_address linked c.from x)) c.from.object.entries
-
-resolves_anywhere : (linked : List Placed) (codes : List PlacedCode) (targets : PlacedCode → ℕ → ℕ) → list_all (in_no_table linked) codes ≡ true →
-    list_all (λ (c : PlacedCode). all_unwanted codes c.from.object.entries) codes ≡ true → Resolves linked codes targets
-resolves_anywhere linked codes targets outside unwanted = record {
-  tables = λ c index address entry held at is.
-      let all : in_no_table linked c ≡ true = each_of (in_no_table linked) c codes outside (contains_among c codes held) in
-      let none : is_none (symbol_address linked c.from entry) ≡ true = grind (arith, among_at entry c.from.object.entries index, each_of, is_none) in
-      absurd (true≢false (sym none ∙ ap is_none is));
-  code = λ c d index s t c_held d_held at undefined defines named. absurd (none_wanted codes unwanted c d index s t c_held d_held at undefined defines named);
-}
-
 -- Where the targets of aliases are at one address, if anywhere, they are resolved to it.
-
-abbrev is_at : ℕ → Option ℕ → Bool
-is_at address None = true
-is_at address (Some n) = address == n
 
 abbrev address_of : List Placed → List ℕ → Option ℕ
 address_of linked target = first_address (definitions_of target linked)
@@ -133,7 +114,7 @@ beside =
       sections = (refl, (refl, tt));
       ends = (omega arith, (omega arith, tt));
       apart = apart_as_they_rise (2 ^ 31) (image_of AMD64 touching_8 alias_placed ++ code_ranges AMD64 0x1_4000_0000 (all_at 0x80) alias_codes) refl;
-      resolved = resolves_anywhere alias_placed alias_codes (all_at 0x80) refl refl;
+      resolved = resolved_at alias_placed alias_codes (λ c. 0x80) refl refl;
     })
     refl
 

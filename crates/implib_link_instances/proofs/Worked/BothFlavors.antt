@@ -11,8 +11,8 @@ use Rattle.implib.specs.Members.MsvcObjects.{descriptor_symbol, null_descriptor_
 use Rattle.implib.proofs.Link.LinkedMembers.{among_map}
 use Rattle.implib_link.specs.Flavors.Program.{AreEnded, Ending, FlavorInput, OfMember, objects_taken, ClaimsNone, has_tables, group_end, packed_end, sections_end, packed}
 use Rattle.implib_link.specs.Search.Search.{IsArchive, IsLibrary, symbols_of_library, listed_in}
-use Rattle.implib_link.specs.Search.Libraries.{AreClosed, AreGiven, FlavorLibrary, IsClosed, IsFlavorArchive, NamesNoMembers, archive_of_both, gnu_among, inputs_in, msvc_among, LinksClosed, left_in, IsMsvcArchive, IsMsvcLibrary, TakesIntoFor, symbols_of_all_shorts, symbols_of_shorts, wanted_for, weak_in, tables_end_by, objects_closed, HasClosed}
-use Rattle.implib_link_instances.specs.Worked.BothFlavors.{WorkedBoth, WorkedBothExists, WorkedGiven, foo_and_zed, mixed_bases, mixed_objects, mixed_taken, zed_and_foo, choosing, foo_linked}
+use Rattle.implib_link.specs.Search.Libraries.{AreClosed, AreGiven, FlavorLibrary, IsClosed, IsFlavorArchive, NamesNoMembers, archive_of_both, gnu_among, inputs_in, msvc_among, LinksClosed, left_in, IsMsvcArchive, IsMsvcLibrary, TakesIntoFor, symbols_of_all_shorts, symbols_of_shorts, wanted_for, weak_in}
+use Rattle.implib_link_instances.specs.Worked.BothFlavors.{WorkedBoth, WorkedGiven, foo_and_zed, mixed_bases, mixed_objects, mixed_taken, zed_and_foo, choosing, foo_linked}
 use Rattle.implib_link_instances.specs.Worked.Search.{msvc_zed, zed_members}
 use Rattle.implib_link.proofs.Search.BothClosed.{closed_links_of_both, packed_both}
 use Rattle.implib_link.proofs.Search.Ends.{into_ends, search_bounded}
@@ -23,7 +23,6 @@ use Rattle.implib_link.specs.Flavors.Expansion.{descriptor_symbol_by_name, expan
 use Rattle.implib.specs.LibraryName.{linked_dll}
 use Rattle.implib.specs.declared.machine.MachineType.{MachineType}
 use Rattle.implib.specs.Link.Placement.{next_multiple}
-use Rattle.implib_link.proofs.Search.Exists.{both_exists, placed_closed, placed_within}
 
 abbrev own : List Object
 own = choosing ∷ []
@@ -112,36 +111,3 @@ given = grind arith
 pub worked_given : WorkedGiven
 unfolding searched
 worked_given = record { given = given; kept = refl; ends = into_ends (expanded_in AMD64) (archive_of_both foo_and_zed) own; bounded = search_bounded (expanded_in AMD64) (archive_of_both foo_and_zed) own mixed_taken takes.in_turn }
-
-above_zero : 0 < 0x2000
-above_zero = omega arith
-
-room : tables_end_by 0x2000 foo_and_zed ≡ 0x218E
-unfolding opened
-room = refl
-
-room_below : tables_end_by 0x2000 foo_and_zed < 2 ^ 31
-room_below = (let is = room in omega arith)
-
-end : packed_end 0x2000 mixed_objects ≡ 0x20A4
-unfolding searched group_end sections_end
-end = refl
-
-none_below : (n : ℕ) → n ≡ 0 → 0 < n → ⊥
-none_below n is over = omega arith
-
-at_zero : HasClosed AMD64 foo_and_zed (choosing ∷ []) 0 → ⊥
-unfolding next_multiple
-at_zero has = none_below (packed 0 (objects_closed has.0 AMD64 foo_and_zed (choosing ∷ []) has.1)).descriptors refl has.2.admissible.descriptors.0
-
-pub worked_both_exists : WorkedBothExists
-unfolding searched group_end sections_end
-worked_both_exists = record {
-  room = room;
-  end = end;
-  objects_are = worked_both.closed.closed;
-  closed = placed_closed AMD64 OfMember foo_and_zed (choosing ∷ []) mixed_taken zed_and_foo 0x2000 mixed_objects worked_both.archive worked_both.closed.closed above_zero room_below;
-  within = placed_within AMD64 OfMember foo_and_zed (choosing ∷ []) mixed_taken zed_and_foo 0x2000 mixed_objects worked_both.archive worked_both.closed.closed above_zero room_below;
-  exists = both_exists AMD64 foo_and_zed (choosing ∷ []) 0x2000 worked_both.archive worked_given.given (refl, tt) above_zero room_below;
-  at_zero = at_zero;
-}

@@ -1,22 +1,21 @@
 -- Worked code with its linked bytes computed is linked beside the tables.
 use Rattle.std.proofs.Common.{Bool, List, None, Option, Some, [], ap, arith, codes, false, inl, inr, length, map, refl, subst, sym, true, true≢false, ℕ, ◌++◌, ◌+◌, ◌^◌, ◌∙◌, ◌∷◌, ◌≡◌, ◌≤◌}
-use Rattle.std.specs.Prelude.{bytes_eq, if◌then◌else◌, nat_eq, not, slice_get, ◌&&◌, ◌==◌}
+use Rattle.std.specs.Prelude.{bytes_eq, if◌then◌else◌, not, slice_get, ◌&&◌, ◌==◌}
 use Rattle.std.specs.List.{AllByRecursion, Contains, list_all}
-use Rattle.std.proofs.lemmas.Bool.{and_from, and_parts, eq-eqb, eqb-true, false≢true, not-true}
+use Rattle.std.proofs.lemmas.Bool.{and_from, and_parts, eq-eqb, eqb-true, not-true}
 use Rattle.implib.specs.declared.machine.MachineType.{MachineType}
 use Rattle.implib.specs.Formats.Object.{ASymbol, Auxiliary, Entry, Object, ObjectSymbol, before_nul, bytes_at, data_at, each_at, entries_at, name_of, object_in, object_of_header, relocation_at, relocation_of, section_at, section_numbered, section_of, strings_at, symbol_of, u16_at, u32_at, up_to_nul}
 use Rattle.implib.specs.Link.Image.{AllApart, Range, image_of, with_address}
 use Rattle.implib.specs.Link.Placement.{Bases, Placed, next_multiple, placed_from}
-use Rattle.implib_link.specs.Gnu.Fields.{Defines, PlacedCode, Resolves, IsRelocated, LinkedCode, placed_code, range_of_code, ranges_of_codes}
-use Rattle.implib_link_instances.specs.Worked.Operands.{CodesBeside, WorkedChoices, WorkedReading, as_placed, branch_codes, branching_objects, branching_placed, code_ranges, code_relocated_by, given_on, linked_by, linked_codes}
-use Rattle.implib_link.proofs.Gnu.LinkedBytes.{linked_beside, takes_from}
-use Rattle.implib_link_instances.proofs.Worked.Programs.{relocated_by, relocated_test, opened as opened_of_programs, worked_programs}
+use Rattle.implib_link.specs.Gnu.Fields.{Defines, PlacedCode, Resolves, TakesSymbols, IsRelocated, LinkedCode, placed_code, range_of_code, ranges_of_codes}
+use Rattle.implib_link_instances.specs.Worked.Operands.{CodesBeside, WorkedReading, as_placed, code_ranges, code_relocated_by, given_on, linked_by, linked_codes}
+use Rattle.implib_link_instances.proofs.Worked.Programs.{relocated_by, relocated_test, worked_programs}
 use Rattle.implib.proofs.Members.MemberReadings.{map_after}
 use Rattle.implib_link.specs.Gnu.Writing.{HoldsAt, ReadsAndWrites}
 use Rattle.implib_link.proofs.Tables.{tables_end, tables_read, program_count, program_entry, program_tables}
 use Rattle.implib_link.specs.Tables.{block_of_flavor, tables_at}
 use Rattle.std.specs.Fmt.{digits}
-use Rattle.implib.specs.declared.machine.MachineType.TheVariants.{AMD64, ARM64, I386}
+use Rattle.implib.specs.declared.machine.MachineType.TheVariants.{AMD64, I386}
 use Rattle.implib.specs.Definition.{ExportView}
 use Rattle.implib.specs.Formats.Bytes.{u16_bytes, u32_bytes}
 use Rattle.implib.specs.Formats.File.{is_defined_external}
@@ -30,7 +29,8 @@ use Rattle.implib.specs.Members.WeakExternal.{weak_object}
 use Rattle.implib.specs.Formats.Layout.{auxiliary_bytes, auxiliary_count, contents, contents_offset, contents_size, encoded, encoded_size, header_bytes, name_field, offsets_from, pointer_or_zero, record_count, records, relocation_bytes, section_header, section_headers, string_bytes_of, string_offsets, string_size, string_table, strings_size, symbol_bytes, symbol_table_offset}
 use Rattle.implib.specs.Link.Resolution.{definitions_of, is_undefined_external, symbol_address}
 use Rattle.implib.specs.Formats.Writer.{layout_of, long_names, name_location, symbol_written, with_long_name, with_name}
-use Rattle.implib.proofs.Link.Ranges.{Among, apart_as_they_rise}
+use Rattle.implib.proofs.Link.LinkedMembers.{among_contains, among_map}
+use Rattle.implib.proofs.Link.Ranges.{Among}
 use Rattle.implib.specs.Worked.Statements.{plain_export}
 use Rattle.implib_link.specs.Flavors.Program.{Ending, FlavorInput, IsMadeFor, IsProgramOf, OfLinker, ask_in, dll_of, exports_chosen, gnu_input, symbol_in, has_tables}
 use Rattle.implib_link_instances.specs.Worked.Programs.{both_inputs, foo_input, program_image, program_objects, program_placed, symbol_on, touching_4, touching_8}
@@ -38,8 +38,6 @@ use Rattle.implib_link.proofs.Gnu.Stubs.{same_address}
 use Rattle.implib_link.proofs.Search.Lists.{among_at, contains_among, each_of}
 use Rattle.implib_link_instances.proofs.Worked.Lemmas.{image_base}
 use Rattle.implib.proofs.Link.Definitions.{same_text}
-use Rattle.implib_link.specs.Gnu.Choices.{AreSections, DefineOnce, plain_range}
-use Rattle.implib_link.proofs.Gnu.Choices.{choice, choice_resolves, defined_found, found, found_in, here_from, is_here}
 
 -- What is computed of placed code beside the tables.
 
@@ -73,6 +71,20 @@ module _ (machine : MachineType) (image_base : ℕ) (targets : PlacedCode → �
   placed_again : (codes : List PlacedCode) → map placed_code (linked_codes machine image_base targets codes) ≡ codes
   placed_again [] = refl
   placed_again (c ∷ codes) = ap (λ cs. c ∷ cs) (placed_again codes)
+
+-- addresses for the symbols of placed code are those of what is linked of it
+takes_from : (linked : List Placed) (placed : List PlacedCode) (codes : List LinkedCode) (targets : PlacedCode → ℕ → ℕ) → map placed_code codes ≡ placed → Resolves linked placed targets →
+    TakesSymbols linked codes (λ c. targets (placed_code c))
+takes_from linked placed codes targets same resolves =
+    let held : (c : LinkedCode) → Contains codes c → Contains placed (placed_code c) = λ c m.
+    among_contains (placed_code c) placed (subst (Among (placed_code c)) same (among_map placed_code c codes (contains_among c codes m))) in
+    record {
+      tables = λ c index address entry m at is. resolves.tables (placed_code c) index address entry (held c m) at is;
+      code = λ c d index s t m n at undefined defines named.
+          resolves.code (placed_code c) (placed_code d) index s t (held c m) (held d n) at undefined (record { held = defines.held; external = defines.external; here = defines.here }) named;
+    }
+
+-- however placed code is relocated with addresses that its symbols can have, it is linked beside the tables
 
 pub beside_by : (machine : MachineType) (image_base : ℕ) (bases : Bases) (objects : List Object) (codes : List PlacedCode) (targets : PlacedCode → ℕ → ℕ) → ByHand machine image_base bases objects codes targets →
     codes_tested machine image_base targets codes ≡ true → CodesBeside machine image_base bases objects codes targets
@@ -184,59 +196,23 @@ none_wanted codes all c d index s t c_held d_held at undefined defines named =
     let is : is_wanted t.name (ASymbol s) ≡ true = and_from (is_undefined_external s) (bytes_eq s.name t.name) undefined same in
     true≢false (sym is ∙ not-true (is_wanted t.name (ASymbol s)) four)
 
--- Whether code defines each name once, and none that the tables have.
+-- whether an address is this, if there is one
+abbrev pub is_at : ℕ → Option ℕ → Bool
+is_at address None = true
+is_at address (Some n) = address == n
 
-abbrev own_once : List PlacedCode → PlacedCode → Entry → Bool
-own_once codes c (Auxiliary bytes) = true
-own_once codes c (ASymbol s) = if is_here s.name c s then list_all (nat_eq (c.position + s.value)) (found s.name codes) else true
+-- whether each symbol of code that the tables define is at one address
+abbrev pub all_at_one : (PlacedCode → ℕ) → List Placed → PlacedCode → Bool
+all_at_one at linked c = list_all (λ x. is_at (at c) (symbol_address linked c.from x)) c.from.object.entries
 
-abbrev none_where : Option ℕ → List ℕ → Bool
-none_where None xs = true
-none_where (Some address) [] = true
-none_where (Some address) (x ∷ xs) = false
-
-abbrev in_no_table : List Placed → List PlacedCode → PlacedCode → Entry → Bool
-in_no_table linked codes c (Auxiliary bytes) = true
-in_no_table linked codes c (ASymbol s) = none_where (symbol_address linked c.from (ASymbol s)) (found s.name codes)
-
-not_none : (address x : ℕ) (xs : List ℕ) → Among x xs → none_where (Some address) xs ≡ true → ⊥
-unfolding Among
-not_none address x [] m none = absurd m
-not_none address x (y ∷ xs) m none = false≢true none
-
-pub once_by : (linked : List Placed) (codes : List PlacedCode) → list_all (λ (c : PlacedCode). list_all (own_once codes c) c.from.object.entries) codes ≡ true →
-    list_all (λ (c : PlacedCode). list_all (in_no_table linked codes c) c.from.object.entries) codes ≡ true → DefineOnce linked codes
-once_by linked codes one two = record {
-  once = λ c d s t c_held d_held c_defines d_defines named.
-      let all : list_all (own_once codes c) c.from.object.entries ≡ true = grind (arith, contains_among c codes c_held, each_of) in
-      let own : own_once codes c (ASymbol s) ≡ true = each_of (own_once codes c) (ASymbol s) c.from.object.entries all (contains_among (ASymbol s) c.from.object.entries c_defines.held) in
-      let here : is_here s.name c s ≡ true = here_from s.name c s c_defines refl in
-      let only : list_all (nat_eq (c.position + s.value)) (found s.name codes) ≡ true = rw here at own in
-      eqb-true (c.position + s.value) (d.position + t.value)
-      (each_of (nat_eq (c.position + s.value)) (d.position + t.value) (found s.name codes) only (defined_found s.name codes d t (contains_among d codes d_held) d_defines (sym named)));
-  tables = λ c d s t address c_held d_held held undefined is defines named.
-      let all : list_all (in_no_table linked codes c) c.from.object.entries ≡ true = grind (arith, contains_among c codes c_held, each_of) in
-      let own : in_no_table linked codes c (ASymbol s) ≡ true = each_of (in_no_table linked codes c) (ASymbol s) c.from.object.entries all (contains_among (ASymbol s) c.from.object.entries held) in
-      not_none address (d.position + t.value) (found s.name codes) (defined_found s.name codes d t (contains_among d codes d_held) defines named)
-      (subst (λ o. none_where o (found s.name codes) ≡ true) is own);
-}
-
-sections : AreSections ARM64 touching_8 branching_objects branch_codes
-unfolding opened_of_programs alias_specs encoded_size weak_object has_tables
-sections = record {
-  held = ((0, omega arith, refl), ((3, omega arith, refl), tt));
-  sections = (refl, (refl, tt));
-  ends = (omega arith, (omega arith, tt));
-  apart = apart_as_they_rise (2 ^ 31) (image_of ARM64 touching_8 branching_placed ++ map plain_range branch_codes) refl;
-}
-
-once : DefineOnce branching_placed branch_codes
-unfolding opened_of_programs alias_specs encoded_size weak_object has_tables found found_in
-once = once_by branching_placed branch_codes refl refl
-
-pub worked_choices : WorkedChoices
-worked_choices = record {
-  sections = sections;
-  once = once;
-  beside = (choice branching_placed branch_codes, linked_beside ARM64 0x1_4000_0000 touching_8 branching_objects branch_codes sections (choice branching_placed branch_codes) (choice_resolves branching_placed branch_codes once));
+-- Code whose symbols no placed code defines, and the tables at one address for each code, if at all, is resolved by these.
+pub resolved_at : (linked : List Placed) (codes : List PlacedCode) (at : PlacedCode → ℕ) → list_all (all_at_one at linked) codes ≡ true →
+    list_all (λ (c : PlacedCode). all_unwanted codes c.from.object.entries) codes ≡ true → Resolves linked codes (λ c index. at c)
+resolved_at linked codes at inside unwanted = record {
+  tables = λ c index address entry held there is.
+      let all : all_at_one at linked c ≡ true = each_of (all_at_one at linked) c codes inside (contains_among c codes held) in
+      let one : is_at (at c) (symbol_address linked c.from entry) ≡ true =
+      each_of (λ x. is_at (at c) (symbol_address linked c.from x)) entry c.from.object.entries all (among_at entry c.from.object.entries index there) in
+      eqb-true (at c) address (subst (λ o. is_at (at c) o ≡ true) is one);
+  code = λ c d index s t c_held d_held there undefined defines named. absurd (none_wanted codes unwanted c d index s t c_held d_held there undefined defines named);
 }

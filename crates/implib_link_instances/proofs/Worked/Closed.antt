@@ -5,14 +5,13 @@ use Rattle.implib.specs.declared.machine.MachineType.TheVariants.{AMD64, I386}
 use Rattle.implib.specs.Formats.Object.{Object}
 use Rattle.implib.proofs.Link.LinkedMembers.{among_contains}
 use Rattle.implib.proofs.Link.Ranges.{Among}
-use Rattle.implib_link.specs.Flavors.Program.{AreEnded, OfLinker, gnu_input, ClaimsNone, HaveSame, group_end, sections_end}
-use Rattle.implib_link.specs.Search.Libraries.{tables_end_by, AreClosed, AreGiven, IsClosed, IsFlavorArchive, NamesNoMembers, archive_of_both, inputs_in, left_in, TakesIntoFor, wanted_for}
+use Rattle.implib_link.specs.Flavors.Program.{AreEnded, OfLinker, gnu_input, ClaimsNone, HaveSame, group_end, packed_end, sections_end}
+use Rattle.implib_link.specs.Search.Libraries.{AreClosed, AreGiven, IsClosed, IsFlavorArchive, NamesNoMembers, archive_of_both, inputs_in, left_in, TakesIntoFor, wanted_for}
 use Rattle.implib_link.specs.Search.Search.{claims_of, listed_in, references_of, undefined_in, wanting}
 use Rattle.implib_link_instances.specs.Worked.BothFlavors.{WorkedByLinker, with_far, zed_first, choosing, closed_bases, closed_objects, closed_taken}
 use Rattle.implib_link_instances.specs.Worked.Programs.{both_inputs, program_objects, touching_4, touching_8}
 use Rattle.implib_link_instances.specs.Worked.Wanting.{WorkedWanting, listed_names, quiet, with_names}
-use Rattle.implib_link.proofs.Search.BothClosed.{closed_links_of_both}
-use Rattle.implib_link.proofs.Search.Exists.{both_exists, placed_closed}
+use Rattle.implib_link.proofs.Search.BothClosed.{closed_links_of_both, packed_both}
 use Rattle.implib_link.proofs.Search.Lists.{contains_among}
 use Rattle.implib_link.proofs.Search.Wanting.{program_with}
 use Rattle.implib_link_instances.proofs.Worked.BothFlavors.{archive_by}
@@ -55,12 +54,9 @@ closes : AreClosed AMD64 OfLinker with_far own closed_taken zed_first closed_obj
 unfolding searched
 closes = record { takes = takes; order = record { moves = (0, 2) ∷ []; below = (omega arith, omega arith, tt); is = refl }; others = swapped _ choosing; ended = ended; claims = claims; names = names }
 
-room : tables_end_by 0x2000 with_far < 2 ^ 31
-unfolding opened
-room = below_limit (tables_end_by 0x2000 with_far) refl
-
 closed : IsClosed AMD64 OfLinker with_far own closed_taken zed_first closed_bases closed_objects
-closed = placed_closed AMD64 OfLinker with_far own closed_taken zed_first 0x2000 closed_objects archive closes (omega arith) room
+unfolding searched group_end sections_end
+closed = packed_both AMD64 OfLinker with_far own closed_taken zed_first 0x2000 closed_objects archive closes (omega arith) (below_limit (packed_end 0x2000 closed_objects) refl)
 
 given : AreGiven AMD64 with_far own
 unfolding searched
@@ -68,7 +64,7 @@ given = grind arith
 
 pub worked_by_linker : WorkedByLinker
 unfolding searched group_end sections_end
-worked_by_linker = search (rules, archive, takes, closed, closed_links_of_both, given, both_exists, room)
+worked_by_linker = search (rules, archive, takes, closed, closed_links_of_both, given)
 
 wanting_claims : AllByRecursion (ClaimsNone (listed_in closed_taken ++ left_in AMD64 closed_taken)) with_names
 unfolding searched

@@ -1,8 +1,8 @@
 -- Linked code by computing: what relates its bytes to the object's, its symbols' addresses, and base relocations of it.
-use Rattle.std.proofs.Common.{◌≡◌, ℕ, zero, suc, ◌+◌, ◌-◌, ◌/◌, ◌%◌, ◌^◌, Bool, true, false, List, [], ◌∷◌, ◌++◌, length, map, Option, Some, None, refl, ap, sym, ◌∙◌, subst, inl, inr, arith, ◌≤◌, nat_lt, codes, ◌<◌, ◌⊎◌}
+use Rattle.std.proofs.Common.{◌≡◌, ℕ, zero, suc, ◌+◌, ◌-◌, ◌/◌, ◌%◌, ◌^◌, Bool, true, false, List, [], ◌∷◌, ◌++◌, length, map, Option, Some, None, refl, ap, sym, ◌∙◌, subst, inl, inr, arith, ◌≤◌, nat_lt, codes, ◌⊎◌}
 use Rattle.std.specs.Prelude.{bytes_eq, nat_le, slice_get, ◌&&◌, ◌||◌, ◌==◌, if◌then◌else◌, not, take, drop}
 use Rattle.std.specs.List.{AllByRecursion, Contains, flat_map, list_all, list_any, IsDistinct, filter}
-use Rattle.std.proofs.lemmas.Bool.{and_from, and_parts, eq-eqb, eqb-true, le-leb, ne_eqb, leb-true, not-true, ltb-true}
+use Rattle.std.proofs.lemmas.Bool.{and_from, and_parts, eq-eqb, eqb-true, le-leb, ne_eqb, not-true, ltb-true}
 use Rattle.std.proofs.lemmas.List.Folds.{list_any-append}
 use Rattle.implib.specs.declared.coff.object.Relocation.{Relocation}
 use Rattle.implib.specs.declared.machine.MachineType.{MachineType}
@@ -19,12 +19,12 @@ use Rattle.implib.proofs.Link.LinkedMembers.{among_contains}
 use Rattle.implib.proofs.Link.Loading.{number_once}
 use Rattle.implib.proofs.Link.Ranges.{all_among, among_flat, range_located, apart_as_they_rise, ends_below, rise_below, Among}
 use Rattle.implib_link.specs.Gnu.Fields.{amd64_addr64, arm64_addr64, arm64_branch26, field_width, i386_rel32, Amd64Holds, Arm64Holds, FieldHolds, I386Holds, IsRelocated, LinkedCode, TakesSymbols, field_at, meets, HasInstruction, IsOperand, Names, MeetsAlone, AreLinkedBeside, IsRebased, Place, absolute_width, covers, moved_number, table_places}
-use Rattle.implib_link.specs.Gnu.Moves.{places_of_code, AreInMemory, AreMoved, CanBeMoved}
+use Rattle.implib_link.specs.Gnu.Moves.{places_of_code, AreInMemory, AreMoved}
 use Rattle.implib_link.specs.Stub.{adrp_immediate, bits_of, ldr_immediate, page, with_adrp, with_bits}
-use Rattle.implib_link_instances.specs.Worked.Operands.{in_code, named_or, or_else, MovableCode, PassingFields, WorkedFields, WorkedOperands, amd64_rel32_1, field, imp_open, moved_memory, open_on, passing_at, passing_codes, passing_image, passing_memory, passing_objects, passing_placed, passing_places, passing_targets, stub_of_open}
-use Rattle.implib_link.proofs.Gnu.Fields.{alone_among, moved_memory_exists}
+use Rattle.implib_link_instances.specs.Worked.Operands.{in_code, named_or, or_else, PassingFields, WorkedFields, WorkedOperands, amd64_rel32_1, field, imp_open, moved_memory, open_on, passing_at, passing_codes, passing_image, passing_memory, passing_objects, passing_placed, passing_places, passing_targets, stub_of_open}
+use Rattle.implib_link.proofs.Gnu.Fields.{alone_among}
 use Rattle.implib_link.proofs.Gnu.Loaded.{kept_outside, byte_front}
-use Rattle.implib_link.proofs.Gnu.Choices.{among_place, covered_bounds}
+use Rattle.implib_link.proofs.Gnu.Places.{among_place}
 use Rattle.implib_link.proofs.Search.Lists.{among_at, among_mapped, contains_among, each_of}
 use Rattle.implib.specs.Link.LinkedMembers.{LinkInput, objects_in, all_linked}
 use Rattle.std.specs.Fmt.{digits}
@@ -37,15 +37,13 @@ use Rattle.implib.specs.Members.Members.{refusal, renamed_refusal}
 use Rattle.implib.specs.Members.WeakExternal.{weak_object}
 use Rattle.implib.specs.Formats.Layout.{auxiliary_bytes, auxiliary_count, contents, contents_offset, contents_size, header_bytes, encoded, encoded_size, name_field, offsets_from, pointer_or_zero, record_count, records, relocation_bytes, section_header, section_headers, string_bytes_of, string_offsets, string_size, string_table, strings_size, symbol_bytes, symbol_table_offset}
 use Rattle.implib.specs.Formats.Writer.{long_names, name_location, layout_of, symbol_written, with_long_name, with_name}
-use Rattle.implib_link.specs.Flavors.Program.{ClaimsNone, claimed_names, has_tables, linked_symbols, null_descriptor, IsProgram, OfLinker, gnu_input}
+use Rattle.implib_link.specs.Flavors.Program.{ClaimsNone, claimed_names, has_tables, linked_symbols, null_descriptor, IsProgram}
 use Rattle.implib_link.specs.Parts.{HoldsFields}
 use Rattle.implib_link_instances.specs.Worked.Programs.{WorkedProgram, WorkedPrograms, expected_4, expected_8, symbol_of_class, both_inputs, addresses_on, lld_image_on, lld_linked_on, mid_on, or_thunk, placed_object, shorts_on, taken_address, touching_4, touching_8}
 use Rattle.implib_link.proofs.Flavors.Program.{gnu_objects}
 use Rattle.implib.specs.Formats.ShortImport.{ShortImport, short_import_in}
 use Rattle.implib_link.specs.Flavors.LldImports.{IsLldProgram, comes_first, entries_of_groups, group_entries, grouped, imp_symbols_of, imports_of_lld, in_small, put_in, put_into, short_for, ArePiecesAt, IsAskable, all_hints, all_names, built, built_bytes, descriptor_built, directory_built, hint_built, hints_built, tables_built, thunk_built, thunks_built, placed_thunk}
 use Rattle.implib_link.proofs.Flavors.LldImports.{built_pieces}
-use Rattle.implib_link.specs.Gnu.Choices.{ArePlacesApart}
-use Rattle.implib_link.proofs.Flavors.Steady.{program_tables_none}
 
 -- Fields, by their types.
 
@@ -573,52 +571,4 @@ worked_operands = record {
   amd64_branch = refl;
   i386_branch = refl;
   arm64_branch = refl;
-}
-
--- What can be moved.
-
--- whether places follow one another from an address on
-rising : ℕ → List Place → Bool
-rising low [] = true
-rising low (p ∷ places) = nat_le low p.address && rising (p.address + p.width) places
-
-later_apart : (p : Place) (low : ℕ) (places : List Place) → p.address + p.width ≤ low → rising low places ≡ true → AllByRecursion (λ (q : Place). (a : ℕ) → covers a p ≡ true → covers a q ≡ true → ⊥) places
-unfolding rising
-later_apart p low [] before test = tt
-later_apart p low (q ∷ places) before test =
-    let parts = and_parts (nat_le low q.address) (rising (q.address + q.width) places) test in
-    let from = leb-true low q.address parts.0 in (
-      λ a first second.
-          let one = covered_bounds a p first in
-          let two = covered_bounds a q second in
-          let high : a < p.address + p.width = one.1 in
-          let least : q.address ≤ a = two.0 in
-          omega arith,
-      later_apart p (q.address + q.width) places (omega arith) parts.1,
-    )
-
-rising_apart : (low : ℕ) (places : List Place) → rising low places ≡ true → ArePlacesApart places
-unfolding rising
-rising_apart low [] test = tt
-rising_apart low (p ∷ places) test = grind (arith, rising_apart (p.address + p.width) places, and_parts, rising, later_apart)
-
-amd64_movable : CanBeMoved AMD64 (passing_codes AMD64 touching_8)
-unfolding rising
-amd64_movable = record { within = ((omega arith, tt), (tt, tt)); apart = (rising_apart 0 (places_of_code AMD64 (passing_at AMD64)) refl, (tt, tt)) }
-
-i386_movable : CanBeMoved I386 (passing_codes I386 touching_4)
-unfolding rising
-i386_movable = record {
-  within = ((omega arith, (omega arith, (omega arith, (omega arith, (omega arith, tt))))), ((omega arith, tt), tt));
-  apart = (rising_apart 0 (places_of_code I386 (passing_at I386)) refl, (rising_apart 0 (places_of_code I386 (stub_of_open I386 touching_4)) refl, tt));
-}
-
-pub movable_code : MovableCode
-unfolding opened refusal renamed_refusal alias_specs encoded_size weak_object has_tables
-movable_code = record {
-  amd64 = amd64_movable;
-  i386 = i386_movable;
-  somewhere =
-      moved_memory_exists AMD64 0x1_4000_0000 0x2_0000_0000 (passing_image AMD64 touching_8) (passing_placed AMD64 touching_8) (passing_codes AMD64 touching_8) (passing_targets AMD64 touching_8)
-      (program_tables_none AMD64 OfLinker touching_8 (map gnu_input (both_inputs AMD64)) (passing_objects AMD64) worked_programs.amd64.made (passing_program AMD64 tt).held.ended) (passing_beside AMD64 tt) amd64_movable tt;
 }

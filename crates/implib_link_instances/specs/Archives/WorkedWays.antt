@@ -31,7 +31,6 @@ use Rattle.implib_link.specs.Archives.Ways.{AreLinkedFor, AreCalledAlike, IsBuil
 use Rattle.implib_link.specs.Archives.Ways.{read_by_lld, short_of_export, shorts_in}
 use Rattle.implib_link.specs.Archives.InBytes.{Second, HaveArchive, IsSearchOf}
 use Rattle.implib_link.specs.Flavors.Program.{OfMember, objects_taken, packed}
-use Rattle.implib_link.specs.Gnu.Choices.{AreSections}
 use Rattle.implib_link.specs.Gnu.Writing.{ReadsAndWrites}
 use Rattle.implib_link.specs.Search.Libraries.{AreGiven, FlavorLibrary, IsFlavorArchive}
 use Rattle.implib_link.specs.Search.Libraries.{archive_of_both, IsMsvcArchive}
@@ -142,7 +141,7 @@ code_at o position = record {
 abbrev pub placed : List PlacedCode
 placed = code_at calls_bar 0x3000 ∷ code_at calls_queue 0x3020 ∷ []
 
--- All premises are met. There are linked bytes of both codes, with which by the law a loader stops
+-- All premises are met. With the linked bytes of both codes, by the law, a loader stops
 -- after two descriptors, and fields against `__imp_bar` lead to what foo.dll gives for `bar`,
 -- 0x1000_0030, and those against `__imp_queue` to what zed.dll gives for `queue`, 0x1000_0050.
 pub record WorkedBothWay : Type 0 where
@@ -152,7 +151,6 @@ pub record WorkedBothWay : Type 0 where
   pub leaves : unresolved own ≡ codes "__imp_bar" ∷ codes "__imp_queue" ∷ []
   pub takes : IsSearchOf Coff Second (archive_of_both both) (expanded_in AMD64) own taken
   pub linked_for : AreLinkedFor AMD64 OfMember both own taken both bases objects
-  pub sections : AreSections AMD64 bases objects placed
   pub bar_entry : definitions_of (codes "__imp_bar") linked
       ≡ record { name = codes "__imp_bar"; address = Some 0x2060 } ∷ []
   pub queue_entry : definitions_of (codes "__imp_queue") linked

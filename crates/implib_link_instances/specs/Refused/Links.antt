@@ -16,7 +16,7 @@ use Rattle.implib_link.specs.Flavors.Program.{gnu_input, HaveSame}
 use Rattle.implib_link.specs.Gnu.Fields.{amd64_addr64}
 use Rattle.implib_link.specs.Gnu.Writing.{HoldsAt, Writes, ReadsAndWrites, AreAlike, FillsBy}
 use Rattle.implib_link.specs.Gnu.Writing.{FillsTable, WritesAsItGoes}
-use Rattle.implib_link.specs.Search.Libraries.{LieWithin, FlavorLibrary, IsImported, LinksClosed}
+use Rattle.implib_link.specs.Search.Libraries.{FlavorLibrary, IsImported, LinksClosed}
 use Rattle.implib_link.specs.Search.Libraries.{IsUsedIn, IsWeakOfLibraries, TakesOfLibraries}
 use Rattle.implib_link.specs.Search.Libraries.{IsWeakShort, IsWeakTaken}
 use Rattle.implib_link.specs.Tables.{AreSteady, AreTables, AreTablesLoaded, IsInTable, RiseFrom}
@@ -136,7 +136,6 @@ pub record RefusedLoaders : Type 0 where
   pub gets_address : GetsAddress (asking ∷ []) (codes "f") 0x1000 → ⊥
   pub rise_from : RiseFrom 8 0x1001 (table_at 0x1000 ∷ []) → ⊥
   pub are_steady : AreSteady AMD64 (with_address ∷ []) → ⊥
-  pub lie_within : LieWithin 0x1001 0x2000 (range_at 0x1000 ∷ []) → ⊥
   pub where_member : WhereMember OfMember (codes "f" ≡ codes "g") → ⊥
   pub are_claimed : AreClaimed OfLinker [] (codes "f" ∷ []) → ⊥
 

@@ -19,8 +19,7 @@ use Rattle.implib.specs.Link.Resolution.{definitions_of}
 use Rattle.implib_link.specs.Search.Libraries.{AreClosed, AreGiven, FlavorLibrary, IsClosed}
 use Rattle.implib_link.specs.Search.Libraries.{IsFlavorArchive, LinksClosed, TakesOfLibraries}
 use Rattle.implib_link.specs.Search.Libraries.{archive_of_both, inputs_in, symbols_kept}
-use Rattle.implib_link.specs.Search.Libraries.{TakesIntoFor, wanted_for, HasClosed, tables_end_by}
-use Rattle.implib_link.specs.Search.Libraries.{LieWithin}
+use Rattle.implib_link.specs.Search.Libraries.{TakesIntoFor, wanted_for}
 use Rattle.implib_link.specs.Search.Search.{unresolved}
 use Rattle.implib_link_instances.specs.Worked.Search.{aliased, library_of, descriptor_named}
 use Rattle.implib_link_instances.specs.Worked.Search.{msvc_zed, null_named, short_named}
@@ -159,23 +158,6 @@ pub record WorkedGiven : Type 0 where
       × TakesIntoFor AMD64 (archive_of_both foo_and_zed) (choosing ∷ []) taken
   pub bounded : length mixed_taken ≤ length (archive_of_both foo_and_zed)
 
--- The tables of the two libraries that begin at 0x2000 end by 0x218E: of foo.dll, for GNU's linker,
--- there are at most 64 bytes, 7 for its name, and 43 for each of `bar` and `baz`; of zed.dll, for
--- Microsoft's, 72, 7, and 45 for each of `queue` and `stack`; 72 beside them. So there is a closed
--- program; the one that was linked by hand lies there, and ends at 0x20A4.
--- From address 0 on there is none.
-pub record WorkedBothExists : Type 0 where
-  pub room : tables_end_by 0x2000 foo_and_zed ≡ 0x218E
-  pub end : packed_end 0x2000 mixed_objects ≡ 0x20A4
-  pub objects_are : AreClosed AMD64 OfMember foo_and_zed (choosing ∷ []) mixed_taken
-      zed_and_foo mixed_objects
-  pub closed : IsClosed AMD64 OfMember foo_and_zed (choosing ∷ []) mixed_taken zed_and_foo
-      mixed_bases mixed_objects
-  pub within : LieWithin 0x2000 0x218E
-      (image_of AMD64 mixed_bases (placed_from mixed_bases mixed_objects))
-  pub exists : HasClosed AMD64 foo_and_zed (choosing ∷ []) 0x2000
-  pub at_zero : HasClosed AMD64 foo_and_zed (choosing ∷ []) 0 → ⊥
-
 -- A closed program by hand of libraries of which one is for Microsoft's linker and nothing of it is
 -- wanted, so that the linker's null descriptor ends it.
 
@@ -202,7 +184,7 @@ zed_first = gnu_zed ∷ short_far ∷ gnu_foo ∷ []
 
 -- For the object a linker takes seven members, none of far.dll, and with them it is a closed program,
 -- in which `printf` alone is left. The pointer to `queue` is zed.dll's first entry, and that to
--- `baz` foo.dll's. The object may be given, and so there is a closed program.
+-- `baz` foo.dll's. The object may be given.
 pub record WorkedByLinker : Type 0 where
   pub archive : IsFlavorArchive AMD64 with_far
   pub takes : TakesIntoFor AMD64 (archive_of_both with_far) (choosing ∷ []) closed_taken
@@ -219,4 +201,3 @@ pub record WorkedByLinker : Type 0 where
   pub baz : definitions_of (codes "__imp_baz") (placed_from closed_bases closed_objects)
       ≡ record { name = codes "__imp_baz"; address = Some 0x2070 } ∷ []
   pub given : AreGiven AMD64 with_far (choosing ∷ [])
-  pub exists : HasClosed AMD64 with_far (choosing ∷ []) 0x2000

@@ -12,13 +12,12 @@ use Rattle.implib.specs.Link.Image.{Range, image_of}
 use Rattle.implib.specs.Link.Placement.{Bases, Placed, Unplaced, placed_from, SectionAddress}
 use Rattle.implib_link.specs.Gnu.Fields.{PlacedCode, arm64_branch26, direct_bytes}
 use Rattle.implib_link.specs.Gnu.Fields.{direct_relocations, i386_rel32, moved_by, AreBeside}
-use Rattle.implib_link.specs.Gnu.Fields.{IsRelocated, LinkedCode, placed_code}
+use Rattle.implib_link.specs.Gnu.Fields.{LinkedCode, placed_code}
 use Rattle.implib_link.specs.Gnu.Fields.{amd64_addr64, arm64_addr64, StubAt, ranges_of_codes}
 use Rattle.implib_link.specs.Gnu.Fields.{HasBranch, HasInstruction, HasOffsetField, HasOperand}
 use Rattle.implib_link.specs.Gnu.Fields.{HasPageField, HasPointer, branch_leads, operand_leads}
 use Rattle.implib_link.specs.Gnu.Fields.{Place}
 use Rattle.implib_link.specs.Stub.{bits_of, code_word, with_bits, with_word, word_at}
-use Rattle.std.specs.List.{AllByRecursion}
 use Rattle.implib.specs.Formats.Bytes.{u32_bytes}
 use Rattle.implib.specs.Formats.Constants.{align_16bytes, align_4bytes, class_external, cnt_code}
 use Rattle.implib.specs.Formats.Constants.{mem_execute_read, amd64_rel32, arm64_pagebase_rel21}
@@ -33,9 +32,8 @@ use Rattle.implib_link_instances.specs.Worked.Programs.{foo_input, input_objects
 use Rattle.implib_link_instances.specs.Worked.Programs.{object_with, symbol_of_class, symbol_on}
 use Rattle.implib_link_instances.specs.Worked.Programs.{touching_4, touching_8, zed_input, another}
 use Rattle.implib_link_instances.specs.Worked.Programs.{both_inputs}
-use Rattle.implib_link.specs.Gnu.Choices.{AreSections, DefineOnce}
 use Rattle.implib.specs.Link.Resolution.{target_address}
-use Rattle.implib_link.specs.Gnu.Moves.{AreInMemory, CanBeMoved}
+use Rattle.implib_link.specs.Gnu.Moves.{AreInMemory}
 use Rattle.implib.specs.Machine.{is_32bit}
 
 -- A call through a pointer, with empty fields: I386 `call [disp32]`; AMD64 `call [rip + disp32]`;
@@ -216,64 +214,6 @@ loading machine = record (calling machine) {
       ∷ ASymbol (symbol_of_class (imp_symbol (symbol_on machine (codes "stat"))) 0 class_external)
       ∷ [];
 }
-
--- `stp x29, x30, [sp, -16]!`, `bl open`, `ldp x29, x30, [sp], 16`, `ret`
-abbrev pub branch_code : ObjectSection
-branch_code = section text_name (cnt_code + align_16bytes + mem_execute_read)
-    (first_bytes ARM64 ++ (direct_bytes ARM64 ++ last_bytes ARM64))
-    (map (moved_by 4) (direct_relocations ARM64 1))
-
--- an object with this code, whose symbol 1 is `open`
-abbrev pub branching : Object
-branching = record (calling ARM64) {
-  sections = branch_code ∷ [];
-  entries = ASymbol (symbol_of_class (codes "main") 1 class_external)
-      ∷ ASymbol (symbol_of_class (codes "open") 0 class_external)
-      ∷ [];
-}
-
--- what is linked: this object, foo.dll's members, zed.dll's members, the null descriptor
-abbrev pub branching_objects : List Object
-branching_objects =
-    branching
-    ∷ (input_objects ARM64 (foo_input ARM64)
-    ++ (input_objects ARM64 (zed_input ARM64) ++ null_descriptor ∷ []))
-
-abbrev pub branching_placed : List Placed
-branching_placed = placed_from touching_8 branching_objects
-
--- the calling code at 0x1000
-abbrev pub branch_at : PlacedCode
-branch_at = record {
-  from = record { object = branching; section_addresses = Unplaced ∷ [] };
-  number = 1;
-  code = branch_code;
-  position = 0x1000;
-}
-
--- the stub in the first section of what is placed at an index, at 0x1010
-abbrev pub stub_of : MachineType → List Placed → ℕ → PlacedCode
-stub_of machine linked index = record {
-  from = placed_or_empty (slice_get linked index);
-  number = 1;
-  code = section text_name (cnt_code + align_4bytes + mem_execute_read) (stub_bytes machine)
-      (stub_relocations machine 2);
-  position = 0x1010;
-}
-
--- the codes: the call, and the fourth object's stub
-abbrev pub branch_codes : List PlacedCode
-branch_codes = branch_at ∷ stub_of ARM64 branching_placed 3 ∷ []
-
-pub record WorkedChoices : Type 0 where
-  -- the branching code at 0x1000 and the stub of `open` at 0x1010, for the image at two bases
-  pub sections : AreSections ARM64 touching_8 branching_objects branch_codes
-  pub once : DefineOnce branching_placed branch_codes
-  pub beside : (targets : PlacedCode → ℕ → ℕ)
-      × ((linked : List LinkedCode) → map placed_code linked ≡ branch_codes →
-      AllByRecursion (λ c. IsRelocated ARM64 0x1_4000_0000 (targets (placed_code c)) c.position
-      c.code c.bytes) linked →
-      AreBeside ARM64 0x1_4000_0000 touching_8 branching_objects linked (as_placed targets))
 
 -- Code as compilers write it, by hand, on three machines: fields that follow one another without a
 -- gap, among them some that no law reads; what it is linked to, and where it is in memory, at two
@@ -543,13 +483,3 @@ pub record WorkedOperands : Type 0 where
   pub amd64_branch : branch_leads AMD64 0x1_4000_1027 0 0x15 ≡ Some 0x1_4000_1040
   pub i386_branch : branch_leads I386 0x40_1025 0 0x17 ≡ Some 0x40_1040
   pub arm64_branch : branch_leads ARM64 0x1_4000_101C 0 0x9400_0009 ≡ Some 0x1_4000_1040
-
--- the codes can be moved
-pub record MovableCode : Type 0 where
-  pub amd64 : CanBeMoved AMD64 (passing_codes AMD64 touching_8)
-  pub i386 : CanBeMoved I386 (passing_codes I386 touching_4)
-  -- so there is memory of AMD64's program at any other base, say at 0x200000000
-  pub somewhere : (memory : List Range)
-      × AreInMemory AMD64 0x2_0000_0000 (passing_image AMD64 touching_8)
-      (passing_placed AMD64 touching_8) (passing_codes AMD64 touching_8)
-      (passing_targets AMD64 touching_8) memory

@@ -1,6 +1,5 @@
 //! Fields of code against imports, stored addresses, and the bounds of tables.
 
-ghost use Rattle.implib_link_instances.specs.Worked.Operands.{MovableCode};
 ghost use Rattle.implib_link_instances.specs.Worked.Operands.{PassingFields, WorkedOperands};
 ghost use Rattle.implib_link_instances.specs.Worked.Stored.{WorkedRegistering, WorkedHoldings};
 
@@ -14,7 +13,6 @@ ghost use Rattle.implib_link_instances.specs.Worked.Stored.{WorkedRegistering, W
 pub fn worked_fields()
     ensures passing_fields { PassingFields }
     ensures worked_operands { WorkedOperands }
-    ensures movable_code { MovableCode }
     ensures worked_holdings { WorkedHoldings }
     ensures worked_registering { WorkedRegistering }
 {}

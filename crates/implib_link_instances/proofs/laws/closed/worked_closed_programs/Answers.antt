@@ -1,4 +1,4 @@
-use Rattle.implib_link_instances.proofs.Worked.BothFlavors.{worked_both, worked_both_exists, worked_given}
+use Rattle.implib_link_instances.proofs.Worked.BothFlavors.{worked_both, worked_given}
 use Rattle.implib_link_instances.proofs.Worked.Closed.{worked_by_linker}
 use Rattle.implib_link_instances.proofs.laws.closed.worked_closed_programs.Goals as goal
 
@@ -6,6 +6,5 @@ pub returns : goal.returns
 returns c = record {
   worked_both = worked_both;
   worked_given = worked_given;
-  worked_both_exists = worked_both_exists;
   worked_by_linker = worked_by_linker;
 }
