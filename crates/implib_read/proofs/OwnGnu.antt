@@ -128,8 +128,7 @@ two_bytes x y rest = grind arith
 hint_on : (o : Object) (s : ObjectSection) (x y : ℕ) (rest : List ℕ)
     → hint_and_name (record { object = o; section = record s { bytes = x ∷ y ∷ rest }; offset = 0 }) ≡ ask_by_name (record s { bytes = x ∷ y ∷ rest })
 unfolding bytes_at u16_at
-hint_on o s x y rest =
-    ap (λ b. option_and_then (λ hint. option_map (λ name. Name name (u16_at hint 0)) (before_nul rest)) (if b then Some (x ∷ y ∷ []) else None)) (two_bytes x y rest)
+hint_on o s x y rest = cc (two_bytes x y rest)
 
 -- the section of the hint and the name of an export
 hint_section : MachineType → ExportView → ObjectSection
@@ -141,10 +140,7 @@ asking_name : (machine : MachineType) (dll : List ℕ) (e : ExportView) → e.no
 unfolding hint_section hint_name u16_bytes
 asking_name machine dll e named o =
     let bytes : List ℕ → ObjectSection = λ bs. record { name = codes ".idata$6"; flags = 0xC0200000; bytes = bs; relocations = [] } in
-    let P : List ℕ → Type 0 = λ bs. hint_and_name (record { object = o; section = bytes bs; offset = 0 }) ≡ ask_by_name (bytes bs) in
-    let whole : u16_bytes e.ordinal ++ (name_asked machine e ++ 0 ∷ []) ≡ (if e.no_name then [] else u16_bytes e.ordinal ++ (name_asked machine e ++ 0 ∷ [])) =
-    sym (ap (λ b. if b then [] else u16_bytes e.ordinal ++ (name_asked machine e ++ 0 ∷ [])) named) in
-    subst P whole (hint_on o (bytes []) (slice_index (u16_bytes e.ordinal) 0) (slice_index (u16_bytes e.ordinal) 1) (name_asked machine e ++ 0 ∷ []))
+    cc (hint_on o (bytes []) (slice_index (u16_bytes e.ordinal) 0) (slice_index (u16_bytes e.ordinal) 1) (name_asked machine e ++ 0 ∷ []))
 
 asked_by : (machine : MachineType) (dll : List ℕ) (e : ExportView) (defined : List ℕ → Option Place) (is_data no_name : Bool)
     → ask_of_object defined (written_object (export_object machine dll (record e { is_data = is_data; no_name = no_name })))
@@ -171,16 +167,12 @@ asked_by ARM64 dll e defined false false = asking_name ARM64 dll (record e { is_
 
 import_with : (o : Object) (dll dll' : Option (List ℕ)) (ask ask' : Option Ask) → dll ≡ dll' → ask ≡ ask'
     → option_and_then (λ name. option_map (import_from o name) ask) dll ≡ option_and_then (λ name. option_map (import_from o name) ask') dll'
-import_with o dll dll' ask ask' same_dll same_ask =
-    ap (λ d. option_and_then (λ name. option_map (import_from o name) ask) d) same_dll
-    ∙ ap (λ a. option_and_then (λ name. option_map (import_from o name) a) dll') same_ask
+import_with o dll dll' ask ask' same_dll same_ask = grind arith
 
 -- what an object means, by its alias and its import, to both readers
 means_by : (o : Object) (a : Option Alias) (i j : Option Import) (wrap : Import → Imported) (delayed : Option Imported) (m : Meaning) → ((x : Import) → (wrap x).imports ≡ x) → i ≡ j
     → alias_or_import a j ≡ Some m → meaning_of_class (class_with o a (option_map wrap i) delayed) ≡ Some m
-means_by o (Some a) i j wrap delayed m kept same is = is
-means_by o None None j wrap delayed m kept same is = let none = ap (option_map MeansImport) same ∙ is in cc
-means_by o None (Some x) j wrap delayed m kept same is = ap (λ y. Some (MeansImport y)) (kept x) ∙ ap (option_map MeansImport) same ∙ is
+means_by o a i j wrap delayed m kept same is = grind arith
 
 -- with the tail and the head in front of others, as they are written
 module _ (machine : MachineType) (dll : NamesOfDll) (others : List FoundFile) where
@@ -202,16 +194,11 @@ module _ (machine : MachineType) (dll : NamesOfDll) (others : List FoundFile) wh
   unfolding import_of_object
   same_import e =
       let o = written_object (export_object machine dll.linked e) in
-      import_with o (dll_of_object in_library o) _ (ask_of_object in_library o) (ask_of_export o)
-      (dll_here machine dll others e ∙ sym (dll_there machine dll others e)) (asked_by machine dll.linked e in_library e.is_data e.no_name)
+      cc (import_with o (dll_of_object in_library o) _ (ask_of_object in_library o) (ask_of_export o) (dll_here machine dll others e ∙ sym (dll_there machine dll others e)) (asked_by machine dll.linked e in_library e.is_data e.no_name))
 
   good_written : (e : ExportView) → IsGood (ObjectFile (written_object (export_object machine dll.linked e)))
   unfolding found_of
-  good_written e = λ m is.
-      let o = written_object (export_object machine dll.linked e) in
-      means_by o (alias_of_object o) (import_of_object in_library o)
-      (import_of o (written_object (head_object machine dll.linked)) (written_object (tail_object machine dll)))
-      (λ i. record { imports = i; kind = kind_of_code (externals_in o text_section); machine = o.machine }) (delayed_by_object in_library o) m (λ x. refl) (same_import e) is
+  good_written e = grind (arith, means_by, same_import)
 
   pub good_export : (number : ℕ) (e : ExportView) → IsGood (file_of (export_spec machine dll.linked number e).contents)
   unfolding export_spec
