@@ -62,7 +62,6 @@ parts_from-more total [] name contents some whole is within = absurd (omega (ari
 parts_from-more total (x ∷ rest) name contents some whole is within =
     let offset = total - length (x ∷ rest) in
     let n = 59 + length contents + length contents % 2 in
-    let odd : length contents % 2 < 2 = grind arith in
     let one_more : padded_size contents ≡ suc n = omega arith in
     let next : parts_from n (suc offset) rest ≡ parts_from 0 (offset + suc n) (drop (suc n) (x ∷ rest)) = grind (arith, skipped) in
     grind (arith, place_behind, first_of)
@@ -73,7 +72,4 @@ pub parts-read : {A : Type 0} (view : A → Part) (whole : Option (List Part)) (
     → 0 < length bytes → length bytes ≤ total → option_map said (stored_at bytes 0) ≡ Some (name, contents) → 60 + length contents ≤ length bytes
     → Gathers whole (map view items) (parts_from 0 (total - length bytes) bytes)
     → Gathers whole (map view next) (parts_from 0 (total - length (drop (padded_size contents) bytes)) (drop (padded_size contents) bytes))
-parts-read view whole total bytes name contents items next x pushed seen some fits is within so_far =
-    let rest = parts_from 0 (total - length (drop (padded_size contents) bytes)) (drop (padded_size contents) bytes) in
-    let step = parts_from-more total bytes name contents some fits is within ∙ ap (λ p. option_map (λ others. p ∷ others) rest) (sym seen) in
-    grind (arith, gathers-more, map-append)
+parts-read view whole total bytes name contents items next x pushed seen some fits is within so_far = grind (arith, parts_from-more total bytes name contents some fits is within, gathers-more, map-append)

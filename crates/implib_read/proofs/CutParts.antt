@@ -54,7 +54,6 @@ cut_more total [] name contents some whole is within = absurd (omega (arith, som
 cut_more total (x ∷ rest) name contents some whole is within =
     let offset = total - length (x ∷ rest) in
     let n = 59 + length contents + length contents % 2 in
-    let odd : length contents % 2 < 2 = grind arith in
     let one_more : padded_size contents ≡ suc n = omega arith in
     let next : cut_from n (suc offset) rest ≡ cut_from 0 (offset + suc n) (drop (suc n) (x ∷ rest)) = grind (arith, skipped) in
     grind (arith, place_behind, first_of)

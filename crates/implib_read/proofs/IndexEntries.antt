@@ -27,11 +27,7 @@ pub entry-read : {A : Type 0} (view : A → IndexEntry) (whole : Option (List In
     → next ≡ items ++ x ∷ [] → view x ≡ record { symbol = symbol; place = place } → place ≡ place_in second places → later ≡ drop (place_size second) places
     → 0 < n → text_in symbols ≡ Some (symbol, rest)
     → Gathers whole (map view items) (entries_from second n places symbols) → Gathers whole (map view next) (entries_from second (n - 1) later rest)
-entry-read view whole second n places later symbols symbol rest place items next x pushed seen at behind some is so_far =
-    let left = entries_from second (n - 1) later rest in
-    let this : view x ≡ record { symbol = symbol; place = place_in second places } = seen ∙ ap (λ p. record { symbol = symbol; place = p }) at in
-    let step : entries_from second n places symbols ≡ option_map (λ es. view x ∷ es) left = simp (entries_from-more second n places symbols symbol rest some is, this, behind) in
-    grind (arith, gathers-more, map-append)
+entry-read view whole second n places later symbols symbol rest place items next x pushed seen at behind some is so_far = grind (arith, gathers-more, map-append, entries_from-more second n places symbols symbol rest some is)
 
 -- how many bytes of places are left
 pub places_left : (second : Bool) (n : ℕ) (places later : List ℕ) → 0 < n → length places ≡ place_size second * n → later ≡ drop (place_size second) places

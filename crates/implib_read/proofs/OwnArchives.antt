@@ -49,8 +49,7 @@ by_tests linker long short empty slash text name number contents apart known = g
 
 -- a text that a slash ends, with none before it, begins with no slash unless it is one alone
 apart_by : (text : List ℕ) → bytes_eq text (codes "/") ≡ false → bytes_eq text (take_while (λ c. not (nat_eq c 47)) text ++ 47 ∷ []) ≡ true → begins_with_byte 47 text ≡ false
-apart_by [] other ends = refl
-apart_by (c ∷ text) other ends = grind (arith, take_while-cons, true≢false)
+apart_by text other ends = grind arith
 
 pub same_bytes : (field contents : List ℕ) → is_known (name_in field) ≡ true → bytes_as (member_name field) contents ≡ bytes_by (name_in field) contents
 unfolding name_in member_name
@@ -118,9 +117,4 @@ found_by bytes parts (Some found) is same = record { found = found; is = is; sam
 pub own_members_found : PartsReadBack → MembersReadBack → SameParts → (kind : Kind) (members : List MemberView) → refusal_of kind members ≡ None
     → member_bytes_in (archive_of kind members) ≡ Some (map (λ m. m.bytes) members)
 unfolding archive_in members_in
-own_members_found stored back same kind members accepted =
-    let bytes = archive_of kind members in
-    let parts = parts_of kind members in
-    let there = stored kind members accepted in
-    let both = found_by bytes parts (parts_in bytes) refl (same bytes parts there) in
-    grind (arith, bytes_of_parts, bytes_of_reads, view_bytes)
+own_members_found stored back same kind members accepted = grind (arith, bytes_of_parts, bytes_of_reads, view_bytes, same (archive_of kind members) (parts_of kind members) (stored kind members accepted))

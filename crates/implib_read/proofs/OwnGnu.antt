@@ -210,12 +210,7 @@ module _ (machine : MachineType) (dll : NamesOfDll) (others : List FoundFile) wh
 
   good_aliases : (number : ℕ) (e : ExportView) → AllByRecursion (λ p. IsGood (file_of p.contents)) (alias_specs machine dll.linked number e)
   unfolding alias_specs
-  good_aliases number e = by (is_alias e.alias_target e.name)
-    where
-      by : (b : Bool) → AllByRecursion (λ p. IsGood (file_of p.contents)) (if b then weak_spec machine (weak_name dll.linked number) e.name e.alias_target
-          ∷ weak_spec machine (weak_address_name dll.linked number) (imp_symbol e.name) (imp_symbol e.alias_target) ∷ [] else [])
-      by false = tt
-      by true = (good_weak e.name e.alias_target, (good_weak (imp_symbol e.name) (imp_symbol e.alias_target), tt))
+  good_aliases number e = grind (arith, good_weak e.name e.alias_target, good_weak (imp_symbol e.name) (imp_symbol e.alias_target))
 
   pub good_numbered : (number : ℕ) (exports : List ExportView) → AllByRecursion (λ p. IsGood (file_of p.contents)) (numbered_specs machine dll.linked number exports)
   good_numbered number [] = tt

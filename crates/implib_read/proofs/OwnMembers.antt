@@ -173,12 +173,7 @@ weak_plain machine dll e others rest = grind (arith, object_plain, machine_plain
 exports_plain : (machine : MachineType) (dll : NamesOfDll) (exports : List ExportView) → list_all is_plain (files_of_specs (flat_map (export_specs machine dll) exports)) ≡ true
 unfolding is_plain
 exports_plain machine dll [] = refl
-exports_plain machine dll (e ∷ exports) =
-    let others = flat_map (export_specs machine dll) exports in
-    let own : not (machine_number machine == arm64ec) ≡ true = (machine_plain machine).0 in
-    let name : not (name_type_of machine e == 4) ≡ true = ap not (name_type_plain machine e) in
-    let one : list_all is_plain (files_of_specs (short_import_spec machine dll e ∷ others)) ≡ true = cc (short_plain _ _ _ own name (exports_plain machine dll exports)) in
-    grind (arith, append_assoc, weak_plain)
+exports_plain machine dll (e ∷ exports) = grind (arith, append_assoc, weak_plain, short_plain _ _ _ ((machine_plain machine).0) (ap not (name_type_plain machine e)) (exports_plain machine dll exports))
 
 -- the files of the members of a definition
 abbrev pub own_files : DefinitionView → MachineType → List File

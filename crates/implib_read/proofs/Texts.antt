@@ -62,9 +62,7 @@ text_in-place (suc n ∷ rest) within = grind (arith, nul_place-suc, suc_is_no_z
 
 pub text_in-found : (bytes : List ℕ) (k : ℕ) → k ≡ nul_place bytes → k < length bytes
     → Some (take k bytes, take (length bytes - (k + 1)) (drop (k + 1) bytes)) ≡ text_in bytes
-text_in-found bytes k is within =
-    let all : take (length bytes - (k + 1)) (drop (k + 1) bytes) ≡ drop (suc k) bytes = grind (arith, common_steps) in
-    ap (λ rest. Some (take k bytes, rest)) all ∙ (ap (λ j. Some (split_at bytes j)) is ∙ sym (text_in-place bytes (omega (arith, is, within))))
+text_in-found bytes k is within = grind (arith, common_steps, text_in-place bytes (omega (arith, is, within)))
 
 pub text_in-none : (bytes : List ℕ) → length bytes ≤ nul_place bytes → text_in bytes ≡ None
 text_in-none [] within = refl
