@@ -1,18 +1,15 @@
 -- The members of the archives that `implib_archive` makes.
-use Rattle.std.proofs.Common.{arith, ◌≡◌, ◌∙◌, ℕ, Bool, true, false, not, List, [], ◌∷◌, ◌++◌, Option, None, Some, ap, bytes_eq, codes, drop, if◌then◌else◌, length, map, nat_eq, refl, sym, take_while}
+use Rattle.std.proofs.Common.{arith, ◌≡◌, ◌∙◌, ℕ, Bool, true, false, not, List, [], ◌∷◌, ◌++◌, Option, None, Some, ap, bytes_eq, codes, if◌then◌else◌, map, nat_eq, refl, sym, take_while}
 use Rattle.std.specs.List.{cons_option, filter_map}
-use Rattle.std.specs.Option.{option_and_then, option_map}
-use Rattle.std.proofs.lemmas.List.Sums.{take_while-cons}
+use Rattle.std.specs.Option.{option_map}
 use Rattle.std.proofs.lemmas.Bool.{true≢false}
 use Rattle.implib.specs.Members.MemberSpec.{MemberView}
 use Rattle.implib_archive.specs.Archive.{archive_of}
 use Rattle.implib_archive.specs.ReadBack.{MembersReadBack, PartsReadBack, parts_of, read_view}
-use Rattle.implib_archive.specs.Reader.{Name, Linker, LongNames, LongAt, Short, Unknown, Read, Stored, before_others, long_name_at, long_names_in, members_among, members_in, name_in, number_in, read_as, trimmed}
+use Rattle.implib_archive.specs.Reader.{Name, Linker, LongNames, LongAt, Short, Unknown, Read, Stored, before_others, long_name_at, members_among, members_in, name_in, read_as}
 use Rattle.implib_archive.specs.Refusal.{refusal_of}
 use Rattle.implib_archive.specs.declared.kind.Kind.{Kind}
-use Rattle.implib_read.specs.Archives.{Part, SameParts, archive_in, member_as, member_of, parts_in, said, said_by_part}
-use Rattle.implib_read.specs.Archives.{archive_of as archive_of_parts}
-use Rattle.implib_read.specs.Archives.{long_names_in as names_in_parts}
+use Rattle.implib_read.specs.Archives.{Part, SameParts, archive_in, member_of, parts_in, said, said_by_part}
 use Rattle.implib_read.specs.MemberNames.{MemberName, LinkerMember, LongNamesMember, NameAt, Named, Special, begins_with_byte, member_name, slash_name, without_slash}
 use Rattle.implib_read.specs.OwnLibraries.{member_bytes_in}
 

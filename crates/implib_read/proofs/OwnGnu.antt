@@ -1,5 +1,5 @@
 -- The members that `implib` makes for GNU's linker, as this reader has them.
-use Rattle.std.proofs.Common.{◌≡◌, ◌∙◌, ℕ, ◌+◌, Bool, true, false, List, [], ◌∷◌, ◌++◌, Option, None, Some, ap, arith, bytes_eq, codes, if◌then◌else◌, length, nat_eq, nat_le, refl, reverse, slice_index, subst, sym}
+use Rattle.std.proofs.Common.{◌≡◌, ◌∙◌, ℕ, ◌+◌, Bool, true, false, List, [], ◌∷◌, ◌++◌, Option, Some, ap, arith, bytes_eq, codes, length, nat_eq, nat_le, refl, reverse, slice_index, subst, sym}
 use Rattle.std.specs.List.{AllByRecursion, count_by}
 use Rattle.std.specs.Option.{option_and_then, option_map}
 use Rattle.std.proofs.lemmas.Bool.{false_from_ne_true}
@@ -10,22 +10,21 @@ use Rattle.implib.specs.declared.machine.MachineType.{MachineType}
 use Rattle.implib.specs.declared.machine.MachineType.TheVariants.{I386, ARMNT, AMD64, ARM64}
 use Rattle.implib.specs.Definition.{ExportView}
 use Rattle.implib.specs.Formats.Bytes.{u16_bytes, u32_bytes}
-use Rattle.implib.specs.Formats.File.{File, ObjectFile, Meaning, alias_of_object}
-use Rattle.implib.specs.Formats.File.{AnImport as MeansImport}
+use Rattle.implib.specs.Formats.File.{File, ObjectFile, Meaning}
 use Rattle.implib.specs.Formats.Layout.{entries_of, name_text, object_of}
 use Rattle.implib.specs.Formats.Object.{Object, ObjectSection, before_nul, bytes_at, u16_at, u32_at}
 use Rattle.implib.specs.Formats.Writer.{written_object}
-use Rattle.implib.specs.Import.{Alias, Ask, Import, Name, imp_symbol, is_alias, name_asked}
+use Rattle.implib.specs.Import.{Alias, Ask, Import, imp_symbol, name_asked}
 use Rattle.implib.specs.LibraryName.{NamesOfDll}
 use Rattle.implib.specs.Underscore.{leading_underscore}
-use Rattle.implib.specs.Members.Gnu.{export_object, head_object, head_symbol, hint_name, iname_symbol, mangled_name, relocations_of_stub, relocations_of_thunk, stub, tail_object, thunk, weak_address_name, weak_name}
+use Rattle.implib.specs.Members.Gnu.{export_object, head_object, head_symbol, hint_name, iname_symbol, mangled_name, relocations_of_stub, relocations_of_thunk, stub, tail_object, thunk}
 use Rattle.implib.specs.Members.GnuMembers.{alias_specs, export_spec, numbered_specs, numbered_specs_of}
-use Rattle.implib.specs.Members.GnuReader.{alias_or_import, ask_by_name, ask_of_export, dll_by_names, externals_in, import_from, import_of, meaning_with, text_section}
+use Rattle.implib.specs.Members.GnuReader.{alias_or_import, ask_by_name, ask_of_export, dll_by_names, import_from, import_of, meaning_with}
 use Rattle.implib.specs.Members.ReadBack.{file_of}
-use Rattle.implib.specs.Members.WeakExternal.{weak_object, weak_spec}
+use Rattle.implib.specs.Members.WeakExternal.{weak_object}
 use Rattle.implib.proofs.Formats.WriterLayout.{object_of-layout_of}
 use Rattle.implib.proofs.Members.MemberReadings.{all_append}
-use Rattle.implib_read.specs.Classes.{Imported, class_of_file, class_with, delayed_by_object, kind_of_code}
+use Rattle.implib_read.specs.Classes.{Imported, class_of_file, class_with}
 use Rattle.implib_read.specs.Files.{definer_among}
 use Rattle.implib_read.specs.Files.{File as FoundFile, ObjectFile as FoundObject}
 use Rattle.implib_read.specs.Following.{Place, further, only_in, pointed, pointed_by, spot_of, text_at}

@@ -1,39 +1,36 @@
 -- The members that `implib` makes for Microsoft's linker, as this reader has them.
-use Rattle.std.proofs.Common.{arith, ◌≡◌, ◌∙◌, ℕ, ◌-◌, ◌==◌, Bool, true, false, not, ◌&&◌, List, [], ◌∷◌, ◌++◌, Option, None, Some, ap, append_assoc, bytes_eq, drop, if◌then◌else◌, length, map, nat_le, refl, sym, take, is_some, ◌||◌}
-use Rattle.std.specs.List.{cons_option, filter_map, flat_map, list_all}
+use Rattle.std.proofs.Common.{arith, ◌≡◌, ◌∙◌, ℕ, ◌==◌, Bool, true, false, not, ◌&&◌, List, [], ◌∷◌, ◌++◌, Option, None, Some, ap, append_assoc, drop, if◌then◌else◌, length, map, nat_le, refl, take}
+use Rattle.std.specs.List.{filter_map, flat_map, list_all}
 use Rattle.std.specs.Option.{option_and_then, option_map}
 use Rattle.std.proofs.lemmas.Bool.{leb-true, true≢false}
 use Rattle.implib.specs.declared.flavor.Flavor.TheVariants.{Msvc}
 use Rattle.implib.specs.declared.machine.MachineType.{MachineType}
-use Rattle.implib.specs.declared.machine.MachineType.TheVariants.{I386, ARMNT, AMD64, ARM64}
-use Rattle.implib.specs.Ascii.{begins_with, at_sign, holds, underscore}
-use Rattle.implib.specs.Definition.{DefinitionView, ExportView, given_name}
-use Rattle.implib.specs.Formats.File.{File, ShortImportFile, ObjectFile, Meaning, alias_of_object, file_in, meaning_of, short_import_or_object}
+use Rattle.implib.specs.Definition.{DefinitionView, ExportView}
+use Rattle.implib.specs.Formats.File.{File, ShortImportFile, ObjectFile, Meaning, file_in, meaning_of, short_import_or_object}
 use Rattle.implib.specs.Formats.File.{AnAlias as MeansAlias, AnImport as MeansImport}
 use Rattle.implib.specs.Formats.Bytes.{u32_bytes}
 use Rattle.implib.specs.Formats.Layout.{object_of, entries_of, name_text}
 use Rattle.implib.specs.Formats.Object.{Entry, Object, ObjectSection, bytes_at, object_in, object_of_header, object_with, u16_at, u32_at}
-use Rattle.implib.specs.Formats.ShortImport.{ShortImport, ask_of_short_import, import_data, is_short_import, short_import_header_size, short_import_in, text_in, without_prefix}
-use Rattle.implib.specs.Import.{Alias, Ask, Import, imp_symbol, import_symbols, is_alias, public_exports}
+use Rattle.implib.specs.Formats.ShortImport.{ShortImport, ask_of_short_import, import_data, short_import_in}
+use Rattle.implib.specs.Import.{Alias, Ask, Import, imp_symbol, import_symbols, public_exports}
 use Rattle.implib.specs.LibraryName.{NamesOfDll, names_for}
-use Rattle.implib.specs.Machine.{machine_number, has_leading_underscore}
+use Rattle.implib.specs.Machine.{machine_number}
 use Rattle.implib.specs.Members.Members.{member_specs}
 use Rattle.implib.specs.Members.MemberSpec.{MemberSpec}
-use Rattle.implib.specs.Members.Msvc.{import_type_of, is_cut_alike, name_type_asking, name_type_of, short_import_of, short_import_symbol}
-use Rattle.implib.specs.Members.MsvcMembers.{descriptor_spec, export_specs, header_specs, null_descriptor_spec, null_thunk_spec, short_import_spec, weak_specs}
+use Rattle.implib.specs.Members.Msvc.{import_type_of, name_type_asking, name_type_of, short_import_of, short_import_symbol}
+use Rattle.implib.specs.Members.MsvcMembers.{descriptor_spec, export_specs, header_specs, null_descriptor_spec, null_thunk_spec, weak_specs}
 use Rattle.implib.specs.Members.MsvcObjects.{descriptor, null_descriptor, null_thunk}
 use Rattle.implib.specs.Members.ReadBack.{file_of}
-use Rattle.implib.specs.Members.WeakExternal.{weak_object, weak_spec}
-use Rattle.implib_read.specs.Classes.{Class, AnImport, AnAlias, Descriptor, NullDescriptor, NullThunk, Imported, class_of_file, class_of_import, class_with, delayed_by_object, imported_by_object, kind_of_type}
+use Rattle.implib.specs.Members.WeakExternal.{weak_object}
+use Rattle.implib_read.specs.Classes.{AnImport, AnAlias, Descriptor, NullDescriptor, NullThunk, Imported, class_of_file, class_of_import, class_with, kind_of_type}
 use Rattle.implib_read.specs.Files.{file_found}
 use Rattle.implib_read.specs.Files.{File as FoundFile, ShortImportFile as FoundShortImport, ObjectFile as FoundObject}
-use Rattle.implib_read.specs.Files.{short_import_or_object as found_or_object}
 use Rattle.implib_read.specs.Delayed.{delayed_import}
 use Rattle.implib_read.specs.Following.{Place, pointed}
 use Rattle.implib_read.specs.Imports.{dll_of_object, import_of_object}
-use Rattle.implib_read.specs.Objects.{SameObjects, object_found, room_in}
+use Rattle.implib_read.specs.Objects.{SameObjects, room_in}
 use Rattle.implib_read.specs.Arm64ec.{arm64ec_symbols}
-use Rattle.implib_read.specs.ShortImports.{SameShortImports, arm64ec, declared_by_short_import, found_from, short_import_found}
+use Rattle.implib_read.specs.ShortImports.{SameShortImports, arm64ec, declared_by_short_import, short_import_found}
 use Rattle.implib_read.specs.OwnLibraries.{expected_kind, import_of_class, meaning_of_class}
 use Rattle.implib_read.specs.declared.import.ImportKind.TheVariants.{Code, Const, Data}
 use Rattle.implib_read.proofs.Room.{few-have_room}

@@ -1,11 +1,11 @@
 -- The archives of a definition's members for Microsoft's linker, as this reader has them.
-use Rattle.std.proofs.Common.{arith, ◌≡◌, ◌∙◌, ℕ, ◌==◌, true, List, [], ◌∷◌, Option, None, Some, ap, drop, map, refl, sym}
+use Rattle.std.proofs.Common.{arith, ◌≡◌, ◌∙◌, ℕ, ◌==◌, true, List, [], ◌∷◌, Option, None, Some, ap, drop, map, refl}
 use Rattle.std.specs.List.{list_all}
-use Rattle.std.specs.Option.{option_and_then, option_map}
+use Rattle.std.specs.Option.{option_map}
 use Rattle.implib.specs.declared.flavor.Flavor.TheVariants.{Msvc}
 use Rattle.implib.specs.declared.machine.MachineType.{MachineType}
 use Rattle.implib.specs.Definition.{DefinitionView}
-use Rattle.implib.specs.Formats.File.{file_in, meaning_in, meaning_of}
+use Rattle.implib.specs.Formats.File.{file_in, meaning_of}
 use Rattle.implib.specs.Import.{public_exports}
 use Rattle.implib.specs.LibraryName.{names_for}
 use Rattle.implib.specs.Machine.{machine_number}
@@ -19,7 +19,7 @@ use Rattle.implib_read.specs.Archives.{Archive, StoredMember, archive_in}
 use Rattle.implib_read.specs.Classes.{class_of_file, files_of, library_in, members_read}
 use Rattle.implib_read.specs.Files.{definer_among, file_found}
 use Rattle.implib_read.specs.Objects.{SameObjects}
-use Rattle.implib_read.specs.OwnLibraries.{OwnMembersFound, ReadsAsMsvcLibrary, classes_in, meaning_of_class}
+use Rattle.implib_read.specs.OwnLibraries.{OwnMembersFound, ReadsAsMsvcLibrary, classes_in}
 use Rattle.implib_read.specs.ShortImports.{SameShortImports}
 use Rattle.implib_read.proofs.OwnMembers.{drop_mapped, drop_plain, files_as, found_of, header_classes, kinds_of, machines_of, meanings_as, own_files, own_imports, read_meanings, specs_plain}
 

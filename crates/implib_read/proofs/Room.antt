@@ -1,10 +1,10 @@
 -- Room for the names of entries, an entry at a time.
-use Rattle.std.proofs.Common.{◌≡◌, ◌∙◌, ℕ, ◌+◌, ◌-◌, ◌≤◌, true, false, List, [], ◌∷◌, ◌++◌, Option, Some, None, if◌then◌else◌, length, map, nat_le, nat_lt, refl, ap, sym, append-nil, append_assoc, arith}
+use Rattle.std.proofs.Common.{◌≡◌, ◌∙◌, ℕ, ◌+◌, ◌≤◌, true, false, List, [], ◌∷◌, ◌++◌, Option, Some, None, length, map, refl, ap, sym, append-nil, append_assoc, arith}
 use Rattle.std.proofs.lemmas.Bool.{lt-ltb}
 use Rattle.std.proofs.lemmas.List.{length-append, map-append}
 use Rattle.std.specs.Option.{option_and_then, option_map, option_map_or}
 use Rattle.implib.specs.Formats.Object.{Entry}
-use Rattle.implib_read.specs.Objects.{have_room, name_length, room_after, room_in, within_room}
+use Rattle.implib_read.specs.Objects.{have_room, room_after, room_in, within_room}
 use Rattle.implib_read.proofs.Gathering.{Gathers}
 
 -- what room there is for entries of which these are done

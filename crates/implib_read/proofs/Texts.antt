@@ -1,14 +1,13 @@
 -- Texts up to a NUL, found by the place of the NUL.
-use Rattle.std.proofs.Common.{◌≡◌, ℕ, zero, suc, ◌+◌, ◌-◌, ◌<◌, ◌≤◌, ◌==◌, Bool, true, false, cond, not, nat_lt, ◌&&◌, List, [], ◌∷◌, Option, Some, None, length, take, drop, refl, ap, ◌∙◌, sym, arith, if◌then◌else◌}
+use Rattle.std.proofs.Common.{◌≡◌, ℕ, zero, suc, ◌+◌, ◌-◌, ◌<◌, ◌≤◌, ◌==◌, Bool, false, cond, not, List, [], ◌∷◌, Option, Some, None, length, take, drop, refl, ap, ◌∙◌, arith, if◌then◌else◌}
 use Rattle.std.specs.List.{position, position_or_len}
 use Rattle.memchr.specs.Find.{IsFirstByte, is_byte}
-use Rattle.std.specs.Option.{option_map}
 use Rattle.std.proofs.lemmas.Bool.{eqb-true, false_from_ne_true, le-ltb, lt-ltb}
 use Rattle.std.proofs.lemmas.List.Sums.{position_or_len_is}
 use Rattle.std.proofs.lemmas.Grind.{common_steps}
 use Rattle.implib.specs.Formats.Object.{before_nul, name_of, up_to_nul, u32_at}
 use Rattle.implib_read.specs.Objects.{begins_with_zeros}
-use Rattle.implib.specs.Formats.ShortImport.{text_in, text_longer}
+use Rattle.implib.specs.Formats.ShortImport.{text_in}
 
 -- the place of the first NUL, or the length
 abbrev pub nul_place : List ℕ → ℕ

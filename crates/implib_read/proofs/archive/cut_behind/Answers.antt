@@ -1,10 +1,6 @@
-use Rattle.std.proofs.Common.{◌≡◌, ◌∙◌, ◌≤◌, ◌-◌, ◌+◌, None, Some, [], length, sym, ap, rules, arith}
-use Rattle.std.specs.Option.{option_map}
+use Rattle.std.proofs.Common.{arith}
 use Rattle.std.proofs.lemmas.Grind.{common_steps}
 use Rattle.std.proofs.lemmas.List.{nil_from_length}
-use Rattle.implib_archive.specs.Reader.{stored_at}
-use Rattle.implib_read.specs.Archives.{cut_from, said}
-use Rattle.implib_read.specs.NameViews.{name_view}
 use Rattle.implib_read.proofs.CutParts.{cut_more, cut_nothing, cut_stop}
 use Rattle.implib_read.proofs.archive.cut_behind.Goals as goal
 

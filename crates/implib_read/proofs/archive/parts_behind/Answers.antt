@@ -1,11 +1,6 @@
-use Rattle.std.proofs.Common.{◌≡◌, ◌∙◌, ◌<◌, ◌≤◌, ◌-◌, ◌+◌, None, Some, [], length, map, refl, sym, ap, ◌++◌, rules, arith}
-use Rattle.std.specs.Option.{option_map}
+use Rattle.std.proofs.Common.{arith}
 use Rattle.std.proofs.lemmas.Grind.{common_steps}
 use Rattle.std.proofs.lemmas.List.{nil_from_length}
-use Rattle.implib_archive.specs.Reader.{stored_at}
-use Rattle.implib_read.specs.Archives.{parts_from, said}
-use Rattle.implib_read.specs.ArchiveViews.{part_view}
-use Rattle.implib_read.specs.NameViews.{name_view}
 use Rattle.implib_read.proofs.Gathering.{gathers-end, gathers-none}
 use Rattle.implib_read.proofs.ArchiveParts.{parts_from-nothing, parts_from-stop, parts-read}
 use Rattle.implib_read.proofs.archive.parts_behind.Goals as goal

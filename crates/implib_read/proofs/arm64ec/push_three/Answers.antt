@@ -1,4 +1,4 @@
-use Rattle.std.proofs.Common.{arith, ◌≡◌, ◌∙◌, ◌∷◌, ◌++◌, [], List, ap, append_assoc}
+use Rattle.std.proofs.Common.{arith, ◌≡◌, ◌∷◌, ◌++◌, [], List, append_assoc}
 use Rattle.implib_read.proofs.arm64ec.push_three.Goals as goal
 
 -- three symbols that are added one after the other

@@ -1,6 +1,4 @@
-use Rattle.std.proofs.Common.{◌≡◌, ◌∙◌, ◌==◌, true, false, sym, ap, rules}
-use Rattle.std.specs.List.{find}
-use Rattle.implib_read.specs.Objects.{relocations_of}
+use Rattle.std.proofs.Common.{◌∙◌, sym, rules}
 use Rattle.implib_read.proofs.Records.{relocation-first, relocation-later, relocation-none}
 use Rattle.implib_read.proofs.follow.relocation_among.Goals as goal
 

@@ -1,5 +1,4 @@
-use Rattle.std.proofs.Common.{◌∙◌, map, sym, rules, arith}
-use Rattle.implib_read.specs.ObjectViews.{section_view}
+use Rattle.std.proofs.Common.{arith}
 use Rattle.implib_read.proofs.Records.{section_numbered-at}
 use Rattle.implib_read.proofs.follow.section_numbered.Goals as goal
 

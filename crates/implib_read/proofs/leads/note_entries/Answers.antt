@@ -1,4 +1,4 @@
-use Rattle.std.proofs.Common.{arith, ◌≡◌, ◌∙◌, ℕ, List, Bor, None, Some, sym, rules}
+use Rattle.std.proofs.Common.{arith, ◌≡◌, ◌∙◌, ℕ, List, Bor, Some, sym, rules}
 use Rattle.std.specs.Option.{option_map}
 use Rattle.implib.specs.Formats.File.{declared_by_entry}
 use Rattle.implib_read.specs.ObjectViews.{entry_view}

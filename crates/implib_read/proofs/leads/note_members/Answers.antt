@@ -1,8 +1,6 @@
-use Rattle.std.proofs.Common.{◌∙◌, ◌<◌, ap, length, map, sym, rules, arith}
+use Rattle.std.proofs.Common.{rules, arith}
 use Rattle.implib_read.specs.ArchiveViews.{member_view}
 use Rattle.implib_read.specs.FileViews.{file_view}
-use Rattle.implib_read.specs.Files.{file_found}
-use Rattle.implib_read.specs.Leads.{import_names}
 use Rattle.implib_read.proofs.Declarers.{beside, noted-member, same_length}
 use Rattle.implib_read.proofs.leads.note_members.Goals as goal
 

@@ -1,8 +1,4 @@
-use Rattle.std.proofs.Common.{arith, refl, rules}
-use Rattle.implib_read.specs.ArchiveViews.{member_view}
-use Rattle.implib_read.specs.ClassViews.{member_read_view}
-use Rattle.implib_read.specs.FileViews.{file_view}
-use Rattle.implib_read.specs.FollowingViews.{places_of}
+use Rattle.std.proofs.Common.{arith}
 use Rattle.implib_read.proofs.MemberClasses.{class-read}
 use Rattle.implib_read.proofs.library.classes_of.Goals as goal
 

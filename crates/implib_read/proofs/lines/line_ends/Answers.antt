@@ -1,4 +1,4 @@
-use Rattle.std.proofs.Common.{arith, ◌≡◌, ◌∙◌, ◌++◌, ◌+◌, ◌<◌, ℕ, List, Bool, true, false, [], ◌∷◌, ap, get_or, if◌then◌else◌, length, sym, append-nil, take}
+use Rattle.std.proofs.Common.{arith, ◌≡◌, ◌∙◌, ◌++◌, ◌+◌, ◌<◌, ℕ, List, Bool, true, false, [], ◌∷◌, get_or, if◌then◌else◌, length, sym, append-nil, take}
 use Rattle.implib_read.specs.MemberNames.{ends_from, goes_on}
 use Rattle.implib_read.proofs.LineEnds.{ends_from-more, ends_none}
 use Rattle.implib_read.proofs.lines.line_ends.Goals as goal

@@ -1,4 +1,4 @@
-use Rattle.std.proofs.Common.{◌≡◌, ◌∙◌, ◌<◌, ◌-◌, false, get_or, nat_eq, take, sym, ap, rules, arith}
+use Rattle.std.proofs.Common.{◌≡◌, ◌∙◌, take, sym, ap, rules, arith}
 use Rattle.implib_archive.specs.Reader.{trimmed}
 use Rattle.implib_read.proofs.FieldNames.{trimmed-none, trimmed-step, trimmed-stop}
 use Rattle.implib_read.proofs.names.trimmed.Goals.{then-loop-end-test+else-text-end-eq32, else-loop-end-test}

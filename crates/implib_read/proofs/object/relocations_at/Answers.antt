@@ -1,5 +1,4 @@
-use Rattle.std.proofs.Common.{ap, ◌∙◌, sym, rules, arith}
-use Rattle.std.specs.Option.{option_map}
+use Rattle.std.proofs.Common.{sym, rules, arith}
 use Rattle.implib.specs.Formats.Object.{relocation_at}
 use Rattle.implib_read.specs.Objects.{records_in, relocations_of}
 use Rattle.implib_read.proofs.Gathering.{each_at-end}

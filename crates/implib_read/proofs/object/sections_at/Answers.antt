@@ -1,6 +1,4 @@
-use Rattle.std.proofs.Common.{◌≡◌, ◌<◌, None, Some, sym, rules, arith}
-use Rattle.implib.specs.Formats.Object.{section_at}
-use Rattle.implib_read.specs.ObjectViews.{section_view}
+use Rattle.std.proofs.Common.{arith}
 use Rattle.implib_read.proofs.Gathering.{each_at-end, each_at-stop, gathers-end, gathers-none, gathers-read}
 use Rattle.implib_read.proofs.object.sections_at.Goals as goal
 
