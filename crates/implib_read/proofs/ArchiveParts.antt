@@ -1,5 +1,5 @@
 -- The parts of an archive, one at a time.
-use Rattle.std.proofs.Common.{◌≡◌, ℕ, zero, suc, ◌+◌, ◌-◌, ◌%◌, ◌<◌, ◌≤◌, Bool, true, false, List, [], ◌∷◌, ◌++◌, Option, Some, None, drop, length, map, nat_le, refl, sym, ap, ◌∙◌, arith}
+use Rattle.std.proofs.Common.{◌≡◌, ℕ, zero, suc, ◌+◌, ◌-◌, ◌%◌, ◌<◌, ◌≤◌, Bool, List, [], ◌∷◌, ◌++◌, Option, Some, None, drop, length, map, nat_le, refl, ap, ◌∙◌, arith}
 use Rattle.std.specs.Option.{option_and_then, option_map}
 use Rattle.std.proofs.lemmas.Bool.{leb-true}
 use Rattle.std.proofs.lemmas.Grind.{common_steps}
@@ -36,8 +36,7 @@ joined-stored : (offset : ℕ) (rest : List ℕ) (s : Option Stored)
     → option_and_then (λ s. option_map (λ others. part_of offset s ∷ others) (parts_from (59 + length s.contents + length s.contents % 2) (suc offset) rest)) s
     ≡ joined offset rest (option_map said s)
 unfolding joined
-joined-stored offset rest None = refl
-joined-stored offset rest (Some s) = refl
+joined-stored offset rest s = grind arith
 
 first_of : (offset : ℕ) (x : ℕ) (rest : List ℕ) → parts_from 0 offset (x ∷ rest) ≡ joined offset rest (option_map said (stored_at (x ∷ rest) 0))
 unfolding parts_from
@@ -51,15 +50,7 @@ parts_from-stop offset (x ∷ rest) some none = first_of offset x rest ∙ ap (j
 -- where the next part is, by how much is left; after a missing padding there is none, wherever that is
 place_behind : (total n : ℕ) (bytes : List ℕ) (within : Bool) → nat_le n (length bytes) ≡ within → length bytes ≤ total
     → parts_from 0 (total - length bytes + n) (drop n bytes) ≡ parts_from 0 (total - length (drop n bytes)) (drop n bytes)
-place_behind total n bytes true is whole =
-    let enough = leb-true n (length bytes) is in
-    let shorter : length (drop n bytes) ≡ length bytes - n = grind (arith, common_steps) in
-    ap (λ o. parts_from 0 o (drop n bytes)) (omega (arith, enough, shorter, whole))
-place_behind total n bytes false is whole =
-    let less : length bytes ≤ n = grind (arith, is) in
-    let none : drop n bytes ≡ [] = grind (arith, common_steps, less) in
-    ap (parts_from 0 (total - length bytes + n)) none ∙ (parts_from-nothing (total - length bytes + n)
-    ∙ (sym (parts_from-nothing (total - length (drop n bytes))) ∙ ap (parts_from 0 (total - length (drop n bytes))) (sym none)))
+place_behind total n bytes within is whole = grind (arith, leb-true, common_steps, parts_from-nothing)
 
 parts_from-more : (total : ℕ) (bytes : List ℕ) (name : MemberName) (contents : List ℕ) → 0 < length bytes → length bytes ≤ total
     → option_map said (stored_at bytes 0) ≡ Some (name, contents) → 60 + length contents ≤ length bytes
@@ -71,15 +62,9 @@ parts_from-more total [] name contents some whole is within = absurd (omega (ari
 parts_from-more total (x ∷ rest) name contents some whole is within =
     let offset = total - length (x ∷ rest) in
     let n = 59 + length contents + length contents % 2 in
-    let odd : length contents % 2 < 2 = grind arith in
     let one_more : padded_size contents ≡ suc n = omega arith in
-    let next : parts_from n (suc offset) rest ≡ parts_from 0 (offset + suc n) (drop (suc n) (x ∷ rest)) =
-    skipped n (suc offset) rest (omega (arith, within, odd)) ∙ ap (λ o. parts_from 0 o (drop n rest)) (omega arith) in
-    let placed = place_behind total (suc n) (x ∷ rest) (nat_le (suc n) (length (x ∷ rest))) refl whole in
-    first_of offset x rest
-    ∙ (ap (joined offset rest) is
-    ∙ ap (option_map (λ others. part_said offset (name, contents) ∷ others))
-    (next ∙ (placed ∙ ap (λ k. parts_from 0 (total - length (drop k (x ∷ rest))) (drop k (x ∷ rest))) (sym one_more))))
+    let next : parts_from n (suc offset) rest ≡ parts_from 0 (offset + suc n) (drop (suc n) (x ∷ rest)) = grind (arith, skipped) in
+    grind (arith, place_behind, first_of)
 
 -- the loop goes on: one more part
 pub parts-read : {A : Type 0} (view : A → Part) (whole : Option (List Part)) (total : ℕ) (bytes : List ℕ) (name : MemberName) (contents : List ℕ) (items next : List A) (x : A)
@@ -87,8 +72,4 @@ pub parts-read : {A : Type 0} (view : A → Part) (whole : Option (List Part)) (
     → 0 < length bytes → length bytes ≤ total → option_map said (stored_at bytes 0) ≡ Some (name, contents) → 60 + length contents ≤ length bytes
     → Gathers whole (map view items) (parts_from 0 (total - length bytes) bytes)
     → Gathers whole (map view next) (parts_from 0 (total - length (drop (padded_size contents) bytes)) (drop (padded_size contents) bytes))
-parts-read view whole total bytes name contents items next x pushed seen some fits is within so_far =
-    let rest = parts_from 0 (total - length (drop (padded_size contents) bytes)) (drop (padded_size contents) bytes) in
-    let step = parts_from-more total bytes name contents some fits is within ∙ ap (λ p. option_map (λ others. p ∷ others) rest) (sym seen) in
-    let more = gathers-more whole (parts_from 0 (total - length bytes) bytes) (map view items) (view x) rest so_far step in
-    more ∙ ap (λ done. option_map (λ later. done ++ later) rest) (sym (ap (map view) pushed ∙ map-append view items (x ∷ [])))
+parts-read view whole total bytes name contents items next x pushed seen some fits is within so_far = grind (arith, parts_from-more total bytes name contents some fits is within, gathers-more, map-append)

@@ -1,5 +1,5 @@
 -- Where an archive is cut off, one part at a time.
-use Rattle.std.proofs.Common.{◌≡◌, ℕ, zero, suc, ◌+◌, ◌-◌, ◌%◌, ◌<◌, ◌≤◌, Bool, true, false, List, [], ◌∷◌, Option, Some, None, drop, length, nat_le, refl, sym, ap, ◌∙◌, arith}
+use Rattle.std.proofs.Common.{◌≡◌, ℕ, zero, suc, ◌+◌, ◌-◌, ◌%◌, ◌<◌, ◌≤◌, Bool, List, [], ◌∷◌, Option, Some, None, drop, length, nat_le, refl, ap, ◌∙◌, arith}
 use Rattle.std.specs.Option.{option_map}
 use Rattle.std.proofs.lemmas.Bool.{leb-true}
 use Rattle.std.proofs.lemmas.Grind.{common_steps}
@@ -28,8 +28,7 @@ after_stored : (offset : ℕ) (rest : List ℕ) (s : Option Stored)
     → cut_or offset (λ s. cut_from (59 + length s.contents + length s.contents % 2) (suc offset) rest) s
     ≡ after_named offset rest (option_map said s)
 unfolding after_named
-after_stored offset rest None = refl
-after_stored offset rest (Some s) = refl
+after_stored offset rest s = grind arith
 
 first_of : (offset : ℕ) (x : ℕ) (rest : List ℕ) → cut_from 0 offset (x ∷ rest) ≡ after_named offset rest (option_map said (stored_at (x ∷ rest) 0))
 unfolding cut_from
@@ -43,15 +42,7 @@ cut_stop offset (x ∷ rest) some none = first_of offset x rest ∙ ap (after_na
 -- where the next part is, by how much is left
 place_behind : (total n : ℕ) (bytes : List ℕ) (within : Bool) → nat_le n (length bytes) ≡ within → length bytes ≤ total
     → cut_from 0 (total - length bytes + n) (drop n bytes) ≡ cut_from 0 (total - length (drop n bytes)) (drop n bytes)
-place_behind total n bytes true is whole =
-    let enough = leb-true n (length bytes) is in
-    let shorter : length (drop n bytes) ≡ length bytes - n = grind (arith, common_steps) in
-    ap (λ o. cut_from 0 o (drop n bytes)) (omega (arith, enough, shorter, whole))
-place_behind total n bytes false is whole =
-    let less : length bytes ≤ n = grind (arith, is) in
-    let none : drop n bytes ≡ [] = grind (arith, common_steps, less) in
-    ap (cut_from 0 (total - length bytes + n)) none ∙ (cut_nothing (total - length bytes + n)
-    ∙ (sym (cut_nothing (total - length (drop n bytes))) ∙ ap (cut_from 0 (total - length (drop n bytes))) (sym none)))
+place_behind total n bytes within is whole = grind (arith, leb-true, common_steps, cut_nothing)
 
 -- a part that is whole is passed
 pub cut_more : (total : ℕ) (bytes : List ℕ) (name : MemberName) (contents : List ℕ) → 0 < length bytes → length bytes ≤ total
@@ -63,11 +54,6 @@ cut_more total [] name contents some whole is within = absurd (omega (arith, som
 cut_more total (x ∷ rest) name contents some whole is within =
     let offset = total - length (x ∷ rest) in
     let n = 59 + length contents + length contents % 2 in
-    let odd : length contents % 2 < 2 = grind arith in
     let one_more : padded_size contents ≡ suc n = omega arith in
-    let next : cut_from n (suc offset) rest ≡ cut_from 0 (offset + suc n) (drop (suc n) (x ∷ rest)) =
-    skipped n (suc offset) rest (omega (arith, within, odd)) ∙ ap (λ o. cut_from 0 o (drop n rest)) (omega arith) in
-    let placed = place_behind total (suc n) (x ∷ rest) (nat_le (suc n) (length (x ∷ rest))) refl whole in
-    first_of offset x rest
-    ∙ (ap (after_named offset rest) is
-    ∙ (next ∙ (placed ∙ ap (λ k. cut_from 0 (total - length (drop k (x ∷ rest))) (drop k (x ∷ rest))) (sym one_more))))
+    let next : cut_from n (suc offset) rest ≡ cut_from 0 (offset + suc n) (drop (suc n) (x ∷ rest)) = grind (arith, skipped) in
+    grind (arith, place_behind, first_of)

@@ -1,5 +1,5 @@
 -- The first of the members that declare a symbol.
-use Rattle.std.proofs.Common.{◌≡◌, ℕ, zero, suc, arith, ◌+◌, ◌<◌, List, [], ◌∷◌, ◌++◌, Option, Some, None, append-nil, bytes_eq, get_or, if◌then◌else◌, length, map, take, refl, sym, ap, ◌∙◌}
+use Rattle.std.proofs.Common.{◌≡◌, ℕ, zero, suc, arith, ◌+◌, ◌<◌, List, [], ◌∷◌, ◌++◌, Option, Some, None, append-nil, bytes_eq, get_or, if◌then◌else◌, length, map, take, refl, ap}
 use Rattle.std.specs.List.{filter_map}
 use Rattle.std.specs.Option.{option_or}
 use Rattle.std.proofs.lemmas.Grind.{common_steps}
@@ -18,17 +18,13 @@ if_same offset s symbol = if bytes_eq s symbol then Some offset else None
 
 listed-more : (offset : ℕ) (ss : List (List ℕ)) (s symbol : List ℕ) → offset_if_listed offset (ss ++ s ∷ []) symbol ≡ option_or (offset_if_listed offset ss symbol) (if_same offset s symbol)
 listed-more offset [] s symbol = option_or-none (if_same offset s symbol)
-listed-more offset (t ∷ ss) s symbol =
-    ap (option_or (if_same offset t symbol)) (listed-more offset ss s symbol)
-    ∙ sym (option_or-assoc (if_same offset t symbol) (offset_if_listed offset ss symbol) (if_same offset s symbol))
+listed-more offset (t ∷ ss) s symbol = grind (arith, option_or-assoc, listed-more offset ss s symbol)
 
 -- the loop over entries goes on past one that declares nothing
 pub noted-nothing : {A B : Type 0} (view : A → B) (f : B → Option (List ℕ)) (items : List A) (i : ℕ) (d : A) (offset : ℕ) (symbol : List ℕ) (old so_far : Option ℕ) → i < length items
     → f (view (get_or items i d)) ≡ None → so_far ≡ option_or old (offset_if_listed offset (filter_map f (map view (take i items))) symbol)
     → so_far ≡ option_or old (offset_if_listed offset (filter_map f (map view (take (i + 1) items))) symbol)
-noted-nothing view f items i d offset symbol old so_far within none was =
-    was ∙ ap (λ names. option_or old (offset_if_listed offset names symbol))
-    (sym (append-nil (filter_map f (map view (take i items)))) ∙ kept-more view f items i d (filter_map f (map view (take i items))) None within none refl)
+noted-nothing view f items i d offset symbol old so_far within none was = cc (append-nil (filter_map f (map view (take i items))), kept-more view f items i d (filter_map f (map view (take i items))) None within none refl)
 
 -- the loop over entries goes on past one that declares a symbol
 pub noted-name : {A B : Type 0} (view : A → B) (f : B → Option (List ℕ)) (items : List A) (i : ℕ) (d : A) (offset : ℕ) (s symbol : List ℕ) (old so_far after : Option ℕ) → i < length items
@@ -37,23 +33,14 @@ pub noted-name : {A B : Type 0} (view : A → B) (f : B → Option (List ℕ)) (
     → after ≡ option_or old (offset_if_listed offset (filter_map f (map view (take (i + 1) items))) symbol)
 noted-name view f items i d offset s symbol old so_far after within some is was =
     let names = filter_map f (map view (take i items)) in
-    is ∙ (ap (λ o. option_or o (if_same offset s symbol)) was
-    ∙ (option_or-assoc old (offset_if_listed offset names symbol) (if_same offset s symbol)
-    ∙ (ap (option_or old) (sym (listed-more offset names s symbol))
-    ∙ ap (λ ns. option_or old (offset_if_listed offset ns symbol)) (kept-more view f items i d names (Some s) within some refl))))
+    cc (option_or-assoc old (offset_if_listed offset names symbol) (if_same offset s symbol), listed-more offset names s symbol, kept-more view f items i d names (Some s) within some refl)
 
 -- the loop over names goes on
 pub noted-listed : {A : Type 0} (view : A → List ℕ) (items : List A) (i : ℕ) (d : A) (offset : ℕ) (symbol : List ℕ) (old so_far after : Option ℕ) → i < length items
     → after ≡ option_or so_far (if bytes_eq (view (get_or items i d)) symbol then Some offset else None)
     → so_far ≡ option_or old (offset_if_listed offset (map view (take i items)) symbol)
     → after ≡ option_or old (offset_if_listed offset (map view (take (i + 1) items)) symbol)
-noted-listed view items i d offset symbol old so_far after within is was =
-    let names = map view (take i items) in
-    let s = view (get_or items i d) in
-    is ∙ (ap (λ o. option_or o (if_same offset s symbol)) was
-    ∙ (option_or-assoc old (offset_if_listed offset names symbol) (if_same offset s symbol)
-    ∙ (ap (option_or old) (sym (listed-more offset names s symbol))
-    ∙ ap (λ ns. option_or old (offset_if_listed offset ns symbol)) (sym (ap (map view) (take_more items i d within) ∙ map-append view (take i items) (get_or items i d ∷ []))))))
+noted-listed view items i d offset symbol old so_far after within is was = grind (arith, common_steps, option_or-assoc, listed-more, take_more, map-append)
 
 -- items that have the same beside each other
 pub beside : {A B M C : Type 0} (f : A → C) (h : M → C) (v : B → M) (xs : List A) (ys : List B) (i : ℕ) (x : A) (y : B) → i < length ys
@@ -61,9 +48,7 @@ pub beside : {A B M C : Type 0} (f : A → C) (h : M → C) (v : B → M) (xs : 
 beside f h v xs [] i x y within same = absurd (omega (arith, within))
 beside f h v [] (b ∷ ys) i x y within same = cc
 beside f h v (a ∷ xs) (b ∷ ys) zero x y within same = cc
-beside f h v (a ∷ xs) (b ∷ ys) (suc i) x y within same =
-    let rest : map f xs ≡ map h (map v ys) = cc in
-    beside f h v xs ys i x y (omega (arith, within)) rest
+beside f h v (a ∷ xs) (b ∷ ys) (suc i) x y within same = cc (beside f h v xs ys i x y (omega (arith, within)) (cc))
 
 pub same_length : {A B M C : Type 0} (f : A → C) (h : M → C) (v : B → M) (xs : List A) (ys : List B) → map f xs ≡ map h (map v ys) → length xs ≡ length ys
 same_length f h v xs ys same = let long = ap length same in grind (arith, common_steps, long)
@@ -74,9 +59,7 @@ of_member m symbol = offset_if_listed m.offset (declared_by_found (file_found m.
 
 first_declarer-more : (ms : List StoredMember) (m : StoredMember) (symbol : List ℕ) → first_declarer (ms ++ m ∷ []) symbol ≡ option_or (first_declarer ms symbol) (of_member m symbol)
 first_declarer-more [] m symbol = option_or-none (of_member m symbol)
-first_declarer-more (x ∷ ms) m symbol =
-    ap (option_or (of_member x symbol)) (first_declarer-more ms m symbol)
-    ∙ sym (option_or-assoc (of_member x symbol) (first_declarer ms symbol) (of_member m symbol))
+first_declarer-more (x ∷ ms) m symbol = grind (arith, option_or-assoc, first_declarer-more ms m symbol)
 
 -- the loop over members goes on
 pub noted-member : {A B : Type 0} (view_member : A → StoredMember) (view_file : B → File) (members : List A) (files : List B) (i : ℕ) (m : A) (f : B) (symbol : List ℕ) (old so_far after : Option ℕ)
@@ -84,12 +67,4 @@ pub noted-member : {A B : Type 0} (view_member : A → StoredMember) (view_file 
     → after ≡ option_or so_far (offset_if_listed (view_member (get_or members i m)).offset (declared_by_found (view_file f)) symbol)
     → so_far ≡ option_or old (first_declarer (map view_member (take i members)) symbol)
     → after ≡ option_or old (first_declarer (map view_member (take (i + 1) members)) symbol)
-noted-member view_member view_file members files i m f symbol old so_far after same within item is was =
-    let member = view_member (get_or members i m) in
-    let before = map view_member (take i members) in
-    let file = ap view_file item ∙ file_beside view_member view_file members files i m f within same in
-    is ∙ (ap (λ k. option_or so_far (offset_if_listed member.offset (declared_by_found k) symbol)) file
-    ∙ (ap (λ o. option_or o (of_member member symbol)) was
-    ∙ (option_or-assoc old (first_declarer before symbol) (of_member member symbol)
-    ∙ ap (option_or old) (sym (first_declarer-more before member symbol)
-    ∙ ap (λ ms. first_declarer ms symbol) (sym (ap (map view_member) (take_more members i m within) ∙ map-append view_member (take i members) (get_or members i m ∷ [])))))))
+noted-member view_member view_file members files i m f symbol old so_far after same within item is was = grind (arith, common_steps, file_beside, option_or-assoc, first_declarer-more, take_more, map-append)

@@ -1,5 +1,5 @@
 -- Symbol tables, an entry at a time.
-use Rattle.std.proofs.Common.{◌≡◌, ℕ, zero, suc, ◌+◌, ◌-◌, ◌<◌, List, [], ◌∷◌, ◌++◌, Option, Some, None, map, slice_index, refl, ap, ◌∙◌, sym, arith}
+use Rattle.std.proofs.Common.{◌≡◌, ℕ, zero, suc, ◌+◌, ◌-◌, ◌<◌, List, [], ◌∷◌, ◌++◌, Option, Some, None, map, slice_index, ap, ◌∙◌, arith}
 use Rattle.std.proofs.lemmas.List.{map-append}
 use Rattle.std.specs.Option.{option_and_then, option_map}
 use Rattle.implib.specs.Formats.Object.{Entry, ASymbol, Auxiliary, ObjectSymbol, bytes_at, entries_at, symbol_of}
@@ -15,22 +15,19 @@ with_symbol : (bytes strings : List ℕ) (later n : ℕ) (record_bytes : List �
     → option_and_then (λ s. option_map (λ es. ASymbol s ∷ es) (entries_at bytes strings later (slice_index record_bytes 17) n)) symbol
     ≡ joined bytes strings later n (option_map (λ s. (ASymbol s, slice_index record_bytes 17)) symbol)
 unfolding joined
-with_symbol bytes strings later n record_bytes None = refl
-with_symbol bytes strings later n record_bytes (Some s) = refl
+with_symbol bytes strings later n record_bytes symbol = grind arith
 
 with_record : (bytes strings : List ℕ) (later n : ℕ) (record_bytes : Option (List ℕ))
     → option_and_then (λ r. option_and_then (λ s. option_map (λ es. ASymbol s ∷ es) (entries_at bytes strings later (slice_index r 17) n)) (symbol_of strings r)) record_bytes
     ≡ joined bytes strings later n (option_and_then (λ r. option_map (λ s. (ASymbol s, slice_index r 17)) (symbol_of strings r)) record_bytes)
 unfolding joined
-with_record bytes strings later n None = refl
-with_record bytes strings later n (Some r) = with_symbol bytes strings later n r (symbol_of strings r)
+with_record bytes strings later n record_bytes = grind (arith, with_symbol)
 
 with_auxiliary : (bytes strings : List ℕ) (later auxiliary n : ℕ) (record_bytes : Option (List ℕ))
     → option_and_then (λ r. option_map (λ es. Auxiliary r ∷ es) (entries_at bytes strings later auxiliary n)) record_bytes
     ≡ joined bytes strings later n (option_map (λ r. (Auxiliary r, auxiliary)) record_bytes)
 unfolding joined
-with_auxiliary bytes strings later auxiliary n None = refl
-with_auxiliary bytes strings later auxiliary n (Some r) = refl
+with_auxiliary bytes strings later auxiliary n record_bytes = grind arith
 
 entries_at-step : (bytes strings : List ℕ) (place auxiliary n : ℕ)
     → entries_at bytes strings place auxiliary (suc n) ≡ joined bytes strings (place + 18) n (entry_at bytes strings place auxiliary)
@@ -47,10 +44,7 @@ pub entries_at-more : (bytes strings : List ℕ) (place auxiliary n : ℕ) (e : 
     → entries_at bytes strings place auxiliary n ≡ option_map (λ es. e ∷ es) (entries_at bytes strings (place + 18) behind (n - 1))
 unfolding joined
 entries_at-more bytes strings place auxiliary zero e behind some is = absurd (omega (arith, some))
-entries_at-more bytes strings place auxiliary (suc n) e behind some is =
-    entries_at-step bytes strings place auxiliary n
-    ∙ (ap (joined bytes strings (place + 18) n) is
-    ∙ ap (λ k. option_map (λ es. e ∷ es) (entries_at bytes strings (place + 18) behind k)) (omega arith))
+entries_at-more bytes strings place auxiliary (suc n) e behind some is = grind (arith, entries_at-step)
 
 -- the loop goes on: one more entry
 pub entries-read : {A : Type 0} (view : A → Entry) (bytes strings : List ℕ) (whole : Option (List Entry)) (place auxiliary n behind : ℕ) (items next : List A) (x : A)
@@ -58,8 +52,7 @@ pub entries-read : {A : Type 0} (view : A → Entry) (bytes strings : List ℕ) 
     → Gathers whole (map view items) (entries_at bytes strings place auxiliary n) → Gathers whole (map view next) (entries_at bytes strings (place + 18) behind (n - 1))
 entries-read view bytes strings whole place auxiliary n behind items next x pushed some is so_far =
     let rest = entries_at bytes strings (place + 18) behind (n - 1) in
-    let more = gathers-more whole (entries_at bytes strings place auxiliary n) (map view items) (view x) rest so_far (entries_at-more bytes strings place auxiliary n (view x) behind some is) in
-    more ∙ ap (λ done. option_map (λ later. done ++ later) rest) (sym (ap (map view) pushed ∙ map-append view items (x ∷ [])))
+    grind (arith, gathers-more whole (entries_at bytes strings place auxiliary n) (map view items) (view x) rest so_far (entries_at-more bytes strings place auxiliary n (view x) behind some is), map-append view items (x ∷ []))
 
 pub entries_at-end : (bytes strings : List ℕ) (place auxiliary n : ℕ) → n ≡ 0 → auxiliary ≡ 0 → entries_at bytes strings place auxiliary n ≡ Some []
 unfolding entries_at
@@ -67,5 +60,4 @@ entries_at-end bytes strings place auxiliary n none no_more = ap (λ k. entries_
 
 pub entries_at-lacks : (bytes strings : List ℕ) (place auxiliary n : ℕ) → n ≡ 0 → 0 < auxiliary → entries_at bytes strings place auxiliary n ≡ None
 unfolding entries_at
-entries_at-lacks bytes strings place zero n none more = absurd (omega (arith, more))
-entries_at-lacks bytes strings place (suc auxiliary) n none more = ap (entries_at bytes strings place (suc auxiliary)) none
+entries_at-lacks bytes strings place auxiliary n none more = grind arith

@@ -1,18 +1,15 @@
 -- The members of the archives that `implib_archive` makes.
-use Rattle.std.proofs.Common.{◌≡◌, ◌∙◌, ℕ, Bool, true, false, not, List, [], ◌∷◌, ◌++◌, Option, None, Some, ap, bytes_eq, codes, drop, if◌then◌else◌, length, map, nat_eq, refl, sym, take_while}
+use Rattle.std.proofs.Common.{arith, ◌≡◌, ◌∙◌, ℕ, Bool, true, false, not, List, [], ◌∷◌, ◌++◌, Option, None, Some, ap, bytes_eq, codes, if◌then◌else◌, map, nat_eq, refl, sym, take_while}
 use Rattle.std.specs.List.{cons_option, filter_map}
-use Rattle.std.specs.Option.{option_and_then, option_map}
-use Rattle.std.proofs.lemmas.List.Sums.{take_while-cons}
+use Rattle.std.specs.Option.{option_map}
 use Rattle.std.proofs.lemmas.Bool.{true≢false}
 use Rattle.implib.specs.Members.MemberSpec.{MemberView}
 use Rattle.implib_archive.specs.Archive.{archive_of}
 use Rattle.implib_archive.specs.ReadBack.{MembersReadBack, PartsReadBack, parts_of, read_view}
-use Rattle.implib_archive.specs.Reader.{Name, Linker, LongNames, LongAt, Short, Unknown, Read, Stored, before_others, long_name_at, long_names_in, members_among, members_in, name_in, number_in, read_as, trimmed}
+use Rattle.implib_archive.specs.Reader.{Name, Linker, LongNames, LongAt, Short, Unknown, Read, Stored, before_others, long_name_at, members_among, members_in, name_in, read_as}
 use Rattle.implib_archive.specs.Refusal.{refusal_of}
 use Rattle.implib_archive.specs.declared.kind.Kind.{Kind}
-use Rattle.implib_read.specs.Archives.{Part, SameParts, archive_in, member_as, member_of, parts_in, said, said_by_part}
-use Rattle.implib_read.specs.Archives.{archive_of as archive_of_parts}
-use Rattle.implib_read.specs.Archives.{long_names_in as names_in_parts}
+use Rattle.implib_read.specs.Archives.{Part, SameParts, archive_in, member_of, parts_in, said, said_by_part}
 use Rattle.implib_read.specs.MemberNames.{MemberName, LinkerMember, LongNamesMember, NameAt, Named, Special, begins_with_byte, member_name, slash_name, without_slash}
 use Rattle.implib_read.specs.OwnLibraries.{member_bytes_in}
 
@@ -45,34 +42,15 @@ by_tests : (linker long short empty slash : Bool) (text name : List ℕ) (number
     → bytes_as (if linker then LinkerMember else if long then LongNamesMember else if slash then slash_name text number else Named (without_slash text)) contents
     ≡ bytes_by (if linker then Linker else (if long then LongNames else (if short then Short name else (if empty then long_name_at number else Unknown)))) contents
 unfolding bytes_as bytes_by is_known long_name_at
-by_tests true long short empty slash text name number contents apart known = refl
-by_tests false true short empty slash text name number contents apart known = refl
-by_tests false false true empty false text name number contents apart known = refl
-by_tests false false true empty true text name number contents apart known = absurd (true≢false (apart refl refl))
-by_tests false false false true true text name (Some n) contents apart known = refl
-by_tests false false false true false text name (Some n) contents apart known = refl
-by_tests false false false true slash text name None contents apart known = absurd (true≢false (sym known))
-by_tests false false false false slash text name number contents apart known = absurd (true≢false (sym known))
+by_tests linker long short empty slash text name number contents apart known = grind (arith, true≢false)
 
 -- a text that a slash ends, with none before it, begins with no slash unless it is one alone
 apart_by : (text : List ℕ) → bytes_eq text (codes "/") ≡ false → bytes_eq text (take_while (λ c. not (nat_eq c 47)) text ++ 47 ∷ []) ≡ true → begins_with_byte 47 text ≡ false
-apart_by [] other ends = refl
-apart_by (c ∷ text) other ends = by (nat_eq c 47) refl
-  where
-    by : (b : Bool) → nat_eq c 47 ≡ b → nat_eq c 47 ≡ false
-    by false is = is
-    by true is =
-        let alone : take_while (λ c. not (nat_eq c 47)) (c ∷ text) ≡ [] = take_while-cons (λ c. not (nat_eq c 47)) c text ∙ ap (λ b. if not b then c ∷ take_while (λ c. not (nat_eq c 47)) text else []) is in
-        let one : bytes_eq (c ∷ text) (codes "/") ≡ true = sym (ap (λ (t : List ℕ). bytes_eq (c ∷ text) (t ++ 47 ∷ [])) alone) ∙ ends in
-        absurd (true≢false (sym one ∙ other))
+apart_by text other ends = grind arith
 
 pub same_bytes : (field contents : List ℕ) → is_known (name_in field) ≡ true → bytes_as (member_name field) contents ≡ bytes_by (name_in field) contents
 unfolding name_in member_name
-same_bytes field contents known =
-    let text = trimmed field in
-    let short = take_while (λ c. not (nat_eq c 47)) text in
-    by_tests (bytes_eq text (codes "/")) (bytes_eq text (codes "//")) (bytes_eq text (short ++ 47 ∷ [])) (nat_eq (length short) 0) (begins_with_byte 47 text)
-    text short (number_in (drop 1 field)) contents (apart_by text) known
+same_bytes field contents known = grind (arith, by_tests, apart_by)
 
 -- the bytes of the members among parts, by what this reader says of them
 bytes_of_said : MemberName × List ℕ → Option (List ℕ)
@@ -81,16 +59,7 @@ bytes_of_said s = bytes_as s.0 s.1
 bytes_of_parts : (names : List ℕ) (parts : List Part) → map (λ m. m.bytes) (filter_map (member_of names) parts) ≡ filter_map bytes_of_said (map said_by_part parts)
 unfolding bytes_of_said bytes_as
 bytes_of_parts names [] = refl
-bytes_of_parts names (p ∷ parts) = by (bytes_of_parts names parts) p.name
-  where
-    by : map (λ m. m.bytes) (filter_map (member_of names) parts) ≡ filter_map bytes_of_said (map said_by_part parts) → (n : MemberName)
-        → map (λ m. m.bytes) (cons_option (member_as names p.offset p.contents n) (filter_map (member_of names) parts))
-        ≡ cons_option (bytes_as n p.contents) (filter_map bytes_of_said (map said_by_part parts))
-    by same LinkerMember = same
-    by same LongNamesMember = same
-    by same (NameAt place) = ap (λ bs. p.contents ∷ bs) same
-    by same (Named text) = ap (λ bs. p.contents ∷ bs) same
-    by same (Special text) = same
+bytes_of_parts names (p ∷ parts) = grind (arith, bytes_of_parts names parts)
 
 -- a step over a part, in the reader of `implib_archive`
 pub record Step (n : Name) (contents : List ℕ) (others : Option (List Read)) (reads : List Read) : Type 0 where
@@ -126,9 +95,7 @@ unfolding members_among bytes_of_said
 bytes_of_reads kind names [] reads is = let none : [] ≡ reads = cc in ap (map (λ r. r.bytes)) none
 bytes_of_reads kind names (s ∷ parts) reads is =
     let one = step kind names (name_in s.field) s.contents (members_among kind names parts) reads is in
-    ap (λ o. cons_option o (filter_map bytes_of_said (map said parts))) (same_bytes s.field s.contents one.known)
-    ∙ ap (cons_option (bytes_by (name_in s.field) s.contents)) (bytes_of_reads kind names parts one.later one.rest)
-    ∙ sym one.bytes
+    grind (arith, same_bytes, bytes_of_reads kind names parts one.later one.rest)
 
 view_bytes : (members : List MemberView) → map (λ r. r.bytes) (map read_view members) ≡ map (λ m. m.bytes) members
 view_bytes [] = refl
@@ -147,15 +114,4 @@ found_by bytes parts (Some found) is same = record { found = found; is = is; sam
 pub own_members_found : PartsReadBack → MembersReadBack → SameParts → (kind : Kind) (members : List MemberView) → refusal_of kind members ≡ None
     → member_bytes_in (archive_of kind members) ≡ Some (map (λ m. m.bytes) members)
 unfolding archive_in members_in
-own_members_found stored back same kind members accepted =
-    let bytes = archive_of kind members in
-    let parts = parts_of kind members in
-    let there = stored kind members accepted in
-    let both = found_by bytes parts (parts_in bytes) refl (same bytes parts there) in
-    let read : members_among kind (long_names_in parts) parts ≡ Some (map read_view members) =
-    sym (ap (option_and_then (λ ps. members_among kind (long_names_in ps) ps)) there) ∙ (back kind members accepted).in_order in
-    ap (λ o. option_map (λ a. map (λ m. m.bytes) a.members) (option_map archive_of_parts o)) both.is
-    ∙ ap Some (bytes_of_parts (names_in_parts both.found) both.found
-    ∙ ap (filter_map bytes_of_said) both.same
-    ∙ bytes_of_reads kind (long_names_in parts) parts (map read_view members) read
-    ∙ view_bytes members)
+own_members_found stored back same kind members accepted = grind (arith, bytes_of_parts, bytes_of_reads, view_bytes, same (archive_of kind members) (parts_of kind members) (stored kind members accepted))

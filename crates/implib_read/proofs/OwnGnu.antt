@@ -1,5 +1,5 @@
 -- The members that `implib` makes for GNU's linker, as this reader has them.
-use Rattle.std.proofs.Common.{◌≡◌, ◌∙◌, ℕ, ◌+◌, Bool, true, false, List, [], ◌∷◌, ◌++◌, Option, None, Some, ap, arith, bytes_eq, codes, if◌then◌else◌, length, nat_eq, nat_le, refl, reverse, slice_index, subst, sym}
+use Rattle.std.proofs.Common.{◌≡◌, ◌∙◌, ℕ, ◌+◌, Bool, true, false, List, [], ◌∷◌, ◌++◌, Option, Some, ap, arith, bytes_eq, codes, length, nat_eq, nat_le, refl, reverse, slice_index, subst, sym}
 use Rattle.std.specs.List.{AllByRecursion, count_by}
 use Rattle.std.specs.Option.{option_and_then, option_map}
 use Rattle.std.proofs.lemmas.Bool.{false_from_ne_true}
@@ -10,22 +10,21 @@ use Rattle.implib.specs.declared.machine.MachineType.{MachineType}
 use Rattle.implib.specs.declared.machine.MachineType.TheVariants.{I386, ARMNT, AMD64, ARM64}
 use Rattle.implib.specs.Definition.{ExportView}
 use Rattle.implib.specs.Formats.Bytes.{u16_bytes, u32_bytes}
-use Rattle.implib.specs.Formats.File.{File, ObjectFile, Meaning, alias_of_object}
-use Rattle.implib.specs.Formats.File.{AnImport as MeansImport}
+use Rattle.implib.specs.Formats.File.{File, ObjectFile, Meaning}
 use Rattle.implib.specs.Formats.Layout.{entries_of, name_text, object_of}
 use Rattle.implib.specs.Formats.Object.{Object, ObjectSection, before_nul, bytes_at, u16_at, u32_at}
 use Rattle.implib.specs.Formats.Writer.{written_object}
-use Rattle.implib.specs.Import.{Alias, Ask, Import, Name, imp_symbol, is_alias, name_asked}
+use Rattle.implib.specs.Import.{Alias, Ask, Import, imp_symbol, name_asked}
 use Rattle.implib.specs.LibraryName.{NamesOfDll}
 use Rattle.implib.specs.Underscore.{leading_underscore}
-use Rattle.implib.specs.Members.Gnu.{export_object, head_object, head_symbol, hint_name, iname_symbol, mangled_name, relocations_of_stub, relocations_of_thunk, stub, tail_object, thunk, weak_address_name, weak_name}
+use Rattle.implib.specs.Members.Gnu.{export_object, head_object, head_symbol, hint_name, iname_symbol, mangled_name, relocations_of_stub, relocations_of_thunk, stub, tail_object, thunk}
 use Rattle.implib.specs.Members.GnuMembers.{alias_specs, export_spec, numbered_specs, numbered_specs_of}
-use Rattle.implib.specs.Members.GnuReader.{alias_or_import, ask_by_name, ask_of_export, dll_by_names, externals_in, import_from, import_of, meaning_with, text_section}
+use Rattle.implib.specs.Members.GnuReader.{alias_or_import, ask_by_name, ask_of_export, dll_by_names, import_from, import_of, meaning_with}
 use Rattle.implib.specs.Members.ReadBack.{file_of}
-use Rattle.implib.specs.Members.WeakExternal.{weak_object, weak_spec}
+use Rattle.implib.specs.Members.WeakExternal.{weak_object}
 use Rattle.implib.proofs.Formats.WriterLayout.{object_of-layout_of}
 use Rattle.implib.proofs.Members.MemberReadings.{all_append}
-use Rattle.implib_read.specs.Classes.{Imported, class_of_file, class_with, delayed_by_object, kind_of_code}
+use Rattle.implib_read.specs.Classes.{Imported, class_of_file, class_with}
 use Rattle.implib_read.specs.Files.{definer_among}
 use Rattle.implib_read.specs.Files.{File as FoundFile, ObjectFile as FoundObject}
 use Rattle.implib_read.specs.Following.{Place, further, only_in, pointed, pointed_by, spot_of, text_at}
@@ -128,8 +127,7 @@ two_bytes x y rest = grind arith
 hint_on : (o : Object) (s : ObjectSection) (x y : ℕ) (rest : List ℕ)
     → hint_and_name (record { object = o; section = record s { bytes = x ∷ y ∷ rest }; offset = 0 }) ≡ ask_by_name (record s { bytes = x ∷ y ∷ rest })
 unfolding bytes_at u16_at
-hint_on o s x y rest =
-    ap (λ b. option_and_then (λ hint. option_map (λ name. Name name (u16_at hint 0)) (before_nul rest)) (if b then Some (x ∷ y ∷ []) else None)) (two_bytes x y rest)
+hint_on o s x y rest = cc (two_bytes x y rest)
 
 -- the section of the hint and the name of an export
 hint_section : MachineType → ExportView → ObjectSection
@@ -141,10 +139,7 @@ asking_name : (machine : MachineType) (dll : List ℕ) (e : ExportView) → e.no
 unfolding hint_section hint_name u16_bytes
 asking_name machine dll e named o =
     let bytes : List ℕ → ObjectSection = λ bs. record { name = codes ".idata$6"; flags = 0xC0200000; bytes = bs; relocations = [] } in
-    let P : List ℕ → Type 0 = λ bs. hint_and_name (record { object = o; section = bytes bs; offset = 0 }) ≡ ask_by_name (bytes bs) in
-    let whole : u16_bytes e.ordinal ++ (name_asked machine e ++ 0 ∷ []) ≡ (if e.no_name then [] else u16_bytes e.ordinal ++ (name_asked machine e ++ 0 ∷ [])) =
-    sym (ap (λ b. if b then [] else u16_bytes e.ordinal ++ (name_asked machine e ++ 0 ∷ [])) named) in
-    subst P whole (hint_on o (bytes []) (slice_index (u16_bytes e.ordinal) 0) (slice_index (u16_bytes e.ordinal) 1) (name_asked machine e ++ 0 ∷ []))
+    cc (hint_on o (bytes []) (slice_index (u16_bytes e.ordinal) 0) (slice_index (u16_bytes e.ordinal) 1) (name_asked machine e ++ 0 ∷ []))
 
 asked_by : (machine : MachineType) (dll : List ℕ) (e : ExportView) (defined : List ℕ → Option Place) (is_data no_name : Bool)
     → ask_of_object defined (written_object (export_object machine dll (record e { is_data = is_data; no_name = no_name })))
@@ -171,16 +166,12 @@ asked_by ARM64 dll e defined false false = asking_name ARM64 dll (record e { is_
 
 import_with : (o : Object) (dll dll' : Option (List ℕ)) (ask ask' : Option Ask) → dll ≡ dll' → ask ≡ ask'
     → option_and_then (λ name. option_map (import_from o name) ask) dll ≡ option_and_then (λ name. option_map (import_from o name) ask') dll'
-import_with o dll dll' ask ask' same_dll same_ask =
-    ap (λ d. option_and_then (λ name. option_map (import_from o name) ask) d) same_dll
-    ∙ ap (λ a. option_and_then (λ name. option_map (import_from o name) a) dll') same_ask
+import_with o dll dll' ask ask' same_dll same_ask = grind arith
 
 -- what an object means, by its alias and its import, to both readers
 means_by : (o : Object) (a : Option Alias) (i j : Option Import) (wrap : Import → Imported) (delayed : Option Imported) (m : Meaning) → ((x : Import) → (wrap x).imports ≡ x) → i ≡ j
     → alias_or_import a j ≡ Some m → meaning_of_class (class_with o a (option_map wrap i) delayed) ≡ Some m
-means_by o (Some a) i j wrap delayed m kept same is = is
-means_by o None None j wrap delayed m kept same is = let none = ap (option_map MeansImport) same ∙ is in cc
-means_by o None (Some x) j wrap delayed m kept same is = ap (λ y. Some (MeansImport y)) (kept x) ∙ ap (option_map MeansImport) same ∙ is
+means_by o a i j wrap delayed m kept same is = grind arith
 
 -- with the tail and the head in front of others, as they are written
 module _ (machine : MachineType) (dll : NamesOfDll) (others : List FoundFile) where
@@ -202,16 +193,11 @@ module _ (machine : MachineType) (dll : NamesOfDll) (others : List FoundFile) wh
   unfolding import_of_object
   same_import e =
       let o = written_object (export_object machine dll.linked e) in
-      import_with o (dll_of_object in_library o) _ (ask_of_object in_library o) (ask_of_export o)
-      (dll_here machine dll others e ∙ sym (dll_there machine dll others e)) (asked_by machine dll.linked e in_library e.is_data e.no_name)
+      cc (import_with o (dll_of_object in_library o) _ (ask_of_object in_library o) (ask_of_export o) (dll_here machine dll others e ∙ sym (dll_there machine dll others e)) (asked_by machine dll.linked e in_library e.is_data e.no_name))
 
   good_written : (e : ExportView) → IsGood (ObjectFile (written_object (export_object machine dll.linked e)))
   unfolding found_of
-  good_written e = λ m is.
-      let o = written_object (export_object machine dll.linked e) in
-      means_by o (alias_of_object o) (import_of_object in_library o)
-      (import_of o (written_object (head_object machine dll.linked)) (written_object (tail_object machine dll)))
-      (λ i. record { imports = i; kind = kind_of_code (externals_in o text_section); machine = o.machine }) (delayed_by_object in_library o) m (λ x. refl) (same_import e) is
+  good_written e = grind (arith, means_by, same_import)
 
   pub good_export : (number : ℕ) (e : ExportView) → IsGood (file_of (export_spec machine dll.linked number e).contents)
   unfolding export_spec
@@ -223,12 +209,7 @@ module _ (machine : MachineType) (dll : NamesOfDll) (others : List FoundFile) wh
 
   good_aliases : (number : ℕ) (e : ExportView) → AllByRecursion (λ p. IsGood (file_of p.contents)) (alias_specs machine dll.linked number e)
   unfolding alias_specs
-  good_aliases number e = by (is_alias e.alias_target e.name)
-    where
-      by : (b : Bool) → AllByRecursion (λ p. IsGood (file_of p.contents)) (if b then weak_spec machine (weak_name dll.linked number) e.name e.alias_target
-          ∷ weak_spec machine (weak_address_name dll.linked number) (imp_symbol e.name) (imp_symbol e.alias_target) ∷ [] else [])
-      by false = tt
-      by true = (good_weak e.name e.alias_target, (good_weak (imp_symbol e.name) (imp_symbol e.alias_target), tt))
+  good_aliases number e = grind (arith, good_weak e.name e.alias_target, good_weak (imp_symbol e.name) (imp_symbol e.alias_target))
 
   pub good_numbered : (number : ℕ) (exports : List ExportView) → AllByRecursion (λ p. IsGood (file_of p.contents)) (numbered_specs machine dll.linked number exports)
   good_numbered number [] = tt

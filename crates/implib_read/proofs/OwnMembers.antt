@@ -1,39 +1,36 @@
 -- The members that `implib` makes for Microsoft's linker, as this reader has them.
-use Rattle.std.proofs.Common.{arith, ◌≡◌, ◌∙◌, ℕ, ◌-◌, ◌==◌, Bool, true, false, not, ◌&&◌, List, [], ◌∷◌, ◌++◌, Option, None, Some, ap, append_assoc, bytes_eq, drop, if◌then◌else◌, length, map, nat_le, refl, sym, take, is_some, ◌||◌}
-use Rattle.std.specs.List.{cons_option, filter_map, flat_map, list_all}
+use Rattle.std.proofs.Common.{arith, ◌≡◌, ◌∙◌, ℕ, ◌==◌, Bool, true, false, not, ◌&&◌, List, [], ◌∷◌, ◌++◌, Option, None, Some, ap, append_assoc, drop, if◌then◌else◌, length, map, nat_le, refl, take}
+use Rattle.std.specs.List.{filter_map, flat_map, list_all}
 use Rattle.std.specs.Option.{option_and_then, option_map}
 use Rattle.std.proofs.lemmas.Bool.{leb-true, true≢false}
 use Rattle.implib.specs.declared.flavor.Flavor.TheVariants.{Msvc}
 use Rattle.implib.specs.declared.machine.MachineType.{MachineType}
-use Rattle.implib.specs.declared.machine.MachineType.TheVariants.{I386, ARMNT, AMD64, ARM64}
-use Rattle.implib.specs.Ascii.{begins_with, at_sign, holds, underscore}
-use Rattle.implib.specs.Definition.{DefinitionView, ExportView, given_name}
-use Rattle.implib.specs.Formats.File.{File, ShortImportFile, ObjectFile, Meaning, alias_of_object, file_in, meaning_of, short_import_or_object}
+use Rattle.implib.specs.Definition.{DefinitionView, ExportView}
+use Rattle.implib.specs.Formats.File.{File, ShortImportFile, ObjectFile, Meaning, file_in, meaning_of, short_import_or_object}
 use Rattle.implib.specs.Formats.File.{AnAlias as MeansAlias, AnImport as MeansImport}
 use Rattle.implib.specs.Formats.Bytes.{u32_bytes}
 use Rattle.implib.specs.Formats.Layout.{object_of, entries_of, name_text}
 use Rattle.implib.specs.Formats.Object.{Entry, Object, ObjectSection, bytes_at, object_in, object_of_header, object_with, u16_at, u32_at}
-use Rattle.implib.specs.Formats.ShortImport.{ShortImport, ask_of_short_import, import_data, is_short_import, short_import_header_size, short_import_in, text_in, without_prefix}
-use Rattle.implib.specs.Import.{Alias, Ask, Import, imp_symbol, import_symbols, is_alias, public_exports}
+use Rattle.implib.specs.Formats.ShortImport.{ShortImport, ask_of_short_import, import_data, short_import_in}
+use Rattle.implib.specs.Import.{Alias, Ask, Import, imp_symbol, import_symbols, public_exports}
 use Rattle.implib.specs.LibraryName.{NamesOfDll, names_for}
-use Rattle.implib.specs.Machine.{machine_number, has_leading_underscore}
+use Rattle.implib.specs.Machine.{machine_number}
 use Rattle.implib.specs.Members.Members.{member_specs}
 use Rattle.implib.specs.Members.MemberSpec.{MemberSpec}
-use Rattle.implib.specs.Members.Msvc.{import_type_of, is_cut_alike, name_type_asking, name_type_of, short_import_of, short_import_symbol}
-use Rattle.implib.specs.Members.MsvcMembers.{descriptor_spec, export_specs, header_specs, null_descriptor_spec, null_thunk_spec, short_import_spec, weak_specs}
+use Rattle.implib.specs.Members.Msvc.{import_type_of, name_type_asking, name_type_of, short_import_of, short_import_symbol}
+use Rattle.implib.specs.Members.MsvcMembers.{descriptor_spec, export_specs, header_specs, null_descriptor_spec, null_thunk_spec, weak_specs}
 use Rattle.implib.specs.Members.MsvcObjects.{descriptor, null_descriptor, null_thunk}
 use Rattle.implib.specs.Members.ReadBack.{file_of}
-use Rattle.implib.specs.Members.WeakExternal.{weak_object, weak_spec}
-use Rattle.implib_read.specs.Classes.{Class, AnImport, AnAlias, Descriptor, NullDescriptor, NullThunk, Imported, class_of_file, class_of_import, class_with, delayed_by_object, imported_by_object, kind_of_type}
+use Rattle.implib.specs.Members.WeakExternal.{weak_object}
+use Rattle.implib_read.specs.Classes.{AnImport, AnAlias, Descriptor, NullDescriptor, NullThunk, Imported, class_of_file, class_of_import, class_with, kind_of_type}
 use Rattle.implib_read.specs.Files.{file_found}
 use Rattle.implib_read.specs.Files.{File as FoundFile, ShortImportFile as FoundShortImport, ObjectFile as FoundObject}
-use Rattle.implib_read.specs.Files.{short_import_or_object as found_or_object}
 use Rattle.implib_read.specs.Delayed.{delayed_import}
 use Rattle.implib_read.specs.Following.{Place, pointed}
 use Rattle.implib_read.specs.Imports.{dll_of_object, import_of_object}
-use Rattle.implib_read.specs.Objects.{SameObjects, object_found, room_in}
+use Rattle.implib_read.specs.Objects.{SameObjects, room_in}
 use Rattle.implib_read.specs.Arm64ec.{arm64ec_symbols}
-use Rattle.implib_read.specs.ShortImports.{SameShortImports, arm64ec, declared_by_short_import, found_from, short_import_found}
+use Rattle.implib_read.specs.ShortImports.{SameShortImports, arm64ec, declared_by_short_import, short_import_found}
 use Rattle.implib_read.specs.OwnLibraries.{expected_kind, import_of_class, meaning_of_class}
 use Rattle.implib_read.specs.declared.import.ImportKind.TheVariants.{Code, Const, Data}
 use Rattle.implib_read.proofs.Room.{few-have_room}
@@ -49,66 +46,41 @@ is_plain (ShortImportFile r) = not (r.machine == arm64ec) && not (r.name_type ==
 is_plain (ObjectFile o) = nat_le (length o.entries) 16 && not (o.machine == 0)
 
 pub not_true : (b : Bool) → not b ≡ true → b ≡ false
-not_true false is = refl
-not_true true is = absurd (true≢false (sym is))
+not_true b is = grind (arith, true≢false)
 
 pub both_true : (a b : Bool) → (a && b) ≡ true → (a ≡ true) × (b ≡ true)
-both_true true b is = (refl, is)
-both_true false b is = absurd (true≢false (sym is))
+both_true a b is = grind (arith, true≢false)
 
 -- the machine of an object is in its first two bytes
 front_of : (bytes : List ℕ) → u16_at (take 20 (drop 0 bytes)) 0 ≡ u16_at bytes 0
 unfolding u16_at
-front_of [] = refl
-front_of (x ∷ []) = refl
-front_of (x ∷ y ∷ bytes) = refl
+front_of bytes = grind arith
 
 machine_with : (header : List ℕ) (sections : Option (List ObjectSection)) (entries : Option (List Entry)) (o : Object)
     → option_and_then (λ ss. option_map (λ es. object_with header ss es) entries) sections ≡ Some o → o.machine ≡ u16_at header 0
-machine_with header None entries o is = cc
-machine_with header (Some ss) None o is = cc
-machine_with header (Some ss) (Some es) o is =
-    let whole : object_with header ss es ≡ o = cc in
-    sym (ap (λ x. x.machine) whole)
+machine_with header sections entries o is = grind arith
 
 machine_at : (bytes : List ℕ) (o : Object) → object_in bytes ≡ Some o → o.machine ≡ u16_at bytes 0
 unfolding object_in object_of_header bytes_at
-machine_at bytes o is = by (nat_le 20 (length bytes)) is
-  where
-    by : (b : Bool) → option_and_then (object_of_header bytes) (if b then Some (take 20 (drop 0 bytes)) else None) ≡ Some o → o.machine ≡ u16_at bytes 0
-    by false found = cc
-    by true found = machine_with (take 20 (drop 0 bytes)) _ _ o found ∙ front_of bytes
+machine_at bytes o is = grind (arith, machine_with, front_of)
 
 no_machine : (long : Bool) (n m size : Bool) → n ≡ false → (long && n && m && size) ≡ false
-no_machine true false m size is = refl
-no_machine false false m size is = refl
-no_machine long true m size is = absurd (true≢false is)
+no_machine long n m size is = grind (arith, true≢false)
 
 -- an object of a machine is no short import
 no_short_import : (bytes : List ℕ) (o : Object) → object_in bytes ≡ Some o → (o.machine == 0) ≡ false → short_import_found bytes ≡ None
 unfolding short_import_found
-no_short_import bytes o is some =
-    let first : (u16_at bytes 0 == 0) ≡ false = sym (ap (λ n. n == 0) (machine_at bytes o is)) ∙ some in
-    let none : is_short_import bytes ≡ false = no_machine (nat_le 20 (length bytes)) (u16_at bytes 0 == 0) (u16_at bytes 2 == 0xFFFF) (u32_at bytes 12 == length bytes - 20) first in
-    ap (λ b. if b then found_from bytes (text_in (drop short_import_header_size bytes)) else None) none
+no_short_import bytes o is some = grind (arith, machine_at, no_machine)
 
 -- a file that `implib`'s reader has in bytes
 by_both : (bytes : List ℕ) (f : File) (r : Option ShortImport) (o : Option Object) → SameShortImports → SameObjects → short_import_in bytes ≡ r → object_in bytes ≡ o
     → short_import_or_object r o ≡ Some f → is_plain f ≡ true → file_found bytes ≡ found_of f
 unfolding found_of is_plain
-by_both bytes f (Some r) o imports objects is is_o found plain =
-    let whole : ShortImportFile r ≡ f = cc in
-    let tests = both_true (not (r.machine == arm64ec)) (not (r.name_type == 4)) (ap is_plain whole ∙ plain) in
-    let there = imports bytes r is (not_true (r.name_type == 4) tests.1) in
-    ap (λ i. found_or_object i (object_found bytes)) there ∙ ap found_of whole
+by_both bytes f (Some r) o imports objects is is_o found plain = grind (arith, both_true, not_true)
 by_both bytes f None (Some o) imports objects is is_o found plain =
     let whole : ObjectFile o ≡ f = cc in
     let tests = both_true (nat_le (length o.entries) 16) (not (o.machine == 0)) (ap is_plain whole ∙ plain) in
-    let some = not_true (o.machine == 0) tests.1 in
-    let room = few-have_room (room_in (length bytes)) 0 o.entries (omega (arith, leb-true (length o.entries) 16 tests.0)) in
-    ap (λ i. found_or_object i (object_found bytes)) (no_short_import bytes o is_o some)
-    ∙ ap (found_or_object None) (objects bytes o is_o room)
-    ∙ ap found_of whole
+    grind (arith, no_short_import bytes o is_o (not_true (o.machine == 0) tests.1), few-have_room (room_in (length bytes)) 0 o.entries (omega (arith, leb-true (length o.entries) 16 tests.0)))
 by_both bytes f None None imports objects is is_o found plain = cc
 
 file_as : SameShortImports → SameObjects → (bytes : List ℕ) (f : File) → file_in bytes ≡ Some f → is_plain f ≡ true → file_found bytes ≡ found_of f
@@ -119,20 +91,14 @@ pub files_as : SameShortImports → SameObjects → (bs : List (List ℕ)) (fs :
 files_as imports objects [] [] same plain = refl
 files_as imports objects [] (f ∷ fs) same plain = cc
 files_as imports objects (b ∷ bs) [] same plain = cc
-files_as imports objects (b ∷ bs) (f ∷ fs) same plain =
-    let tests = both_true (is_plain f) (list_all is_plain fs) plain in
-    let first : file_in b ≡ Some f = cc in
-    let rest : map file_in bs ≡ map Some fs = cc in
-    ap (λ x. x ∷ map file_found bs) (file_as imports objects b f first tests.0) ∙ ap (λ xs. found_of f ∷ xs) (files_as imports objects bs fs rest tests.1)
+files_as imports objects (b ∷ bs) (f ∷ fs) same plain = grind (arith, both_true, file_as, files_as imports objects bs fs (cc) (both_true (is_plain f) (list_all is_plain fs) plain).1)
 
 -- what a short import means, by the tests of its types
 import_by : (type name : Bool) (i : Import) (ask : Ask) (make : Ask → Import) (kind : Import → Imported) (m : Meaning)
     → make ask ≡ i → ((x : Import) → (kind x).imports ≡ x)
     → option_map MeansImport (if type && name then Some i else None) ≡ Some m
     → meaning_of_class (class_of_import (option_map kind (option_map make (if type then (if name then Some ask else None) else None)))) ≡ Some m
-import_by true true i ask make kind m made kept is = ap (λ x. Some (MeansImport x)) (kept (make ask)) ∙ ap (λ x. Some (MeansImport x)) made ∙ is
-import_by true false i ask make kind m made kept is = cc
-import_by false name i ask make kind m made kept is = cc
+import_by type name i ask make kind m made kept is = grind arith
 
 -- an import of these fields and symbols
 with_symbols : ShortImport → List (List ℕ) → Import
@@ -143,33 +109,19 @@ pub declares_plainly : (r : ShortImport) → (r.machine == arm64ec) ≡ false �
 declares_plainly r other = ap (λ b. if b then arm64ec_symbols r.import_type r.symbol else import_symbols (r.import_type == import_data) r.symbol) other
 
 alias_by : (o : Object) (a : Option Alias) (i delayed : Option Imported) (m : Meaning) → option_map MeansAlias a ≡ Some m → meaning_of_class (class_with o a i delayed) ≡ Some m
-alias_by o None i delayed m is = cc
-alias_by o (Some a) i delayed m is = is
+alias_by o a i delayed m is = grind arith
 
 -- a member that means something to `implib`'s reader means it to this one
 meaning_as : (defined : List ℕ → Option Place) (f : File) (m : Meaning) → is_plain f ≡ true → meaning_of f ≡ Some m → meaning_of_class (class_of_file defined (found_of f)) ≡ Some m
 unfolding found_of is_plain with_symbols
-meaning_as defined (ShortImportFile r) m plain is =
-    let tests = both_true (not (r.machine == arm64ec)) (not (r.name_type == 4)) plain in
-    import_by (nat_le r.import_type 2) (nat_le r.name_type 3)
-    (with_symbols r (import_symbols (r.import_type == import_data) r.symbol))
-    (ask_of_short_import r)
-    (λ ask. record { dll = r.dll; declared = declared_by_short_import r; ask = ask })
-    (λ i. record { imports = i; kind = kind_of_type r.import_type; machine = r.machine })
-    m (ap (with_symbols r) (declares_plainly r (not_true (r.machine == arm64ec) tests.0))) (λ x. refl) is
-meaning_as defined (ObjectFile o) m plain is = alias_by o (alias_of_object o) (imported_by_object defined o) (delayed_by_object defined o) m is
+meaning_as defined f m plain is = grind (arith, both_true, import_by, declares_plainly, not_true, alias_by)
 
 pub meanings_as : (defined : List ℕ → Option Place) (fs : List File) (ms : List Meaning) → list_all is_plain fs ≡ true → map meaning_of fs ≡ map Some ms
     → map meaning_of_class (map (class_of_file defined) (map found_of fs)) ≡ map Some ms
 meanings_as defined [] [] plain same = refl
 meanings_as defined [] (m ∷ ms) plain same = cc
 meanings_as defined (f ∷ fs) [] plain same = cc
-meanings_as defined (f ∷ fs) (m ∷ ms) plain same =
-    let tests = both_true (is_plain f) (list_all is_plain fs) plain in
-    let first : meaning_of f ≡ Some m = cc in
-    let rest : map meaning_of fs ≡ map Some ms = cc in
-    ap (λ x. x ∷ map meaning_of_class (map (class_of_file defined) (map found_of fs))) (meaning_as defined f m tests.0 first)
-    ∙ ap (λ xs. Some m ∷ xs) (meanings_as defined fs ms tests.1 rest)
+meanings_as defined (f ∷ fs) (m ∷ ms) plain same = grind (arith, both_true, meaning_as, meanings_as defined fs ms (both_true (is_plain f) (list_all is_plain fs) plain).1 (cc))
 
 -- The first three members.
 
@@ -188,38 +140,17 @@ null_thunk_class defined machine dll = refl
 -- Each member is plain.
 
 pub machine_plain : (machine : MachineType) → (not (machine_number machine == arm64ec) ≡ true) × (not (machine_number machine == 0) ≡ true)
-machine_plain I386 = (refl, refl)
-machine_plain ARMNT = (refl, refl)
-machine_plain AMD64 = (refl, refl)
-machine_plain ARM64 = (refl, refl)
+machine_plain machine = grind arith
 
 -- of two name types neither is 4
 either_name_type : (b : Bool) (x y : ℕ) → (x == 4) ≡ false → (y == 4) ≡ false → ((if b then x else y) == 4) ≡ false
-either_name_type true x y first second = first
-either_name_type false x y first second = second
+either_name_type b x y first second = grind arith
 
 asking_plain : (machine : MachineType) (symbol name : List ℕ) → (name_type_asking machine symbol name == 4) ≡ false
-asking_plain machine symbol name =
-    let cut = is_cut_alike machine symbol && bytes_eq (without_prefix symbol) name in
-    let last : ℕ = if has_leading_underscore machine then 3 else 1 in
-    either_name_type (bytes_eq symbol name) 1 (if cut then 2 else last) refl (either_name_type cut 2 last refl (either_name_type (has_leading_underscore machine) 3 1 refl refl))
+asking_plain machine symbol name = simp either_name_type
 
 name_type_plain : (machine : MachineType) (e : ExportView) → (name_type_of machine e == 4) ≡ false
-name_type_plain machine e =
-    let symbol = short_import_symbol e in
-    let asking = name_type_asking machine symbol (given_name e) in
-    let led = has_leading_underscore machine && begins_with underscore symbol in
-    let other = not (bytes_eq symbol e.name) in
-    let stdcall = begins_with underscore e.name && holds at_sign e.name in
-    let last : ℕ = if led then 2 else 1 in
-    let fourth : ℕ = if other then 3 else last in
-    let third : ℕ = if stdcall then 1 else fourth in
-    let second : ℕ = if is_some e.asked_name then asking else third in
-    either_name_type e.no_name 0 second refl
-    (either_name_type (is_some e.asked_name) asking third (asking_plain machine symbol (given_name e))
-    (either_name_type stdcall 1 fourth refl
-    (either_name_type other 3 last refl
-    (either_name_type led 2 1 refl refl))))
+name_type_plain machine e = grind (arith, either_name_type, asking_plain)
 
 -- the files of specifications
 abbrev pub files_of_specs : List MemberSpec → List File
@@ -229,30 +160,17 @@ object_plain : (n : ℕ) (rest : Bool) → not (n == 0) ≡ true → rest ≡ tr
 object_plain n rest some others = ap (λ b. b && rest) some ∙ others
 
 short_plain : (ec name rest : Bool) → ec ≡ true → name ≡ true → rest ≡ true → ((ec && name) && rest) ≡ true
-short_plain true true rest first second others = others
-short_plain true false rest first second others = absurd (true≢false (sym second))
-short_plain false name rest first second others = absurd (true≢false (sym first))
+short_plain ec name rest first second others = cc
 
 weak_plain : (machine : MachineType) (dll : List ℕ) (e : ExportView) (others : List MemberSpec) → list_all is_plain (files_of_specs others) ≡ true
     → list_all is_plain (files_of_specs (weak_specs machine dll e ++ others)) ≡ true
 unfolding weak_specs is_plain object_of weak_object entries_of
-weak_plain machine dll e others rest = by (is_alias e.alias_target (short_import_symbol e))
-  where
-    by : (b : Bool) → list_all is_plain (files_of_specs ((if b then weak_spec machine dll (short_import_symbol e) e.alias_target ∷ weak_spec machine dll (imp_symbol (short_import_symbol e)) (imp_symbol e.alias_target) ∷ [] else []) ++ others)) ≡ true
-    by false = rest
-    by true = object_plain (machine_number machine) _ (machine_plain machine).1 (object_plain (machine_number machine) _ (machine_plain machine).1 rest)
+weak_plain machine dll e others rest = grind (arith, object_plain, machine_plain)
 
 exports_plain : (machine : MachineType) (dll : NamesOfDll) (exports : List ExportView) → list_all is_plain (files_of_specs (flat_map (export_specs machine dll) exports)) ≡ true
 unfolding is_plain
 exports_plain machine dll [] = refl
-exports_plain machine dll (e ∷ exports) =
-    let others = flat_map (export_specs machine dll) exports in
-    let own : not (machine_number machine == arm64ec) ≡ true = (machine_plain machine).0 in
-    let name : not (name_type_of machine e == 4) ≡ true = ap not (name_type_plain machine e) in
-    let one : list_all is_plain (files_of_specs (short_import_spec machine dll e ∷ others)) ≡ true =
-    short_plain _ _ _ own name (exports_plain machine dll exports) in
-    ap (λ specs. list_all is_plain (files_of_specs specs)) (append_assoc (weak_specs machine dll.linked e) (short_import_spec machine dll e ∷ []) others)
-    ∙ weak_plain machine dll.linked e (short_import_spec machine dll e ∷ others) one
+exports_plain machine dll (e ∷ exports) = grind (arith, append_assoc, weak_plain, short_plain _ _ _ ((machine_plain machine).0) (ap not (name_type_plain machine e)) (exports_plain machine dll exports))
 
 -- the files of the members of a definition
 abbrev pub own_files : DefinitionView → MachineType → List File
@@ -260,37 +178,21 @@ own_files d machine = files_of_specs (member_specs d machine Msvc)
 
 pub specs_plain : (d : DefinitionView) (machine : MachineType) → list_all is_plain (own_files d machine) ≡ true
 unfolding header_specs descriptor_spec null_descriptor_spec null_thunk_spec object_of entries_of descriptor null_descriptor null_thunk is_plain
-specs_plain d machine =
-    let some = (machine_plain machine).1 in
-    object_plain (machine_number machine) _ some (object_plain (machine_number machine) _ some (object_plain (machine_number machine) _ some
-    (exports_plain machine (names_for Msvc d) (public_exports d))))
+specs_plain d machine = grind (arith, machine_plain, object_plain, exports_plain)
 
 -- the first three members are those of the import tables
 pub header_classes : (defined : List ℕ → Option Place) (d : DefinitionView) (machine : MachineType)
     → take 3 (map (class_of_file defined) (map found_of (own_files d machine))) ≡ Descriptor ∷ NullDescriptor ∷ NullThunk ∷ []
 unfolding header_specs descriptor_spec null_descriptor_spec null_thunk_spec found_of
-header_classes defined d machine =
-    let dll = names_for Msvc d in
-    let first = descriptor_class defined machine dll in
-    let second = null_descriptor_class defined machine in
-    let third = null_thunk_class defined machine dll.linked in
-    ap (λ (x : Class). x ∷ class_of_file defined (FoundObject (object_of (null_descriptor machine))) ∷ class_of_file defined (FoundObject (object_of (null_thunk machine dll.linked))) ∷ []) first
-    ∙ ap (λ (x : Class). Descriptor ∷ x ∷ class_of_file defined (FoundObject (object_of (null_thunk machine dll.linked))) ∷ []) second
-    ∙ ap (λ (x : Class). Descriptor ∷ NullDescriptor ∷ x ∷ []) third
+header_classes defined d machine = grind (arith, descriptor_class, null_descriptor_class, null_thunk_class)
 
 -- what is left after three items
 pub drop_mapped : {A B : Type 0} (f : A → B) (xs : List A) → drop 3 (map f xs) ≡ map f (drop 3 xs)
-drop_mapped f [] = refl
-drop_mapped f (a ∷ []) = refl
-drop_mapped f (a ∷ b ∷ []) = refl
-drop_mapped f (a ∷ b ∷ c ∷ xs) = refl
+drop_mapped f xs = grind arith
 
 -- plain files without the first three
 pub drop_plain : (fs : List File) → list_all is_plain fs ≡ true → list_all is_plain (drop 3 fs) ≡ true
-drop_plain [] plain = refl
-drop_plain (a ∷ []) plain = refl
-drop_plain (a ∷ b ∷ []) plain = refl
-drop_plain (a ∷ b ∷ c ∷ fs) plain = (both_true (is_plain c) (list_all is_plain fs) (both_true (is_plain b) _ (both_true (is_plain a) _ plain).1).1).1
+drop_plain fs plain = grind (arith, both_true)
 
 -- the meanings of files that are read
 pub read_meanings : (fs : List File) → map (option_and_then meaning_of) (map Some fs) ≡ map meaning_of fs
@@ -320,113 +222,55 @@ imported_for machine dll e =
 
 import_with : (type name : Bool) (ask : Ask) (make : Ask → Import) (kind : Import → Imported) → type ≡ true → name ≡ true
     → class_of_import (option_map kind (option_map make (if type then (if name then Some ask else None) else None))) ≡ AnImport (kind (make ask))
-import_with true true ask make kind a b = refl
-import_with true false ask make kind a b = absurd (true≢false (sym b))
-import_with false name ask make kind a b = absurd (true≢false (sym a))
+import_with type name ask make kind a b = cc
 
 -- each of two numbers is at most 3 or 2
 either_at_most : (b : Bool) (x y n : ℕ) → nat_le x n ≡ true → nat_le y n ≡ true → nat_le (if b then x else y) n ≡ true
-either_at_most true x y n first second = first
-either_at_most false x y n first second = second
+either_at_most b x y n first second = grind arith
 
 import_type_low : (e : ExportView) → nat_le (import_type_of e) 2 ≡ true
 import_type_low e = either_at_most e.is_data 1 (if e.constant then 2 else 0) 2 refl (either_at_most e.constant 2 0 2 refl refl)
 
 asking_low : (machine : MachineType) (symbol name : List ℕ) → nat_le (name_type_asking machine symbol name) 3 ≡ true
-asking_low machine symbol name =
-    let cut = is_cut_alike machine symbol && bytes_eq (without_prefix symbol) name in
-    let last : ℕ = if has_leading_underscore machine then 3 else 1 in
-    either_at_most (bytes_eq symbol name) 1 (if cut then 2 else last) 3 refl (either_at_most cut 2 last 3 refl (either_at_most (has_leading_underscore machine) 3 1 3 refl refl))
+asking_low machine symbol name = simp either_at_most
 
 name_type_low : (machine : MachineType) (e : ExportView) → nat_le (name_type_of machine e) 3 ≡ true
-name_type_low machine e =
-    let symbol = short_import_symbol e in
-    let asking = name_type_asking machine symbol (given_name e) in
-    let led = has_leading_underscore machine && begins_with underscore symbol in
-    let other = not (bytes_eq symbol e.name) in
-    let stdcall = begins_with underscore e.name && holds at_sign e.name in
-    let last : ℕ = if led then 2 else 1 in
-    let fourth : ℕ = if other then 3 else last in
-    let third : ℕ = if stdcall then 1 else fourth in
-    let second : ℕ = if is_some e.asked_name then asking else third in
-    either_at_most e.no_name 0 second 3 refl
-    (either_at_most (is_some e.asked_name) asking third 3 (asking_low machine symbol (given_name e))
-    (either_at_most stdcall 1 fourth 3 refl
-    (either_at_most other 3 last 3 refl
-    (either_at_most led 2 1 3 refl refl))))
+name_type_low machine e = grind (arith, either_at_most, asking_low)
 
 short_class : (defined : List ℕ → Option Place) (machine : MachineType) (dll : List ℕ) (e : ExportView)
     → class_of_file defined (found_of (ShortImportFile (short_import_of machine dll e))) ≡ AnImport (imported_for machine dll e)
 unfolding found_of imported_for with_symbols
-short_class defined machine dll e =
-    let r = short_import_of machine dll e in
-    import_with (nat_le r.import_type 2) (nat_le r.name_type 3) (ask_of_short_import r)
-    (λ ask. record { dll = r.dll; declared = declared_by_short_import r; ask = ask })
-    (λ i. record { imports = i; kind = kind_of_type r.import_type; machine = r.machine })
-    (import_type_low e) (name_type_low machine e)
-    ∙ ap (λ symbols. AnImport (record { imports = with_symbols r symbols; kind = kind_of_type r.import_type; machine = r.machine }))
-    (declares_plainly r (not_true (machine_number machine == arm64ec) (machine_plain machine).0))
+short_class defined machine dll e = grind (arith, import_with, import_type_low, name_type_low, declares_plainly, not_true, machine_plain)
 
 -- the imports of the members of an export, and of those after it
 export_imports : (defined : List ℕ → Option Place) (machine : MachineType) (dll : NamesOfDll) (e : ExportView) (others : List MemberSpec)
     → imports_of_files defined (files_of_specs (export_specs machine dll e ++ others)) ≡ imported_for machine dll.text e ∷ imports_of_files defined (files_of_specs others)
 unfolding weak_specs found_of
-export_imports defined machine dll e others = by (is_alias e.alias_target (short_import_symbol e))
-  where
-    short : cons_option (import_of_class (class_of_file defined (found_of (ShortImportFile (short_import_of machine dll.text e))))) (imports_of_files defined (files_of_specs others))
-        ≡ imported_for machine dll.text e ∷ imports_of_files defined (files_of_specs others)
-    short = ap (λ k. cons_option (import_of_class k) (imports_of_files defined (files_of_specs others))) (short_class defined machine dll.text e)
-
-    by : (b : Bool) → imports_of_files defined (files_of_specs (((if b then weak_spec machine dll.linked (short_import_symbol e) e.alias_target ∷ weak_spec machine dll.linked (imp_symbol (short_import_symbol e)) (imp_symbol e.alias_target) ∷ [] else []) ++ short_import_spec machine dll e ∷ []) ++ others))
-        ≡ imported_for machine dll.text e ∷ imports_of_files defined (files_of_specs others)
-    by false = short
-    by true =
-        let rest = imports_of_files defined (files_of_specs (short_import_spec machine dll e ∷ others)) in
-        let second = class_of_file defined (FoundObject (object_of (weak_object machine (imp_symbol (short_import_symbol e)) (imp_symbol e.alias_target)))) in
-        ap (λ k. cons_option (import_of_class k) (cons_option (import_of_class second) rest)) (weak_class defined machine (short_import_symbol e) e.alias_target)
-        ∙ ap (λ k. cons_option (import_of_class k) rest) (weak_class defined machine (imp_symbol (short_import_symbol e)) (imp_symbol e.alias_target))
-        ∙ short
+export_imports defined machine dll e others = grind (arith, short_class defined machine dll.text e, weak_class defined machine (short_import_symbol e) e.alias_target, weak_class defined machine (imp_symbol (short_import_symbol e)) (imp_symbol e.alias_target))
 
 -- the imports of the members of exports
 exports_imports : (defined : List ℕ → Option Place) (machine : MachineType) (dll : NamesOfDll) (exports : List ExportView)
     → imports_of_files defined (files_of_specs (flat_map (export_specs machine dll) exports)) ≡ map (imported_for machine dll.text) exports
 exports_imports defined machine dll [] = refl
-exports_imports defined machine dll (e ∷ exports) =
-    export_imports defined machine dll e (flat_map (export_specs machine dll) exports)
-    ∙ ap (λ is. imported_for machine dll.text e ∷ is) (exports_imports defined machine dll exports)
+exports_imports defined machine dll (e ∷ exports) = cc (export_imports defined machine dll e (flat_map (export_specs machine dll) exports), exports_imports defined machine dll exports)
 
 -- the imports of the members of a definition
 pub own_imports : (defined : List ℕ → Option Place) (d : DefinitionView) (machine : MachineType)
     → imports_of_files defined (own_files d machine) ≡ map (imported_for machine (names_for Msvc d).text) (public_exports d)
 unfolding header_specs descriptor_spec null_descriptor_spec null_thunk_spec found_of
-own_imports defined d machine =
-    let dll = names_for Msvc d in
-    let exports = imports_of_files defined (files_of_specs (flat_map (export_specs machine dll) (public_exports d))) in
-    let second = class_of_file defined (FoundObject (object_of (null_descriptor machine))) in
-    let third = class_of_file defined (FoundObject (object_of (null_thunk machine dll.linked))) in
-    ap (λ k. cons_option (import_of_class k) (cons_option (import_of_class second) (cons_option (import_of_class third) exports))) (descriptor_class defined machine dll)
-    ∙ ap (λ k. cons_option (import_of_class k) (cons_option (import_of_class third) exports)) (null_descriptor_class defined machine)
-    ∙ ap (λ k. cons_option (import_of_class k) exports) (null_thunk_class defined machine dll.linked)
-    ∙ exports_imports defined machine dll (public_exports d)
+own_imports defined d machine = cc (descriptor_class defined machine (names_for Msvc d), null_descriptor_class defined machine, null_thunk_class defined machine (names_for Msvc d).linked, exports_imports defined machine (names_for Msvc d) (public_exports d))
 
 kind_by : (is_data constant : Bool)
     → kind_of_type (if is_data then 1 else if constant then 2 else 0) ≡ (if is_data then Data else if constant then Const else Code)
-kind_by true constant = refl
-kind_by false true = refl
-kind_by false false = refl
+kind_by is_data constant = grind arith
 
 pub kinds_of : (machine : MachineType) (dll : List ℕ) (exports : List ExportView) → map (λ i. i.kind) (map (imported_for machine dll) exports) ≡ map expected_kind exports
 unfolding imported_for
 kinds_of machine dll [] = refl
-kinds_of machine dll (e ∷ exports) =
-    ap (λ k. k ∷ map (λ i. i.kind) (map (imported_for machine dll) exports)) (kind_by e.is_data e.constant)
-    ∙ ap (λ ks. expected_kind e ∷ ks) (kinds_of machine dll exports)
+kinds_of machine dll (e ∷ exports) = grind (arith, kind_by, kinds_of machine dll exports)
 
 same_number : (machine : MachineType) → (machine_number machine == machine_number machine) ≡ true
-same_number I386 = refl
-same_number ARMNT = refl
-same_number AMD64 = refl
-same_number ARM64 = refl
+same_number machine = grind arith
 
 pub machines_of : (machine : MachineType) (dll : List ℕ) (exports : List ExportView) → list_all (λ i. i.machine == machine_number machine) (map (imported_for machine dll) exports) ≡ true
 unfolding imported_for

@@ -1,11 +1,11 @@
 -- The archives of a definition's members for Microsoft's linker, as this reader has them.
-use Rattle.std.proofs.Common.{◌≡◌, ◌∙◌, ℕ, ◌==◌, true, List, [], ◌∷◌, Option, None, Some, ap, drop, map, refl, sym}
+use Rattle.std.proofs.Common.{arith, ◌≡◌, ◌∙◌, ℕ, ◌==◌, true, List, [], ◌∷◌, Option, None, Some, ap, drop, map, refl}
 use Rattle.std.specs.List.{list_all}
-use Rattle.std.specs.Option.{option_and_then, option_map}
+use Rattle.std.specs.Option.{option_map}
 use Rattle.implib.specs.declared.flavor.Flavor.TheVariants.{Msvc}
 use Rattle.implib.specs.declared.machine.MachineType.{MachineType}
 use Rattle.implib.specs.Definition.{DefinitionView}
-use Rattle.implib.specs.Formats.File.{file_in, meaning_in, meaning_of}
+use Rattle.implib.specs.Formats.File.{file_in, meaning_of}
 use Rattle.implib.specs.Import.{public_exports}
 use Rattle.implib.specs.LibraryName.{names_for}
 use Rattle.implib.specs.Machine.{machine_number}
@@ -19,7 +19,7 @@ use Rattle.implib_read.specs.Archives.{Archive, StoredMember, archive_in}
 use Rattle.implib_read.specs.Classes.{class_of_file, files_of, library_in, members_read}
 use Rattle.implib_read.specs.Files.{definer_among, file_found}
 use Rattle.implib_read.specs.Objects.{SameObjects}
-use Rattle.implib_read.specs.OwnLibraries.{OwnMembersFound, ReadsAsMsvcLibrary, classes_in, meaning_of_class}
+use Rattle.implib_read.specs.OwnLibraries.{OwnMembersFound, ReadsAsMsvcLibrary, classes_in}
 use Rattle.implib_read.specs.ShortImports.{SameShortImports}
 use Rattle.implib_read.proofs.OwnMembers.{drop_mapped, drop_plain, files_as, found_of, header_classes, kinds_of, machines_of, meanings_as, own_files, own_imports, read_meanings, specs_plain}
 
@@ -41,11 +41,7 @@ archive_by bytes contents (Some a) is same = record { archive = a; is = is; same
 pub classes_read : (members : List StoredMember)
     → map (λ m. m.class) (members_read members) ≡ map (class_of_file (definer_among (files_of members))) (map file_found (map (λ m. m.bytes) members))
 unfolding members_read
-classes_read members =
-    let defined = definer_among (files_of members) in
-    map_twice (λ m. m.class) _ members
-    ∙ sym (map_twice (λ b. class_of_file defined (file_found b)) (λ m. m.bytes) members)
-    ∙ sym (map_twice (class_of_file defined) file_found (map (λ m. m.bytes) members))
+classes_read members = simp map_twice
 
 pub own_msvc : OwnMembersFound → SameShortImports → SameObjects → (kind : Kind) (d : DefinitionView) (machine : MachineType) (members : List MemberView)
     → MsvcReadings d machine members → has_no_symbol_names d ≡ true → refusal_of kind members ≡ None → ReadsAsMsvcLibrary d machine (archive_of kind members)
@@ -58,30 +54,19 @@ own_msvc own imports objects kind d machine members readings plain_names accepte
     let found = archive_by bytes contents (archive_in bytes) refl (own kind members accepted) in
     let stored = found.archive.members in
     let defined = definer_among (files_of stored) in
-    let files : map file_in contents ≡ map Some fs =
-    map_twice file_in (λ (m : MemberView). m.bytes) members ∙ readings.files.files ∙ sym (map_twice Some _ _) in
+    let files : map file_in contents ≡ map Some fs = grind (arith, map_twice) in
     let read : map file_found (map (λ m. m.bytes) stored) ≡ map found_of fs = ap (map file_found) found.same ∙ files_as imports objects contents fs files (specs_plain (renamed d) machine) in
     let classes = map (class_of_file defined) (map found_of fs) in
-    let there : classes_in bytes ≡ Some classes =
-    ap (λ o. option_map (map (λ m. m.class)) (option_map (λ archive. members_read archive.members) o)) found.is
-    ∙ ap Some (classes_read stored ∙ ap (map (class_of_file defined)) read) in
+    let there : classes_in bytes ≡ Some classes = cc (classes_read stored) in
     let all = own_imports defined (renamed d) machine in
-    let means : map meaning_of (drop 3 fs) ≡ map Some matches.meanings =
-    sym (read_meanings (drop 3 fs))
-    ∙ ap (map (option_and_then meaning_of)) (sym (drop_mapped Some fs))
-    ∙ ap (λ xs. map (option_and_then meaning_of) (drop 3 xs)) (sym files)
-    ∙ ap (map (option_and_then meaning_of)) (drop_mapped file_in contents ∙ ap (map file_in) (drop_mapped (λ (m : MemberView). m.bytes) members))
-    ∙ map_twice (option_and_then meaning_of) file_in (map (λ (m : MemberView). m.bytes) (drop 3 members))
-    ∙ map_twice meaning_in (λ (m : MemberView). m.bytes) (drop 3 members)
-    ∙ matches.read in
+    let means : map meaning_of (drop 3 fs) ≡ map Some matches.meanings = grind (arith, read_meanings, drop_mapped, map_twice) in
     record {
       classes = classes;
       found = there;
       means = record {
         header = header_classes defined (renamed d) machine;
         meanings = matches.meanings;
-        read = ap (map meaning_of_class) (drop_mapped (class_of_file defined) (map found_of fs) ∙ ap (map (class_of_file defined)) (drop_mapped found_of fs))
-            ∙ meanings_as defined (drop 3 fs) matches.meanings (drop_plain fs (specs_plain (renamed d) machine)) means;
+        read = cc (drop_mapped (class_of_file defined) (map found_of fs), drop_mapped found_of fs, meanings_as defined (drop 3 fs) matches.meanings (drop_plain fs (specs_plain (renamed d) machine)) means);
         imports = matches.imports;
         aliases = matches.aliases;
         kinds = ap (map (λ i. i.kind)) all ∙ kinds_of machine (names_for Msvc (renamed d)).text (public_exports (renamed d));

@@ -1,10 +1,10 @@
 -- Room for the names of entries, an entry at a time.
-use Rattle.std.proofs.Common.{◌≡◌, ◌∙◌, ℕ, ◌+◌, ◌-◌, ◌≤◌, true, false, List, [], ◌∷◌, ◌++◌, Option, Some, None, if◌then◌else◌, length, map, nat_le, nat_lt, refl, ap, sym, append-nil, append_assoc, arith}
+use Rattle.std.proofs.Common.{◌≡◌, ◌∙◌, ℕ, ◌+◌, ◌≤◌, true, false, List, [], ◌∷◌, ◌++◌, Option, Some, None, length, map, refl, ap, sym, append-nil, append_assoc, arith}
 use Rattle.std.proofs.lemmas.Bool.{lt-ltb}
 use Rattle.std.proofs.lemmas.List.{length-append, map-append}
 use Rattle.std.specs.Option.{option_and_then, option_map, option_map_or}
 use Rattle.implib.specs.Formats.Object.{Entry}
-use Rattle.implib_read.specs.Objects.{have_room, name_length, room_after, room_in, within_room}
+use Rattle.implib_read.specs.Objects.{have_room, room_after, room_in, within_room}
 use Rattle.implib_read.proofs.Gathering.{Gathers}
 
 -- what room there is for entries of which these are done
@@ -30,28 +30,14 @@ room-read view most room left items next x pushed there so_far more =
 pub room-lacks : (size room number : ℕ) (done : List Entry) (e : Entry) (whole rest later : Option (List Entry)) → Gathers whole done rest
     → rest ≡ option_map (λ es. e ∷ es) later → room_after room number e ≡ None → Leaves (room_in size) done room number
     → option_and_then (within_room size) whole ≡ None
-room-lacks size room number done e whole rest later gathered next lacks so_far =
-    ap (option_and_then (within_room size)) (gathered ∙ ap (option_map (λ more. done ++ more)) next) ∙ by later
-  where
-    none : (es : List Entry) → have_room (room_in size) 0 (done ++ e ∷ es) ≡ false
-    none es = so_far (e ∷ es) ∙ ap (λ o. option_map_or (λ left. have_room left (number + 1) es) o false) lacks
-
-    by : (later : Option (List Entry))
-        → option_and_then (within_room size) (option_map (λ more. done ++ more) (option_map (λ es. e ∷ es) later)) ≡ None
-    by None = refl
-    by (Some es) = ap (λ b. if b then Some (done ++ e ∷ es) else None) (none es)
+room-lacks size room number done e whole rest later gathered next lacks so_far = grind arith
 
 -- no entries are left, and there was room for all
 pub room-end : (size room number : ℕ) (done : List Entry) (whole : Option (List Entry)) → whole ≡ Some done → Leaves (room_in size) done room number
     → option_and_then (within_room size) whole ≡ Some done
-room-end size room number done whole is so_far =
-    ap (option_and_then (within_room size)) is
-    ∙ ap (λ b. if b then Some done else None) (sym (ap (have_room (room_in size) 0) (append-nil done)) ∙ so_far [])
+room-end size room number done whole is so_far = rw (is, ← (append-nil done), so_far [])
 
 -- sixteen entries or fewer have room
 pub few-have_room : (room number : ℕ) (es : List Entry) → number + length es ≤ 16 → have_room room number es ≡ true
 few-have_room room number [] few = refl
-few-have_room room number (e ∷ es) few =
-    let first : nat_lt number 16 ≡ true = lt-ltb number 16 (omega (arith, few)) in
-    ap (λ b. option_map_or (λ left. have_room left (number + 1) es) (if b then Some room else if nat_le (name_length e) room then Some (room - name_length e) else None) false) first
-    ∙ few-have_room room (number + 1) es (omega (arith, few))
+few-have_room room number (e ∷ es) few = grind (arith, lt-ltb, few-have_room room (number + 1) es (omega (arith, few)))

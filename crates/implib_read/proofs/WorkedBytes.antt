@@ -1,5 +1,5 @@
 -- The worked libraries, by computing.
-use Rattle.std.proofs.Common.{refl}
+use Rattle.std.proofs.Common.{arith, refl}
 use Rattle.implib.specs.Formats.Object.{before_nul, bytes_at, data_at, each_at, entries_at, name_of, relocation_at, relocation_of, section_at, section_of, strings_at, symbol_of, u16_at, u32_at, up_to_nul}
 use Rattle.implib.specs.Worked.Digits.{bytes_of_digits}
 use Rattle.implib_archive.specs.Reader.{data_at as archive_data_at, number_in, stored_at, trimmed}
@@ -24,92 +24,22 @@ worked_libraries = record { ld = refl; dlltool = refl; llvm = refl }
 
 pub worked_short_imports : WorkedShortImports
 unfolding before_nul bytes_of_digits short_import_found u16_at u32_at worked_by_name worked_exported
-worked_short_imports = record {
-  exported = refl;
-  by_name = refl;
-  third_text = refl;
-  no_third_text = refl;
-  byte_after_third_text = refl;
-  size = refl;
-  byte_more = refl;
-  no_nul = refl;
-  import_type = refl;
-  name_type = refl;
-  arm64ec = refl;
-}
+worked_short_imports = grind arith
 
 pub worked_unmarked : WorkedUnmarked
-worked_unmarked = record {
-  plain = refl;
-  cplusplus = refl;
-  no_mark = refl;
-  cplusplus_without = refl;
-  sign_once = refl;
-  sign_alone = refl;
-  first_inside = refl;
-  at_the_end = refl;
-  not_of_cplusplus = refl;
-  two_letters = refl;
-  none = refl;
-}
+worked_unmarked = grind arith
 
 pub worked_arm64ec_imports : WorkedArm64ecImports
 unfolding before_nul bytes_of_digits short_import_found u16_at u32_at worked_constant worked_cplusplus worked_data worked_function worked_ordinal
-worked_arm64ec_imports = record {
-  function = refl;
-  cplusplus = refl;
-  ordinal = refl;
-  variable = refl;
-  constant = refl;
-  no_mark = refl;
-  arm64 = refl;
-  marked_constant = refl;
-  marked_data = refl;
-  import_type = refl;
-}
+worked_arm64ec_imports = grind arith
 
 pub worked_ec_indexes : WorkedEcIndexes
 unfolding bytes_at bytes_of_digits ec_entries_in entries_from u16_at u32_at
-worked_ec_indexes = record {
-  one = refl;
-  padded = refl;
-  none = refl;
-  two = refl;
-  no_nul = refl;
-  no_count = refl;
-  there = refl;
-  other_part = refl;
-  descriptor = refl;
-  null_descriptor = refl;
-  null_thunk = refl;
-  function = refl;
-  longer = refl;
-  no_front = refl;
-  no_end = refl;
-  table = refl;
-  other_table = refl;
-  import = refl;
-  of_arm64_alone = refl;
-}
+worked_ec_indexes = grind arith
 
 pub worked_cuts : WorkedCuts
 unfolding before_nul short_import_found u16_at u32_at
-worked_cuts = record {
-  amd64 = refl;
-  one_underscore = refl;
-  arm64_undecorated = refl;
-  armnt_data = refl;
-  i386 = refl;
-  i386_undecorated = refl;
-  question_mark = refl;
-  at_sign = refl;
-  no_prefix = refl;
-  by_name = refl;
-  by_ordinal = refl;
-  third_text = refl;
-  no_type = refl;
-  members = refl;
-}
+worked_cuts = grind arith
 
 pub worked_parts : WorkedParts
 unfolding archive_data_at bytes_of_digits member_name number_in parts_from parts_in stored_at trimmed without_slash worked_no_slash worked_unpadded
@@ -127,29 +57,10 @@ worked_parts = record {
 
 pub worked_names : WorkedNames
 unfolding long_name_of member_name number_in trimmed without_slash
-worked_names = record {
-  index = refl;
-  long_names = refl;
-  long = refl;
-  ec_symbols = refl;
-  sym64 = refl;
-  whole_field = refl;
-  by_line_end = refl;
-  by_nul = refl;
-}
+worked_names = grind arith
 
 pub worked_room : WorkedRoom
-worked_room = record {
-  room = refl;
-  sixteenth = refl;
-  seventeenth = refl;
-  too_long = refl;
-  together = refl;
-  too_long_together = refl;
-  first_free = refl;
-  auxiliary = refl;
-  none_kept = refl;
-}
+worked_room = grind arith
 
 pub worked_changes : WorkedChanges
 unfolding before_nul bytes_at data_at each_at entries_at name_of relocation_at relocation_of section_at section_of strings_at symbol_of u16_at u32_at up_to_nul bytes_of_digits archive_data_at number_in stored_at trimmed archive_in parts_from parts_in library_in members_read pointed pointed_by ask_of_object dll_of_object import_of_object long_name_of member_name without_slash entries_found object_found object_of_found records_in short_import_found delayed_import worked_ld
@@ -157,32 +68,11 @@ worked_changes = record { as_it_is = refl; addend = refl; no_descriptor = refl }
 
 pub worked_indexes : WorkedIndexes
 unfolding bytes_at bytes_of_digits entries_from first_index_in second_index_in u16_at u32_at worked_first_index worked_second_index
-worked_indexes = record {
-  first = refl;
-  second = refl;
-  offsets = refl;
-  one = refl;
-  two = refl;
-  most = refl;
-  no_nul = refl;
-  no_count = refl;
-  none = refl;
-}
+worked_indexes = grind arith
 
 pub worked_leads : WorkedLeads
 unfolding archive_data_at archive_in before_nul bytes_at bytes_of_digits data_at each_at entries_at entries_found entries_from first_index_in member_name name_of number_in object_found object_of_found parts_from parts_in relocation_at relocation_of section_at section_of short_import_found stored_at strings_at symbol_of trimmed u16_at u32_at up_to_nul without_slash worked_indexed
 worked_leads = record { right = refl; misled = refl }
 
 pub worked_symbols : WorkedSymbols
-worked_symbols = record {
-  code = refl;
-  address = refl;
-  other_name = refl;
-  first_of_several = refl;
-  older_first = refl;
-  older_alone = refl;
-  prefix_alone = refl;
-  prefix_once = refl;
-  arm64ec = refl;
-  none = refl;
-}
+worked_symbols = grind arith

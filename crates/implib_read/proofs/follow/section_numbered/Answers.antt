@@ -1,8 +1,6 @@
-use Rattle.std.proofs.Common.{◌∙◌, map, sym, rules, arith}
-use Rattle.implib_read.specs.ObjectViews.{section_view}
+use Rattle.std.proofs.Common.{arith}
 use Rattle.implib_read.proofs.Records.{section_numbered-at}
 use Rattle.implib_read.proofs.follow.section_numbered.Goals as goal
 
 pub returns-else-number-eq0 : goal.returns-else-number-eq0
-returns-else-number-eq0 c =
-    c.section_of_index.ensures ∙ sym (section_numbered-at (map section_view c.args.sections.now) c.args.number (search (rules, arith)))
+returns-else-number-eq0 c = grind (arith, section_numbered-at, c.section_of_index.ensures)

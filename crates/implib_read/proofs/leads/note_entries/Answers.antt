@@ -1,4 +1,4 @@
-use Rattle.std.proofs.Common.{◌≡◌, ◌∙◌, ℕ, List, Bor, None, Some, sym, rules}
+use Rattle.std.proofs.Common.{arith, ◌≡◌, ◌∙◌, ℕ, List, Bor, Some, sym, rules}
 use Rattle.std.specs.Option.{option_map}
 use Rattle.implib.specs.Formats.File.{declared_by_entry}
 use Rattle.implib_read.specs.ObjectViews.{entry_view}
@@ -11,9 +11,7 @@ bytes_of t = t.now
 
 pub loop-entry-preserved-in_default : goal.loop-entry-preserved-in_default
 unfolding bytes_of
-loop-entry-preserved-in_default c = λ other.
-    let none : option_map bytes_of c.declared_by_entry.result ≡ None = search rules in
-    noted-nothing entry_view declared_by_entry c.args.entries.now c.loop-entry.entry-index _ c.args.offset other _ _ (search rules) (sym c.declared_by_entry.ensures ∙ none) (c.loop-entry.invariant other)
+loop-entry-preserved-in_default c = grind (arith, noted-nothing, c.declared_by_entry.ensures, c.loop-entry.invariant)
 
 pub loop-entry-preserved : goal.loop-entry-preserved
 unfolding bytes_of

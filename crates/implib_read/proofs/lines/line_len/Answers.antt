@@ -18,11 +18,7 @@ end_is c =
     let key = always_returns_same _ _ _ (λ a r f k. search (rules, of_calls)) in
     let point = c.partition_point-next.ensures.partitioned (λ y. nat_lt y offset) key (IsPartitionedBy-ltb (λ x. x) ends offset rise) in
     let at : first_from offset ends (length text) ≡ get_or ends c.partition_point-next.result (length text) = at_point ends offset c.partition_point-next.result (length text) c.partition_point-next.ensures.bound point in
-    let line : first_from offset ends (length text) ≡ offset + prefix_len goes_on (drop offset text) = subst (λ es. first_from offset es (length text) ≡ offset + prefix_len goes_on (drop offset text)) (sym c.requires.ends) (line_at offset text c.requires.within) in
-    elim c.if-next-ends.branch [
-      | then-next-ends w ↦ omega (arith, at, line, w.end-is, get_or_default ends c.partition_point-next.result (length text) 0 w.if-next-ends.true)
-      | else-next-ends w ↦ omega (arith, at, line, w.end-is, get_or_past ends c.partition_point-next.result (length text) w.if-next-ends.false)
-    ]
+    grind (arith, first_from, line_at, then-next-ends, get_or_default, else-next-ends, get_or_past, c.requires.ends, c.requires.within, c.if-next-ends.branch)
 
 pub overflow_sub-result : goal.overflow_sub-result
 overflow_sub-result c = let end = end_is c in omega (arith, end)

@@ -1,5 +1,4 @@
-use Rattle.std.proofs.Common.{ap, ◌∙◌, sym, rules, arith}
-use Rattle.std.specs.Option.{option_map}
+use Rattle.std.proofs.Common.{sym, rules, arith}
 use Rattle.implib.specs.Formats.Object.{relocation_at}
 use Rattle.implib_read.specs.Objects.{records_in, relocations_of}
 use Rattle.implib_read.proofs.Gathering.{each_at-end}
@@ -11,6 +10,4 @@ unfolding records_in
 returns-then-count-eq0 c = sym (each_at-end (relocation_at c.args.bytes.now) c.args.offset 10 c.args.count (search rules))
 
 pub returns-else-count-eq0 : goal.returns-else-count-eq0
-returns-else-count-eq0 c =
-    seen relocations_of c.bytes_at.result
-    ∙ (ap (option_map relocations_of) c.bytes_at.ensures.found ∙ relocations_at-is c.args.bytes.now c.args.offset c.args.count (search (rules, arith)))
+returns-else-count-eq0 c = cc (seen relocations_of c.bytes_at.result, relocations_at-is c.args.bytes.now c.args.offset c.args.count (search (rules, arith)), c.bytes_at.ensures.found)
