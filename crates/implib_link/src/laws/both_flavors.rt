@@ -25,7 +25,7 @@ ghost use Rattle.std.specs.Prelude.{◌≡◌, ◌<◌, ◌^◌, ◌++◌, ℕ, 
 /// From such an archive a linker takes for given objects, which claim nothing of what is taken,
 /// exactly the members of the exports that are wanted, by the objects or by an alias that is taken,
 /// with what their libraries have besides, and weak externals of aliases. A list of wanted names is
-/// such an object (`laws::wanting`).
+/// such an object (`laws::search`).
 pub fn libraries_are_searched()
     ensures { (machine : MachineType) (libraries : List FlavorLibrary) (own : List Object)
         (taken : List MemberView) →

@@ -1,19 +1,21 @@
-//! Laws of programs that members are linked into.
+//! Laws of programs that members are linked into, and of their packed placement.
 
+ghost use Rattle.implib.specs.Formats.Object.{Object};
 ghost use Rattle.implib.specs.Link.Image.{IsAdmissible, Range};
 ghost use Rattle.implib.specs.Link.Linked.{AllLink};
 ghost use Rattle.implib.specs.Link.LinkedMembers.{IsMade, LinkInput, all_linked, objects_in};
-ghost use Rattle.implib.specs.Formats.Object.{Object};
 ghost use Rattle.implib.specs.Link.Placement.{Bases};
 ghost use Rattle.implib.specs.declared.machine.MachineType.{MachineType};
 ghost use Rattle.implib_link.specs.Directory.{DirectoryAt, Imported, WalkFinds};
 ghost use Rattle.implib_link.specs.Flavors.Program.{AreProgramObjects, Ending, FlavorInput};
 ghost use Rattle.implib_link.specs.Flavors.Program.{IsMadeFor, IsProgramOf, OfLinker, ProgramLinks};
 ghost use Rattle.implib_link.specs.Flavors.Program.{gnu_input, ClaimsNone, has_tables};
-ghost use Rattle.implib_link.specs.Flavors.Program.{linked_symbols, null_descriptor};
+ghost use Rattle.implib_link.specs.Flavors.Program.{linked_symbols, null_descriptor, AreEnded};
+ghost use Rattle.implib_link.specs.Flavors.Program.{packed, packed_end};
 ghost use Rattle.implib_link.specs.FullNames.{object_by_full_names};
 ghost use Rattle.std.specs.List.{AllByRecursion, IsDistinct, filter};
-ghost use Rattle.std.specs.Prelude.{◌≡◌, ◌++◌, ◌∷◌, ℕ, List, Some, [], bytes_eq, map, not};
+ghost use Rattle.std.specs.Prelude.{◌≡◌, ◌++◌, ◌∷◌, ℕ, List, Some, [], bytes_eq, map, not, ◌<◌};
+ghost use Rattle.std.specs.Prelude.{◌%◌, ◌^◌};
 
 /// The head, the chosen exports' members and the tail of each DLL, DLLs and exports in any order,
 /// link at any admissible bases, for each DLL to an import of exactly the chosen exports from it.
@@ -70,4 +72,25 @@ pub fn directory_once()
     ensures once { (image : List Range) (width address : ℕ) (imports others : List Imported) →
         DirectoryAt image width address imports → WalkFinds image width address others →
         imports ≡ others }
+{}
+
+/// Packed placement from any address on is admissible for members and what ends their directory,
+/// other objects beside or not, where it ends below 2^31: it makes a program of the objects of one.
+/// The address tables begin at a multiple of 8.
+pub fn packed_is_program()
+    ensures admissible { (machine : MachineType) (ending : Ending) (first : ℕ)
+        (inputs : List FlavorInput) (objects : List Object) →
+        AllByRecursion (IsMadeFor machine) inputs →
+        AreEnded ending machine inputs objects →
+        0 < first →
+        packed_end first objects < 2 ^ 31 →
+        IsAdmissible machine (packed first objects) objects }
+    ensures program { (machine : MachineType) (ending : Ending) (first : ℕ)
+        (inputs : List FlavorInput) (objects : List Object) →
+        AllByRecursion (IsMadeFor machine) inputs →
+        AreProgramObjects machine ending inputs objects →
+        0 < first → packed_end first objects < 2 ^ 31 →
+        IsProgramOf machine ending (packed first objects) inputs objects }
+    ensures eights { (first : ℕ) (objects : List Object) →
+        (packed first objects).addresses % 8 ≡ 0 }
 {}

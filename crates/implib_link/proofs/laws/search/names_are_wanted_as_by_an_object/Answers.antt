@@ -1,5 +1,5 @@
 use Rattle.implib_link.proofs.Search.Wanting.{definitions_same, image_same, names_wanted, program_with, program_without}
-use Rattle.implib_link.proofs.laws.wanting.names_are_wanted_as_by_an_object.Goals as goal
+use Rattle.implib_link.proofs.laws.search.names_are_wanted_as_by_an_object.Goals as goal
 
 pub returns : goal.returns
 returns c = record {

@@ -1,5 +1,5 @@
 use Rattle.implib_link.proofs.Search.Plainly.{leaves, left, libraries_plain, libraries_weak, plain, still, weak}
-use Rattle.implib_link.proofs.laws.weak_references.weak_externals_satisfy_no_reference.Goals as goal
+use Rattle.implib_link.proofs.laws.search.weak_externals_satisfy_no_reference.Goals as goal
 
 pub returns : goal.returns
 returns c = record {
