@@ -33,25 +33,16 @@ use Rattle.implib_link.proofs.Tables.{covering, entry_in, stub_in_memory, thunk_
 
 stored_is : (machine : MachineType) (type base position target : ℕ) (old new : ℕ → ℕ) → IsPointer machine type → old (thunk_width machine) ≡ 0 → FieldHolds machine type base position target old new →
     base + 2 ^ 31 ≤ 2 ^ (8 * thunk_width machine) → target < 2 ^ 31 → new (thunk_width machine) ≡ base + target
-stored_is I386 type base position target old new stores empty holds fits small = dir32_is (new 4) (old 4) base target (holds.dir32 stores) empty fits small
-stored_is ARMNT type base position target old new stores empty holds fits small = absurd stores
-stored_is AMD64 type base position target old new stores empty holds fits small = addr64_is (new 8) (old 8) base target (holds.addr64 stores) empty fits small
-stored_is ARM64 type base position target old new stores empty holds fits small = addr64_is (new 8) (old 8) base target (holds.addr64 stores) empty fits small
+stored_is machine type base position target old new stores empty holds fits small = grind (arith, dir32_is, addr64_is)
 
 relative_is : (n old target : ℕ) → n ≡ (old + target) % 2 ^ 32 → old ≡ 0 → target < 2 ^ 31 → n ≡ target
 relative_is n old target is empty small = omega arith
 
 relative_width : (machine : MachineType) (type : ℕ) → IsImageRelative machine type → field_width machine type ≡ 4
-relative_width I386 type relative = refl
-relative_width ARMNT type relative = absurd relative
-relative_width AMD64 type relative = subst (λ t. field_width AMD64 t ≡ 4) (sym relative) refl
-relative_width ARM64 type relative = subst (λ t. field_width ARM64 t ≡ 4) (sym relative) refl
+relative_width machine type relative = grind arith
 
 relative_steady : (machine : MachineType) (type : ℕ) → IsImageRelative machine type → absolute_width machine type ≡ None
-relative_steady I386 type relative = subst (λ t. absolute_width I386 t ≡ None) (sym relative) refl
-relative_steady ARMNT type relative = absurd relative
-relative_steady AMD64 type relative = subst (λ t. absolute_width AMD64 t ≡ None) (sym relative) refl
-relative_steady ARM64 type relative = subst (λ t. absolute_width ARM64 t ≡ None) (sym relative) refl
+relative_steady machine type relative = grind arith
 
 -- the offset in a page is the same at a base that differs by whole pages
 added_is : (n from base target old : ℕ) → n ≡ (from + target + old) % 4096 → old ≡ 0 → from % 4096 ≡ base % 4096 → n ≡ (base + target) % 4096
@@ -110,7 +101,6 @@ sum_holds image_base image linked codes targets memory stored written covers_it 
     (settled c page_field.field.symbol c_held page_field.field.names) in
     let page_holds = paged.1.1.page_of refl in
     let end : c.position + length c.code.bytes + 16 ≤ 2 ^ 31 = own_end ARM64 image_base image linked codes targets memory stored.rests written covers_it c m in
-    let inside : first + 4 ≤ length c.code.bytes = page_field.field.inside in
     let there = linked_there ARM64 image_base image linked codes targets memory stored.rests written covers_it d (contains_among d codes d_held) second arm64_pageoffset_12a add_field.field.symbol add_field.field.alone
     add_field.field.inside refl in
     let added = (further_holds ARM64 image_base image linked codes targets memory stored written covers_it name target small settled d second arm64_pageoffset_12a add_field.field.symbol d_held add_field.field.alone

@@ -192,12 +192,7 @@ module _ (machine : MachineType) (gives : List ℕ → Ask → List ℕ) where
       Writes image (thunk_width machine) gives descriptor (map imported_by_table tables) written → written ≡ tables_filled tables
   unfolding Writes tables_filled
   writes_fill image [] descriptor written fields writes = writes
-  writes_fill image (x ∷ tables) descriptor written fields (table, (field, (behind, (is, later)))) =
-      let same : table ≡ x.address = number_once image 4 (descriptor + 16) table x.address field (first_field image descriptor x tables fields) in
-      is
-      ∙ ap (λ n. entries_written (thunk_width machine) n (gives x.dll) (asks_of x) ++ behind) same
-      ∙ ap (λ rest. entries_written (thunk_width machine) x.address (gives x.dll) (asks_of x) ++ rest)
-      (writes_fill image tables (descriptor + 20) behind (later_fields image descriptor x tables fields) later)
+  writes_fill image (x ∷ tables) descriptor written fields (table, (field, (behind, (is, later)))) = cc (number_once image 4 (descriptor + 16) table x.address field (first_field image descriptor x tables fields), writes_fill image tables (descriptor + 20) behind (later_fields image descriptor x tables fields) later)
 
   module _ (wide : (dll : List ℕ) (ask : Ask) → length (gives dll ask) ≡ thunk_width machine) where
     filled_at : (tables : List Table) (low : ℕ) (ranges : List Range) (i j : ℕ) (x : Table) (e : TableEntry) → RiseFrom (thunk_width machine) low tables → slice_get tables i ≡ Some x → slice_get x.entries j ≡ Some e →
@@ -290,9 +285,7 @@ inputs_blocks machine (p ∷ inputs) = simp (inputs_blocks machine inputs, asks_
 pub inputs_until : (machine : MachineType) (i : ℕ) (inputs : List FlavorInput) → entries_until i (map (block_of_flavor machine) inputs) ≡ thunks_of i inputs
 inputs_until machine zero inputs = refl
 inputs_until machine (suc i) [] = refl
-inputs_until machine (suc i) (p ∷ inputs) =
-    ap (λ n. n + 1 + entries_until i (map (block_of_flavor machine) inputs)) (length-map (exports_chosen p) (λ (e : ExportView). record { ask = ask_in p.flavor machine e; symbol = Some (imp_symbol (symbol_in p.flavor e)) }))
-    ∙ ap (λ n. length (exports_chosen p) + 1 + n) (inputs_until machine i inputs)
+inputs_until machine (suc i) (p ∷ inputs) = grind (arith, length-map, inputs_until machine i inputs)
 
 pub program_tables : (machine : MachineType) (ending : Ending) (bases : Bases) (inputs : List FlavorInput) (objects : List Object) → AllByRecursion (IsMadeFor machine) inputs → IsProgramOf machine ending bases inputs objects →
     AreTables machine (tables_at machine bases objects (map (block_of_flavor machine) inputs))

@@ -41,18 +41,12 @@ rising_from low high (h ∷ headers) less rising = (omega (arith, less, rising.0
 
 rising_name : (n : Name) (place next : ℕ) (headers : List ℕ) → place + 1 ≤ next → AreRising next headers → AreRising place (with_header n place headers)
 unfolding AreRising with_header
-rising_name Linker place next headers more rising = rising_from place next headers (omega (arith, more)) rising
-rising_name LongNames place next headers more rising = rising_from place next headers (omega (arith, more)) rising
-rising_name (LongAt offset) place next headers more rising = (omega arith, rising_from (place + 1) next headers more rising)
-rising_name (Short text) place next headers more rising = (omega arith, rising_from (place + 1) next headers more rising)
-rising_name Unknown place next headers more rising = (omega arith, rising_from (place + 1) next headers more rising)
+rising_name n place next headers more rising = grind (arith, rising_from)
 
 rising_among : (place : ℕ) (parts : List Stored) → AreRising place (headers_among place parts)
 unfolding AreRising headers_among
 rising_among place [] = tt
-rising_among place (s ∷ parts) =
-    let next = place + (60 + length s.contents + length s.contents % 2) in
-    rising_name (name_in s.field) place next (headers_among next parts) (omega arith) (rising_among next parts)
+rising_among place (s ∷ parts) = grind (arith, rising_name, rising_among (place + (60 + length s.contents + length s.contents % 2)) parts)
 
 pub rising_headers : (bytes headers : List ℕ) → headers_in bytes ≡ Some headers → AreRising 8 headers
 unfolding headers_in
@@ -152,23 +146,19 @@ module _ (kind : Kind) (linker : LinkerMember) (bytes headers : List ℕ) (membe
   pub read_at : (h : ℕ) (m : MemberView) → IsHeaderOf headers members h m → member_at kind bytes h ≡ Some (read_view m)
   read_at h m is =
       let one : slice_get (map (member_at kind bytes) headers) is.number ≡ Some (member_at kind bytes h) = slice_get-map (member_at kind bytes) headers is.number ∙ ap (option_map (member_at kind bytes)) is.header_is in
-      let two : slice_get (map (λ m. Some (read_view m)) members) is.number ≡ Some (Some (read_view m)) = slice_get-map (λ m. Some (read_view m)) members is.number ∙ ap (option_map (λ m. Some (read_view m))) is.member_is in
-      let both : Some (member_at kind bytes h) ≡ Some (Some (read_view m)) = sym one ∙ (ap (λ t. slice_get t is.number) reads ∙ two) in
-      cc
+      grind (arith, slice_get-map)
 
   paired_read : (taken : List ℕ) (found : List MemberView) → ArePaired headers members taken found → map (member_at kind bytes) taken ≡ map (λ m. Some (read_view m)) found
   unfolding ArePaired
   paired_read [] [] paired = refl
-  paired_read (h ∷ taken) (m ∷ found) paired =
-      ap (λ t. t ∷ map (member_at kind bytes) taken) (read_at h m (first_is_header headers members paired.0.0 h m paired.0.1)) ∙ ap (λ t. Some (read_view m) ∷ t) (paired_read taken found paired.1)
+  paired_read (h ∷ taken) (m ∷ found) paired = cc (read_at h m (first_is_header headers members paired.0.0 h m paired.0.1), paired_read taken found paired.1)
   paired_read [] (m ∷ found) paired = absurd paired
   paired_read (h ∷ taken) [] paired = absurd paired
 
   contents_read : (taken : List ℕ) (found : List MemberView) → ArePaired headers members taken found → contents_at kind bytes taken ≡ map (λ m. m.bytes) found
   unfolding ArePaired
   contents_read [] [] paired = refl
-  contents_read (h ∷ taken) (m ∷ found) paired =
-      ap (λ r. cons_option (option_map (λ r. r.bytes) r) (contents_at kind bytes taken)) (read_at h m (first_is_header headers members paired.0.0 h m paired.0.1)) ∙ ap (λ t. m.bytes ∷ t) (contents_read taken found paired.1)
+  contents_read (h ∷ taken) (m ∷ found) paired = cc (read_at h m (first_is_header headers members paired.0.0 h m paired.0.1), contents_read taken found paired.1)
   contents_read [] (m ∷ found) paired = absurd paired
   contents_read (h ∷ taken) [] paired = absurd paired
 
@@ -187,9 +177,7 @@ module _ (kind : Kind) (linker : LinkerMember) (bytes headers : List ℕ) (membe
     pulled_back taken found name h paired pulls = by_first (first_lister headers members name) refl
       where
         by_first : (r : Option (ℕ × MemberView)) → first_lister headers members name ≡ r → IsPulledBack found name h
-        by_first None is =
-            let none : header_by linker bytes name ≡ None = find name ∙ ap (option_map (λ f. f.0)) is in
-            let no : Some h ≡ None = sym pulls.found ∙ none in absurd (cc)
+        by_first None is = grind arith
         by_first (Some f) is =
             let at : Some f.0 ≡ Some h = sym (find name ∙ ap (option_map (λ f. f.0)) is) ∙ pulls.found in
             let same : f.0 ≡ h = cc in
@@ -323,15 +311,7 @@ either_same Gnu Second members ready name = absurd ready.has
 pub is_ready : (kind : Kind) (linker : LinkerMember) (members : List MemberView) (ready : HaveArchive kind linker members) → IsReady kind linker members ready
 is_ready kind linker members ready =
     let leads = each_index_leads kind members ready.accepted in
-    let bytes = archive_of kind members in
-    record {
-      headers = leads.headers;
-      located = leads.found;
-      rising = rising_headers bytes leads.headers leads.found;
-      find = λ name. either_same kind linker members ready name ∙ leads.leads name;
-      many = sym (length-map leads.headers (member_at kind bytes)) ∙ (ap length leads.read ∙ length-map members (λ m. Some (read_view m)));
-      read = leads.read;
-    }
+    grind (arith, rising_headers, either_same, length-map)
 
 -- a search in the bytes takes members of which what a search of the members says holds
 pub takes_just : (kind : Kind) (linker : LinkerMember) (members : List MemberView) (reads : List ℕ → Option Object) (own : List Object) (P : List MemberView → Type 0) → HaveArchive kind linker members
@@ -388,8 +368,7 @@ readable kind members accepted = grind (arith, accepted_parts kind members accep
 
 first_stored : (kind : Kind) (members : List MemberView) → nat_lt 0 (length (entries_of kind members)) ≡ true → slice_get (parts_of kind members) 0 ≡ Some (stored (codes "/") (padded 0 (first_linker (places_of kind members) (entries_of kind members))))
 unfolding parts_of stored_linkers
-first_stored Coff members some = refl
-first_stored Gnu members some = grind arith
+first_stored kind members some = grind arith
 
 entries_found : (kind : Kind) (members : List MemberView) → refusal_of kind members ≡ None → nat_lt 0 (length (entries_of kind members)) ≡ true →
     entries_in (archive_of kind members) ≡ map (shown (places_of kind members)) (entries_of kind members)
@@ -474,9 +453,7 @@ members_after kind bytes before low (h ∷ headers) (m ∷ members) rising below
     members_after kind bytes (before ++ own) (h + 1) headers members rising.1
     (below_joined (h + 1) before own (below_on low (h + 1) before (omega (arith, rising.0)) below) (symbols_below h m.symbols))
     (is ∙ sym (append_assoc before own rest)) later in
-    ap (λ r. cons_option (option_map (λ x. record { name = x.name; bytes = x.bytes; symbols = symbols_at (entries_in bytes) h }) r) (filter_map (member_after kind bytes) headers)) at
-    ∙ (ap (λ names. record { name = m.name; bytes = m.bytes; symbols = names } ∷ filter_map (member_after kind bytes) headers) symbols
-    ∙ ap (λ t. m ∷ t) behind)
+    grind arith
   where
     first_same : {x y : Option Read} {xs ys : List (Option Read)} → x ∷ xs ≡ y ∷ ys → x ≡ y
     first_same is = cc
@@ -513,9 +490,7 @@ names_from number (m ∷ members) = grind (arith, names_from (number + 1) member
 
 each_entry : (kind : Kind) (members : List MemberView) → (kind ≡ Gnu) ⊎ IsDistinct bytes_eq (flat_map (λ m. m.symbols) members) → entries_of kind members ≡ entries_from 1 members
 unfolding entries_of
-each_entry Gnu members either = refl
-each_entry Coff members (inl gnu) = cc
-each_entry Coff members (inr distinct) = all_firsts [] (entries_from 1 members) (subst (IsDistinct bytes_eq) (sym (names_from 1 members)) distinct)
+each_entry kind members either = grind (arith, all_firsts, names_from)
 
 pub archive_has_members : (kind : Kind) (members : List MemberView) → refusal_of kind members ≡ None → 0 < length (flat_map (λ m. m.symbols) members) → (kind ≡ Gnu) ⊎ IsDistinct bytes_eq (flat_map (λ m. m.symbols) members) →
     HasMembersAs kind (archive_of kind members) members
@@ -543,7 +518,4 @@ archive_has_members kind members accepted some either =
 
     all_entries : (number : ℕ) (some : List MemberView) → length (entries_from number some) ≡ length (flat_map (λ m. m.symbols) some)
     all_entries number [] = refl
-    all_entries number (m ∷ some) =
-        length-append (map (listed_for number) m.symbols) (entries_from (number + 1) some)
-        ∙ (ap (λ n. n + length (entries_from (number + 1) some)) (length-map m.symbols (listed_for number))
-        ∙ (ap (λ n. length m.symbols + n) (all_entries (number + 1) some) ∙ sym (length-append m.symbols (flat_map (λ x. x.symbols) some))))
+    all_entries number (m ∷ some) = grind (arith, length-append, length-map, all_entries (number + 1) some)

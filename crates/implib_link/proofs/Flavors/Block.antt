@@ -39,8 +39,7 @@ use Rattle.implib_link.specs.Directory.{DirectoryAt, Imported}
 pub objects_behind : (machine : MachineType) (blocks : List Block) (rest : List Object) →
     blocks_objects machine blocks [] ++ rest ≡ blocks_objects machine blocks rest
 objects_behind machine [] rest = refl
-objects_behind machine (k ∷ blocks) rest =
-    grind (arith, objects_behind machine blocks rest, head machine k.dll, append_assoc (map (export machine k.dll) k.exports) (tail machine k.dll ∷ blocks_objects machine blocks []) rest, export machine k.dll, tail machine k.dll, blocks_objects machine blocks [])
+objects_behind machine (k ∷ blocks) rest = grind (arith, head, append_assoc, export, tail, blocks_objects, objects_behind machine blocks rest)
 
 -- the descriptors' end after a block
 pub descriptors_after : (machine : MachineType) (dll : NamesOfDll) (b : Bases) (es : List ExportView) →
@@ -133,16 +132,13 @@ abbrev pub NullDefined : Ending → List Placed → Type 0
 NullDefined ending linked = WhereMember ending (IsDefinedAt linked null_descriptor_symbol)
 
 pub even_aligned : (machine : MachineType) (ending : Ending) (b : Bases) → AreEven ending machine b → AreAligned b
-even_aligned machine OfLinker b even = even
-even_aligned machine OfMember b even = wide_aligned machine b even
+even_aligned machine ending b even = grind (arith, wide_aligned)
 
 pub even_wide : (machine : MachineType) (ending : Ending) (b : Bases) → Suits ending Msvc → AreEven ending machine b → AreWide machine b
-even_wide machine OfLinker b suits even = cc
-even_wide machine OfMember b suits even = even
+even_wide machine ending b suits even = grind arith
 
 null_defined : (ending : Ending) (linked : List Placed) → Suits ending Msvc → NullDefined ending linked → IsDefinedAt linked null_descriptor_symbol
-null_defined OfLinker linked suits null = cc
-null_defined OfMember linked suits null = null
+null_defined ending linked suits null = grind arith
 
 -- what an export is used for
 abbrev pub use_for : ExportView → Use
@@ -185,12 +181,7 @@ defined_behind machine dll b (e ∷ es) =
 defined_by_asking : (machine : MachineType) (dll : NamesOfDll) (b : Bases) (symbol : List ℕ) (ask : Ask) (use_kind : Use) →
     defined_by (placed_asking machine dll b symbol ask use_kind) ≡ imp_definition b symbol ∷ use_definitions b.addresses symbol use_kind
 unfolding import_object
-defined_by_asking machine dll b symbol (Ordinal n) Code = refl
-defined_by_asking machine dll b symbol (Ordinal n) Data = refl
-defined_by_asking machine dll b symbol (Ordinal n) Constant = refl
-defined_by_asking machine dll b symbol (Name text hint) Code = refl
-defined_by_asking machine dll b symbol (Name text hint) Data = refl
-defined_by_asking machine dll b symbol (Name text hint) Constant = refl
+defined_by_asking machine dll b symbol ask use_kind = grind arith
 
 definitions-behind : (machine : MachineType) (dll : NamesOfDll) (b : Bases) (es : List ExportView) (rest : List Object) → AreWide machine b →
     definitions (placed_from b (behind_descriptor machine dll es rest)) ≡ defined_behind machine dll b es ++ definitions (placed_from (ends_of_askings machine b es) rest)
@@ -199,31 +190,18 @@ definitions-behind machine dll b [] rest even = ap definitions (placed-null_thun
 definitions-behind machine dll b (e ∷ es) rest even =
     let symbol : List ℕ = short_import_symbol e in
     let later : Bases = ends_of_asking machine b (ask_in Msvc machine e) in
-    let own : List SymbolDefinition = imp_definition b symbol ∷ use_definitions b.addresses symbol (use_for e) in
-    ap definitions (placed-asking machine dll b symbol (ask_in Msvc machine e) (use_for e) (behind_descriptor machine dll es rest) even)
-    ∙ ap (λ ds. ds ++ definitions (placed_from later (behind_descriptor machine dll es rest))) (defined_by_asking machine dll b symbol (ask_in Msvc machine e) (use_for e))
-    ∙ ap (λ ds. own ++ ds) (definitions-behind machine dll later es rest (wide_asking machine b (ask_in Msvc machine e) even))
-    ∙ sym (append_assoc own (defined_behind machine dll later es) (definitions (placed_from (ends_of_askings machine later es) rest)))
+    grind (arith, placed-asking, defined_by_asking, wide_asking, append_assoc, definitions-behind machine dll later es rest (wide_asking machine b (ask_in Msvc machine e) even))
 
 names_of_use : (address : ℕ) (symbol : List ℕ) (is_data constant : Bool) (rest : List SymbolDefinition) →
     map (λ (d : SymbolDefinition). d.name) (use_definitions address symbol (if is_data then Data else if constant then Constant else Code) ++ rest)
     ≡ (if is_data then [] else symbol ∷ []) ++ map (λ (d : SymbolDefinition). d.name) rest
-names_of_use address symbol true constant rest = refl
-names_of_use address symbol false true rest = refl
-names_of_use address symbol false false rest = refl
+names_of_use address symbol is_data constant rest = grind arith
 
 names-behind : (machine : MachineType) (dll : NamesOfDll) (b : Bases) (es : List ExportView) →
     map (λ (d : SymbolDefinition). d.name) (defined_behind machine dll b es) ≡ flat_map short_import_symbols es ++ null_thunk_symbol dll.linked ∷ []
 unfolding defined_behind
 names-behind machine dll b [] = refl
-names-behind machine dll b (e ∷ es) =
-    let symbol : List ℕ = short_import_symbol e in
-    let later : Bases = ends_of_asking machine b (ask_in Msvc machine e) in
-    let own : List (List ℕ) = if e.is_data then [] else symbol ∷ [] in
-    ap (λ names. imp_symbol symbol ∷ names) (
-    names_of_use b.addresses symbol e.is_data e.constant (defined_behind machine dll later es)
-    ∙ ap (λ names. own ++ names) (names-behind machine dll later es)
-    ∙ sym (append_assoc own (flat_map short_import_symbols es) (null_thunk_symbol dll.linked ∷ [])))
+names-behind machine dll b (e ∷ es) = grind (arith, ends_of_asking, names_of_use, append_assoc, names-behind machine dll (ends_of_asking machine b (ask_in Msvc machine e)) es)
 
 unfoldable pub descriptor_definition : NamesOfDll → Bases → SymbolDefinition
 descriptor_definition dll b = record { name = descriptor_symbol dll.linked; address = Some (b.descriptors + 0) }
@@ -250,17 +228,12 @@ symbols_of machine Gnu dll es = head_symbol machine dll.linked ∷ (flat_map arc
 pub definitions-in : (machine : MachineType) (ending : Ending) (flavor : Flavor) (dll : NamesOfDll) (b : Bases) (es : List ExportView) (rest : List Object) → Suits ending flavor → AreEven ending machine b →
     definitions (placed_from b (objects_of machine flavor dll es rest)) ≡ definitions_in machine flavor dll b es ++ definitions (placed_from (ends_in machine flavor dll b es) rest)
 unfolding descriptor_definition with_section_symbols object_of descriptor entries_of name_text
-definitions-in machine ending Msvc dll b es rest suits even =
-    let wide : AreWide machine b = even_wide machine ending b suits even in
-    ap definitions (placed-descriptor machine dll b (behind_descriptor machine dll es rest) wide)
-    ∙ ap (λ ds. descriptor_definition dll b ∷ ds) (definitions-behind machine dll (ends_of_descriptor dll b) es rest (wide_descriptor machine dll b wide))
-definitions-in machine ending Gnu dll b es rest suits even = definitions-block machine dll b es rest (even_aligned machine ending b even)
+definitions-in machine ending flavor dll b es rest suits even = grind (arith, even_wide, placed-descriptor, definitions-behind, ends_of_descriptor, wide_descriptor, definitions-block, even_aligned)
 
 pub names-in : (machine : MachineType) (flavor : Flavor) (dll : NamesOfDll) (b : Bases) (es : List ExportView) →
     map (λ (d : SymbolDefinition). d.name) (definitions_in machine flavor dll b es) ≡ symbols_of machine flavor dll es
 unfolding descriptor_definition block_definitions head_definition
-names-in machine Msvc dll b es = ap (λ names. descriptor_symbol dll.linked ∷ names) (names-behind machine dll (ends_of_descriptor dll b) es)
-names-in machine Gnu dll b es = ap (λ names. head_symbol machine dll.linked ∷ names) (names-after machine dll _ es)
+names-in machine flavor dll b es = grind (arith, names-behind, ends_of_descriptor, names-after)
 
 gnu_exports_wide : (machine : MachineType) (dll : NamesOfDll) (b : Bases) (es : List ExportView) → AreWide machine b → AreWide machine (ends_of_all machine dll b es)
 unfolding ends_of_exports
@@ -271,14 +244,11 @@ gnu_exports_wide machine dll b (e ∷ es) even =
 wide_in : (machine : MachineType) (flavor : Flavor) (dll : NamesOfDll) (b : Bases) (es : List ExportView) → AreWide machine b → AreWide machine (ends_in machine flavor dll b es)
 wide_in machine Msvc dll b es even = wide_askings machine (ends_of_descriptor dll b) es (wide_descriptor machine dll b even)
 wide_in machine Gnu dll b es even =
-    let whole : b.descriptors % 4 ≡ 0 = even.descriptors in
     gnu_exports_wide machine dll (ends_of_head machine dll b) es (record { descriptors = omega arith; lookups = even.lookups; addresses = even.addresses })
 
 pub even_in : (machine : MachineType) (ending : Ending) (flavor : Flavor) (dll : NamesOfDll) (b : Bases) (es : List ExportView) → Suits ending flavor → AreEven ending machine b →
     AreEven ending machine (ends_in machine flavor dll b es)
-even_in machine OfLinker Msvc dll b es suits even = cc
-even_in machine OfLinker Gnu dll b es suits even = aligned_block machine dll b es even
-even_in machine OfMember flavor dll b es suits even = wide_in machine flavor dll b es even
+even_in machine ending flavor dll b es suits even = grind (arith, aligned_block, wide_in)
 
 -- what an export asks can be asked
 unfoldable pub FitsIn : Flavor → MachineType → ExportView → Type 0
@@ -362,12 +332,7 @@ module _ (machine : MachineType) (dll : NamesOfDll) (linked : List Placed) (imag
   undefined_by_asking : (b : Bases) (symbol : List ℕ) (ask : Ask) (use_kind : Use) (others : List Placed) →
       undefined_names (placed_asking machine dll b symbol ask use_kind ∷ others) ≡ descriptor_symbol_by_name dll.text ∷ undefined_names others
   unfolding import_object
-  undefined_by_asking b symbol (Ordinal n) Code others = refl
-  undefined_by_asking b symbol (Ordinal n) Data others = refl
-  undefined_by_asking b symbol (Ordinal n) Constant others = refl
-  undefined_by_asking b symbol (Name text hint) Code others = refl
-  undefined_by_asking b symbol (Name text hint) Data others = refl
-  undefined_by_asking b symbol (Name text hint) Constant others = refl
+  undefined_by_asking b symbol ask use_kind others = grind arith
 
   undefined_behind : (es : List ExportView) (b : Bases) (rest : List Object) → AreWide machine b → IsDefinedAt linked (descriptor_symbol_by_name dll.text) →
       AllByRecursion (IsDefinedAt linked) (undefined_names (placed_from (ends_of_askings machine b es) rest)) →
@@ -436,8 +401,7 @@ module _ (machine : MachineType) (dll : NamesOfDll) (linked : List Placed) (imag
       let plain : b.descriptors + 0 ≡ b.descriptors = omega arith in
       let own : SymbolDefinition = descriptor_definition dll b in
       let behind_only = λ (d : SymbolDefinition) (m : Among d (defined_behind machine dll (ends_of_descriptor dll b) es)). only d (among_later d own (defined_behind machine dll (ends_of_descriptor dll b) es) m) in
-      let top : definitions_of (descriptor_symbol dll.linked) linked ≡ record { name = descriptor_symbol dll.linked; address = Some b.descriptors } ∷ [] =
-      only own (among_first own _) ∙ ap (λ n. record { name = descriptor_symbol dll.linked; address = Some n } ∷ []) plain in
+      let top : definitions_of (descriptor_symbol dll.linked) linked ≡ record { name = descriptor_symbol dll.linked; address = Some b.descriptors } ∷ [] = rw (only own (among_first own _), plain) in
       let thunk = thunk_defined es later in
       let name_text : TextAt image (next_multiple 2 b.hint_names) dll.text = record { no_nul = dll_text; located = one.name } in
       let loaded = descriptor_loads machine image starts ends b.descriptors b.lookups b.addresses (next_multiple 2 b.hint_names) dll.text (map (ask_in Msvc machine) es)
@@ -534,22 +498,13 @@ pub definitions-all : (machine : MachineType) (ending : Ending) (b : Bases) (blo
     definitions (placed_from b (all_objects machine blocks rest)) ≡ definitions_all machine b blocks ++ definitions (placed_from (ends_all machine b blocks) rest)
 unfolding definitions_all ends_all
 definitions-all machine ending b [] rest suit even = refl
-definitions-all machine ending b (k ∷ blocks) rest suit even =
-    let later : Bases = ends_one machine b k in
-    let own : List SymbolDefinition = definitions_in machine k.flavor k.dll b k.exports in
-    definitions-in machine ending k.flavor k.dll b k.exports (all_objects machine blocks rest) suit.0 even
-    ∙ ap (λ ds. own ++ ds) (definitions-all machine ending later blocks rest suit.1 (even_in machine ending k.flavor k.dll b k.exports suit.0 even))
-    ∙ sym (append_assoc own (definitions_all machine later blocks) (definitions (placed_from (ends_all machine later blocks) rest)))
+definitions-all machine ending b (k ∷ blocks) rest suit even = grind (arith, definitions-in, even_in, append_assoc, definitions-all machine ending (ends_one machine b k) blocks rest suit.1 (even_in machine ending k.flavor k.dll b k.exports suit.0 even))
 
 pub names-all : (machine : MachineType) (b : Bases) (blocks : List FlavorBlock) →
     map (λ (d : SymbolDefinition). d.name) (definitions_all machine b blocks) ≡ flat_map (λ (k : FlavorBlock). symbols_of machine k.flavor k.dll k.exports) blocks
 unfolding definitions_all
 names-all machine b [] = refl
-names-all machine b (k ∷ blocks) =
-    let later : Bases = ends_one machine b k in
-    map-append (λ (d : SymbolDefinition). d.name) (definitions_in machine k.flavor k.dll b k.exports) (definitions_all machine later blocks)
-    ∙ ap (λ names. names ++ map (λ (d : SymbolDefinition). d.name) (definitions_all machine later blocks)) (names-in machine k.flavor k.dll b k.exports)
-    ∙ ap (λ rest. symbols_of machine k.flavor k.dll k.exports ++ rest) (names-all machine later blocks)
+names-all machine b (k ∷ blocks) = grind (arith, map-append, names-in, names-all machine (ends_one machine b k) blocks)
 
 -- The ends of one block.
 
@@ -559,8 +514,7 @@ askings_descriptors machine b [] = refl
 askings_descriptors machine b (e ∷ es) = askings_descriptors machine (ends_of_asking machine b (ask_in Msvc machine e)) es
 
 pub descriptors_one : (machine : MachineType) (flavor : Flavor) (dll : NamesOfDll) (b : Bases) (es : List ExportView) → b.descriptors + 20 ≡ (ends_in machine flavor dll b es).descriptors
-descriptors_one machine Msvc dll b es = askings_descriptors machine (ends_of_descriptor dll b) es
-descriptors_one machine Gnu dll b es = descriptors_after machine dll b es
+descriptors_one machine flavor dll b es = grind (arith, askings_descriptors, ends_of_descriptor, descriptors_after)
 
 askings_addresses : (machine : MachineType) (b : Bases) (es : List ExportView) → (ends_of_askings machine b es).addresses ≡ b.addresses + thunk_width machine * (length es + 1)
 unfolding ends_of_askings
@@ -569,8 +523,7 @@ askings_addresses machine b (e ∷ es) = grind (arith, askings_addresses machine
 
 pub addresses_one : (machine : MachineType) (flavor : Flavor) (dll : NamesOfDll) (b : Bases) (es : List ExportView) →
     (ends_in machine flavor dll b es).addresses ≡ b.addresses + thunk_width machine * (length es + 1)
-addresses_one machine Msvc dll b es = askings_addresses machine (ends_of_descriptor dll b) es
-addresses_one machine Gnu dll b es = addresses_after machine dll (ends_of_head machine dll b) es
+addresses_one machine flavor dll b es = grind (arith, askings_addresses, ends_of_descriptor, addresses_after, ends_of_head)
 
 unfoldable pub BlocksIn : MachineType → List Placed → List Range → List Object → Bases → List FlavorBlock → Type 0
 BlocksIn machine linked image rest b [] = Unit {0}
@@ -601,12 +554,7 @@ module _ (machine : MachineType) (ending : Ending) (linked : List Placed) (image
       (λ d m. only d (among_front d own (definitions_all machine later blocks) m)) located in
       let others = each_in blocks later fit.1 (even_in machine ending k.flavor k.dll b k.exports fit.0.suits even)
       (λ d m. only d (among_back d own (definitions_all machine later blocks) m)) one.rest_located in
-      record {
-        imports = (one, others.imports);
-        defined = λ all. one.defined (others.defined all);
-        targets = λ all. one.targets (others.targets all);
-        located = others.located;
-      }
+      grind arith
 
 -- the thunks of the first few blocks, with the null thunks that end them
 abbrev pub thunks_in : ℕ → List FlavorBlock → ℕ

@@ -62,12 +62,7 @@ claims_thunk machine dll = refl
 pub claims_asking : (machine : MachineType) (dll : NamesOfDll) (symbol : List ℕ) (ask : Ask) (is_data constant : Bool) →
     claimed_names (import_object machine dll.text symbol ask (if is_data then Data else if constant then Constant else Code)) ≡ imp_symbol symbol ∷ (if is_data then [] else symbol ∷ [])
 unfolding import_object
-claims_asking machine dll symbol (Ordinal n) true constant = refl
-claims_asking machine dll symbol (Ordinal n) false true = refl
-claims_asking machine dll symbol (Ordinal n) false false = refl
-claims_asking machine dll symbol (Name text hint) true constant = refl
-claims_asking machine dll symbol (Name text hint) false true = refl
-claims_asking machine dll symbol (Name text hint) false false = refl
+claims_asking machine dll symbol ask is_data constant = grind arith
 
 askings_claim : (machine : MachineType) (dll : NamesOfDll) (es : List ExportView) (rest : List Object) →
     flat_map claimed_names (behind_descriptor machine dll es rest) ≡ (flat_map short_import_symbols es ++ null_thunk_symbol dll.linked ∷ []) ++ flat_map claimed_names rest
@@ -76,8 +71,7 @@ askings_claim machine dll (e ∷ es) rest = grind (arith, askings_claim machine 
 
 one_claims : (machine : MachineType) (flavor : Flavor) (dll : NamesOfDll) (es : List ExportView) (rest : List Object) →
     flat_map claimed_names (objects_of machine flavor dll es rest) ≡ symbols_of machine flavor dll es ++ flat_map claimed_names rest
-one_claims machine Msvc dll es rest = grind (arith, behind_descriptor, claims_descriptor, askings_claim)
-one_claims machine Gnu dll es rest = grind (arith, export, tail, claimed_head, claimed_after)
+one_claims machine flavor dll es rest = grind (arith, behind_descriptor, claims_descriptor, askings_claim, export, tail, claimed_head, claimed_after)
 
 pub all_claim_listed : (machine : MachineType) (ending : Ending) (blocks : List FlavorBlock) →
     flat_map claimed_names (all_objects machine blocks (rest_of ending)) ≡ flat_map (λ (k : FlavorBlock). symbols_of machine k.flavor k.dll k.exports) blocks
@@ -113,16 +107,11 @@ claimed_with_null machine xs ys names is name =
 -- Short imports.
 
 pub same_machine : (machine : MachineType) → (machine_number machine == machine_number machine) ≡ true
-same_machine I386 = refl
-same_machine ARMNT = refl
-same_machine AMD64 = refl
-same_machine ARM64 = refl
+same_machine machine = grind arith
 
 use_is : (is_data constant : Bool) →
     use_of (if is_data then import_data else if constant then import_const else import_code) ≡ Some (if is_data then Data else if constant then Constant else Code)
-use_is true constant = refl
-use_is false true = refl
-use_is false false = refl
+use_is is_data constant = grind arith
 
 ask_is : (machine : MachineType) (dll : NamesOfDll) (e : ExportView) → ask_of_short_import (short_import_of machine dll.text e) ≡ ask_in Msvc machine e
 ask_is machine dll e = rw (name_type_is_ordinal machine e) refl
@@ -134,8 +123,7 @@ short_import_taken machine dll e = simp (le-leb, name_type_of_fits, same_machine
 -- What a short import asks for has no NUL.
 
 if_free : (test : Bool) (one other : List ℕ) → holds 0 one ≡ false → holds 0 other ≡ false → holds 0 (if test then one else other) ≡ false
-if_free true one other first second = first
-if_free false one other first second = second
+if_free test one other first second = grind arith
 
 prefix_free : (text : List ℕ) → holds 0 text ≡ false → holds 0 (without_prefix text) ≡ false
 prefix_free text free = grind arith
@@ -261,9 +249,7 @@ msvc_symbols d machine chosen = grind (arith, flat_listed)
 
 -- the file of an object is no short import
 no_short : (bytes : List ℕ) (short : Option ShortImport) (object : Option Object) (o : Object) → short_import_or_object short object ≡ Some (ObjectFile o) → object ≡ Some o
-no_short bytes (Some r) object o is = cc
-no_short bytes None None o is = cc
-no_short bytes None (Some p) o is = cc
+no_short bytes short object o is = grind arith
 
 -- the object of a file is taken with its section symbols
 object_taken : (machine : MachineType) (bytes : List ℕ) (o p : Object) → file_in bytes ≡ Some (ObjectFile o) → object_in bytes ≡ Some p → expanded_in machine bytes ≡ Some (with_section_symbols p)
@@ -311,8 +297,7 @@ module _ (d : DefinitionView) (machine : MachineType) (members : List MemberView
   unfolding export_spec
   export_taken n e is =
       let p : MemberSpec = export_spec machine (linked_name d) n e in
-      spec_taken p _ _ refl (spec_held n e p is (among_back p (alias_specs machine (linked_name d) n e) (p ∷ []) (among_first _ _))) (export_object_is machine library made n e is)
-      ∙ ap Some (export_plain machine (names_for Gnu d) e)
+      cc (spec_taken p _ _ refl (spec_held n e p is (among_back p (alias_specs machine (linked_name d) n e) (p ∷ []) (among_first _ _))) (export_object_is machine library made n e is), export_plain machine (names_for Gnu d) e)
 
   abbrev reading : MemberSpec → Option Object
   reading p = expanded_in machine (member_of p).bytes
@@ -323,8 +308,7 @@ module _ (d : DefinitionView) (machine : MachineType) (members : List MemberView
   one_more : (n : ℕ) (o : Option ExportView) (specs : List MemberSpec) (es : List ExportView) → slice_get (public_exports (renamed d)) n ≡ o →
       map reading (specs ++ last ∷ []) ≡ map Some (map (export machine (names_for Gnu d)) es ++ tail machine (names_for Gnu d) ∷ []) →
       map reading (cons_option (option_map (export_spec machine (linked_name d) n) o) specs ++ last ∷ []) ≡ map Some (map (export machine (names_for Gnu d)) (cons_option o es) ++ tail machine (names_for Gnu d) ∷ [])
-  one_more n None specs es is later = later
-  one_more n (Some e) specs es is later = ap (λ o. o ∷ map reading (specs ++ last ∷ [])) (export_taken n e is) ∙ ap (λ os. Some (export machine (names_for Gnu d) e) ∷ os) later
+  one_more n o specs es is later = grind (arith, export_taken, export)
 
   behind_taken : (chosen : List ℕ) → map reading (filter_map (numbered_spec machine (linked_name d) (public_exports (renamed d))) chosen ++ last ∷ [])
       ≡ map Some (map (export machine (names_for Gnu d)) (chosen_exports d chosen) ++ tail machine (names_for Gnu d) ∷ [])
@@ -386,8 +370,7 @@ taken_are machine p made = grind (arith, filter_map-present, present, objects_re
 
 pub objects_behind : (machine : MachineType) (flavor : Flavor) (dll : NamesOfDll) (es : List ExportView) (rest : List Object) →
     objects_of machine flavor dll es [] ++ rest ≡ objects_of machine flavor dll es rest
-objects_behind machine Msvc dll es rest = ap (λ os. taken_descriptor machine dll ∷ os) (append_assoc (map (asking machine dll) es) (taken_null_thunk machine dll ∷ []) rest)
-objects_behind machine Gnu dll es rest = ap (λ os. head machine dll ∷ os) (append_assoc (map (export machine dll) es) (tail machine dll ∷ []) rest)
+objects_behind machine flavor dll es rest = grind (arith, taken_descriptor, append_assoc, asking, taken_null_thunk, head, export, tail)
 
 -- what members are read as, by any reading that has those of each input as its objects, and others behind them
 inputs_as : (reading : List ℕ → Option Object) (machine : MachineType) (ps : List FlavorInput) (rest : List Object) →
@@ -439,8 +422,7 @@ inputs_taken machine (p ∷ ps) are =
 -- the null descriptor of an input for Microsoft's linker, taken
 null_read : (d : DefinitionView) (machine : MachineType) (flavor : Flavor) (members : List MemberView) (chosen : List ℕ) → AreMembersOf d machine flavor members → flavor ≡ Msvc →
     expanded_in machine (null_member machine (linked_dll d)).bytes ≡ Some (taken_null machine)
-null_read d machine Msvc members chosen made is = null_taken d machine members chosen made
-null_read d machine Gnu members chosen made is = cc
+null_read d machine flavor members chosen made is = grind (arith, null_taken)
 
 pub null_object : (machine : MachineType) (p : FlavorInput) → IsMadeFor machine p → p.flavor ≡ Msvc → expanded_in machine (null_member machine (linked_dll p.input.definition)).bytes ≡ Some (taken_null machine)
 null_object machine p made is = null_read p.input.definition machine p.flavor p.input.members p.input.chosen made is

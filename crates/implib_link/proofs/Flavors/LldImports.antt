@@ -52,8 +52,7 @@ put_all P r (s ∷ group) own all = grind (arith, put_all P r group own all.1)
 
 put_key : (r : ShortImport) (group : List ShortImport) → in_small r.dll ≡ key group → key (put_in r group) ≡ in_small r.dll
 unfolding put_in
-put_key r [] same = refl
-put_key r (s ∷ group) same = grind arith
+put_key r group same = grind arith
 
 put_one : (r : ShortImport) (group : List ShortImport) → in_small r.dll ≡ key group → OneDll group → OneDll (put_in r group)
 put_one r group same one =
@@ -190,12 +189,7 @@ only_null machine = by_width (λ w. w ≡ w * 1) refl refl machine
 length_thunks : (machine : MachineType) (place : ℕ) (asks : List Ask) → length (thunks_built machine place asks) ≡ thunk_width machine * (length asks + 1)
 unfolding thunks_built
 length_thunks machine place [] = length-replicate {A = ℕ} (thunk_width machine) 0 ∙ only_null machine
-length_thunks machine place (ask ∷ asks) =
-    let later : ℕ = place + length (hint_built ask) in
-    length-append (thunk_built machine place ask) (thunks_built machine later asks)
-    ∙ ap (λ n. n + length (thunks_built machine later asks)) (length_thunk machine place ask)
-    ∙ ap (λ n. thunk_width machine + n) (length_thunks machine later asks)
-    ∙ one_more machine (length asks)
+length_thunks machine place (ask ∷ asks) = grind (arith, length-append, length_thunk, one_more, length_thunks machine (place + length (hint_built ask)) asks)
 
 no_thunks : (machine : MachineType) → 0 ≡ thunk_width machine * 0
 no_thunks machine = by_width (λ w. 0 ≡ w * 0) refl refl machine
@@ -203,12 +197,7 @@ no_thunks machine = by_width (λ w. 0 ≡ w * 0) refl refl machine
 length_tables : (machine : MachineType) (place : ℕ) (imports : List Imported) → length (tables_built machine place imports) ≡ thunk_width machine * thunks_until (length imports) imports
 unfolding tables_built
 length_tables machine place [] = no_thunks machine
-length_tables machine place (i ∷ imports) =
-    let later : ℕ = place + length (hints_built i.asks) in
-    length-append (thunks_built machine place i.asks) (tables_built machine later imports)
-    ∙ ap (λ n. n + length (tables_built machine later imports)) (length_thunks machine place i.asks)
-    ∙ ap (λ n. thunk_width machine * (length i.asks + 1) + n) (length_tables machine later imports)
-    ∙ sym (mul-add (thunk_width machine) (length i.asks + 1) (thunks_until (length imports) imports))
+length_tables machine place (i ∷ imports) = grind (arith, length-append, length_thunks, mul-add, length_tables machine (place + length (hints_built i.asks)) imports)
 
 length_descriptor : (lookups name addresses : ℕ) → length (descriptor_built lookups name addresses) ≡ 20
 unfolding descriptor_built u32_bytes
@@ -217,8 +206,7 @@ length_descriptor lookups name addresses = refl
 length_directory : (machine : MachineType) (lookups name addresses : ℕ) (imports : List Imported) → length (directory_built machine lookups name addresses imports) ≡ 20 * (length imports + 1)
 unfolding directory_built
 length_directory machine lookups name addresses [] = refl
-length_directory machine lookups name addresses (i ∷ imports) =
-    grind (arith, length_directory machine (lookups + thunk_width machine * (length i.asks + 1)) (name + length (i.dll ++ 0 ∷ [])) (addresses + thunk_width machine * (length i.asks + 1)) imports, i, length_descriptor, length-append)
+length_directory machine lookups name addresses (i ∷ imports) = grind (arith, length_descriptor, length-append, length_directory machine (lookups + thunk_width machine * (length i.asks + 1)) (name + length (i.dll ++ 0 ∷ [])) (addresses + thunk_width machine * (length i.asks + 1)) imports)
 
 -- The pieces stand.
 
@@ -335,14 +323,7 @@ built_pieces machine base imports image apart holds =
     let at_addresses : BytesAt image addresses behind_first = subst (λ n. BytesAt image (lookups + n) behind_first) (length_tables machine hints imports) third.1 in
     let fourth = located_parts image tables behind_second addresses at_addresses in
     let at_hints : BytesAt image hints behind_second = subst (λ n. BytesAt image (addresses + n) behind_second) (length_tables machine hints imports) fourth.1 in
-    let fifth = located_parts image (all_hints imports) (all_names imports) hints at_hints in
-    record {
-      directory = first.0;
-      lookup_tables = third.0;
-      address_tables = fourth.0;
-      hint_names = fifth.0;
-      dll_names = fifth.1;
-    }
+    grind (arith, located_parts)
 
 -- Short imports that lld took are imported, each at an entry of its own.
 
@@ -359,8 +340,7 @@ asks_written [] all = tt
 asks_written (r ∷ group) all = (all.0.asks.0, asks_written group all.1)
 
 name_written : (group : List ShortImport) → AllByRecursion IsWritable group → HasNoNul (dll_of_group group)
-name_written [] all = refl
-name_written (r ∷ group) all = all.0.name
+name_written group all = grind arith
 
 groups_written : (groups : List (List ShortImport)) → AllByRecursion (AllByRecursion IsWritable) groups → AllByRecursion IsImportable (map imported_by groups)
 groups_written [] all = tt
@@ -424,11 +404,7 @@ groups_define : (width table offset : ℕ) (groups : List (List ShortImport)) �
     filter_map (defined_by_entry (At Addresses table ∷ [])) (entries_of_groups width offset groups) ≡ all_definitions width (table + offset) groups
 unfolding entries_of_groups all_definitions
 groups_define width table offset [] = refl
-groups_define width table offset (group ∷ groups) =
-    let span : ℕ = width * (length (map ask_of_short_import group) + 1) in
-    filter_map-append (defined_by_entry (At Addresses table ∷ [])) (group_entries width offset group) (entries_of_groups width (offset + span) groups)
-    ∙ ap (λ ds. ds ++ filter_map (defined_by_entry (At Addresses table ∷ [])) (entries_of_groups width (offset + span) groups)) (entries_define width table offset group)
-    ∙ ap (λ ds. group_definitions width (table + offset) group ++ ds) (groups_define width table (offset + span) groups ∙ ap (λ n. all_definitions width n groups) (plus_plus table offset span))
+groups_define width table offset (group ∷ groups) = grind (arith, filter_map-append, entries_define, plus_plus, groups_define width table (offset + (width * (length (map ask_of_short_import group) + 1))) groups)
 
 group_names : (width address : ℕ) (group : List ShortImport) → map (λ (d : SymbolDefinition). d.name) (group_definitions width address group) ≡ imp_symbols_of group
 unfolding group_definitions
@@ -438,11 +414,7 @@ group_names width address (r ∷ group) = ap (λ names. imp_symbol r.symbol ∷ 
 all_names_of : (width address : ℕ) (groups : List (List ShortImport)) → map (λ (d : SymbolDefinition). d.name) (all_definitions width address groups) ≡ flat_map imp_symbols_of groups
 unfolding all_definitions
 all_names_of width address [] = refl
-all_names_of width address (group ∷ groups) =
-    let later : ℕ = address + width * (length (map ask_of_short_import group) + 1) in
-    map-append (λ (d : SymbolDefinition). d.name) (group_definitions width address group) (all_definitions width later groups)
-    ∙ ap (λ names. names ++ map (λ (d : SymbolDefinition). d.name) (all_definitions width later groups)) (group_names width address group)
-    ∙ ap (λ names. imp_symbols_of group ++ names) (all_names_of width later groups)
+all_names_of width address (group ∷ groups) = grind (arith, map-append, group_names, all_names_of width (address + width * (length (map ask_of_short_import group) + 1)) groups)
 
 group_defines : (width address : ℕ) (group : List ShortImport) (j : ℕ) (r : ShortImport) → slice_get group j ≡ Some r →
     Among (record { name = imp_symbol r.symbol; address = Some (address + width * j) }) (group_definitions width address group)
@@ -518,10 +490,7 @@ module _ (machine : MachineType) (descriptors addresses : ℕ) (taken : List Sho
       let from : LoadsFrom image (thunk_width machine) (descriptors + 20 * at.i) table r.dll (map ask_of_short_import at.group) =
       subst (λ dll. LoadsFrom image (thunk_width machine) (descriptors + 20 * at.i) table dll (map ask_of_short_import at.group)) (sym same)
       (nth_stands image (thunk_width machine) (imports_of_lld taken) descriptors addresses at.i (imported_by at.group) stand (get_map imported_by (grouped taken) at.i at.group at.its_group)) in
-      let entry : definitions_of (imp_symbol r.symbol) linked ≡ record { name = imp_symbol r.symbol; address = Some (from.loads.plain.addresses + thunk_width machine * at.j) } ∷ [] =
-      subst (λ n. definitions_of (imp_symbol r.symbol) linked ≡ record { name = imp_symbol r.symbol; address = Some (n + thunk_width machine * at.j) } ∷ []) (sym from.table_located)
-      (defined_once r m (record { name = imp_symbol r.symbol; address = Some (table + thunk_width machine * at.j) }) refl
-      (all_define (thunk_width machine) addresses (grouped taken) at.i at.j at.group r at.its_group at.is)) in
+      let entry : definitions_of (imp_symbol r.symbol) linked ≡ record { name = imp_symbol r.symbol; address = Some (from.loads.plain.addresses + thunk_width machine * at.j) } ∷ [] = cc (defined_once r m (record { name = imp_symbol r.symbol; address = Some (table + thunk_width machine * at.j) }) refl (all_define (thunk_width machine) addresses (grouped taken) at.i at.j at.group r at.its_group at.is)) in
       record {
         i = at.i;
         j = at.j;

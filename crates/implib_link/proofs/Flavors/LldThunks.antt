@@ -47,7 +47,6 @@ module _ (image_base : ℕ) (linked : List Placed) (codes : List LinkedCode) (me
   x86_thunk : (machine : MachineType) → length (thunk_code machine) ≡ 6 → (x : InstructionArrives machine image_base linked memory (d.position + 0) (0xFF ∷ 0x25 ∷ []) [] (imp_symbol r.symbol) bytes) →
       jump_reads machine (image_base + d.position) (0xFF ∷ 0x25 ∷ (x.field ++ [])) ≡ Some (image_base + x.entry) → ThunkArrives machine image_base memory d.position bytes
   x86_thunk machine size x reads =
-      let four : length x.field ≡ 4 = x.four in
       let plain : d.position + 0 ≡ d.position = omega arith in
       let long : length (0xFF ∷ 0x25 ∷ (x.field ++ [])) ≡ 6 = omega (arith, length-append x.field []) in
       record {
@@ -88,7 +87,6 @@ module _ (image_base : ℕ) (linked : List Placed) (codes : List LinkedCode) (me
   thunk_arrives ARM64 addresses can thunk own lead kept =
       let code : d.code.bytes ≡ thunk_code ARM64 = ap (λ (s : ObjectSection). s.bytes) own in
       let relocations : d.code.relocations ≡ thunk_relocations ARM64 1 = ap (λ (s : ObjectSection). s.relocations) own in
-      let size : length d.code.bytes ≡ 12 = ap length code in
       let page_code : field_at d.code.bytes 0 4 ≡ 0x9000_0010 = ap (λ xs. field_at xs 0 4) code in
       let load_code : field_at d.code.bytes 4 4 ≡ 0xF940_0210 = ap (λ xs. field_at xs 4 4) code in
       let names = thunk_names ARM64 d r thunk in

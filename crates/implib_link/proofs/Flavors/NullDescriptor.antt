@@ -121,9 +121,7 @@ module _ (machine : MachineType) (b : Bases) (xs ys : List Object) (none : AllBy
   with_null =
       let place : ℕ = next_multiple 4 last.directory_ends in
       let same : next_multiple 4 last.directory_ends ≡ b.directory_ends = grind (arith, ends_behind_kept b xs (all_parts EndsNothing xs ys none).0, all_parts EndsNothing xs ys none, aligned) in
-      placed_parts b xs (taken_null machine ∷ ys)
-      ∙ ap (λ ps. front ++ record { object = taken_null machine; section_addresses = At DirectoryEnds place ∷ [] } ∷ ps) (placed_same (place + 20) last ys (all_parts EndsNothing xs ys none).1)
-      ∙ ap (λ n. front ++ record { object = taken_null machine; section_addresses = At DirectoryEnds n ∷ [] } ∷ back) same
+      cc (placed_parts b xs (taken_null machine ∷ ys), placed_same (place + 20) last ys (all_parts EndsNothing xs ys none).1)
 
   contributions_same : (linked : List Placed) (group : Group) → contributions_of machine linked group own ≡ [] →
       contributions machine linked group (placed_from b (xs ++ taken_null machine ∷ ys)) ≡ contributions machine linked group (placed_from b (xs ++ ys))
@@ -133,12 +131,7 @@ module _ (machine : MachineType) (b : Bases) (xs ys : List Object) (none : AllBy
   pub group_same : (linked : List Placed) (group : Group) → same_group group DirectoryEnds ≡ false →
       contributions machine linked group (placed_from b (xs ++ taken_null machine ∷ ys)) ≡ contributions machine linked group (placed_from b (xs ++ ys))
   unfolding with_section_symbols object_of null_descriptor entries_of name_text
-  group_same linked Descriptors is = contributions_same linked Descriptors refl
-  group_same linked DirectoryEnds is = cc
-  group_same linked Lookups is = contributions_same linked Lookups refl
-  group_same linked Addresses is = contributions_same linked Addresses refl
-  group_same linked HintNames is = contributions_same linked HintNames refl
-  group_same linked DllNames is = contributions_same linked DllNames refl
+  group_same linked group is = grind (arith, contributions_same)
 
   -- the null descriptor alone is in `.idata$3`
   ends_are : (linked : List Placed) → contributions machine linked DirectoryEnds (placed_from b (xs ++ taken_null machine ∷ ys)) ≡ record { address = b.directory_ends; bytes = zeros 20 } ∷ []

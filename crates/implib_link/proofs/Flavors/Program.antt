@@ -193,8 +193,7 @@ exports_end machine dll (e ∷ es) rest all = ((refl, (refl, (refl, (refl, (refl
 objects_end : (machine : MachineType) (flavor : Flavor) (dll : NamesOfDll) (es : List ExportView) (rest : List Object) → AllByRecursion EndsNothing rest →
     AllByRecursion EndsNothing (objects_of machine flavor dll es rest)
 unfolding with_section_symbols object_of descriptor entries_of name_text head_object
-objects_end machine Msvc dll es rest all = ((refl, (refl, (refl, (refl, tt)))), askings_end machine dll es rest all)
-objects_end machine Gnu dll es rest all = ((refl, (refl, (refl, (refl, (refl, (refl, tt)))))), exports_end machine dll es rest all)
+objects_end machine flavor dll es rest all = grind (arith, askings_end, exports_end)
 
 pub blocks_end : (machine : MachineType) (blocks : List FlavorBlock) → AllByRecursion EndsNothing (all_objects machine blocks [])
 blocks_end machine [] = tt
@@ -204,8 +203,7 @@ blocks_end machine (k ∷ blocks) = objects_end machine k.flavor k.dll k.exports
 
 asking_keeps : (machine : MachineType) (dll : NamesOfDll) (symbol : List ℕ) (ask : Ask) (e : ExportView) (n : ℕ) → sections_end Descriptors n (import_object machine dll.text symbol ask (use_for e)).sections ≡ n
 unfolding import_object sections_end
-asking_keeps machine dll symbol (Ordinal n) e m = refl
-asking_keeps machine dll symbol (Name text hint) e m = refl
+asking_keeps machine dll symbol ask e n = grind arith
 
 askings_keep : (machine : MachineType) (dll : NamesOfDll) (es : List ExportView) (rest : List Object) (n : ℕ) → group_end Descriptors n (behind_descriptor machine dll es rest) ≡ group_end Descriptors n rest
 unfolding group_end sections_end with_section_symbols object_of null_thunk entries_of name_text
@@ -221,8 +219,7 @@ exports_keep machine dll (e ∷ es) rest n = exports_keep machine dll es rest n
 one_end : (machine : MachineType) (flavor : Flavor) (dll : NamesOfDll) (es : List ExportView) (rest : List Object) (n : ℕ) → n % 4 ≡ 0 →
     group_end Descriptors n (objects_of machine flavor dll es rest) ≡ group_end Descriptors (n + 20) rest
 unfolding group_end sections_end with_section_symbols object_of descriptor entries_of name_text head_object
-one_end machine Msvc dll es rest n even = grind (arith, behind_descriptor, aligned, even, askings_keep)
-one_end machine Gnu dll es rest n even = grind (arith, export, tail, aligned, even, exports_keep)
+one_end machine flavor dll es rest n even = grind (arith, behind_descriptor, aligned, even, askings_keep, export, tail, exports_keep)
 
 pub later_even : (n : ℕ) → n % 4 ≡ 0 → (n + 20) % 4 ≡ 0
 later_even n even = omega arith
@@ -296,8 +293,7 @@ all_either [] = tt
 all_either (p ∷ inputs) = (tt, all_either inputs)
 
 suited : (machine : MachineType) (ending : Ending) (inputs : List FlavorInput) (objects : List Object) → AreEnded ending machine inputs objects → AllSuit ending (map block_in inputs)
-suited machine OfLinker inputs objects ended = all_gnu inputs ended.gnu
-suited machine OfMember inputs objects ended = all_either inputs
+suited machine ending inputs objects ended = grind (arith, all_gnu, all_either)
 
 -- what holds of the members' objects and of a null descriptor holds of all objects with import tables
 pub kept_all : (machine : MachineType) (ending : Ending) (inputs : List FlavorInput) (objects : List Object) → AllByRecursion (IsMadeFor machine) inputs → AreEnded ending machine inputs objects →
@@ -308,8 +304,7 @@ kept_all machine OfMember inputs objects made ended P null all = search (rules, 
 -- the names of members, without that of a null descriptor
 names_differ : (machine : MachineType) (ending : Ending) (inputs : List FlavorInput) → IsDistinct bytes_eq (own_names ending machine inputs) → IsDistinct bytes_eq (symbols_listed (all_members machine inputs))
 unfolding IsDistinct
-names_differ machine OfLinker inputs distinct = distinct
-names_differ machine OfMember inputs distinct = distinct.1
+names_differ machine ending inputs distinct = grind arith
 
 -- What is placed of all objects with import tables is what is placed of the members' objects, and of what is behind them.
 pub record Stand (machine : MachineType) (ending : Ending) (b : Bases) (inputs : List FlavorInput) (objects : List Object) : Type 0 where
@@ -356,8 +351,7 @@ stand machine OfMember b inputs objects made program =
     }
 
 even_for : (machine : MachineType) (ending : Ending) (b : Bases) (inputs : List FlavorInput) (objects : List Object) → IsProgramOf machine ending b inputs objects → AreEven ending machine b
-even_for machine OfLinker b inputs objects program = even_bases machine b objects program.admissible
-even_for machine OfMember b inputs objects program = grind arith
+even_for machine ending b inputs objects program = grind (arith, even_bases)
 
 module _ (machine : MachineType) (ending : Ending) (b : Bases) (inputs : List FlavorInput) (objects : List Object) (made : AllByRecursion (IsMadeFor machine) inputs)
     (program : IsProgramOf machine ending b inputs objects) where
@@ -401,8 +395,7 @@ module _ (machine : MachineType) (ending : Ending) (b : Bases) (inputs : List Fl
   names_are = names-all machine b dlls ∙ sym (inputs_symbols machine inputs made)
 
   rest_defines : (kind : Ending) (c : Bases) → definitions (placed_from c (rest_of kind)) ≡ []
-  rest_defines OfLinker c = refl
-  rest_defines OfMember c = refl
+  rest_defines kind c = grind arith
 
   pub definitions_are : definitions (placed_from b (all_objects machine (map block_in inputs) (rest_of ending))) ≡ definitions_all machine b (map block_in inputs)
   definitions_are = grind (arith, definitions-all, rest_of, suit, even, defined, rest_defines, ends_all, append-nil)
@@ -541,32 +534,24 @@ module _ (machine : MachineType) (ending : Ending) (b : Bases) (inputs : List Fl
       }
     where
       rest_finds : (kind : Ending) (c : Bases) → AllByRecursion (AllFind (placed_from b objects)) (placed_from c (rest_of kind))
-      rest_finds OfLinker c = ((tt, tt), tt)
-      rest_finds OfMember c = tt
+      rest_finds kind c = grind arith
 
       rest_leaves : (kind : Ending) (c : Bases) → AllByRecursion (IsDefinedAt (placed_from b objects)) (undefined_names (placed_from c (rest_of kind)))
-      rest_leaves OfLinker c = tt
-      rest_leaves OfMember c = tt
+      rest_leaves kind c = grind arith
 
 -- Packed placement of both flavours makes a program.
 
 -- Relocations are within their sections.
 
 stub_sized : (machine : MachineType) (use_kind : Use) → AreWithin (length (stub_for machine use_kind)) (stub_relocations_for machine use_kind)
-stub_sized I386 Code = (omega arith, tt)
-stub_sized ARMNT Code = (omega arith, tt)
-stub_sized AMD64 Code = (omega arith, tt)
-stub_sized ARM64 Code = (omega arith, (omega arith, tt))
-stub_sized machine Data = tt
-stub_sized machine Constant = tt
+stub_sized machine use_kind = grind arith
 
 field_within : (machine : MachineType) → 0 + 4 ≤ length (zeros (thunk_width machine))
 field_within machine = grind arith
 
 asking_sized : (machine : MachineType) (dll : NamesOfDll) (symbol : List ℕ) (ask : Ask) (use_kind : Use) → IsSized (import_object machine dll.text symbol ask use_kind)
 unfolding import_object
-asking_sized machine dll symbol (Ordinal n) use_kind = (stub_sized machine use_kind, (tt, (tt, tt)))
-asking_sized machine dll symbol (Name text hint) use_kind = (stub_sized machine use_kind, ((field_within machine, tt), ((field_within machine, tt), (tt, tt))))
+asking_sized machine dll symbol ask use_kind = grind (arith, stub_sized, field_within)
 
 askings_sized : (machine : MachineType) (dll : NamesOfDll) (es : List ExportView) (rest : List Object) → AllByRecursion IsSized rest → AllByRecursion IsSized (behind_descriptor machine dll es rest)
 unfolding with_section_symbols object_of null_thunk entries_of name_text
@@ -578,8 +563,7 @@ unfolding with_section_symbols object_of descriptor entries_of name_text
 descriptor_sized machine dll = ((omega arith, (omega arith, (omega arith, tt))), (tt, (tt, (tt, tt))))
 
 one_sized : (machine : MachineType) (flavor : Flavor) (dll : NamesOfDll) (es : List ExportView) (rest : List Object) → AllByRecursion IsSized rest → AllByRecursion IsSized (objects_of machine flavor dll es rest)
-one_sized machine Msvc dll es rest all = (descriptor_sized machine dll, askings_sized machine dll es rest all)
-one_sized machine Gnu dll es rest all = (head_sized machine dll, exports_sized machine dll es _ (tail_sized machine dll, all))
+one_sized machine flavor dll es rest all = grind (arith, descriptor_sized, askings_sized, head_sized, exports_sized, tail_sized)
 
 pub all_sized : (machine : MachineType) (ending : Ending) (blocks : List FlavorBlock) → AllByRecursion IsSized (all_objects machine blocks (rest_of ending))
 all_sized machine OfLinker [] = ((tt, tt), tt)

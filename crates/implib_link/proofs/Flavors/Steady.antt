@@ -147,8 +147,7 @@ tables_end machine ending blocks b suit even =
     rest_behind ending ∙ sym (end_behind Addresses b own) ∙ ends ∙ addresses_all machine b blocks
   where
     rest_behind : (ending : Ending) → group_end Addresses b.addresses (all_objects machine blocks (rest_of ending)) ≡ group_end Addresses b.addresses (all_objects machine blocks [])
-    rest_behind OfLinker = ap (group_end Addresses b.addresses) (objects_split machine blocks (rest_of OfLinker)) ∙ group_end-append Addresses b.addresses (all_objects machine blocks []) (rest_of OfLinker)
-    rest_behind OfMember = refl
+    rest_behind ending = grind (arith, objects_split, rest_of, group_end-append, all_objects)
 
 all_long : (machine : MachineType) (linked : List Placed) (ending : Ending) (blocks : List FlavorBlock) (b : Bases) → AllSuit ending blocks → AreEven ending machine b →
     length (filled b.addresses (contributions machine linked Addresses (placed_from b (all_objects machine blocks (rest_of ending))))) ≡ thunk_width machine * thunks_in (length blocks) blocks
@@ -156,8 +155,7 @@ unfolding span
 all_long machine linked ending blocks b suit even =
     let objects : List Object = all_objects machine blocks (rest_of ending) in
     let ends : b.addresses + length (filled b.addresses (contributions machine linked Addresses (placed_from b objects))) ≡ group_end Addresses b.addresses objects = grind (arith, fills_objects machine linked Addresses b objects (all_sized machine ending blocks), all_sized machine ending blocks, ends) in
-    let end = tables_end machine ending blocks b suit even in
-    omega arith
+    grind (arith, tables_end)
 
 -- The import tables have no base relocations: members for GNU's linker.
 
@@ -178,20 +176,16 @@ none_placed machine address (r ∷ relocations) all = rw all.0 (none_placed mach
 
 one_none : (machine : MachineType) (address : SectionAddress) (addresses : List SectionAddress) (s : ObjectSection) (sections : List ObjectSection) → NoneAbsolute machine s.relocations →
     table_places_in machine addresses sections ≡ [] → table_places_in machine (address ∷ addresses) (s ∷ sections) ≡ []
-one_none machine Unplaced addresses s sections all rest = rest
-one_none machine (At group address) addresses s sections all rest = rw (none_placed machine address s.relocations all) rest
+one_none machine address addresses s sections all rest = grind (arith, none_placed)
 
 first_none : (machine : MachineType) (b : Bases) (s : ObjectSection) (addresses : List SectionAddress) (sections : List ObjectSection) → IsSteady machine s → table_places_in machine addresses sections ≡ [] →
     table_places_in machine (section_address_of b s ∷ addresses) (s ∷ sections) ≡ []
-first_none machine b s addresses sections (inl none) rest = rw none rest
-first_none machine b s addresses sections (inr all) rest = one_none machine (section_address_of b s) addresses s sections all rest
+first_none machine b s addresses sections h5 rest = grind (arith, one_none)
 
 sections_none : (machine : MachineType) (b : Bases) (sections : List ObjectSection) → AllByRecursion (IsSteady machine) sections →
     table_places_in machine (section_addresses_of b sections) sections ≡ []
 sections_none machine b [] all = refl
-sections_none machine b (s ∷ sections) all =
-    let later : Bases = end_after b (section_address_of b s) (length s.bytes) in
-    first_none machine b s (section_addresses_of later sections) sections all.0 (sections_none machine later sections all.1)
+sections_none machine b (s ∷ sections) all = cc (first_none machine b s (section_addresses_of (end_after b (section_address_of b s) (length s.bytes)) sections) sections all.0 (sections_none machine (end_after b (section_address_of b s) (length s.bytes)) sections all.1))
 
 pub tables_none : (machine : MachineType) (b : Bases) (objects : List Object) → AllByRecursion (AllSteady machine) objects → table_places machine (placed_from b objects) ≡ []
 tables_none machine b [] all = refl
@@ -210,10 +204,7 @@ all_steady machine (o ∷ objects) all = grind (arith, all_steady machine object
 -- Members are steady.
 
 pub relative_steady : (machine : MachineType) → absolute_width machine (image_relative machine) ≡ None
-relative_steady I386 = refl
-relative_steady ARMNT = refl
-relative_steady AMD64 = refl
-relative_steady ARM64 = refl
+relative_steady machine = grind arith
 
 pub head_steady : (machine : MachineType) (dll : NamesOfDll) → AllSteady machine (head machine dll)
 unfolding head_object
@@ -240,8 +231,7 @@ exports_steady machine dll (e ∷ es) rest all = (export_steady machine dll e, e
 
 asking_steady : (machine : MachineType) (dll : NamesOfDll) (symbol : List ℕ) (ask : Ask) (use_kind : Use) → AllSteady machine (import_object machine dll.text symbol ask use_kind)
 unfolding import_object
-asking_steady machine dll symbol (Ordinal n) use_kind = (inl refl, (inr tt, (inr tt, tt)))
-asking_steady machine dll symbol (Name text hint) use_kind = (inl refl, (inr (relative_steady machine, tt), (inr (relative_steady machine, tt), (inr tt, tt))))
+asking_steady machine dll symbol ask use_kind = grind (arith, relative_steady)
 
 askings_steady : (machine : MachineType) (dll : NamesOfDll) (es : List ExportView) (rest : List Object) → AllByRecursion (AllSteady machine) rest → AllByRecursion (AllSteady machine) (behind_descriptor machine dll es rest)
 unfolding with_section_symbols object_of null_thunk entries_of name_text
@@ -254,8 +244,7 @@ descriptor_steady machine dll = grind arith
 
 one_steady : (machine : MachineType) (flavor : Flavor) (dll : NamesOfDll) (es : List ExportView) (rest : List Object) → AllByRecursion (AllSteady machine) rest →
     AllByRecursion (AllSteady machine) (objects_of machine flavor dll es rest)
-one_steady machine Msvc dll es rest all = (descriptor_steady machine dll, askings_steady machine dll es rest all)
-one_steady machine Gnu dll es rest all = (head_steady machine dll, exports_steady machine dll es _ (tail_steady machine dll, all))
+one_steady machine flavor dll es rest all = grind (arith, descriptor_steady, askings_steady, head_steady, exports_steady, tail_steady)
 
 blocks_steady : (machine : MachineType) (ending : Ending) (blocks : List FlavorBlock) → AllByRecursion (AllSteady machine) (all_objects machine blocks (rest_of ending))
 blocks_steady machine OfLinker [] = ((inr tt, tt), tt)
@@ -268,9 +257,7 @@ null_steady machine = (inr tt, tt)
 
 pub program_tables_none : (machine : MachineType) (ending : Ending) (bases : Bases) (inputs : List FlavorInput) (objects : List Object) → AllByRecursion (IsMadeFor machine) inputs →
     AreEnded ending machine inputs objects → table_places machine (placed_from bases objects) ≡ []
-program_tables_none machine ending bases inputs objects made ended =
-    tables_none machine bases objects (all_steady machine objects
-    (kept_all machine ending inputs objects made ended (AllSteady machine) (null_steady machine) (blocks_steady machine ending (map block_in inputs))))
+program_tables_none machine ending bases inputs objects made ended = cc (tables_none machine bases objects (all_steady machine objects (kept_all machine ending inputs objects made ended (AllSteady machine) (null_steady machine) (blocks_steady machine ending (map block_in inputs)))))
 
 -- A loader that writes as it goes loads a program, as one that reads first.
 

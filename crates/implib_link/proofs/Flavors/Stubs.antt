@@ -111,9 +111,7 @@ all_placed machine ending rest (q ∷ blocks) b suit even (suc i) j k e is chose
 -- The code of an export for Microsoft's linker.
 
 use_is : (is_data constant : Bool) → is_data ≡ false → constant ≡ false → (if is_data then Data else if constant then Constant else Code) ≡ Code
-use_is false false data_is constant_is = refl
-use_is true constant data_is constant_is = cc
-use_is false true data_is constant_is = cc
+use_is is_data constant data_is constant_is = cc
 
 asking_defined : (machine : MachineType) (dll : NamesOfDll) (b : Bases) (symbol : List ℕ) (ask : Ask) →
     Among (ASymbol (record { name = symbol; value = 0; section = 1; kind = 0; class = class_external })) (placed_asking machine dll b symbol ask Code).object.entries

@@ -59,8 +59,7 @@ asks_are flavor machine d statements each chosen =
 -- Exports without symbol names are linked by their names.
 
 empty_is : (text : List ℕ) → is_empty_text text ≡ true → text ≡ []
-empty_is [] is = refl
-empty_is (b ∷ text) is = cc
+empty_is text is = grind arith
 
 all_empty : (exports : List ExportView) → list_all (λ e. is_empty_text e.symbol_name) exports ≡ true → AllByRecursion (λ e. e.symbol_name ≡ []) exports
 all_empty exports all = all_from (λ (e : ExportView). e.symbol_name ≡ []) exports (λ e held. empty_is e.symbol_name (each_of (λ (x : ExportView). is_empty_text x.symbol_name) e exports all held))
@@ -100,8 +99,7 @@ from_parts machine image linked descriptor table p i = record { top = i.top; loa
 
 -- the names of the DLL are those of the definition that is parsed
 names_of_renamed : (flavor : Flavor) (d : DefinitionView) → names_for flavor (renamed d) ≡ names_for flavor d
-names_of_renamed Msvc d = refl
-names_of_renamed Gnu d = refl
+names_of_renamed flavor d = grind arith
 
 same_imports : (machine : MachineType) (image : List Range) (linked : List Placed) (descriptor table : ℕ) (s : FlavorSource) (parsed : DefinitionView) →
     s.source.library ≡ record { definition = renamed parsed; machine = machine; flavor = s.flavor } →

@@ -133,15 +133,11 @@ covering_one machine position k (s ∷ rs) is = grind (arith, covering_one machi
 -- Which types store addresses whole.
 
 one_absolute : (b : Bool) (type width : ℕ) → (type == i386_dir32) ≡ b → (if b then Some 4 else None) ≡ Some width → (type ≡ i386_dir32) × (width ≡ 4)
-one_absolute true type width here is = let same : 4 ≡ width = cc in (eqb-true type i386_dir32 here, sym same)
-one_absolute false type width here is = cc
+one_absolute b type width here is = grind (arith, eqb-true)
 
 -- the place of such a field is the field
 pub whole_width : (machine : MachineType) (type width : ℕ) → absolute_width machine type ≡ Some width → width ≡ field_width machine type
-whole_width I386 type width is = (one_absolute (type == i386_dir32) type width refl is).1
-whole_width ARMNT type width is = cc
-whole_width AMD64 type width is = grind arith
-whole_width ARM64 type width is = grind arith
+whole_width machine type width is = grind (arith, one_absolute)
 
 -- What fields hold at another base: a field that stores an address whole has the difference added, every other one is
 -- as it was.
@@ -277,8 +273,6 @@ pub pair_read : (reads : ℕ → List ℕ → Option ℕ) (page_code load_code :
 pair_read reads page_code load_code behind rule image_base linked memory address old_adrp old_load name bytes is_adrp is_load x there =
     let adrp : List ℕ = x.adrp_there.bytes in
     let load : List ℕ = x.load_there.bytes in
-    let first : length adrp ≡ 4 = x.adrp_there.count in
-    let second : length load ≡ 4 = x.load_there.count in
     let load_place : address + 4 ≡ address + length adrp = omega arith in
     let place : address + 8 ≡ address + length adrp + length load = omega arith in
     record {

@@ -35,10 +35,7 @@ pub record Rests (machine : MachineType) (image_base : ℕ) (image : List Range)
       ((from ≡ image_base) × NumberAt memory width (c.position + r.offset) n) ⊎ NumberAt memory width (c.position + r.offset) (moved_number width from image_base n)
 
 pub same_pages : (machine : MachineType) (base : ℕ) → ArePaged machine base base
-same_pages I386 base = tt
-same_pages ARMNT base = tt
-same_pages AMD64 base = tt
-same_pages ARM64 base = refl
+same_pages machine base = grind arith
 
 module _ (machine : MachineType) (image_base : ℕ) (image : List Range) (linked : List Placed) (codes : List LinkedCode) (targets : LinkedCode → ℕ → ℕ) where
   linked_byte : (from : ℕ) → AreLinkedBeside machine from image linked codes targets → (c : LinkedCode) (k b : ℕ) → Among c codes → slice_get c.bytes k ≡ Some b →
@@ -64,10 +61,7 @@ module _ (machine : MachineType) (image_base : ℕ) (image : List Range) (linked
     range_covers a d m covered =
         let inside = all_among (λ (x : LinkedCode). AllByRecursion (λ (p : Place). p.address + p.width ≤ x.position + length x.code.bytes) (places_of_code machine x)) d codes m moved.within in
         let bounds = covering a d.position (d.position + length d.code.bytes) (places_of_code machine d) (places_from machine d.position d.code.relocations) inside covered in
-        let size : length d.bytes ≡ length d.code.bytes = code_size from moved.beside d m in
-        let above : d.position ≤ a = bounds.0 in
-        let under : a < d.position + length d.code.bytes = bounds.1 in
-        is_in_from a (range_of_code d) above (omega arith)
+        grind (arith, code_size, is_in_from)
 
     uncovered : (a b : ℕ) → byte_at (image ++ ranges_of_codes codes) a ≡ Some b → ((d : LinkedCode) → Among d codes → is_in a (range_of_code d) ≡ true → list_any (covers a) (places_of_code machine d) ≡ false) →
         list_any (covers a) places ≡ false
@@ -166,8 +160,7 @@ stored_rests machine image_base image linked codes targets memory (inr (from, (p
 -- so it is in memory
 pub stored_in_memory : (machine : MachineType) (image_base : ℕ) (image : List Range) (linked : List Placed) (codes : List LinkedCode) (targets : LinkedCode → ℕ → ℕ) (memory : List Range) →
     AreStoredInMemory machine image_base image linked codes targets memory → AreInMemory machine image_base image linked codes targets memory
-stored_in_memory machine image_base image linked codes targets memory (inl (beside, (further, is))) = inl (beside, is)
-stored_in_memory machine image_base image linked codes targets memory (inr (from, (places, (paged, (moved, (further, stores)))))) = inr (from, (places, (paged, moved)))
+stored_in_memory machine image_base image linked codes targets memory h7 = grind arith
 
 any_meets : (machine : MachineType) (k count : ℕ) (rs : List Relocation) (s : Relocation) → Among s rs → meets machine k count s ≡ true → list_any (meets machine k count) rs ≡ true
 unfolding Among
@@ -189,8 +182,7 @@ module _ (machine : MachineType) (image_base : ℕ) (image : List Range) (linked
   unwritten k b small is =
       let size : length c.bytes ≡ length c.code.bytes = own.size in
       let here : is_in (c.position + k) (range_of_code c) ≡ true = is_in_from (c.position + k) (range_of_code c) (omega arith) (omega arith) in
-      kept_outside written memory (c.position + k)
-      (code_untouched image (ranges_of_codes codes) written (range_of_code c) (c.position + k) covers_it at.beside.apart (among_map range_of_code c codes m) here) ∙ is
+      cc (kept_outside written memory (c.position + k) (code_untouched image (ranges_of_codes codes) written (range_of_code c) (c.position + k) covers_it at.beside.apart (among_map range_of_code c codes m) here))
 
   pub number_unwritten : (offset width n : ℕ) → offset + width ≤ length c.code.bytes → NumberAt memory width (c.position + offset) n → NumberAt (written ++ memory) width (c.position + offset) n
   number_unwritten offset width n inside number =

@@ -71,8 +71,7 @@ unfolding ThunkAsksFor
 ask_once image width thunk (Ordinal n) (Ordinal m) first second = ap Ordinal (sym first.1 ∙ second.1)
 ask_once image width thunk (Ordinal n) (Name text hint) first second = let high = first.0 in let low = second.0 in absurd (omega arith)
 ask_once image width thunk (Name text hint) (Ordinal n) first second = let low = first.0 in let high = second.0 in absurd (omega arith)
-ask_once image width thunk (Name text hint) (Name other number) first second =
-    grind (arith, text_once image text other (thunk % 2 ^ 31 + 2) first.2.no_nul second.2.no_nul first.2.located second.2.located, number_once image 2 (thunk % 2 ^ 31) hint number first.1 second.1)
+ask_once image width thunk (Name text hint) (Name other number) first second = cc (text_once image text other (thunk % 2 ^ 31 + 2) first.2.no_nul second.2.no_nul first.2.located second.2.located, number_once image 2 (thunk % 2 ^ 31) hint number first.1 second.1)
 
 -- a thunk asks for one thing
 thunk_once : (image : List Range) (width a : ℕ) (first second : Ask) → ThunkAt image width a first → ThunkAt image width a second → first ≡ second
@@ -88,11 +87,7 @@ module _ (beside : List Range) (low high width : ℕ) (avoids : Avoids beside lo
   -- what is written between the two addresses leaves these ranges as they are
   keeps_behind : (memory : List Range) (r : Range) → Keeps beside memory → low ≤ r.start → range_end r ≤ high → Keeps beside (r ∷ memory)
   unfolding Keeps Avoids
-  keeps_behind memory r keeps from to a byte is =
-      elim (cases_Bool (is_in a r)) [
-        | inl within ↦ grind (arith, within_bounds, within)
-        | inr outside ↦ rw outside (keeps a byte is)
-      ]
+  keeps_behind memory r keeps from to a byte is = grind (arith, cases_Bool, within_bounds)
 
   module _ (gives : Ask → List ℕ) (wide : (ask : Ask) → length (gives ask) ≡ width) where
     table_keeps : (asks : List Ask) (entry : ℕ) (memory : List Range) → Keeps beside memory → low ≤ entry → entry + width * length asks ≤ high →
@@ -100,8 +95,6 @@ module _ (beside : List Range) (low high width : ℕ) (avoids : Avoids beside lo
     unfolding table_filled
     table_keeps [] entry memory keeps from to = keeps
     table_keeps (x ∷ asks) entry memory keeps from to =
-        let long : length (gives x) ≡ width = wide x in
-        let product : entry + width + width * length asks ≡ entry + width * length (x ∷ asks) = times_next entry width (length asks) in
         table_keeps asks (entry + width) (record { start = entry; bytes = gives x } ∷ memory)
         (keeps_behind memory (record { start = entry; bytes = gives x }) keeps from (omega arith)) (omega arith) (omega arith)
 
@@ -123,7 +116,6 @@ module _ (beside : List Range) (low high width : ℕ) (avoids : Avoids beside lo
     unfolding TableAt FillsTable table_filled
     can_fill [] thunk entry memory keeps from to table = (number_kept beside memory keeps width thunk 0 table, refl)
     can_fill (x ∷ asks) thunk entry memory keeps from to table =
-        let long : length (gives x) ≡ width = wide x in
         let product : entry + width + width * length asks ≡ entry + width * length (x ∷ asks) = times_next entry width (length asks) in (
           thunk_kept beside memory keeps width thunk x table.0,
           can_fill asks (thunk + width) (entry + width) (record { start = entry; bytes = gives x } ∷ memory)
@@ -156,13 +148,9 @@ module _ (beside : List Range) (low high width : ℕ) (avoids : Avoids beside lo
         let dll : y.dll ≡ i.dll =
         text_led_to memory (descriptor + 12) by.name own.name y.dll i.dll by.name_field (number_kept beside memory keeps 4 (descriptor + 12) own.name own.name_field) by.name_text
         (text_kept beside memory keeps own.name i.dll own.name_text) in
-        let begins : by.addresses ≡ table =
-        number_once memory 4 (descriptor + 16) by.addresses table by.addresses_field (number_kept beside memory keeps 4 (descriptor + 16) table own.addresses_field) in
-        let reads : by.lookups ≡ own.lookups =
-        number_once memory 4 descriptor by.lookups own.lookups by.lookups_field (number_kept beside memory keeps 4 descriptor own.lookups own.lookups_field) in
+        let begins : by.addresses ≡ table = cc (number_once memory 4 (descriptor + 16) by.addresses table by.addresses_field (number_kept beside memory keeps 4 (descriptor + 16) table own.addresses_field)) in
+        let reads : by.lookups ≡ own.lookups = cc (number_once memory 4 descriptor by.lookups own.lookups by.lookups_field (number_kept beside memory keeps 4 descriptor own.lookups own.lookups_field)) in
         let fills : FillsTable width (gives i.dll) own.lookups table memory y.asks between = grind arith in
-        let next = table_next table width (length i.asks) (thunks_asked (length imports) imports) in
-        let before = before_next table width (length i.asks) in
         let filled = fills_once (gives i.dll) (wide i.dll) i.asks y.asks own.lookups table memory between keeps from (omega arith) own.lookup_table fills in
         let rest = runs_once imports found (descriptor + 20) (table + width * (length i.asks + 1)) (table_filled width table (gives i.dll) i.asks memory) after
         (table_keeps (gives i.dll) (wide i.dll) i.asks table memory keeps from (omega arith)) (omega arith) (omega arith) others
@@ -182,7 +170,6 @@ module _ (beside : List Range) (low high width : ℕ) (avoids : Avoids beside lo
           refl,
         )
     can_run (i ∷ imports) descriptor table memory keeps from to (own, others) =
-        let next = table_next table width (length i.asks) (thunks_asked (length imports) imports) in
         let before = before_next table width (length i.asks) in (
           table_filled width table (gives i.dll) i.asks memory,
           (
@@ -247,7 +234,6 @@ module _ (beside image : List Range) (keeps : Keeps beside image) (width : ℕ) 
       let same : begin ≡ table = number_once image 4 (descriptor + 16) begin table field (number_kept beside image keeps 4 (descriptor + 16) table own.addresses_field) in
       let next : ℕ = table + width * (length i.asks + 1) in
       let high : ℕ = table + width * (length i.asks + 1 + thunks_asked (length imports) imports) in
-      let before = before_next table width (length i.asks) in
       let sum : next + width * thunks_asked (length imports) imports ≡ high = table_next table width (length i.asks) (thunks_asked (length imports) imports) in
       let entries : List Range = entries_written width table (gives i.dll) i.asks in
       let rest = alike_by imports (descriptor + 20) next behind others later in

@@ -250,7 +250,6 @@ module _ (width : ℕ) where
       (subst (λ n. BytesAt (r ∷ (entries_written width (a + width) gives asks ++ ranges)) n (gives x)) (times_none a width) (front_located r (entries_written width (a + width) gives asks ++ ranges)))
   entry_located gives wide (x ∷ asks) a ranges (suc j) ask is =
       let r : Range = record { start = a; bytes = gives x } in
-      let long : length (gives x) ≡ width = wide x in
       let past : range_end r ≤ a + width + width * j = omega arith in
       subst (λ n. BytesAt (r ∷ (entries_written width (a + width) gives asks ++ ranges)) n (gives ask)) (times_next a width j)
       (behind_front r (entries_written width (a + width) gives asks ++ ranges) (gives ask) (a + width + width * j) past (entry_located gives wide asks (a + width) ranges j ask is))
@@ -261,8 +260,6 @@ module _ (width : ℕ) where
   behind_entries gives wide [] a ranges position bytes past located = located
   behind_entries gives wide (x ∷ asks) a ranges position bytes past located =
       let r : Range = record { start = a; bytes = gives x } in
-      let long : length (gives x) ≡ width = wide x in
-      let product : a + width + width * length asks ≡ a + width * length (x ∷ asks) = times_next a width (length asks) in
       let end : range_end r ≤ position = omega arith in
       behind_front r (entries_written width (a + width) gives asks ++ ranges) bytes position end
       (behind_entries gives wide asks (a + width) ranges position bytes (omega arith) located)
@@ -373,8 +370,7 @@ module _ (image memory : List Range) (keeps : Keeps image memory) where
   writes_once : (width : ℕ) (gives : List ℕ → Ask → List ℕ) (imports : List Imported) (a : ℕ) (first second : List Range) → Writes image width gives a imports first → Writes image width gives a imports second → first ≡ second
   unfolding Writes
   writes_once width gives [] a first second one two = one ∙ sym two
-  writes_once width gives (i ∷ imports) a first second (table, (field, (behind, (is, later)))) (other, (other_field, (other_behind, (other_is, other_later)))) =
-      grind (arith, writes_once width gives imports (a + 20) behind other_behind later other_later, number_once image 4 (a + 16) table other field other_field)
+  writes_once width gives (i ∷ imports) a first second (table, (field, (behind, (is, later)))) (other, (other_field, (other_behind, (other_is, other_later)))) = cc (writes_once width gives imports (a + 20) behind other_behind later other_later, number_once image 4 (a + 16) table other field other_field)
 
   -- a loader that is handed the imports writes what one does that reads them in memory
   pub memory_reads : (width : ℕ) (gives : List ℕ → Ask → List ℕ) (a : ℕ) (imports : List Imported) (written : List Range) → DirectoryAt image width a imports → Writes image width gives a imports written →

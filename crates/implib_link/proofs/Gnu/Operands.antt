@@ -48,28 +48,16 @@ not_addr32 : (type further : ℕ) → type ≡ amd64_rel32 + further → (type =
 not_addr32 type further is = ne_eqb type amd64_addr32 (λ same. omega arith)
 
 pub operand_width : (machine : MachineType) (type after number : ℕ) → IsOperand machine type after number → field_width machine type ≡ 4
-operand_width I386 type after number counts = refl
-operand_width ARMNT type after number counts = absurd counts
-operand_width AMD64 type after number counts = rw (not_addr64 type counts.0 counts.1.1.0) refl
-operand_width ARM64 type after number counts = absurd counts
+operand_width machine type after number counts = grind (arith, not_addr64)
 
 branch_width : (machine : MachineType) (type after number : ℕ) → IsBranch machine type after number → field_width machine type ≡ 4
-branch_width I386 type after number counts = refl
-branch_width ARMNT type after number counts = absurd counts
-branch_width AMD64 type after number counts = operand_width AMD64 type after number counts
-branch_width ARM64 type after number counts = subst (λ t. field_width ARM64 t ≡ 4) (sym counts.0) refl
+branch_width machine type after number counts = grind (arith, operand_width)
 
 branch_steady : (machine : MachineType) (type after number : ℕ) → IsBranch machine type after number → absolute_width machine type ≡ None
-branch_steady I386 type after number counts = subst (λ t. absolute_width I386 t ≡ None) (sym counts.0) refl
-branch_steady ARMNT type after number counts = absurd counts
-branch_steady AMD64 type after number counts = rw (not_addr64 type counts.0 counts.1.1.0, not_addr32 type counts.0 counts.1.1.0) refl
-branch_steady ARM64 type after number counts = subst (λ t. absolute_width ARM64 t ≡ None) (sym counts.0) refl
+branch_steady machine type after number counts = grind (arith, not_addr64, not_addr32)
 
 pub pointer_width : (machine : MachineType) (type : ℕ) → IsPointer machine type → field_width machine type ≡ thunk_width machine
-pointer_width I386 type stores = refl
-pointer_width ARMNT type stores = absurd stores
-pointer_width AMD64 type stores = subst (λ t. field_width AMD64 t ≡ 8) (sym stores) refl
-pointer_width ARM64 type stores = subst (λ t. field_width ARM64 t ≡ 8) (sym stores) refl
+pointer_width machine type stores = grind arith
 
 -- Where they lead, by the machines.
 
@@ -79,31 +67,19 @@ words_lead address position target first second far near n is = grind arith
 
 operand_by : (machine : MachineType) (type base position target after : ℕ) (old new : ℕ → ℕ) → IsOperand machine type after (old 4) → FieldHolds machine type base position target old new →
     CanReach machine base target → position + (4 + after) ≤ 2 ^ 31 → target < 2 ^ 31 → operand_leads machine (base + position) after (new 4) ≡ Some (base + target)
-operand_by I386 type base position target after old new counts holds can near small = ap Some (dir32_is (new 4) (old 4) base target (holds.dir32 counts.0) counts.1 can small)
-operand_by ARMNT type base position target after old new counts holds can near small = absurd counts
-operand_by AMD64 type base position target after old new (further, (few, (is, ends))) holds can near small = cc (rel32_leads (new 4) (old 4) base position target after further (holds.rel32 further few is) ends near small)
-operand_by ARM64 type base position target after old new counts holds can near small = absurd counts
+operand_by machine type base position target after old new counts holds can near small = grind (arith, dir32_is, rel32_leads)
 
 branch_by : (machine : MachineType) (type base position target after : ℕ) (old new : ℕ → ℕ) → IsBranch machine type after (old 4) → FieldHolds machine type base position target old new →
     CanBranch machine position target → position + (4 + after) ≤ 2 ^ 31 → target < 2 ^ 31 → branch_leads machine (base + position) after (new 4) ≡ Some (base + target)
-branch_by I386 type base position target after old new counts holds can near small = grind arith
-branch_by ARMNT type base position target after old new counts holds can near small = absurd counts
-branch_by AMD64 type base position target after old new (further, (few, (is, ends))) holds can near small = grind (arith, rel32_leads (new 4) (old 4) base position target after further (holds.rel32 further few is) ends near small)
-branch_by ARM64 type base position target after old new counts holds can near small = grind arith
+branch_by machine type base position target after old new counts holds can near small = grind (arith, rel32_leads)
 
 branch_rest_by : (machine : MachineType) (type base position target after : ℕ) (old new : ℕ → ℕ) → IsBranch machine type after (old 4) → FieldHolds machine type base position target old new → CanBranch machine position target →
     branch_rest machine (new 4) ≡ branch_rest machine (old 4)
-branch_rest_by I386 type base position target after old new counts holds can = refl
-branch_rest_by ARMNT type base position target after old new counts holds can = absurd counts
-branch_rest_by AMD64 type base position target after old new counts holds can = refl
-branch_rest_by ARM64 type base position target after old new counts holds can = (holds.branch counts.0 counts.1 can.2 can.3).0
+branch_rest_by machine type base position target after old new counts holds can = grind arith
 
 pointer_by : (machine : MachineType) (type base position target : ℕ) (old new : ℕ → ℕ) → IsPointer machine type → old (thunk_width machine) ≡ 0 → FieldHolds machine type base position target old new →
     CanReach machine base target → base + 2 ^ 31 ≤ 2 ^ 64 → target < 2 ^ 31 → new (thunk_width machine) ≡ base + target
-pointer_by I386 type base position target old new stores empty holds can fits small = dir32_is (new 4) (old 4) base target (holds.dir32 stores) empty can small
-pointer_by ARMNT type base position target old new stores empty holds can fits small = absurd stores
-pointer_by AMD64 type base position target old new stores empty holds can fits small = addr64_is (new 8) (old 8) base target (holds.addr64 stores) empty fits small
-pointer_by ARM64 type base position target old new stores empty holds can fits small = addr64_is (new 8) (old 8) base target (holds.addr64 stores) empty fits small
+pointer_by machine type base position target old new stores empty holds can fits small = grind (arith, dir32_is, addr64_is)
 
 -- ARM64's page and offset.
 
@@ -147,7 +123,6 @@ module _ (machine : MachineType) (image_base : ℕ) (image : List Range) (linked
       let found = steady_there machine image_base image linked codes targets memory at written covers_it c m offset has.type has.field.symbol has.field.alone has.field.inside
       (branch_steady machine has.type after (field_at c.code.bytes offset 4) has.counts) in
       let end : c.position + length c.code.bytes + 16 ≤ 2 ^ 31 = own_end machine image_base image linked codes targets memory at written covers_it c m in
-      let within : offset + (4 + after) ≤ length c.code.bytes = has.within in
       record {
         number = found.0 4;
         there = subst (λ w. NumberAt (written ++ memory) w (c.position + offset) (found.0 w)) wide found.1.0;
@@ -207,18 +182,13 @@ module _ (machine : MachineType) (image_base : ℕ) (image : List Range) (linked
         let r : Relocation = record { offset = inner; symbol = symbol; kind = type } in
         let wide : field_width machine type ≡ 4 = operand_width machine type (length tail) (number_in field) counts in
         let parts : Parts c offset head field tail = parts_of c offset count head field tail code in
-        let size : length c.code.bytes - offset ≡ length head + (length field + (length tail + length parts.back)) =
-        sym (length-drop offset c.code.bytes) ∙ ap length parts.whole
-        ∙ (let sum : length (head ++ (field ++ (tail ++ parts.back))) ≡ length head + (length field + (length tail + length parts.back)) =
-        omega (arith, length-append head (field ++ (tail ++ parts.back)), length-append field (tail ++ parts.back), length-append tail parts.back) in sum) in
-        let within : offset + count ≤ length c.code.bytes = omega arith in
+        let size : length c.code.bytes - offset ≡ length head + (length field + (length tail + length parts.back)) = cc (length-drop offset c.code.bytes, length-append head (field ++ (tail ++ parts.back)), length-append field (tail ++ parts.back), length-append tail parts.back) in
         let inside : inner + field_width machine type ≤ length c.code.bytes = omega arith in
         let alone : MeetsAlone machine c.code.relocations inner (field_width machine type) r =
         alone_within machine c.code.relocations offset count inner (field_width machine type) r alone_in (omega arith) (omega arith) (meets_from machine inner (field_width machine type) r (omega arith) (omega arith)) in
         let found : Found c inner type = found_at c inner type symbol held alone inside settles in
         let end : c.position + length c.code.bytes + 16 ≤ 2 ^ 31 = end_of c held in
-        let at_field : drop inner c.code.bytes ≡ field ++ (tail ++ parts.back) =
-        sym (drop-drop (length head) offset c.code.bytes) ∙ ap (drop (length head)) parts.whole ∙ drop_at head (field ++ (tail ++ parts.back)) (length head) refl in
+        let at_field : drop inner c.code.bytes ≡ field ++ (tail ++ parts.back) = cc (drop-drop (length head) offset c.code.bytes, drop_at head (field ++ (tail ++ parts.back)) (length head) refl) in
         let at_tail : drop last c.code.bytes ≡ tail ++ parts.back = sym (drop-drop 4 inner c.code.bytes) ∙ ap (drop 4) at_field ∙ drop_at field (tail ++ parts.back) 4 four in
         let old : field_at c.code.bytes inner 4 ≡ number_in field = ap (λ xs. number_in (take 4 xs)) at_field ∙ ap number_in (take_at field (tail ++ parts.back) 4 four) in
         let clear : (k : ℕ) → offset ≤ k → k < offset + count → (k < inner) ⊎ (last ≤ k) → list_any (meets machine k 1) c.code.relocations ≡ false = λ k low high beside.
@@ -244,7 +214,6 @@ module _ (machine : MachineType) (image_base : ℕ) (image : List Range) (linked
           sym (get_drop last c.code.bytes i) ∙ ap (λ xs. slice_get xs i) at_tail ∙ get_front tail parts.back i b is,
           clear (last + i) (omega arith) (omega arith) (inr (omega arith)),
         )) in
-        let counted : length number.bytes ≡ 4 = number.count in
         let field_place : c.position + inner ≡ c.position + offset + length head = omega arith in
         let tail_place : c.position + last ≡ c.position + inner + length number.bytes = omega arith in
         record {
@@ -269,7 +238,6 @@ module _ (machine : MachineType) (image_base : ℕ) (image : List Range) (linked
           let wide : field_width machine has.type ≡ 4 = operand_width machine has.type after (field_at c.code.bytes offset 4) has.counts in
           let found : Found c offset has.type = found_at c offset has.type has.field.symbol held has.field.alone has.field.inside (settled c has.field.symbol held has.field.names) in
           let end : c.position + length c.code.bytes + 16 ≤ 2 ^ 31 = end_of c held in
-          let within : offset + (4 + after) ≤ length c.code.bytes = has.within in
           record {
             number = found.0 4;
             there = subst (λ w. NumberAt (written ++ memory) w (c.position + offset) (found.0 w)) wide found.1.0;
@@ -285,9 +253,7 @@ module _ (machine : MachineType) (image_base : ℕ) (image : List Range) (linked
           record {
             entry = entry;
             own = once;
-            there = subst (λ n. NumberAt (written ++ memory) (thunk_width machine) (c.position + offset) n)
-                (pointer_by machine has.type image_base (c.position + offset) entry (field_at c.code.bytes offset) found.0 has.stores has.empty found.1.1 can fits small)
-                (subst (λ w. NumberAt (written ++ memory) w (c.position + offset) (found.0 w)) (pointer_width machine has.type has.stores) found.1.0);
+            there = grind (arith, pointer_by, pointer_width);
             located = located;
           }
 
@@ -386,13 +352,9 @@ x86_jumps : (memory : List Range) (position : ℕ) (name bytes : List ℕ) (mach
     (x : InstructionArrives machine image_base linked memory (position + 0) (0xFF ∷ 0x25 ∷ []) [] name bytes) → BytesAt memory (position + 6) (0x90 ∷ 0x90 ∷ []) →
     jump_reads machine (image_base + position) (0xFF ∷ 0x25 ∷ (x.field ++ 0x90 ∷ 0x90 ∷ [])) ≡ Some (image_base + x.entry) → StubArrives machine image_base memory position bytes
 x86_jumps memory position name bytes machine image_base linked size x tail reads =
-    let four : length x.field ≡ 4 = x.four in
-    let plain : position + 0 ≡ position = omega arith in
     let long : length (0xFF ∷ 0x25 ∷ (x.field ++ [])) ≡ 6 = omega (arith, length-append x.field []) in
-    let place : position + 6 ≡ position + length (0xFF ∷ 0x25 ∷ (x.field ++ [])) = omega arith in
     let whole : length (0xFF ∷ 0x25 ∷ (x.field ++ 0x90 ∷ 0x90 ∷ [])) ≡ 8 = omega (arith, length-append x.field (0x90 ∷ 0x90 ∷ [])) in
     let f = four_of x.field x.four in
-    let same : (0xFF ∷ 0x25 ∷ (x.field ++ [])) ++ 0x90 ∷ 0x90 ∷ [] ≡ 0xFF ∷ 0x25 ∷ (x.field ++ 0x90 ∷ 0x90 ∷ []) = grind arith in
     record {
       code = 0xFF ∷ 0x25 ∷ (x.field ++ 0x90 ∷ 0x90 ∷ []);
       there = grind (arith, joined);
@@ -462,14 +424,12 @@ module _ (machine : MachineType) (c : LinkedCode) (offset type : ℕ) (name : Li
 
   call_alone : MeetsAlone machine c.code.relocations (offset + 1) (field_width machine type) (record { offset = offset + 1; symbol = has.index; kind = type })
   call_alone =
-      let four : field_width machine type ≡ 4 = wide in
       let r : Relocation = record { offset = offset + 1; symbol = has.index; kind = type } in
       own_met machine c offset name code rs has (offset + 1) (field_width machine type) (omega arith) (omega arith) ∙ one_met machine (offset + 1) (field_width machine type) r (omega arith) (omega arith)
 
   call_branch : IsBranch machine type 0 0 → HasBranch machine c (offset + 1) 0 name
   call_branch counts =
       let end : offset + 5 ≤ length c.code.bytes = own_inside machine c offset name code rs has in
-      let four : field_width machine type ≡ 4 = wide in
       record {
         type = type;
         field = record { symbol = has.index; alone = call_alone; inside = omega arith; names = own_names machine c offset name code rs has };
@@ -533,12 +493,10 @@ direct_arrives ARM64 image_base image linked codes targets memory at written cov
     let own : ℕ → List Relocation = direct_relocations ARM64 in
     let code : List ℕ = direct_bytes ARM64 in
     let r : Relocation = record { offset = offset + 0; symbol = has.index; kind = arm64_branch26 } in
-    let here : offset + 0 ≡ offset = omega arith in
     let alone : MeetsAlone ARM64 c.code.relocations offset 4 (record { offset = offset; symbol = has.index; kind = arm64_branch26 }) = grind (arith, own_met ARM64 c offset name code own has offset 4 (omega arith) (omega arith), one_met ARM64 offset 4 r (omega arith) (omega arith)) in
     let end : offset + 4 ≤ length c.code.bytes = own_inside ARM64 c offset name code own has in
     let old : field_at c.code.bytes offset 4 ≡ 0x9400_0000 = ap (λ xs. number_in (take 4 xs)) (own_code ARM64 c offset name code own has) in
     let found = steady_there ARM64 image_base image linked codes targets memory at written covers_it c (contains_among c codes held) offset arm64_branch26 has.index alone (omega arith) refl in
-    let target : targets c has.index ≡ stub = taken has.index (own_names ARM64 c offset name code own has) in
     let holds : FieldHolds ARM64 arm64_branch26 image_base (c.position + offset) stub (field_at c.code.bytes offset) found.0 = grind arith in
     let both = holds.branch refl (ap (bits_of 0 26) old) can.2 can.3 in
     let word : word_at found.1.0.bytes 0 ≡ found.0 4 = read_word found.1.0.bytes found.1.0.count ∙ found.1.0.value in

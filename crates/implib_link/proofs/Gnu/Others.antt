@@ -119,8 +119,7 @@ definitions_kept name b (o ∷ objects) none =
     ≡ definitions_of name (placed_from b (filter has_tables (o ∷ objects)))) [
       | inl is ↦
           let none_left : AllByRecursion (λ o. list_any (bytes_eq name) (claimed_names o) ≡ false) (filter (λ o. not (has_tables o)) objects) = rw is at none in
-          rw is (ap (λ others. filter (λ (d : SymbolDefinition). bytes_eq name d.name) own ++ others) (definitions_kept name (ends_after b o.sections) objects none_left)
-          ∙ sym (filter-append (λ (d : SymbolDefinition). bytes_eq name d.name) own (definitions (placed_from (ends_after b o.sections) (filter has_tables objects)))))
+          grind (arith, filter-append, definitions_kept name (ends_after b o.sections) objects none_left)
       | inr is ↦
           let parts : (list_any (bytes_eq name) (claimed_names o) ≡ false) × AllByRecursion (λ o. list_any (bytes_eq name) (claimed_names o) ≡ false) (filter (λ o. not (has_tables o)) objects) = rw is at none in
           rw (is, defines_none name (section_addresses_of b o.sections) o.entries parts.0, no_ends b o.sections is) (definitions_kept name b objects parts.1)

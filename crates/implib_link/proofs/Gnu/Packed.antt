@@ -56,10 +56,7 @@ thunk_within machine e = grind (arith, length-thunk, thunk_size, hint_within)
 
 stub_within : (machine : MachineType) (e : ExportView) → AreWithin (length (stub machine e)) (relocations_of_stub machine e)
 unfolding relocations_of_stub stub
-stub_within I386 e = elim (cases_Bool e.is_data) [ inl is ↦ rw is tt | inr is ↦ rw is (omega arith, tt) ]
-stub_within ARMNT e = elim (cases_Bool e.is_data) [ inl is ↦ rw is tt | inr is ↦ rw is (omega arith, tt) ]
-stub_within AMD64 e = elim (cases_Bool e.is_data) [ inl is ↦ rw is tt | inr is ↦ rw is (omega arith, tt) ]
-stub_within ARM64 e = elim (cases_Bool e.is_data) [ inl is ↦ rw is tt | inr is ↦ rw is (omega arith, (omega arith, tt)) ]
+stub_within machine e = grind (arith, cases_Bool)
 
 pub head_sized : (machine : MachineType) (dll : NamesOfDll) → IsSized (head machine dll)
 unfolding head_object
@@ -82,19 +79,12 @@ exports_sized machine dll (e ∷ es) rest all = (export_sized machine dll e, exp
 -- Groups do not touch one another.
 
 pub same_base : (group other : Group) (b : Bases) → same_group group other ≡ true → base_of other b ≡ base_of group b
-same_base Descriptors Descriptors b is = refl
-same_base DirectoryEnds DirectoryEnds b is = refl
-same_base Lookups Lookups b is = refl
-same_base Addresses Addresses b is = refl
-same_base HintNames HintNames b is = refl
-same_base DllNames DllNames b is = refl
-same_base group other b is = cc
+same_base group other b is = grind arith
 
 -- the end of a group after a section
 pub end_of_section : (group : Group) (b : Bases) (s : ObjectSection) (named : Option Group) →
     base_of group (end_after b (address_after b s.flags named) (length s.bytes)) ≡ end_with group (base_of group b) s named
-end_of_section group b s None = refl
-end_of_section group b s (Some other) = grind arith
+end_of_section group b s named = grind arith
 
 pub end_of_sections : (group : Group) (b : Bases) (sections : List ObjectSection) → base_of group (ends_after b sections) ≡ sections_end group (base_of group b) sections
 unfolding sections_end
@@ -132,15 +122,9 @@ fills_both : (base middle end : ℕ) (front back : List Contribution) → Fills 
 unfolding span
 fills_both base middle end front back one two =
     let sum : length (filled base front ++ filled middle back) ≡ length (filled base front) + length (filled middle back) = length-append (filled base front) (filled middle back) in
-    let first : base + length (filled base front) ≡ middle = one.ends in
-    let second : middle + length (filled middle back) ≡ end = two.ends in
     record {
       ends = ap (λ bytes. base + length bytes) (one.behind back) ∙ omega arith;
-      behind = λ rest. ap (filled base) (append_assoc front back rest)
-          ∙ one.behind (back ++ rest)
-          ∙ ap (λ bytes. filled base front ++ bytes) (two.behind rest)
-          ∙ sym (append_assoc (filled base front) (filled middle back) (filled end rest))
-          ∙ ap (λ bytes. bytes ++ filled end rest) (sym (one.behind back));
+      behind = grind (arith, append_assoc);
     }
 
 module _ (machine : MachineType) (linked : List Placed) (group : Group) where
@@ -195,8 +179,7 @@ end_kept group n (o ∷ objects) = grind (arith, end_kept group (sections_end gr
 
 -- ends do not fall
 end_of_one : (group : Group) (n : ℕ) (s : ObjectSection) (named : Option Group) → n ≤ end_with group n s named
-end_of_one group n s None = omega arith
-end_of_one group n s (Some other) = grind (arith, at_least)
+end_of_one group n s named = grind (arith, at_least)
 
 sections_rise : (group : Group) (n : ℕ) (sections : List ObjectSection) → n ≤ sections_end group n sections
 unfolding sections_end
@@ -353,11 +336,7 @@ module _ (machine : MachineType) (linked : List Placed) (image : List Range) (b 
   parts group located =
       let base : ℕ = base_of group b in
       let fills : Fills base (own group) (group_end group base front) = fills_objects machine linked group b front sized in
-      let split : filled base (contributions machine linked group (placed_from b (front ++ rest))) ≡ filled base (own group) ++ filled (base_of group (ends_behind b front)) (later group) =
-      ap (λ ps. filled base (contributions machine linked group ps)) (placed_parts b front rest)
-      ∙ ap (filled base) (flat_map-append (contributions_of machine linked group) (placed_from b front) (placed_from (ends_behind b front) rest))
-      ∙ fills.behind (later group)
-      ∙ ap (λ n. filled base (own group) ++ filled n (later group)) (sym (end_behind group b front)) in
+      let split : filled base (contributions machine linked group (placed_from b (front ++ rest))) ≡ filled base (own group) ++ filled (base_of group (ends_behind b front)) (later group) = grind (arith, placed_parts, flat_map-append, end_behind) in
       let found = located_parts image (filled base (own group)) (filled (base_of group (ends_behind b front)) (later group)) base (subst (BytesAt image base) split located) in
       let end : base + length (filled base (own group)) ≡ base_of group (ends_behind b front) = fills.ends ∙ sym (end_behind group b front) in
       (found.0, subst (λ n. BytesAt image n (filled (base_of group (ends_behind b front)) (later group))) end found.1)

@@ -33,20 +33,14 @@ none_narrow : (width most : ℕ) → None ≡ Some width → width ≤ most
 none_narrow width most is = cc
 
 choice_narrow : (b whole : Bool) (width : ℕ) → (if b then Some 8 else if whole then Some 4 else None) ≡ Some width → width ≤ (if b then 8 else 4)
-choice_narrow true whole width is = let same : 8 ≡ width = cc in omega arith
-choice_narrow false true width is = let same : 4 ≡ width = cc in omega arith
-choice_narrow false false width is = none_narrow width 4 is
+choice_narrow b whole width is = grind (arith, none_narrow)
 
 i386_narrow : (b : Bool) (width : ℕ) → (if b then Some 4 else None) ≡ Some width → width ≤ 4
-i386_narrow true width is = let same : 4 ≡ width = cc in omega arith
-i386_narrow false width is = none_narrow width 4 is
+i386_narrow b width is = grind (arith, none_narrow)
 
 -- what a base relocation changes is in the field
 pub narrow : (machine : MachineType) (type width : ℕ) → absolute_width machine type ≡ Some width → width ≤ field_width machine type
-narrow I386 type width is = i386_narrow (type == i386_dir32) width is
-narrow ARMNT type width is = none_narrow width 8 is
-narrow AMD64 type width is = choice_narrow (type == amd64_addr64) (type == amd64_addr32) width is
-narrow ARM64 type width is = choice_narrow (type == arm64_addr64) (type == arm64_addr32) width is
+narrow machine type width is = grind (arith, i386_narrow, none_narrow, choice_narrow)
 
 -- a relocation that stores an address whole has its place
 pub among_place : (machine : MachineType) (position : ℕ) (r : Relocation) (width : ℕ) (rs : List Relocation) → absolute_width machine r.kind ≡ Some width → Among r rs →

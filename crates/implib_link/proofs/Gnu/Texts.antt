@@ -37,8 +37,7 @@ pub all_chosen : {X : Type 0} (P : X → Type 0) (xs : List X) (chosen : List �
 all_chosen P xs chosen all = all_from P (filter_map (slice_get xs) chosen) (λ x held. let from = kept_from (slice_get xs) chosen x held in all_at P xs from.0 x all from.2)
 
 map_cons_option : {X Y : Type 0} (f : X → Y) (o : Option X) (xs : List X) → map f (cons_option o xs) ≡ cons_option (option_map f o) (map f xs)
-map_cons_option f None xs = refl
-map_cons_option f (Some x) xs = refl
+map_cons_option f o xs = grind arith
 
 map_chosen : {X Y : Type 0} (f : X → Y) (xs : List X) (chosen : List ℕ) → map f (filter_map (slice_get xs) chosen) ≡ filter_map (slice_get (map f xs)) chosen
 map_chosen f xs [] = refl

@@ -42,8 +42,6 @@ holds_keep memory [] all a b is = cc
 holds_keep memory (r ∷ ranges) all a b is =
     elim (cases_Bool (is_in a r)) [
       | inl within ↦ let bounds = within_bounds a r within in
-          let from : r.start ≤ a = bounds.0 in
-          let to : a < r.start + length r.bytes = bounds.1 in
           let value : Some (slice_index r.bytes (a - r.start)) ≡ Some b = rw within at is in
           let place : r.start + (a - r.start) ≡ a = omega arith in
           subst (λ n. byte_at memory n ≡ Some (slice_index r.bytes (a - r.start))) place (index_located memory r.bytes r.start (a - r.start) all.0 (omega arith)) ∙ value
@@ -54,12 +52,7 @@ holds_keep memory (r ∷ ranges) all a b is =
 pub packed_inside : (width address : ℕ) (blocks : List Block) (d : DataDirectory) → d.address ≤ address → address + width * thunks_with_nulls blocks ≤ d.address + d.size →
     AllByRecursion (HasTable width d) (packed_tables width address blocks)
 packed_inside width address [] d from to = tt
-packed_inside width address (b ∷ blocks) d from to =
-    let own : ℕ = length b.entries in
-    let rest : ℕ = thunks_with_nulls blocks in
-    let whole : width * (own + 1 + rest) ≡ width * (own + 1) + width * rest = mul-add width (own + 1) rest in
-    let null : width * (own + 1) ≡ width * own + width * 1 = mul-add width own 1 in
-    ((from, omega arith), packed_inside width (address + width * (own + 1)) blocks d (omega arith) (omega arith))
+packed_inside width address (b ∷ blocks) d from to = grind (arith, mul-add, packed_inside width (address + width * ((length b.entries) + 1)) blocks d (omega arith) (omega arith))
 
 -- The file of import tables.
 module _ (machine : MachineType) (t : Tables) (bytes : List ℕ) (file : MappedFile) (gives : List ℕ → Ask → List ℕ) (tables : AreTables machine t) (own : IsFileOf machine t.directory t.image bytes file)

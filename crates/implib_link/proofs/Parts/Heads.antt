@@ -35,12 +35,10 @@ use Rattle.implib_link.proofs.Gnu.Filling.{zero_table, table_with}
 module _ (group : Group) (o : Object) (b : Bases) (s : ObjectSection) (is : only_section group o ≡ Some s) (even : base_of group b % 4 ≡ 0) where
   in_section : (k value : ℕ) (found : Option ObjectSection) → slice_get o.sections k ≡ found → is_in_group group found ≡ true →
       address_in (section_addresses_of b o.sections) (suc k) value ≡ Some (base_of group b + value)
-  in_section k value None at own = cc
-  in_section k value (Some x) at own = grind (arith, one_is, one_address)
+  in_section k value found at own = grind (arith, one_is, one_address)
 
   pub group_address : (number value : ℕ) → is_in_group group (section_numbered o.sections number) ≡ true → address_in (section_addresses_of b o.sections) number value ≡ Some (base_of group b + value)
-  group_address zero value own = cc
-  group_address (suc k) value own = in_section k value (slice_get o.sections k) refl own
+  group_address number value own = grind (arith, in_section)
 
 -- an entry's symbol is defined there
 entry_defined : (o : Object) (b : Bases) (s : ObjectSection) → only_section Addresses o ≡ Some s → b.addresses % 4 ≡ 0 → (name : List ℕ) (entries : List Entry) → list_any (bytes_eq name) (filter_map (entry_name o.sections) entries) ≡ true →
@@ -55,14 +53,9 @@ entry_defined o b s is even name (ASymbol x ∷ entries) held =
           let parts = and_parts (is_defined_external x) ((x.value == 0) && is_in_group Addresses (section_numbered o.sections x.section)) all in
           let at = and_parts (x.value == 0) (is_in_group Addresses (section_numbered o.sections x.section)) parts.1 in
           let found : (bytes_eq name x.name || list_any (bytes_eq name) names) ≡ true = rw all at held in
-          let place : address_in addresses x.section x.value ≡ Some b.addresses =
-          group_address Addresses o b s is even x.section x.value at.1 ∙ ap (λ n. Some (b.addresses + n)) (eqb-true x.value 0 at.0) ∙ ap Some (plus_none b.addresses) in
+          let place : address_in addresses x.section x.value ≡ Some b.addresses = grind (arith, group_address, eqb-true, plus_none) in
           elim (cases_Bool (bytes_eq name x.name)) [
-            | inl same ↦
-                let definition : record { name = x.name; address = address_in addresses x.section x.value } ≡ record { name = name; address = Some b.addresses } =
-                ap (λ n. record { name = n; address = address_in addresses x.section x.value }) (sym ((bytes_eq-Decides name x.name).0 same)) ∙ ap (λ (a : Option ℕ). record { name = name; address = a }) place in
-                let here : Among (record { name = x.name; address = address_in addresses x.section x.value }) (filter_map (defined_by_entry addresses) (ASymbol x ∷ entries)) = rw parts.0 (among_first _ _) in
-                subst (λ (d : SymbolDefinition). Among d (filter_map (defined_by_entry addresses) (ASymbol x ∷ entries))) definition here
+            | inl same ↦ grind (arith, bytes_eq-Decides, among_first)
             | inr other ↦ rw parts.0 (among_later _ _ _ (entry_defined o b s is even name entries (rw other at found)))
           ]
       | inr other ↦ grind (arith, entry_defined o b s is even name entries (rw other at held), held, among_later)
@@ -175,24 +168,10 @@ module _ (machine : MachineType) (linked : List Placed) (image : List Range) (st
       at same rest zero q x is asked =
           let own : o ≡ q = cc in
           let section = has_section machine o e.ask (only_section Addresses o) entry.address in
-          subst (λ (p : Object). IsEntryPlaced b (o ∷ (objects ++ later)) p (b.addresses + thunk_width machine * 0)) own (record {
-            bases = b;
-            held = among_first _ _;
-            aligned = even;
-            addresses = times_none b.addresses (thunk_width machine);
-            section = section.0;
-            only = section.1;
-          })
+          grind (arith, among_first, times_none)
       at same rest (suc j) q x is asked =
           let found = rest j q x is asked in
-          record {
-            bases = found.bases;
-            held = among_later _ _ _ found.held;
-            aligned = found.aligned;
-            addresses = found.addresses ∙ ap (λ n. n + thunk_width machine * j) same ∙ times_next b.addresses (thunk_width machine) j;
-            section = found.section;
-            only = found.only;
-          }
+          grind (arith, among_later, times_next)
 
   -- The head.
   module _ (o : Object) (b : Bases) (rest : List Object) (sized : IsSized o) (even : AreAligned b) (located : LocatedFrom machine linked image b (o ∷ rest)) where
@@ -232,21 +211,14 @@ module _ (machine : MachineType) (linked : List Placed) (image : List Range) (st
     row_filled (r ∷ q ∷ []) row is = cc
     row_filled (r ∷ q ∷ n ∷ []) row is =
         elim (cases_Bool (is_field machine 0 r && (is_field machine 12 q && is_field machine 16 n))) [
-          | inl are ↦
-              let found : Some (record { lookups = r.symbol; name = q.symbol; addresses = n.symbol }) ≡ Some row = rw are at is in
-              let same : record { lookups = r.symbol; name = q.symbol; addresses = n.symbol } ≡ row = cc in
-              in_order r q n are ∙ ap (λ (w : Row). filled_row (target_address linked p w.lookups) (target_address linked p w.name) (target_address linked p w.addresses)) same
+          | inl are ↦ grind (arith, in_order)
           | inr other ↦ second other (cases_Bool (is_field machine 0 r && (is_field machine 16 q && is_field machine 12 n)))
         ]
       where
         second : (is_field machine 0 r && (is_field machine 12 q && is_field machine 16 n)) ≡ false →
             ((is_field machine 0 r && (is_field machine 16 q && is_field machine 12 n)) ≡ true) ⊎ ((is_field machine 0 r && (is_field machine 16 q && is_field machine 12 n)) ≡ false) →
             relocated machine linked p (r ∷ q ∷ n ∷ []) (zeros 20) ≡ filled_row (target_address linked p row.lookups) (target_address linked p row.name) (target_address linked p row.addresses)
-        second other (inl are) =
-            let found : Some (record { lookups = r.symbol; name = n.symbol; addresses = q.symbol }) ≡ Some row = rw (other, are) at is in
-            let same : record { lookups = r.symbol; name = n.symbol; addresses = q.symbol } ≡ row = cc in
-            name_last r q n are ∙ ap (λ (w : Row). filled_row (target_address linked p w.lookups) (target_address linked p w.name) (target_address linked p w.addresses)) same
-        second other (inr none) = let nothing : None ≡ Some row = rw (other, none) at is in cc
+        second other h1 = grind (arith, name_last)
     row_filled (r ∷ q ∷ n ∷ m ∷ relocations) row is = cc
 
     -- the descriptor
@@ -273,17 +245,7 @@ module _ (machine : MachineType) (linked : List Placed) (image : List Range) (st
         go (only_section group o) refl parts.0 parts.1
       where
         leads : (s : ObjectSection) → only_section group o ≡ Some s → (found : Option Entry) → leads_to group o found ≡ true → address_or_zero (option_and_then (symbol_address linked p) found) ≡ base_of group b
-        leads s at None led = cc
-        leads s at (Some (Auxiliary bytes)) led = cc
-        leads s at (Some (ASymbol x)) led =
-            let first = and_parts (not (is_undefined_external x)) ((x.value == 0) && is_in_group group (section_numbered o.sections x.section)) led in
-            let second = and_parts (x.value == 0) (is_in_group group (section_numbered o.sections x.section)) first.1 in
-            let place : address_in (section_addresses_of b o.sections) x.section x.value ≡ Some (base_of group b) =
-            group_address group o b s at level x.section x.value second.1 ∙ ap (λ n. Some (base_of group b + n)) (eqb-true x.value 0 second.0) ∙ ap Some (plus_none (base_of group b)) in
-            elim (cases_Bool (is_undefined_external x)) [
-              | inl left ↦ let none : false ≡ true = rw left at first.0 in cc
-              | inr own ↦ rw own (ap address_or_zero place)
-            ]
+        leads s at found led = grind (arith, and_parts, group_address, eqb-true, plus_none, cases_Bool)
 
         go : (found : Option ObjectSection) → only_section group o ≡ found → is_empty found ≡ true → leads_to group o (slice_get o.entries index) ≡ true →
             (target_address linked p index ≡ base_of group b) × (sections_end group (base_of group b) o.sections ≡ base_of group b)

@@ -37,32 +37,25 @@ stays step n one even = grind arith
 -- One section.
 
 pub contribution_none : (group : Group) (b : Bases) (flags : ℕ) (named : Option Group) (bytes : List ℕ) → is_of group named ≡ false → contribution_at group (address_after b flags named) bytes ≡ []
-contribution_none group b flags None bytes is = refl
-contribution_none group b flags (Some other) bytes is = rw is refl
+contribution_none group b flags named bytes is = grind arith
 
 pub end_none : (group : Group) (n : ℕ) (s : ObjectSection) (named : Option Group) → is_of group named ≡ false → end_with group n s named ≡ n
-end_none group n s None is = refl
-end_none group n s (Some other) is = rw is refl
+end_none group n s named is = grind arith
 
 pub contribution_one : (group : Group) (b : Bases) (flags : ℕ) (named : Option Group) (bytes : List ℕ) → is_of group named ≡ true →
     contribution_at group (address_after b flags named) bytes ≡ record { address = next_multiple (alignment flags) (base_of group b); bytes = bytes } ∷ []
-contribution_one group b flags None bytes is = cc
-contribution_one group b flags (Some other) bytes is = rw (is, same_base group other b is) refl
+contribution_one group b flags named bytes is = grind (arith, same_base)
 
 pub end_one : (group : Group) (n : ℕ) (s : ObjectSection) (named : Option Group) → is_of group named ≡ true → end_with group n s named ≡ next_multiple (alignment s.flags) n + length s.bytes
-end_one group n s None is = cc
-end_one group n s (Some other) is = rw is refl
+end_one group n s named is = grind arith
 
 pub address_one : (group : Group) (b : Bases) (flags : ℕ) (named : Option Group) (value : ℕ) → is_of group named ≡ true →
     address_at (address_after b flags named) value ≡ Some (next_multiple (alignment flags) (base_of group b) + value)
-address_one group b flags None value is = cc
-address_one group b flags (Some other) value is = rw (same_base group other b is) refl
+address_one group b flags named value is = grind (arith, same_base)
 
 -- what one_of gives
 pub one_is : (xs : List ObjectSection) (s : ObjectSection) → one_of xs ≡ Some s → (xs ≡ s ∷ []) × (fits_four s ≡ true)
-one_is [] s is = cc
-one_is (x ∷ []) s is = grind arith
-one_is (x ∷ y ∷ xs) s is = cc
+one_is xs s is = grind arith
 
 -- Objects without sections of a group, and with one.
 
@@ -153,10 +146,7 @@ one_address group (y ∷ sections) b s (suc k) x value is fits even at own =
   where
     nowhere : (rest : List ObjectSection) (i : ℕ) → sections_of group rest ≡ [] → slice_get rest i ≡ Some x → ⊥
     nowhere [] i none is = cc
-    nowhere (z ∷ rest) zero none is =
-        let same : z ≡ x = cc in
-        let here : is_of group (group_named z.name) ≡ true = subst (λ (z : ObjectSection). is_of group (group_named z.name) ≡ true) (sym same) own in
-        let some : z ∷ sections_of group rest ≡ [] = rw here at none in cc
+    nowhere (z ∷ rest) zero none is = grind arith
     nowhere (z ∷ rest) (suc i) none is =
         elim (cases_Bool (is_of group (group_named z.name))) [
           | inl here ↦ let some : z ∷ sections_of group rest ≡ [] = rw here at none in cc
@@ -228,8 +218,7 @@ module _ (machine : MachineType) (linked : List Placed) (image : List Range) (st
   -- the bytes that a symbol of its own leads to
   plain_bytes : (x : ObjectSection) (relocations : List Relocation) (value : ℕ) (bytes : List ℕ) → bytes_from x relocations value ≡ Some bytes →
       (relocations ≡ []) × ((holds_texts (group_named x.name) ≡ true) × (drop value x.bytes ≡ bytes))
-  plain_bytes x [] value bytes is = grind arith
-  plain_bytes x (r ∷ relocations) value bytes is = cc
+  plain_bytes x relocations value bytes is = grind arith
 
   in_section : (k value : ℕ) (bytes : List ℕ) (found : Option ObjectSection) → slice_get o.sections k ≡ found → option_and_then (λ (x : ObjectSection). bytes_from x x.relocations value) found ≡ Some bytes →
       (a : ℕ) × ((address_in (section_addresses_of b o.sections) (suc k) value ≡ Some a) × BytesAt image a bytes)
@@ -322,7 +311,6 @@ module _ (machine : MachineType) (linked : List Placed) (image : List Range) (st
             | inl both ↦
                 let parts = and_parts (bytes_eq bytes plain) (nat_lt n (2 ^ 16)) both in
                 let same : bytes ≡ plain = (bytes_eq-Decides bytes plain).0 parts.0 in
-                let found : Some (Ordinal n) ≡ Some ask = rw both at is in
                 let asks : Ordinal n ≡ ask = cc in (
                   subst (StrictThunkAt image (thunk_width machine) a) asks (ordinal_located machine image n a (ltb-true n (2 ^ 16) parts.1) (subst (BytesAt image a) same held)),
                   ap length same ∙ length-thunk_of machine n true,
@@ -359,8 +347,7 @@ module _ (machine : MachineType) (linked : List Placed) (image : List Range) (st
           (thunk.0, only.1 ∙ ap (λ n. base_of group b + n) thunk.1)
 
   none_left : (relocations : List Relocation) → has_none relocations ≡ true → relocations ≡ []
-  none_left [] is = refl
-  none_left (r ∷ relocations) is = cc
+  none_left relocations is = grind arith
 
   -- the tail's
   pub null_located : (group : Group) → IsCarried group → base_of group b % 4 ≡ 0 → null_thunk_of machine (only_section group o) ≡ true →

@@ -135,8 +135,7 @@ address_listed e = elim (cases_Bool e.is_data) [ inl is ↦ rw is (inl refl) | i
 
 pub only_one : {X : Type 0} (x y : X) → Among x (y ∷ []) → x ≡ y
 unfolding Among
-only_one x y (inl e) = e
-only_one x y (inr nothing) = absurd nothing
+only_one x y h2 = grind arith
 
 pub in_nothing : {X : Type 0} (x : X) → Among x [] → ⊥
 unfolding Among
@@ -207,9 +206,7 @@ first_in_group name [] g m within distinct held is found = absurd held
 first_in_group name (x ∷ groups) g m within distinct (inl e) is found = grind (arith, inl, first_here)
 first_in_group name (x ∷ groups) g m within distinct (inr held) is found =
     elim (found_or_not name x.members) [
-      | inl none ↦
-          first_behind name x.members (members_of_groups groups) none
-          ∙ first_in_group name groups g m within.1 (distinct_later x.symbols (symbols_of_groups groups) distinct) held is found
+      | inl none ↦ grind (arith, first_behind, distinct_later, first_in_group name groups g m within.1 (distinct_later x.symbols (symbols_of_groups groups) distinct) held is found)
       | inr here ↦
           let there = listed_is x.members name here.0 here.1 in
           absurd (distinct_apart x.symbols (symbols_of_groups groups) name distinct (within.0 here.0 name there.0 there.1) (among_flat (λ (y : Group). y.symbols) g groups name held is))
@@ -222,12 +219,8 @@ unfolding Among
 group_of_first name [] m found = cc
 group_of_first name (x ∷ groups) m found =
     elim (found_or_not name x.members) [
-      | inl none ↦
-          let later = group_of_first name groups m (sym (first_behind name x.members (members_of_groups groups) none) ∙ found) in
-          (later.0, inr later.1, later.2)
-      | inr here ↦
-          let same : here.0 ≡ m = (let e : Some here.0 ≡ Some m = sym (first_here name x.members (members_of_groups groups) here.0 here.1) ∙ found in cc) in
-          (x, inl refl, here.1 ∙ ap Some same)
+      | inl none ↦ grind (arith, first_behind, group_of_first name groups m (sym (first_behind name x.members (members_of_groups groups) none) ∙ found))
+      | inr here ↦ grind (arith, first_here)
     ]
 
 -- The groups of libraries.
@@ -263,15 +256,7 @@ module _ (machine : MachineType) where
       map member_of (reverse (numbered_specs machine (linked_name l.definition) start exports)) ≡ members_of_groups (export_groups l start exports)
   unfolding export_groups
   members_of_exports l start [] = refl
-  members_of_exports l start (e ∷ exports) =
-      let dll : NamesOfDll = names_for Gnu l.definition in
-      let own : List MemberSpec = numbered_specs_of machine dll.linked start e in
-      let later : List MemberSpec = numbered_specs machine dll.linked (start + 1) exports in
-      ap (map member_of) (reverse-append own later)
-      ∙ map-append member_of (reverse later) (reverse own)
-      ∙ ap (λ ms. ms ++ map member_of (reverse own)) (members_of_exports l (start + 1) exports)
-      ∙ ap (λ ms. members_of_groups (export_groups l (start + 1) exports) ++ ms) (sym (append-nil (map member_of (reverse own))))
-      ∙ sym (flat_map-append (λ (g : Group). g.members) (export_groups l (start + 1) exports) (export_group l start e ∷ []))
+  members_of_exports l start (e ∷ exports) = grind (arith, reverse-append, map-append, append-nil, flat_map-append, members_of_exports l (start + 1) exports)
 
   pub symbols_of_exports : (l : Library) (start : ℕ) (exports : List ExportView) →
       symbols_of_groups (export_groups l start exports) ≡ flat_map symbols_of_export (reverse exports)
@@ -367,12 +352,7 @@ module _ (machine : MachineType) where
 
   -- a name that an export's own member is listed for finds that member
   pub own_first : (l : Library) (n : ℕ) (e : ExportView) (name : List ℕ) → Among name (archive_symbols e) → first_listed (export_group machine l n e).members name ≡ Some (export_of machine l n e)
-  own_first l n e name listed =
-      let is : is_listed_for name (export_of machine l n e) ≡ true = among_any name (export_of machine l n e).symbols (subst (Among name) (sym (listed_export machine (linked_name l.definition) n e)) listed) in
-      elim (cases_Bool (is_alias e.alias_target e.name)) [
-        | inl alias ↦ rw (alias_members l n e alias, is) refl
-        | inr none ↦ rw (plain_members l n e none, is) refl
-      ]
+  own_first l n e name listed = grind (arith, among_any, listed_export, cases_Bool, alias_members, plain_members)
 
   -- and the bare name of data with an alias finds its weak external
   pub weak_first : (l : Library) (n : ℕ) (e : ExportView) → is_alias e.alias_target e.name ≡ true → e.is_data ≡ true →
@@ -381,8 +361,7 @@ module _ (machine : MachineType) where
   weak_first l n e alias is_data =
       let own : is_listed_for e.name (export_of machine l n e) ≡ false = grind (arith, false, false_from_ne_true, data_not_listed, listed_export, any_among) in
       let address : is_listed_for e.name (weak_address_of machine l n e) ≡ false = search (rules, false, false_from_ne_true, no_address, only_one, any_among) in
-      let weak : is_listed_for e.name (weak_of machine l n e) ≡ true = among_any e.name (weak_of machine l n e).symbols (inl refl) in
-      rw (alias_members l n e alias, own, address, weak) refl
+      cc (alias_members l n e alias, among_any e.name (weak_of machine l n e).symbols (inl refl))
 
   -- what a name finds in an export's group
   pub data InExport (l : Library) (n : ℕ) (e : ExportView) (name : List ℕ) (m : MemberView) : Type 0 where
@@ -418,19 +397,13 @@ module _ (machine : MachineType) where
   -- The objects of a library's members.
   module _ (l : Library) (made : IsLibrary machine l) where
     pub tail_object_is : object_in (tail_of machine l).bytes ≡ Some (tail machine (names_for Gnu l.definition))
-    tail_object_is =
-        tail_reads machine (names_for Gnu l.definition) (exports_of l) (linked_free l.definition machine l.members [] made) (sound l.definition machine l.members [] made)
-        (not_long l.definition machine l.members [] made)
+    tail_object_is = cc (tail_reads machine (names_for Gnu l.definition) (exports_of l) (linked_free l.definition machine l.members [] made) (sound l.definition machine l.members [] made) (not_long l.definition machine l.members [] made))
 
     pub head_object_is : object_in (head_of machine l).bytes ≡ Some (head machine (names_for Gnu l.definition))
-    head_object_is =
-        head_reads machine (names_for Gnu l.definition) (exports_of l) (linked_free l.definition machine l.members [] made) (sound l.definition machine l.members [] made)
-        (not_long l.definition machine l.members [] made)
+    head_object_is = cc (head_reads machine (names_for Gnu l.definition) (exports_of l) (linked_free l.definition machine l.members [] made) (sound l.definition machine l.members [] made) (not_long l.definition machine l.members [] made))
 
     pub export_object_is : (n : ℕ) (e : ExportView) → slice_get (exports_of l) n ≡ Some e → object_in (export_of machine l n e).bytes ≡ Some (export machine (names_for Gnu l.definition) e)
-    export_object_is n e is =
-        export_reads machine (names_for Gnu l.definition) (exports_of l) (linked_free l.definition machine l.members [] made) (sound l.definition machine l.members [] made)
-        (not_long l.definition machine l.members [] made) n e is
+    export_object_is n e is = cc (export_reads machine (names_for Gnu l.definition) (exports_of l) (linked_free l.definition machine l.members [] made) (sound l.definition machine l.members [] made) (not_long l.definition machine l.members [] made) n e is)
 
     pub weak_there : (n : ℕ) (e : ExportView) → is_alias e.alias_target e.name ≡ true →
         Among (weak_spec machine (weak_name (linked_name l.definition) n) e.name e.alias_target) (numbered_specs_of machine (linked_name l.definition) n e)

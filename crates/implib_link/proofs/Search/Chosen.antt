@@ -36,16 +36,14 @@ is_chosen Msvc names e = is_import_wanted names e
 is_chosen Gnu names e = is_wanted names e
 
 pub own_chosen : (flavor : Flavor) (names : List (List ℕ)) (e : ExportView) → is_chosen flavor names e ≡ true → IsOwn flavor e
-own_chosen Msvc names e want = (import_parts names e want).1
-own_chosen Gnu names e want = tt
+own_chosen flavor names e want = grind (arith, import_parts)
 
 pub chosen_name : (flavor : Flavor) (names : List (List ℕ)) (e : ExportView) → is_chosen flavor names e ≡ true → (name : List ℕ) × Among name (symbols_in flavor e) × Among name names
 chosen_name Msvc names e want = wanted_name names (short_import_symbols e) (import_parts names e want).0
 chosen_name Gnu names e want = wanted_name names (archive_symbols e) want
 
 pub chosen_by : (flavor : Flavor) (names : List (List ℕ)) (e : ExportView) (name : List ℕ) → IsOwn flavor e → Among name (symbols_in flavor e) → Among name names → is_chosen flavor names e ≡ true
-chosen_by Msvc names e name own listed want = both_parts names e (wants names (short_import_symbols e) name listed want) own
-chosen_by Gnu names e name own listed want = wants names (archive_symbols e) name listed want
+chosen_by flavor names e name own listed want = grind (arith, both_parts, wants)
 
 -- names that want an export want it with more names
 pub chosen_too : (flavor : Flavor) (names more : List (List ℕ)) (e : ExportView) → ((name : List ℕ) → Among name names → Among name more) → is_chosen flavor names e ≡ true →
@@ -84,8 +82,7 @@ if_any flavor l [] = None
 if_any flavor l (n ∷ chosen) = Some (input_with flavor l (n ∷ chosen))
 
 pub input_if : (flavor : Flavor) (names : List (List ℕ)) (l : Library) → flavor_input names flavor l ≡ if_any flavor l (numbers_in flavor names l)
-input_if Msvc names l = grind arith
-input_if Gnu names l = grind arith
+input_if flavor names l = grind arith
 
 some_input : (names : List (List ℕ)) (l : FlavorLibrary) → AnyOf names l → flavor_input names l.flavor l.library ≡ Some (input_in names l)
 unfolding Among
@@ -251,9 +248,7 @@ module _ (machine : MachineType) where
       few_linked name =
           let most : times name (null_of shorts) + times name (of_libraries machine libraries) ≤ 1 = few machine libraries archive name in
           let turned : times name (of_libraries machine arranged) ≡ times name (of_libraries machine libraries) = times_moved (λ (l : FlavorLibrary). of_library machine l.flavor l.library) name libraries arranged moved in
-          let less : times name (of_inputs (flavor_inputs arranged names)) ≤ times name (of_libraries machine arranged) = inputs_fewer name arranged names in
-          let some : times name (null_of shorts ++ of_inputs (flavor_inputs arranged names)) ≡ times name (null_of shorts) + times name (of_inputs (flavor_inputs arranged names)) = grind (arith, times, null_of, times_both) in
-          omega arith
+          grind (arith, times, of_libraries, inputs_fewer, null_of, times_both)
 
       with_null_distinct : IsDistinct bytes_eq (null_of shorts ++ symbols_listed (all_members machine (flavor_inputs arranged names)))
       with_null_distinct =

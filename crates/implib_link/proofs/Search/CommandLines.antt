@@ -90,13 +90,7 @@ module _ (reads : List ℕ → Option Object) (members : List MemberView) where
       twice (keeps_on (numbers_of (Archives archives)) (numbers_of (Archives archives)) before between after (archives_keep own archives before between first) (rounds_keep own archives count between after later))
     where
       twice : Keeps (numbers_of (Archives archives) ++ numbers_of (Archives archives)) before after → Keeps (numbers_of (Archives archives)) before after
-      twice two n = (
-        (two n).0,
-        λ held. elim ((two n).1 held) [
-          | inl old ↦ inl old
-          | inr new ↦ elim (among_either n (numbers_of (Archives archives)) (numbers_of (Archives archives)) new) [ inl one ↦ inr one | inr other ↦ inr other ]
-        ],
-      )
+      twice two n = grind (arith, among_either)
 
   pub searches_keep : (own : List Object) (inputs : List Input) (before after : List ℕ) → SearchesFrom reads members own inputs before after → Keeps (numbers_in inputs) before after
   unfolding SearchesFrom
@@ -411,14 +405,8 @@ module _ (reads : List ℕ → Option Object) (members : List MemberView) where
       first_kept [] name m other is = absurd (cc)
       first_kept (x ∷ some) name m other is =
           elim (cases_Bool (is_listed_for name x)) [
-            | inl here ↦
-                let same : x ≡ m = same_Some x m (rw here at is) in
-                let kept : is_given x ≡ false = ap is_given same ∙ other in
-                rw (kept, here) (ap Some same)
-            | inr none ↦ elim (cases_Bool (is_given x)) [
-              | inl given ↦ rw given (first_kept some name m other (rw none at is))
-              | inr kept ↦ rw (kept, none) (first_kept some name m other (rw none at is))
-            ]
+            | inl here ↦ grind (arith, same_Some)
+            | inr none ↦ grind (arith, cases_Bool, first_kept some name m other (rw none at is))
           ]
 
       -- a member is among those that are given or among the others

@@ -41,12 +41,7 @@ member_same : (m n : MemberView) → is_same m n ≡ true → m ≡ n
 member_same m n is =
     let first = and_parts (bytes_eq m.name n.name) (bytes_eq m.bytes n.bytes && same_names m.symbols n.symbols) is in
     let second = and_parts (bytes_eq m.bytes n.bytes) (same_names m.symbols n.symbols) first.1 in
-    let name : m.name ≡ n.name = (bytes_eq-Decides m.name n.name).0 first.0 in
-    let bytes : m.bytes ≡ n.bytes = (bytes_eq-Decides m.bytes n.bytes).0 second.0 in
-    let symbols : m.symbols ≡ n.symbols = names_same m.symbols n.symbols second.1 in
-    ap (λ t. record { name = t; bytes = m.bytes; symbols = m.symbols }) name
-    ∙ ap (λ t. record { name = n.name; bytes = t; symbols = m.symbols }) bytes
-    ∙ ap (λ t. record { name = n.name; bytes = n.bytes; symbols = t }) symbols
+    rw ((bytes_eq-Decides m.name n.name).0 first.0, (bytes_eq-Decides m.bytes n.bytes).0 second.0, names_same m.symbols n.symbols second.1)
 
 own_member : (m : MemberView) → is_same m m ≡ true
 own_member m = rw (same_text m.name, same_text m.bytes, own_names m.symbols) refl
@@ -155,8 +150,7 @@ module _ (reads : List ℕ → Option Object) (archive : List MemberView) (own :
   ends_from (suc most) taken few turn =
       elim (pulls_or_not taken (left_by taken) (λ name held. held)) [
         | inr none ↦ finished taken turn none
-        | inl found ↦
-            ends_from most (found.1 ∷ taken) (less_left (not_taken archive (found.1 ∷ taken)) (not_taken archive taken) most (fewer_left taken found.0 found.1 found.3) few) ((found.0, found.3), turn)
+        | inl found ↦ grind (arith, less_left, fewer_left, ends_from most (found.1 ∷ taken) (less_left (not_taken archive (found.1 ∷ taken)) (not_taken archive taken) most (fewer_left taken found.0 found.1 found.3) few) ((found.0, found.3), turn))
       ]
 
   pub into_ends : (taken : List MemberView) × TakesIntoAs reads archive own taken

@@ -47,12 +47,10 @@ later_bytes x y xs ys same = cc
 
 -- a text that begins so is none that begins with an underscore
 plain_apart : (text more rest : List ℕ) → begins_plain text ≡ true → text ++ more ≡ underscore ∷ rest → ⊥
-plain_apart [] more rest plain same = true≢false (sym plain)
-plain_apart (byte ∷ text) more rest plain same = no_underscore byte (first_byte byte underscore (text ++ more) rest same) plain
+plain_apart text more rest plain same = grind (arith, true≢false, no_underscore, first_byte)
 
 two_numbers : (x y n m : ℕ) → x ≡ y → x ≡ n → y ≡ m → n + 1 ≤ m ⊎ m + 1 ≤ n → ⊥
-two_numbers x y n m same is other (inl less) = omega arith
-two_numbers x y n m same is other (inr more) = omega arith
+two_numbers x y n m same is other h7 = grind arith
 
 h_is_no_underscore : (xs ys : List ℕ) → 0x68 ∷ xs ≡ 0x5F ∷ ys → ⊥
 h_is_no_underscore xs ys same = two_numbers 0x68 0x5F 0x68 0x5F (first_byte 0x68 0x5F xs ys same) refl refl (inr (omega arith))
@@ -66,17 +64,11 @@ tail_no_head machine dll other plain same = grind (arith, same, plain_apart, cod
 
 tail_no_imp : (machine : MachineType) (dll name : List ℕ) → begins_plain (mangled_name dll) ≡ true → iname_symbol machine dll ≡ imp_symbol name → ⊥
 unfolding iname_symbol
-tail_no_imp I386 dll name plain same = grind (arith, same, plain_apart, codes, later_bytes)
-tail_no_imp ARMNT dll name plain same = plain_apart (mangled_name dll) (codes "_iname") (codes "_imp_" ++ name) plain same
-tail_no_imp AMD64 dll name plain same = plain_apart (mangled_name dll) (codes "_iname") (codes "_imp_" ++ name) plain same
-tail_no_imp ARM64 dll name plain same = plain_apart (mangled_name dll) (codes "_iname") (codes "_imp_" ++ name) plain same
+tail_no_imp machine dll name plain same = grind (arith, plain_apart, later_bytes)
 
 head_no_imp : (machine : MachineType) (dll name : List ℕ) → head_symbol machine dll ≡ imp_symbol name → ⊥
 unfolding head_symbol
-head_no_imp I386 dll name same = grind (arith, same, h_is_no_i, codes, later_bytes)
-head_no_imp ARMNT dll name same = grind (arith, same, h_is_no_underscore, codes, later_bytes)
-head_no_imp AMD64 dll name same = grind (arith, same, h_is_no_underscore, codes, later_bytes)
-head_no_imp ARM64 dll name same = grind (arith, same, h_is_no_underscore, codes, later_bytes)
+head_no_imp machine dll name same = grind (arith, h_is_no_i, later_bytes, h_is_no_underscore)
 
 -- Texts that differ where others do.
 
@@ -87,11 +79,7 @@ distinct_mapped {X = X} g h back (x ∷ xs) distinct = (others xs distinct.0, di
   where
     others : (ys : List X) → AllByRecursion (λ other. bytes_eq (g x) other ≡ false) (map g ys) → AllByRecursion (λ other. bytes_eq (h x) other ≡ false) (map h ys)
     others [] all = tt
-    others (y ∷ ys) all = (
-      false_from_ne_true (bytes_eq (h x) (h y)) (λ same.
-          true≢false (sym ((bytes_eq-Decides (g x) (g y)).1 (back x y ((bytes_eq-Decides (h x) (h y)).0 same))) ∙ all.0)),
-      others ys all.1,
-    )
+    others (y ∷ ys) all = grind (arith, false_from_ne_true, true≢false, bytes_eq-Decides, others ys all.1)
 
 stem_of_tail : (machine : MachineType) (l k : Library) → iname_symbol machine (linked_name l.definition) ≡ iname_symbol machine (linked_name k.definition) → stem l ≡ stem k
 unfolding iname_symbol
@@ -113,11 +101,7 @@ unfolding times
 exports_count name [] = omega arith
 exports_count name (e ∷ es) =
     let behind = exports_count name es in
-    let all : times name (symbols_of_export e ++ flat_map symbols_of_export es) ≡ times name (symbols_of_export e) + times name (flat_map symbols_of_export es) = grind (arith, times_both) in
-    elim (cases_Bool (e.is_data && not (is_alias e.alias_target e.name))) [
-      | inl alone ↦ grind (arith, times)
-      | inr both ↦ grind (arith, times)
-    ]
+    grind (arith, times, times_both, cases_Bool)
 
 module _ (machine : MachineType) where
   library_count : (name : List ℕ) (libraries : List Library) →
@@ -126,17 +110,13 @@ module _ (machine : MachineType) where
   unfolding times symbols_of_library
   library_count name [] = omega arith
   library_count name (l ∷ libraries) =
-      let dll : NamesOfDll = names_for Gnu l.definition in
-      let own : List (List ℕ) = map (λ (e : ExportView). e.name) (exports_of l) in
       let behind = library_count name libraries in
       let turned : times name (flat_map symbols_of_export (reverse (exports_of l))) ≡ times name (flat_map symbols_of_export (exports_of l)) = grind (arith, times_moved symbols_of_export name (exports_of l) (reverse (exports_of l)) (IsPermutation-reverse (exports_of l))) in
       let few = exports_count name (exports_of l) in
       let split : times name (flat_map symbols_of_export (reverse (exports_of l)) ++ flat_map (symbols_of_library machine) libraries)
       ≡ times name (flat_map symbols_of_export (reverse (exports_of l))) + times name (flat_map (symbols_of_library machine) libraries) = grind (arith, times_both) in
       let names : times name (map (λ (e : ExportView). e.name) (exports_of l) ++ names_in libraries) ≡ times name (map (λ (e : ExportView). e.name) (exports_of l)) + times name (names_in libraries) = grind (arith, times_both) in
-      let imps : times name (map imp_symbol (map (λ (e : ExportView). e.name) (exports_of l) ++ names_in libraries))
-      ≡ times name (map imp_symbol (map (λ (e : ExportView). e.name) (exports_of l))) + times name (map imp_symbol (names_in libraries)) = grind (arith, times, map-append, times_both) in
-      omega arith
+      grind (arith, times, map-append, times_both)
 
   module _ (libraries : List Library) (apart : AreNamedApart machine libraries) where
     abbrev tails : List (List ℕ)
@@ -234,12 +214,10 @@ shorts_archive machine libraries archive = grind (arith, no_gnu, shorts_alone, f
 -- A library of a flavour is among all.
 
 gnu_is : (flavor : Flavor) (l x : Library) → if_gnu flavor l ≡ Some x → in_flavor Gnu x ≡ in_flavor flavor l
-gnu_is Gnu l x is = (let same : l ≡ x = cc in ap (in_flavor Gnu) (sym same))
-gnu_is Msvc l x is = cc
+gnu_is flavor l x is = grind (arith, in_flavor)
 
 msvc_is : (flavor : Flavor) (l x : Library) → if_msvc flavor l ≡ Some x → in_flavor Msvc x ≡ in_flavor flavor l
-msvc_is Msvc l x is = (let same : l ≡ x = cc in ap (in_flavor Msvc) (sym same))
-msvc_is Gnu l x is = cc
+msvc_is flavor l x is = grind (arith, in_flavor)
 
 module _ (libraries : List FlavorLibrary) where
   pub gnu_there : (l : Library) → Among (in_flavor Gnu l) libraries → Among l (gnu_among libraries)
@@ -288,15 +266,11 @@ module _ (machine : MachineType) where
 
   symbols_in_groups : (flavor : Flavor) (l : Library) → symbols_of_groups (groups_in flavor l) ≡ of_library flavor l
   unfolding symbols_of_shorts symbols_of_library
-  symbols_in_groups Msvc l = ap (λ names. descriptor_symbol (linked_dll l.definition) ∷ null_thunk_symbol (linked_dll l.definition) ∷ names) (symbols_of_groups_of machine l (exports_of l))
-  symbols_in_groups Gnu l = ap (λ names. iname_symbol machine (linked_name l.definition) ∷ head_symbol machine (linked_name l.definition) ∷ names) (symbols_of_exports machine l 0 (exports_of l))
+  symbols_in_groups flavor l = grind (arith, symbols_of_groups_of, symbols_of_exports)
 
   symbols_groups : (libraries : List FlavorLibrary) → symbols_of_groups (all_groups libraries) ≡ of_libraries libraries
   symbols_groups [] = refl
-  symbols_groups (l ∷ libraries) =
-      flat_map-append (λ (g : Group). g.symbols) (groups_in l.flavor l.library) (all_groups libraries)
-      ∙ ap (λ names. names ++ symbols_of_groups (all_groups libraries)) (symbols_in_groups l.flavor l.library)
-      ∙ ap (λ names. of_library l.flavor l.library ++ names) (symbols_groups libraries)
+  symbols_groups (l ∷ libraries) = grind (arith, flat_map-append, symbols_of_groups, symbols_in_groups, symbols_groups libraries)
 
   abbrev pub IsEnd : Role → Type 0
   IsEnd Top = Unit {0}
@@ -341,10 +315,7 @@ module _ (machine : MachineType) where
       among_later _ _ _ (among_later _ _ _ (subst (λ k. Among (export_group machine l k e) (export_groups machine l 0 (exports_of l))) position (group_is_export machine l (exports_of l) 0 n e is)))
 
   within : (flavor : Flavor) (l : Library) (g : Group) → IsGroup flavor l g → IsWithin g
-  within flavor l g (OfRole r end is) = subst IsWithin (sym is) (λ m name held listed.
-      subst (Among name) (listed_as machine flavor l r) (subst (λ (y : MemberView). Among name y.symbols) (only_one m (member machine flavor l r) held) listed))
-  within Msvc l g (OfExport n e at is) = subst IsWithin (sym is) (within_short machine l e)
-  within Gnu l g (OfExport n e at is) = subst IsWithin (sym is) (within_gnu machine l n e)
+  within flavor l g h3 = grind (arith, listed_as, only_one, member, within_short, within_gnu)
 
   all_within : (libraries : List FlavorLibrary) → AllByRecursion IsWithin (all_groups libraries)
   all_within libraries = all_from IsWithin (all_groups libraries) (λ g held.
@@ -359,8 +330,7 @@ module _ (machine : MachineType) where
 
   same_behind : (name : List ℕ) (front rest other : List MemberView) → first_listed rest name ≡ first_listed other name → first_listed (front ++ rest) name ≡ first_listed (front ++ other) name
   same_behind name [] rest other same = same
-  same_behind name (m ∷ front) rest other same =
-      elim (cases_Bool (is_listed_for name m)) [ inl is ↦ rw is refl | inr none ↦ rw none (same_behind name front rest other same) ]
+  same_behind name (m ∷ front) rest other same = grind (arith, cases_Bool, same_behind name front rest other same)
 
   without_null : (name : List ℕ) (l : Library) (d t : MemberView) (rest : List MemberView) → bytes_eq name null_descriptor_symbol ≡ false →
       first_listed (d ∷ null_member_of machine l ∷ t ∷ rest) name ≡ first_listed (d ∷ t ∷ rest) name
@@ -372,9 +342,7 @@ module _ (machine : MachineType) where
 
   library_groups : (name : List ℕ) (flavor : Flavor) (l : Library) (rest : List MemberView) → AreMembersOf l.definition machine flavor l.members → NotNull name flavor →
       first_listed (l.members ++ rest) name ≡ first_listed (members_of_groups (groups_in flavor l) ++ rest) name
-  library_groups name Msvc l rest made none =
-      ap (λ ms. first_listed (ms ++ rest) name) (members_are machine l made)
-      ∙ without_null name l (descriptor_of machine l) (thunk_of machine l) (members_of_groups (map (short_group machine l) (exports_of l)) ++ rest) none
+  library_groups name Msvc l rest made none = cc (members_are machine l made, without_null name l (descriptor_of machine l) (thunk_of machine l) (members_of_groups (map (short_group machine l) (exports_of l)) ++ rest) none)
   library_groups name Gnu l rest made none = ap (λ ms. first_listed (ms ++ rest) name) (gnu_members_are l made)
 
   abbrev AreMade : List FlavorLibrary → Type 0
@@ -397,8 +365,7 @@ module _ (machine : MachineType) where
   null_found name l rest named none =
       let other : is_listed_for name (descriptor_of machine l) ≡ false =
       false_from_ne_true (is_listed_for name (descriptor_of machine l)) (λ is. none (inl (only_one name (descriptor_symbol (linked_dll l.definition)) (any_among name (descriptor_of machine l).symbols is)))) in
-      let own : is_listed_for name (null_member_of machine l) ≡ true = among_any name (null_member_of machine l).symbols (inl named) in
-      rw (other, own) refl
+      cc (among_any name (null_member_of machine l).symbols (inl named))
 
   listed_in_library : (name : List ℕ) (l : Library) (m : MemberView) → AreMembersOf l.definition machine Gnu l.members → first_listed l.members name ≡ Some m → Among name (of_library Gnu l)
   listed_in_library name l m made found =
@@ -424,15 +391,13 @@ module _ (machine : MachineType) where
       by Msvc y own none first later =
           let same : y ≡ x = cc in
           let behind : List MemberView = thunk_of machine y ∷ members_of_groups (map (short_group machine y) (exports_of y)) in
-          ap (λ ms. first_listed (ms ++ archive_of_both libraries) name) (members_are machine y own) ∙ null_found name y (behind ++ archive_of_both libraries) named none
-          ∙ ap (λ z. Some (null_member_of machine z)) same
+          cc (members_are machine y own, null_found name y (behind ++ archive_of_both libraries) named none)
 
   sums_first : (name : List ℕ) (flavor : Flavor) (l : Library) (rest : List FlavorLibrary) →
       times name (of_libraries rest) ≡ times name (flat_map (symbols_of_library machine) (gnu_among rest)) + times name (flat_map symbols_of_shorts (msvc_among rest)) →
       times name (of_library flavor l) + times name (of_libraries rest)
       ≡ times name (flat_map (symbols_of_library machine) (cons_option (if_gnu flavor l) (gnu_among rest))) + times name (flat_map symbols_of_shorts (cons_option (if_msvc flavor l) (msvc_among rest)))
-  sums_first name Msvc l rest later = grind (arith, times_both)
-  sums_first name Gnu l rest later = grind (arith, times_both)
+  sums_first name flavor l rest later = grind (arith, times_both)
 
   sums : (name : List ℕ) (libraries : List FlavorLibrary) →
       times name (of_libraries libraries) ≡ times name (flat_map (symbols_of_library machine) (gnu_among libraries)) + times name (flat_map symbols_of_shorts (msvc_among libraries))
@@ -446,13 +411,11 @@ module _ (machine : MachineType) (libraries : List FlavorLibrary) (archive : IsF
 
   shorts_differ : (ls : List Library) → IsDistinct bytes_eq (null_descriptor_symbol ∷ flat_map symbols_of_shorts ls) → IsDistinct bytes_eq (symbols_of_all_shorts ls)
   unfolding IsDistinct
-  shorts_differ [] distinct = tt
-  shorts_differ (l ∷ ls) distinct = distinct
+  shorts_differ ls distinct = grind arith
 
   with_null : (name : List ℕ) (ls : List Library) → times name (symbols_of_all_shorts ls) ≡ times name (null_of ls) + times name (flat_map symbols_of_shorts ls)
   unfolding times
-  with_null name [] = refl
-  with_null name (l ∷ ls) = times_both name (null_descriptor_symbol ∷ []) (flat_map symbols_of_shorts (l ∷ ls))
+  with_null name ls = grind (arith, times_both)
 
   -- the symbols of all libraries and the null descriptor's
   pub few : (name : List ℕ) → times name (null_of shorts) + times name (of_libraries machine libraries) ≤ 1
@@ -468,8 +431,7 @@ module _ (machine : MachineType) (libraries : List FlavorLibrary) (archive : IsF
       ]
 
   symbols_differ : IsDistinct bytes_eq (null_of (msvc_among libraries) ++ of_libraries machine libraries)
-  symbols_differ = distinct_from (null_of shorts ++ of_libraries machine libraries) (λ name.
-      (let both = times_both name (null_of shorts) (of_libraries machine libraries) in let most : times name (null_of shorts) + times name (of_libraries machine libraries) ≤ 1 = few name in omega arith))
+  symbols_differ = grind (arith, distinct_from, times_both, times, few)
 
   pub made_of : (flavor : Flavor) (l : Library) → Among (in_flavor flavor l) libraries → AreMembersOf l.definition machine flavor l.members
   made_of Gnu l held = all_among (λ (x : Library). AreMembersOf x.definition machine Gnu x.members) l (gnu_among libraries) (gnu_there libraries l held) archive.gnu.made
@@ -574,11 +536,7 @@ module _ (machine : MachineType) (libraries : List FlavorLibrary) (archive : IsF
   one name own is = subst (λ n. Among n (own ∷ [])) (sym is) (among_first own [])
 
   of_end : (flavor : Flavor) (l : Library) (r : Role) → IsEnd machine r → IsRole libraries (in_flavor flavor l) r
-  of_end flavor l Top end = tt
-  of_end flavor l Last end = tt
-  of_end flavor l Null end = absurd end
-  of_end flavor l (Own n e) end = absurd end
-  of_end flavor l (Weak n e b) end = absurd end
+  of_end flavor l r end = grind arith
 
   as_one : (name own : List ℕ) (m : MemberView) → Among name (own ∷ []) → first_listed (archive_of_both libraries) own ≡ Some m → first_listed (archive_of_both libraries) name ≡ Some m
   as_one name own m held is = ap (first_listed (archive_of_both libraries)) (only_one name own held) ∙ is

@@ -126,13 +126,11 @@ module _ (machine : MachineType) where
       let name : List ℕ = imp_symbol (short_import_symbol e) in
       let other : is_listed_for (imp_symbol (short_import_symbol e)) (weak_of machine l (short_import_symbol e) e.alias_target) ≡ false =
       false_from_ne_true _ (λ is. no_address (short_import_symbol e) (sym (only_one name (short_import_symbol e) (any_among name (short_import_symbol e ∷ []) is)))) in
-      let own : is_listed_for (imp_symbol (short_import_symbol e)) (weak_of machine l (imp_symbol (short_import_symbol e)) (imp_symbol e.alias_target)) ≡ true = among_any name (name ∷ []) (among_first _ _) in
-      rw (alias_members l e alias, other, own) refl
+      cc (alias_members l e alias, among_any name (name ∷ []) (among_first _ _))
 
   pub pair_first : (l : Library) (e : ExportView) (weak target : List ℕ) → is_short_alias e ≡ true → IsPair e weak target →
       first_listed (short_group l e).members weak ≡ Some (weak_of machine l weak target)
-  pair_first l e weak target alias (inl is) = grind (arith, symbol_first)
-  pair_first l e weak target alias (inr is) = grind (arith, address_first)
+  pair_first l e weak target alias h5 = grind (arith, symbol_first, address_first)
 
   -- what a name finds in an export's group
   pub data InExport (l : Library) (e : ExportView) (name : List ℕ) (m : MemberView) : Type 0 where
@@ -225,12 +223,7 @@ left_thunk machine dll = refl
 
 pub left_asking : (machine : MachineType) (dll : NamesOfDll) (symbol : List ℕ) (ask : Ask) (use_kind : Use) → undefined_in (import_object machine dll.text symbol ask use_kind) ≡ descriptor_symbol_by_name dll.text ∷ []
 unfolding undefined_in import_object
-left_asking machine dll symbol (Ordinal n) Code = refl
-left_asking machine dll symbol (Ordinal n) Data = refl
-left_asking machine dll symbol (Ordinal n) Constant = refl
-left_asking machine dll symbol (Name text hint) Code = refl
-left_asking machine dll symbol (Name text hint) Data = refl
-left_asking machine dll symbol (Name text hint) Constant = refl
+left_asking machine dll symbol ask use_kind = grind arith
 
 -- Which members are weak externals.
 
@@ -248,12 +241,7 @@ thunk_not_weak machine dll = refl
 
 pub asking_not_weak : (machine : MachineType) (dll : NamesOfDll) (symbol : List ℕ) (ask : Ask) (use_kind : Use) → has_weak (Some (import_object machine dll.text symbol ask use_kind)) ≡ false
 unfolding import_object
-asking_not_weak machine dll symbol (Ordinal n) Code = refl
-asking_not_weak machine dll symbol (Ordinal n) Data = refl
-asking_not_weak machine dll symbol (Ordinal n) Constant = refl
-asking_not_weak machine dll symbol (Name text hint) Code = refl
-asking_not_weak machine dll symbol (Name text hint) Data = refl
-asking_not_weak machine dll symbol (Name text hint) Constant = refl
+asking_not_weak machine dll symbol ask use_kind = grind arith
 
 pub weak_is_weak : (machine : MachineType) (weak target : List ℕ) → has_weak (Some (taken_weak machine weak target)) ≡ true
 unfolding with_section_symbols weak_object object_of entries_of name_text
@@ -275,8 +263,7 @@ thunk_has machine dll = refl
 
 pub asking_has : (machine : MachineType) (dll : NamesOfDll) (symbol : List ℕ) (ask : Ask) (use_kind : Use) → has_tables (import_object machine dll.text symbol ask use_kind) ≡ true
 unfolding has_tables import_object
-asking_has machine dll symbol (Ordinal n) use_kind = refl
-asking_has machine dll symbol (Name text hint) use_kind = refl
+asking_has machine dll symbol ask use_kind = cc
 
 pub weak_has_none : (machine : MachineType) (weak target : List ℕ) → has_tables (taken_weak machine weak target) ≡ false
 unfolding has_tables with_section_symbols weak_object object_of entries_of name_text

@@ -23,8 +23,7 @@ use Rattle.std.proofs.lemmas.Option.{same_Some}
 -- An object without its weak externals leaves the same names, and claims the others.
 
 not_weak : (e : Entry) (name : List ℕ) → undefined_name e ≡ Some name → is_weak_entry e ≡ false
-not_weak (Auxiliary bytes) name is = refl
-not_weak (ASymbol s) name is = grind arith
+not_weak e name is = grind arith
 
 pub left_plain : (o : Object) (name : List ℕ) → Among name (undefined_in o) → Among name (undefined_in (without_weak o))
 unfolding undefined_in without_weak
@@ -98,8 +97,7 @@ module _ (os : List Object) (name : List ℕ) where
       ∙ from_not (is_weak_entry kept.0) own.1))
 
 plain_one : (x : Option Object) (os plain : List Object) → plain ≡ map without_weak os → cons_option (option_map without_weak x) plain ≡ map without_weak (cons_option x os)
-plain_one None os plain same = same
-plain_one (Some o) os plain same = ap (λ others. without_weak o ∷ others) same
+plain_one x os plain same = grind arith
 
 -- each weak external of these members is the first that its name leads to
 abbrev AreFirst : (List ℕ → Option Object) → List MemberView → List MemberView → Type 0
@@ -124,10 +122,7 @@ module _ (reads : List ℕ → Option Object) where
     module _ (none : HaveNoWeak own) where
       own_none : (o : Object) (name : List ℕ) → Among o own → Among name (weak_names o) → ⊥
       unfolding weak_names
-      own_none o name held among =
-          let from = kept_from claimed_name (filter is_weak_entry o.entries) name among in
-          let weak = passing is_weak_entry from.0 o.entries from.1 in
-          true≢false (sym weak.1 ∙ none_among is_weak_entry from.0 o.entries weak.0 (all_among (λ (x : Object). list_any is_weak_entry x.entries ≡ false) o own held none))
+      own_none o name held among = grind (arith, kept_from, passing, true≢false, none_among, all_among)
 
       -- what is left without weak externals is left with them, or is the name of one of a member
       either : (taken : List MemberView) (name : List ℕ) → Contains (left_plainly reads own taken) name →
@@ -136,12 +131,7 @@ module _ (reads : List ℕ → Option Object) where
           elim (left_or_weak (own ++ objects_as reads taken) name
           (contains_among name (unresolved (map without_weak (own ++ objects_as reads taken))) (subst (λ os. Contains (unresolved os) name) (plain_objects taken) held))) [
             | inl held ↦ inl (among_contains name (unresolved (own ++ objects_as reads taken)) held)
-            | inr weak ↦ elim (among_either weak.0 own (objects_as reads taken) weak.1) [
-              | inl here ↦ absurd (own_none weak.0 name here weak.2)
-              | inr there ↦
-                  let from = kept_from (λ (m : MemberView). reads m.bytes) taken weak.0 there in
-                  inr (record { member = from.0; held = from.1; object = weak.0; taken = from.2; among = weak.2 })
-            ]
+            | inr weak ↦ grind (arith, among_either, own_none, kept_from)
           ]
 
       pub left : (taken : List MemberView) (name : List ℕ) → Contains (left_plainly reads own taken) name → (Contains (unresolved (own ++ objects_as reads taken)) name → ⊥) → IsWeakAmong reads taken name

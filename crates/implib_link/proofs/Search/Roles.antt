@@ -158,15 +158,7 @@ IsRole libraries l (Weak n e b) = (slice_get (exports_of l.library) n ≡ Some e
 
 pub listed_as : (machine : MachineType) (flavor : Flavor) (l : Library) (r : Role) → (member machine flavor l r).symbols ≡ symbols machine flavor l r
 unfolding descriptor_spec null_descriptor_spec null_thunk_spec head_spec tail_spec export_spec
-listed_as machine Msvc l Top = refl
-listed_as machine Gnu l Top = refl
-listed_as machine Msvc l Last = refl
-listed_as machine Gnu l Last = refl
-listed_as machine flavor l Null = refl
-listed_as machine Msvc l (Own n e) = refl
-listed_as machine Gnu l (Own n e) = refl
-listed_as machine Msvc l (Weak n e b) = refl
-listed_as machine Gnu l (Weak n e b) = refl
+listed_as machine flavor l r = grind arith
 
 pub claims_as : (machine : MachineType) (flavor : Flavor) (l : Library) (r : Role) → claimed_names (object machine flavor l r) ≡ symbols machine flavor l r
 claims_as machine Msvc l Top = claims_descriptor machine (names_for Msvc l.definition)
@@ -217,12 +209,7 @@ module _ (machine : MachineType) (l : Library) (made : IsLibrary machine l) wher
   weak_plain weak target = refl
 
   pub plain_as : (libraries : List FlavorLibrary) (r : Role) → IsRole libraries (in_flavor Gnu l) r → object_in (member machine Gnu l r).bytes ≡ Some (object machine Gnu l r)
-  plain_as libraries Top is = head_object_is machine l made
-  plain_as libraries Last is = tail_object_is machine l made
-  plain_as libraries Null is = absurd is
-  plain_as libraries (Own n e) is = export_object_is machine l made n e is.0
-  plain_as libraries (Weak n e true) is = absurd is.1
-  plain_as libraries (Weak n e false) is = weak_object_is machine l made n e is.0 is.1.0 ∙ ap Some (sym (weak_plain e.name e.alias_target))
+  plain_as libraries r is = grind (arith, head_object_is, tail_object_is, export_object_is, weak_object_is, weak_plain)
 
   gnu_taken : (libraries : List FlavorLibrary) (r : Role) → IsRole libraries (in_flavor Gnu l) r → expanded_in machine (member machine Gnu l r).bytes ≡ Some (object machine Gnu l r)
   unfolding head_spec tail_spec export_spec
@@ -238,8 +225,7 @@ module _ (machine : MachineType) (l : Library) (made : IsLibrary machine l) wher
 -- What a linker for a machine takes members for.
 
 pub pair : (e : ExportView) (b : Bool) → IsPair e (weak_symbol Msvc e b) (weak_target e b)
-pair e false = inl (refl, refl)
-pair e true = inr (refl, refl)
+pair e b = grind arith
 
 pub taken_as : (machine : MachineType) (libraries : List FlavorLibrary) (flavor : Flavor) (l : Library) (r : Role) → AreMembersOf l.definition machine flavor l.members →
     IsRole libraries (in_flavor flavor l) r → expanded_in machine (member machine flavor l r).bytes ≡ Some (object machine flavor l r)

@@ -92,9 +92,7 @@ entry_at archive number (Some m) e is held =
 
 entry_number : (number : ℕ) (o : Option MemberView) (e : IndexEntry) → Among e (entries_at number o) → e.number ≡ number
 unfolding Among
-entry_number number None e held = absurd held
-entry_number number (Some m) e held =
-    let from = among_mapped (λ (name : List ℕ). record { name = name; number = number }) e m.symbols held in ap (λ (x : IndexEntry). x.number) from.2
+entry_number number o e held = grind (arith, among_mapped)
 
 -- an entry of an index is of a member of its numbers
 pub entries_of : (archive : List MemberView) (numbers : List ℕ) (e : IndexEntry) → Among e (index_at archive numbers) → IsEntry archive e × Among e.number numbers

@@ -62,8 +62,7 @@ module _ (names : List (List ℕ)) (machine : MachineType) (bases : Bases) (obje
   claims_nothing (text ∷ texts) = (rw (none_claimed names) refl, claims_nothing texts)
 
   ended_same : (ending : Ending) (inputs : List FlavorInput) (xs ys : List Object) → filter has_tables xs ≡ filter has_tables ys → AreEnded ending machine inputs xs → AreEnded ending machine inputs ys
-  ended_same OfLinker inputs xs ys same e = record { gnu = e.gnu; tables = sym same ∙ e.tables }
-  ended_same OfMember inputs xs ys same e = record { null_from = e.null_from; null_held = e.null_held; null_flavor = e.null_flavor; before = e.before; behind = e.behind; members = e.members; tables = sym same ∙ e.tables }
+  ended_same ending inputs xs ys same e = grind arith
 
   pub program_without : (ending : Ending) (inputs : List FlavorInput) → IsProgramOf machine ending bases inputs (wanting names ∷ objects) → IsProgramOf machine ending bases inputs objects
   unfolding has_tables group_end sections_end
