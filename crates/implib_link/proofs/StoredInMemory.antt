@@ -99,8 +99,6 @@ sum_holds image_base image linked codes targets memory stored written covers_it 
     let m : Among c codes = contains_among c codes c_held in
     let paged = field_there ARM64 image_base image linked codes targets memory stored.rests written covers_it c m first arm64_pagebase_rel21 page_field.field.symbol page_field.field.alone page_field.field.inside target
     (settled c page_field.field.symbol c_held page_field.field.names) in
-    let page_holds = paged.1.1.page_of refl in
-    let end : c.position + length c.code.bytes + 16 ≤ 2 ^ 31 = own_end ARM64 image_base image linked codes targets memory stored.rests written covers_it c m in
     let there = linked_there ARM64 image_base image linked codes targets memory stored.rests written covers_it d (contains_among d codes d_held) second arm64_pageoffset_12a add_field.field.symbol add_field.field.alone
     add_field.field.inside refl in
     let added = (further_holds ARM64 image_base image linked codes targets memory stored written covers_it name target small settled d second arm64_pageoffset_12a add_field.field.symbol d_held add_field.field.alone
@@ -109,11 +107,11 @@ sum_holds image_base image linked codes targets memory stored written covers_it 
     record {
       adrp = paged.0 4;
       adrp_there = paged.1.0;
-      is_adrp = page_holds.0;
+      is_adrp = (paged.1.1.page_of refl).0;
       add = add;
       add_there = there;
       is_add = added.0;
-      leads = grind (arith, pair_leads, page_leads, added_is);
+      leads = grind (arith, own_end ARM64 image_base image linked codes targets memory stored.rests written covers_it c m, pair_leads, page_leads, added_is);
     }
 
 sums_hold : (machine : MachineType) (image_base : ℕ) (image : List Range) (linked : List Placed) (codes : List LinkedCode) (targets : LinkedCode → ℕ → ℕ) (memory : List Range)
@@ -171,12 +169,10 @@ module _ (machine : MachineType) (image_base : ℕ) (t : Tables) (codes : List L
   points_to : (Holds : ℕ → Type 0) (d : LinkedCode) (s : ObjectSymbol) → Contains codes d → DefinesIn d s → s.value ≡ 0 → Holds d.position → (c : LinkedCode) (offset : ℕ) →
       image_base + 2 ^ 31 ≤ 2 ^ (8 * thunk_width machine) → Contains codes c → HasPointer machine c offset s.name → PointsTo machine image_base (written ++ memory) (c.position + offset) Holds
   points_to Holds d s d_held defines begins there c offset fits held has =
-      let end : d.position + length d.code.bytes + 16 ≤ 2 ^ 31 = end_of d d_held in
-      let plain : d.position ≡ d.position + s.value = omega arith in
       record {
         target = d.position + s.value;
-        there = (names_hold d s d_held defines (omega arith)).whole c offset fits held has;
-        reached = subst Holds plain there;
+        there = (names_hold d s d_held defines (omega (arith, end_of d d_held))).whole c offset fits held has;
+        reached = subst Holds (omega (arith, end_of d d_held)) there;
       }
 
   pub stubs_stored : (i j : ℕ) (x : Table) (e : TableEntry) (name : List ℕ) → slice_get t.tables i ≡ Some x → slice_get x.entries j ≡ Some e → e.symbol ≡ Some name → CanReadFrom machine image_base x.address →

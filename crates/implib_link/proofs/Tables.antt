@@ -1,5 +1,6 @@
 -- Tables that follow one another, each behind the null thunk of the one before it: where each is, and where its entries.
 use Rattle.std.proofs.Common.{◌≡◌, ℕ, zero, suc, ◌+◌, ◌*◌, ◌%◌, ◌^◌, ◌<◌, ◌≤◌, List, [], ◌∷◌, length, map, Option, Some, refl, ap, sym, ◌∙◌, subst, arith, ◌++◌, inl}
+use Rattle.std.proofs.lemmas.Grind.{common_steps}
 use Rattle.std.specs.Prelude.{slice_get, option_map}
 use Rattle.std.specs.List.{AllByRecursion, Contains}
 use Rattle.implib.specs.declared.machine.MachineType.{MachineType}
@@ -76,9 +77,8 @@ module _ (width : ℕ) where
       (b : Block) × ((slice_get blocks i ≡ Some b) × (record { dll = b.dll; address = address + width * entries_until i blocks; entries = b.entries } ≡ x))
   packed_at [] address i x is = cc
   packed_at (b ∷ blocks) address zero x is =
-      let same : record { dll = b.dll; address = address; entries = b.entries } ≡ x = cc in
       let none : address + width * 0 ≡ address = omega arith in
-      (b, (refl, ap (λ a. record { dll = b.dll; address = a; entries = b.entries }) none ∙ same))
+      (b, (refl, ap (λ a. record { dll = b.dll; address = a; entries = b.entries }) none ∙ (cc)))
   packed_at (b ∷ blocks) address (suc i) x is = grind (arith, packed_at blocks (address + width * (length b.entries + 1)) i x is)
 
 -- What packed tables have of what is known of their blocks.
@@ -132,17 +132,7 @@ module _ (machine : MachineType) (image : List Range) (linked : List Placed) (di
   -- an entry of a block
   pub block_entry : (i j : ℕ) (b : Block) (e : TableEntry) (name : List ℕ) → slice_get blocks i ≡ Some b → slice_get b.entries j ≡ Some e → e.symbol ≡ Some name →
       HasEntry packed name b.dll e.ask (addresses + thunk_width machine * entries_until i blocks) j
-  block_entry i j b e name is asked symbol = record {
-    i = i;
-    table = record { dll = b.dll; address = addresses + thunk_width machine * entries_until i blocks; entries = b.entries };
-    entry = e;
-    is = packed_get (thunk_width machine) blocks addresses i b is;
-    asked = asked;
-    symbol = symbol;
-    of_dll = refl;
-    of_ask = refl;
-    at = refl;
-  }
+  block_entry i j b e name is asked symbol = grind (arith, packed_get (thunk_width machine) blocks addresses i b is)
 
 -- What a loader writes into import tables that follow one another is at their entries, and nowhere else.
 
@@ -161,9 +151,7 @@ first_field : (image : List Range) (descriptor : ℕ) (x : Table) (tables : List
 first_field image descriptor x tables fields = let place : descriptor + 20 * 0 + 16 ≡ descriptor + 16 = omega arith in subst (λ a. NumberAt image 4 a x.address) place (fields 0 x refl)
 
 later_fields : (image : List Range) (descriptor : ℕ) (x : Table) (tables : List Table) → HasFields image descriptor (x ∷ tables) → HasFields image (descriptor + 20) tables
-later_fields image descriptor x tables fields i y is =
-    let place : descriptor + 20 * suc i + 16 ≡ descriptor + 20 + 20 * i + 16 = omega arith in
-    subst (λ a. NumberAt image 4 a y.address) place (fields (suc i) y is)
+later_fields image descriptor x tables fields i y is = grind (arith, fields (suc i) y is)
 
 -- a table is above all that was before it
 risen : (width low i : ℕ) (tables : List Table) (x : Table) → RiseFrom width low tables → slice_get tables i ≡ Some x → low ≤ x.address
@@ -174,8 +162,7 @@ risen width low (suc i) (y ∷ tables) x rise is = grind (arith, risen width (y.
 
 in_later : (width : ℕ) (y : Table) (tables : List Table) (rs : List Range) → AllByRecursion (IsInTable width tables) rs → AllByRecursion (IsInTable width (y ∷ tables)) rs
 in_later width y tables [] all = tt
-in_later width y tables (r ∷ rs) all =
-    grind (arith, in_later width y tables rs all.1, among_contains all.0.table (y ∷ tables) (among_later all.0.table y tables (contains_among all.0.table tables all.0.held)), among_later all.0.table y tables (contains_among all.0.table tables all.0.held), contains_among all.0.table tables all.0.held)
+in_later width y tables (r ∷ rs) all = grind (arith, in_later width y tables rs all.1, among_contains all.0.table (y ∷ tables) (among_later all.0.table y tables (contains_among all.0.table tables all.0.held)))
 
 in_first : (width : ℕ) (x : Table) (tables : List Table) (rs : List Range) → AllByRecursion (λ r. (x.address ≤ r.start) × (range_end r ≤ x.address + width * length x.entries)) rs →
     AllByRecursion (IsInTable width (x ∷ tables)) rs
@@ -404,13 +391,7 @@ module _ (machine : MachineType) (descriptors addresses : ℕ) (taken : List Sho
 pub lld_steady : (machine : MachineType) (addresses : ℕ) (taken : List ShortImport) (before behind : List Placed) → AreSteady machine before → AreSteady machine behind →
     AreSteady machine (before ++ placed_by_lld machine addresses taken ∷ behind)
 lld_steady machine addresses taken [] behind none none_behind = none_behind
-lld_steady machine addresses taken (p ∷ before) behind none none_behind =
-    let parts = both_none (table_places_in machine p.section_addresses p.object.sections) (table_places machine before) none in
-    rw parts.0 (lld_steady machine addresses taken before behind parts.1 none_behind)
-  where
-    both_none : {X : Type 0} (xs ys : List X) → xs ++ ys ≡ [] → (xs ≡ []) × (ys ≡ [])
-    both_none [] ys is = (refl, is)
-    both_none (x ∷ xs) ys is = cc
+lld_steady machine addresses taken (p ∷ before) behind none none_behind = grind (arith, common_steps)
 
 -- How many tables there are, and that they can be read where stubs can jump.
 pub program_count : (machine : MachineType) (bases : Bases) (inputs : List FlavorInput) (objects : List Object) → length (tables_at machine bases objects (map (block_of_flavor machine) inputs)).tables ≡ length inputs
@@ -472,9 +453,7 @@ module _ (machine : MachineType) (image_base : ℕ) (t : Tables) (codes : List L
   -- a loader that is handed the imports writes what one does that reads them in memory
   pub written_read : (written : List Range) → Writes t.image (thunk_width machine) gives t.directory (map imported_by_table t.tables) written →
       ReadsAndWrites memory (thunk_width machine) gives (length t.tables) t.directory written
-  written_read written writes =
-      subst (λ n. ReadsAndWrites memory (thunk_width machine) gives n t.directory written) (length-map t.tables imported_by_table)
-      (memory_reads t.image memory resting.image_kept (thunk_width machine) gives t.directory (map imported_by_table t.tables) written tables.directory writes)
+  written_read written writes = grind (arith, length-map t.tables imported_by_table, memory_reads t.image memory resting.image_kept (thunk_width machine) gives t.directory (map imported_by_table t.tables) written tables.directory writes)
 
   module _ (n : ℕ) (written : List Range) (wide : (dll : List ℕ) (ask : Ask) → length (gives dll ask) ≡ thunk_width machine)
       (reads : ReadsAndWrites memory (thunk_width machine) gives n t.directory written) where
@@ -529,8 +508,7 @@ module _ (machine : MachineType) (image_base : ℕ) (t : Tables) (codes : List L
     tables_stay_in_memory = branch_stays machine image_base t.image t.linked codes targets memory resting written covering
 
     pub tables_keep_in_memory : AreKept machine codes (written ++ memory)
-    tables_keep_in_memory c offset count held none =
-        part_there machine image_base t.image t.linked codes targets memory resting written covering c (contains_among c codes held) offset count none
+    tables_keep_in_memory c offset count held none = grind (arith, part_there machine image_base t.image t.linked codes targets memory resting written covering c (contains_among c codes held) offset count none)
 
     -- a stub of the entry
     pub stub_in_memory : (i j : ℕ) (x : Table) (e : TableEntry) (name : List ℕ) → slice_get t.tables i ≡ Some x → slice_get x.entries j ≡ Some e → e.symbol ≡ Some name → CanReadFrom machine image_base x.address →

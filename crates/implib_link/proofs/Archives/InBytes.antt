@@ -145,22 +145,19 @@ module _ (kind : Kind) (linker : LinkerMember) (bytes headers : List ℕ) (membe
     (reads : map (member_at kind bytes) headers ≡ map (λ m. Some (read_view m)) members) where
   pub read_at : (h : ℕ) (m : MemberView) → IsHeaderOf headers members h m → member_at kind bytes h ≡ Some (read_view m)
   read_at h m is =
-      let one : slice_get (map (member_at kind bytes) headers) is.number ≡ Some (member_at kind bytes h) = slice_get-map (member_at kind bytes) headers is.number ∙ ap (option_map (member_at kind bytes)) is.header_is in
-      grind (arith, slice_get-map)
+      grind (arith, slice_get-map (member_at kind bytes) headers is.number ∙ ap (option_map (member_at kind bytes)) is.header_is, slice_get-map)
 
   paired_read : (taken : List ℕ) (found : List MemberView) → ArePaired headers members taken found → map (member_at kind bytes) taken ≡ map (λ m. Some (read_view m)) found
   unfolding ArePaired
   paired_read [] [] paired = refl
   paired_read (h ∷ taken) (m ∷ found) paired = cc (read_at h m (first_is_header headers members paired.0.0 h m paired.0.1), paired_read taken found paired.1)
-  paired_read [] (m ∷ found) paired = absurd paired
-  paired_read (h ∷ taken) [] paired = absurd paired
+  paired_read taken found paired = absurd paired
 
   contents_read : (taken : List ℕ) (found : List MemberView) → ArePaired headers members taken found → contents_at kind bytes taken ≡ map (λ m. m.bytes) found
   unfolding ArePaired
   contents_read [] [] paired = refl
   contents_read (h ∷ taken) (m ∷ found) paired = cc (read_at h m (first_is_header headers members paired.0.0 h m paired.0.1), contents_read taken found paired.1)
-  contents_read [] (m ∷ found) paired = absurd paired
-  contents_read (h ∷ taken) [] paired = absurd paired
+  contents_read taken found paired = absurd paired
 
   module _ (own : List Object) (by : List ℕ → Option Object) where
     -- the objects of members in the bytes
@@ -203,8 +200,7 @@ module _ (kind : Kind) (linker : LinkerMember) (bytes headers : List ℕ) (membe
       where
         by_first : (r : Option (ℕ × MemberView)) → first_lister headers members name ≡ r → IsPulledForth taken name m
         by_first None is =
-            let none : first_listed members name ≡ None = sym (first_member headers members name many) ∙ ap (option_map (λ f. f.1)) is in
-            let no : Some m ≡ None = sym pulls.listed ∙ none in absurd (cc)
+            let no : Some m ≡ None = sym pulls.listed ∙ (sym (first_member headers members name many) ∙ ap (option_map (λ f. f.1)) is) in absurd (cc)
         by_first (Some f) is =
             let at : Some f.1 ≡ Some m = sym (sym (first_member headers members name many) ∙ ap (option_map (λ f. f.1)) is) ∙ pulls.listed in
             let same : f.1 ≡ m = cc in
@@ -310,8 +306,7 @@ either_same Gnu Second members ready name = absurd ready.has
 
 pub is_ready : (kind : Kind) (linker : LinkerMember) (members : List MemberView) (ready : HaveArchive kind linker members) → IsReady kind linker members ready
 is_ready kind linker members ready =
-    let leads = each_index_leads kind members ready.accepted in
-    grind (arith, rising_headers, either_same, length-map)
+    grind (arith, each_index_leads kind members ready.accepted, rising_headers, either_same, length-map)
 
 -- a search in the bytes takes members of which what a search of the members says holds
 pub takes_just : (kind : Kind) (linker : LinkerMember) (members : List MemberView) (reads : List ℕ → Option Object) (own : List Object) (P : List MemberView → Type 0) → HaveArchive kind linker members
@@ -348,8 +343,7 @@ pub search_of : (kind : Kind) (linker : LinkerMember) (members : List MemberView
     IsSearchOf kind linker members reads own found
 search_of kind linker members reads own found ready takes =
     let r = is_ready kind linker members ready in
-    let forth = search_forth kind linker (archive_of kind members) r.headers members r.rising r.find r.many r.read own reads found takes in
-    record { headers = r.headers; located = r.located; taken = forth.taken; at = forth.paired; takes = forth.takes }
+    grind (arith, search_forth kind linker (archive_of kind members) r.headers members r.rising r.find r.many r.read own reads found takes)
 
 -- The bytes of an archive of members have these members.
 
@@ -445,15 +439,11 @@ members_after kind bytes before low [] (m ∷ members) rising below is read = ab
 members_after kind bytes before low (h ∷ headers) [] rising below is read = absurd (cc)
 members_after kind bytes before low (h ∷ headers) (m ∷ members) rising below is read =
     let own = map (listed_for h) m.symbols in
-    let rest = entries_by headers members in
-    let at : member_at kind bytes h ≡ Some (read_view m) = first_same read in
-    let later : map (member_at kind bytes) headers ≡ map (λ x. Some (read_view x)) members = later_same read in
-    let symbols : symbols_at (entries_in bytes) h ≡ m.symbols = grind (arith, none_below, below_on, rising, all_here, none_above, headers, append-nil) in
     let behind : filter_map (member_after kind bytes) headers ≡ members =
     members_after kind bytes (before ++ own) (h + 1) headers members rising.1
     (below_joined (h + 1) before own (below_on low (h + 1) before (omega (arith, rising.0)) below) (symbols_below h m.symbols))
-    (is ∙ sym (append_assoc before own rest)) later in
-    grind arith
+    (is ∙ sym (append_assoc before own (entries_by headers members))) (later_same read) in
+    grind (arith, first_same read, none_below, below_on, rising, all_here, none_above, headers, append-nil)
   where
     first_same : {x y : Option Read} {xs ys : List (Option Read)} → x ∷ xs ≡ y ∷ ys → x ≡ y
     first_same is = cc

@@ -57,10 +57,9 @@ addresses_after machine dll b (e ∷ es) = grind (arith, addresses_after machine
 pub null_located : (machine : MachineType) (linked : List Placed) (image : List Range) (b : Bases) → AreAligned b →
     LocatedFrom machine linked image b (null_descriptor ∷ []) → BytesAt image b.descriptors (zeros 20)
 null_located machine linked image b even located =
-    let position : next_multiple 4 b.descriptors ≡ b.descriptors = aligned b.descriptors even.descriptors in
     let none : b.descriptors - b.descriptors ≡ 0 = omega arith in
     let all : List ℕ = zeros (next_multiple 4 b.descriptors - b.descriptors) ++ (zeros 20 ++ []) in
-    let same : all ≡ zeros 20 = rw (position, none) refl in
+    let same : all ≡ zeros 20 = rw ((aligned b.descriptors even.descriptors), none) refl in
     subst (BytesAt image b.descriptors) same located.descriptors
 
 pub plus_sum : (a n : ℕ) → a + 20 + 20 * n ≡ a + 20 * suc n
@@ -187,10 +186,7 @@ definitions-behind : (machine : MachineType) (dll : NamesOfDll) (b : Bases) (es 
     definitions (placed_from b (behind_descriptor machine dll es rest)) ≡ defined_behind machine dll b es ++ definitions (placed_from (ends_of_askings machine b es) rest)
 unfolding defined_behind ends_of_askings with_section_symbols object_of null_thunk entries_of name_text
 definitions-behind machine dll b [] rest even = ap definitions (placed-null_thunk machine dll b rest even)
-definitions-behind machine dll b (e ∷ es) rest even =
-    let symbol : List ℕ = short_import_symbol e in
-    let later : Bases = ends_of_asking machine b (ask_in Msvc machine e) in
-    grind (arith, placed-asking, defined_by_asking, wide_asking, append_assoc, definitions-behind machine dll later es rest (wide_asking machine b (ask_in Msvc machine e) even))
+definitions-behind machine dll b (e ∷ es) rest even = grind (arith, placed-asking, defined_by_asking, wide_asking, append_assoc, definitions-behind machine dll (ends_of_asking machine b (ask_in Msvc machine e)) es rest (wide_asking machine b (ask_in Msvc machine e) even))
 
 names_of_use : (address : ℕ) (symbol : List ℕ) (is_data constant : Bool) (rest : List SymbolDefinition) →
     map (λ (d : SymbolDefinition). d.name) (use_definitions address symbol (if is_data then Data else if constant then Constant else Code) ++ rest)
@@ -354,8 +350,7 @@ module _ (machine : MachineType) (dll : NamesOfDll) (linked : List Placed) (imag
   unfolding import_object
   stub_finds b symbol ask use_kind Code =
       all_of_stub machine dll linked machine (FindsTarget linked (placed_asking machine dll b symbol ask use_kind)) (λ offset number. (b.addresses + 0, refl))
-  stub_finds b symbol ask use_kind Data = tt
-  stub_finds b symbol ask use_kind Constant = tt
+  stub_finds b symbol ask use_kind relocated_for = tt
 
   asking_finds : (b : Bases) (symbol : List ℕ) (ask : Ask) (use_kind : Use) → AllFind linked (placed_asking machine dll b symbol ask use_kind)
   unfolding import_object
@@ -369,8 +364,7 @@ module _ (machine : MachineType) (dll : NamesOfDll) (linked : List Placed) (imag
       AllByRecursion (AllFind linked) (placed_from (ends_of_askings machine b es) rest) →
       AllByRecursion (AllFind linked) (placed_from b (behind_descriptor machine dll es rest))
   unfolding ends_of_askings with_section_symbols object_of null_thunk entries_of name_text
-  targets_behind [] b rest even others =
-      subst (AllByRecursion (AllFind linked)) (sym (placed-null_thunk machine dll b rest even)) ((tt, (tt, tt)), others)
+  targets_behind [] b rest even others = grind (arith, placed-null_thunk machine dll b rest even)
   targets_behind (e ∷ es) b rest even others =
       let ask : Ask = ask_in Msvc machine e in
       subst (AllByRecursion (AllFind linked)) (sym (placed-asking machine dll b (short_import_symbol e) ask (use_for e) (behind_descriptor machine dll es rest) even))
@@ -547,10 +541,9 @@ module _ (machine : MachineType) (ending : Ending) (linked : List Placed) (image
   unfolding definitions_all ends_all BlocksIn
   each_in [] b fit even only located = record { imports = tt; defined = λ all. all; targets = λ all. all; located = located }
   each_in (k ∷ blocks) b fit even only located =
-      let behind : List Object = all_objects machine blocks rest in
       let later : Bases = ends_one machine b k in
       let own : List SymbolDefinition = definitions_in machine k.flavor k.dll b k.exports in
-      let one = one_links machine k.dll linked image starts ends fit.0.dll ending k.flavor k.exports b behind fit.0.exports fit.0.suits even fit.0.found null
+      let one = one_links machine k.dll linked image starts ends fit.0.dll ending k.flavor k.exports b (all_objects machine blocks rest) fit.0.exports fit.0.suits even fit.0.found null
       (λ d m. only d (among_front d own (definitions_all machine later blocks) m)) located in
       let others = each_in blocks later fit.1 (even_in machine ending k.flavor k.dll b k.exports fit.0.suits even)
       (λ d m. only d (among_back d own (definitions_all machine later blocks) m)) one.rest_located in

@@ -281,9 +281,8 @@ module _ (d : DefinitionView) (machine : MachineType) (members : List MemberView
   pub spec_held : (n : ℕ) (e : ExportView) (p : MemberSpec) → slice_get (public_exports (renamed d)) n ≡ Some e → Among p (numbered_specs_of machine (linked_name d) n e) →
       Among p (gnu_specs machine (names_for Gnu d) (public_exports (renamed d)))
   spec_held n e p is own =
-      let position : 0 + n ≡ n = omega arith in
       among_later _ _ _ (among_later _ _ _ (among_reverse p (numbered_specs machine (linked_name d) 0 (public_exports (renamed d)))
-      (numbered_in machine (linked_name d) (public_exports (renamed d)) 0 n e p is (subst (λ k. Among p (numbered_specs_of machine (linked_name d) k e)) (sym position) own))))
+      (numbered_in machine (linked_name d) (public_exports (renamed d)) 0 n e p is (subst (λ k. Among p (numbered_specs_of machine (linked_name d) k e)) (sym (omega arith)) own))))
 
   pub head_taken : expanded_in machine (member_of (head_spec machine (linked_name d))).bytes ≡ Some (head machine (names_for Gnu d))
   unfolding head_spec
@@ -405,14 +404,12 @@ inputs_plainly machine ps rest are gnu = inputs_as object_in machine ps rest (al
 pub inputs_symbols : (machine : MachineType) (ps : List FlavorInput) → AllByRecursion (IsMadeFor machine) ps →
     symbols_listed (all_members machine ps) ≡ flat_map (λ (k : FlavorBlock). symbols_of machine k.flavor k.dll k.exports) (map block_in ps)
 inputs_symbols machine [] are = refl
-inputs_symbols machine (p ∷ ps) are =
-    grind (arith, inputs_symbols machine ps are.1, symbols_are_in p.input.definition machine p.flavor p.input.members p.input.chosen are.0, symbols_of machine p.flavor (dll_names_in p) (exports_chosen p), flat_map-append)
+inputs_symbols machine (p ∷ ps) are = grind (arith, inputs_symbols machine ps are.1, symbols_are_in p.input.definition machine p.flavor p.input.members p.input.chosen are.0, symbols_of machine p.flavor (dll_names_in p) (exports_chosen p), flat_map-append)
 
 pub inputs_link : (machine : MachineType) (ending : Ending) (ps : List FlavorInput) → AllByRecursion (IsMadeFor machine) ps → AllByRecursion (λ p. IsFoundByName p.flavor (dll_names_in p)) ps →
     AllSuit ending (map block_in ps) → AllByRecursion (CanLink machine ending) (map block_in ps)
 inputs_link machine ending [] are found suit = tt
-inputs_link machine ending (p ∷ ps) are found suit =
-    grind (arith, inputs_link machine ending ps are.1 found.1 suit.1, import_name_is_free p.input.definition machine p.flavor p.input.members are.0, fit_in p.input.definition machine p.flavor p.input.members p.input.chosen are.0)
+inputs_link machine ending (p ∷ ps) are found suit = grind (arith, inputs_link machine ending ps are.1 found.1 suit.1, import_name_is_free p.input.definition machine p.flavor p.input.members are.0, fit_in p.input.definition machine p.flavor p.input.members p.input.chosen are.0)
 
 pub inputs_taken : (machine : MachineType) (ps : List FlavorInput) → AllByRecursion (IsMadeFor machine) ps → AllByRecursion (IsTaken machine) ps
 inputs_taken machine [] are = tt

@@ -221,9 +221,8 @@ module _ (machine : MachineType) (image : List Range) (starts : AllByRecursion (
   thunk_stands (Name text hint) place a askable located hint_located =
       let own = located_parts image (hint_and_text text hint) (zeros (length (hint_and_text text hint) % 2)) place hint_located in
       let long : 0 < length (hint_and_text text hint) = rw (length-append (u16_bytes hint) (text ++ 0 ∷ []), length-u16 hint) (omega arith) in
-      let small = bounds_of image starts ends (hint_and_text text hint) place own.0 long in
       name_located machine image starts ends text hint place a askable.0 askable.1
-      (subst (λ n. BytesAt image a (u32_bytes n ++ zeros (thunk_width machine - 4))) (small_number place small.1) located) own.0
+      (subst (λ n. BytesAt image a (u32_bytes n ++ zeros (thunk_width machine - 4))) (small_number place (bounds_of image starts ends (hint_and_text text hint) place own.0 long).1) located) own.0
 
   table_stands : (asks : List Ask) (place a : ℕ) → AllByRecursion IsAskable asks → BytesAt image a (thunks_built machine place asks) → BytesAt image place (hints_built asks) →
       StrictTableAt image (thunk_width machine) a asks
@@ -233,10 +232,9 @@ module _ (machine : MachineType) (image : List Range) (starts : AllByRecursion (
       let later : ℕ = place + length (hint_built ask) in
       let thunks = located_parts image (thunk_built machine place ask) (thunks_built machine later asks) a located in
       let texts = located_parts image (hint_built ask) (hints_built asks) place hints in
-      let first = thunk_stands ask place a askable.0 thunks.0 texts.0 in
       let rest = table_stands asks later (a + thunk_width machine) askable.1
       (subst (λ n. BytesAt image (a + n) (thunks_built machine later asks)) (length_thunk machine place ask) thunks.1) texts.1 in
-      table_with image (thunk_width machine) a ask asks first rest
+      table_with image (thunk_width machine) a ask asks (thunk_stands ask place a askable.0 thunks.0 texts.0) rest
 
   some_thunks : (place : ℕ) (asks : List Ask) → 0 < length (thunks_built machine place asks)
   some_thunks place asks = grind (arith, some_bytes, length_thunks, mul-add, only_null)
@@ -246,17 +244,13 @@ module _ (machine : MachineType) (image : List Range) (starts : AllByRecursion (
       BytesAt image name (i.dll ++ 0 ∷ []) → LoadsFrom image (thunk_width machine) descriptor addresses i.dll i.asks
   unfolding descriptor_built
   descriptor_stands i descriptor lookups name addresses place importable located lookup_table address_table hints text =
-      let long : 0 < length (i.dll ++ 0 ∷ []) = rw (length-append i.dll (0 ∷ [])) (omega arith) in
-      let lookups_small = bounds_of image starts ends (thunks_built machine place i.asks) lookups lookup_table (some_thunks place i.asks) in
-      let addresses_small = bounds_of image starts ends (thunks_built machine place i.asks) addresses address_table (some_thunks place i.asks) in
-      let name_small = bounds_of image starts ends (i.dll ++ 0 ∷ []) name text long in
       descriptor_loads machine image starts ends descriptor lookups addresses name i.dll i.asks
       (subst (λ n. BytesAt image descriptor (u32_bytes n ++ (zeros 4 ++ (zeros 4 ++ (u32_bytes ((0 + (name + 0)) % 2 ^ 32) ++ u32_bytes ((0 + (addresses + 0)) % 2 ^ 32))))))
-      (small_number lookups lookups_small.1)
+      (small_number lookups (bounds_of image starts ends (thunks_built machine place i.asks) lookups lookup_table (some_thunks place i.asks)).1)
       (subst (λ n. BytesAt image descriptor (u32_bytes lookups ++ (zeros 4 ++ (zeros 4 ++ (u32_bytes n ++ u32_bytes ((0 + (addresses + 0)) % 2 ^ 32))))))
-      (small_number name name_small.1)
+      (small_number name (bounds_of image starts ends (i.dll ++ 0 ∷ []) name text (rw (length-append i.dll (0 ∷ [])) (omega arith))).1)
       (subst (λ n. BytesAt image descriptor (u32_bytes lookups ++ (zeros 4 ++ (zeros 4 ++ (u32_bytes name ++ u32_bytes n)))))
-      (small_number addresses addresses_small.1) located)))
+      (small_number addresses (bounds_of image starts ends (thunks_built machine place i.asks) addresses address_table (some_thunks place i.asks)).1) located)))
       (table_stands i.asks place lookups importable.asks lookup_table hints)
       (table_stands i.asks place addresses importable.asks address_table hints)
       (record { no_nul = importable.name; located = text })
@@ -307,23 +301,17 @@ built_pieces machine base imports image apart holds =
     let lookups : ℕ = lookups_at machine base imports in
     let addresses : ℕ = addresses_at machine base imports in
     let hints : ℕ = hints_at machine base imports in
-    let names : ℕ = names_at machine base imports in
-    let rows : List ℕ = directory_built machine lookups names addresses imports in
+    let rows : List ℕ = directory_built machine lookups (names_at machine base imports) addresses imports in
     let gap : List ℕ = zeros (lookups - directory_end base imports) in
     let tables : List ℕ = tables_built machine hints imports in
     let behind_second : List ℕ = all_hints imports ++ all_names imports in
     let behind_first : List ℕ = tables ++ behind_second in
     let behind_gap : List ℕ = tables ++ behind_first in
-    let whole : BytesAt image base (rows ++ (gap ++ behind_gap)) = range_located (built machine base imports) image (contains_among (built machine base imports) image holds) apart in
-    let first = located_parts image rows (gap ++ behind_gap) base whole in
-    let at_gap : BytesAt image (directory_end base imports) (gap ++ behind_gap) = grind (arith, length_directory) in
-    let second = located_parts image gap behind_gap (directory_end base imports) at_gap in
-    let at_lookups : BytesAt image lookups behind_gap = grind (arith, step, at_least, length-replicate) in
-    let third = located_parts image tables behind_first lookups at_lookups in
+    let first = located_parts image rows (gap ++ behind_gap) base (range_located (built machine base imports) image (contains_among (built machine base imports) image holds) apart) in
+    let second = located_parts image gap behind_gap (directory_end base imports) (grind (arith, length_directory)) in
+    let third = located_parts image tables behind_first lookups (grind (arith, step, at_least, length-replicate)) in
     let at_addresses : BytesAt image addresses behind_first = subst (λ n. BytesAt image (lookups + n) behind_first) (length_tables machine hints imports) third.1 in
-    let fourth = located_parts image tables behind_second addresses at_addresses in
-    let at_hints : BytesAt image hints behind_second = subst (λ n. BytesAt image (addresses + n) behind_second) (length_tables machine hints imports) fourth.1 in
-    grind (arith, located_parts)
+    grind (arith, subst (λ n. BytesAt image (addresses + n) behind_second) (length_tables machine hints imports) (located_parts image tables behind_second addresses at_addresses).1, located_parts)
 
 -- Short imports that lld took are imported, each at an entry of its own.
 
@@ -370,10 +358,8 @@ pub nth_stands : (image : List Range) (width : ℕ) (imports : List Imported) (d
 unfolding StandAt
 nth_stands image width [] descriptor table i p all is = cc
 nth_stands image width (q ∷ imports) descriptor table zero p all is =
-    let same : q ≡ p = cc in
-    let first : descriptor ≡ descriptor + 20 * 0 = omega arith in
-    subst (λ (x : Imported). LoadsFrom image width (descriptor + 20 * 0) (table + width * 0) x.dll x.asks) same
-    (subst (λ n. LoadsFrom image width n (table + width * 0) q.dll q.asks) first
+    subst (λ (x : Imported). LoadsFrom image width (descriptor + 20 * 0) (table + width * 0) x.dll x.asks) (cc)
+    (subst (λ n. LoadsFrom image width n (table + width * 0) q.dll q.asks) (omega arith)
     (subst (λ n. LoadsFrom image width descriptor n q.dll q.asks) (nothing_before table width) all.0))
 nth_stands image width (q ∷ imports) descriptor table (suc i) p all is =
     subst (λ n. LoadsFrom image width n (table + width * (length q.asks + 1 + thunks_until i imports)) p.dll p.asks) (next_row descriptor i)
@@ -467,14 +453,12 @@ module _ (machine : MachineType) (descriptors addresses : ℕ) (taken : List Sho
   defined_once r m d named among =
       let name : List ℕ = imp_symbol r.symbol in
       let listed : Among name (imp_symbols_of taken) = among_map (λ (x : ShortImport). imp_symbol x.symbol) r taken m in
-      let before = all_among (λ n. definitions_of n program.before ≡ []) name (imp_symbols_of taken) listed program.none_before in
-      let behind = all_among (λ n. definitions_of n program.behind ≡ []) name (imp_symbols_of taken) listed program.none_behind in
       let lld : Placed = placed_by_lld machine addresses taken in
       ap (definitions_of name) program.placed
       ∙ definitions_parts name program.before (lld ∷ program.behind)
-      ∙ ap (λ ds. ds ++ definitions_of name (lld ∷ program.behind)) before
+      ∙ ap (λ ds. ds ++ definitions_of name (lld ∷ program.behind)) (all_among (λ n. definitions_of n program.before ≡ []) name (imp_symbols_of taken) listed program.none_before)
       ∙ definitions_parts name (lld ∷ []) program.behind
-      ∙ ap (λ ds. definitions_of name (lld ∷ []) ++ ds) behind
+      ∙ ap (λ ds. definitions_of name (lld ∷ []) ++ ds) (all_among (λ n. definitions_of n program.behind ≡ []) name (imp_symbols_of taken) listed program.none_behind)
       ∙ append-nil (definitions_of name (lld ∷ []))
       ∙ own_definitions name
       ∙ subst (λ n. filter (λ (other : SymbolDefinition). bytes_eq n other.name) own ≡ d ∷ []) named (only_definition d own among own_distinct)

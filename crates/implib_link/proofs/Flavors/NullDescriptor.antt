@@ -118,10 +118,7 @@ module _ (machine : MachineType) (b : Bases) (xs ys : List Object) (none : AllBy
 
   with_null : placed_from b (xs ++ taken_null machine ∷ ys) ≡ front ++ own ∷ back
   unfolding with_section_symbols object_of null_descriptor entries_of name_text ends_behind
-  with_null =
-      let place : ℕ = next_multiple 4 last.directory_ends in
-      let same : next_multiple 4 last.directory_ends ≡ b.directory_ends = grind (arith, ends_behind_kept b xs (all_parts EndsNothing xs ys none).0, all_parts EndsNothing xs ys none, aligned) in
-      cc (placed_parts b xs (taken_null machine ∷ ys), placed_same (place + 20) last ys (all_parts EndsNothing xs ys none).1)
+  with_null = grind (arith, placed_parts b xs (taken_null machine ∷ ys), placed_same ((next_multiple 4 last.directory_ends) + 20) last ys (all_parts EndsNothing xs ys none).1, ends_behind_kept b xs (all_parts EndsNothing xs ys none).0, aligned)
 
   contributions_same : (linked : List Placed) (group : Group) → contributions_of machine linked group own ≡ [] →
       contributions machine linked group (placed_from b (xs ++ taken_null machine ∷ ys)) ≡ contributions machine linked group (placed_from b (xs ++ ys))

@@ -117,8 +117,7 @@ same_by_full_names bytes o whole read = rw (read, whole (strings_of bytes)) refl
 
 all_by_full_names : (members : List MemberView) (objects : List Object) → AllByRecursion HasWholeNames objects →
     map (λ (m : MemberView). object_in m.bytes) members ≡ map Some objects → map (λ (m : MemberView). object_by_full_names m.bytes) members ≡ map Some objects
-all_by_full_names [] [] whole read = refl
-all_by_full_names [] (o ∷ objects) whole read = cc
+all_by_full_names [] objects whole read = grind arith
 all_by_full_names (m ∷ members) [] whole read = cc
 all_by_full_names (m ∷ members) (o ∷ objects) whole read = grind (arith, all_by_full_names members objects whole.1, same_by_full_names)
 
@@ -528,8 +527,7 @@ module _ (machine : MachineType) (ending : Ending) (b : Bases) (inputs : List Fl
         ended = null_ends machine ending b inputs objects made program;
         targets = places.finds (each.targets (rest_finds ending last));
         defined = subst (AllByRecursion (IsDefinedAt all)) (sym places.undefined) (each.defined (rest_leaves ending last));
-        listed = subst (AllByRecursion (IsDefinedOnce all)) (names_are machine ending b inputs objects made program)
-            (once_of all (definitions_all machine b (map block_in inputs)) (only machine ending b inputs objects made program));
+        listed = grind (arith, names_are machine ending b inputs objects made program, once_of all (definitions_all machine b (map block_in inputs)) (only machine ending b inputs objects made program));
         claimed = claimed_are machine ending b inputs objects made program;
       }
     where
@@ -566,8 +564,7 @@ one_sized : (machine : MachineType) (flavor : Flavor) (dll : NamesOfDll) (es : L
 one_sized machine flavor dll es rest all = grind (arith, descriptor_sized, askings_sized, head_sized, exports_sized, tail_sized)
 
 pub all_sized : (machine : MachineType) (ending : Ending) (blocks : List FlavorBlock) → AllByRecursion IsSized (all_objects machine blocks (rest_of ending))
-all_sized machine OfLinker [] = ((tt, tt), tt)
-all_sized machine OfMember [] = tt
+all_sized machine ending [] = grind arith
 all_sized machine ending (k ∷ blocks) = one_sized machine k.flavor k.dll k.exports (all_objects machine blocks (rest_of ending)) (all_sized machine ending blocks)
 
 null_sized : (machine : MachineType) → IsSized (taken_null machine)
@@ -595,18 +592,16 @@ sum_even n m even = omega arith
 
 pub packed_objects : (machine : MachineType) (ending : Ending) (first : ℕ) (inputs : List FlavorInput) (objects : List Object) → AllByRecursion (IsMadeFor machine) inputs →
     AreProgramObjects machine ending inputs objects → 0 < first → packed_end first objects < 2 ^ 31 → IsProgramOf machine ending (packed first objects) inputs objects
-packed_objects machine OfLinker first inputs objects made held above below =
-    grind (arith, admissible machine first objects (kept_sized machine OfLinker inputs objects made held.ended) above below, kept_sized machine OfLinker inputs objects made held.ended)
+packed_objects machine OfLinker first inputs objects made held above below = grind (arith, admissible machine first objects (kept_sized machine OfLinker inputs objects made held.ended) above below)
 packed_objects machine OfMember first inputs objects made held above below =
     let base : ℕ = packed_descriptors first in
     let ends_at : group_end Descriptors base objects ≡ base + 20 * length inputs = directory_end machine inputs objects made held.ended base (first_even first) in
-    let whole : group_end Descriptors base objects % 4 ≡ 0 = ap (λ n. n % 4) ends_at ∙ sum_even base (length inputs) (first_even first) in
     record {
       held = held;
       admissible = admissible machine first objects (kept_sized machine OfMember inputs objects made held.ended) above below;
       lookups = of_eight machine (packed first objects).lookups (lookups_eights first objects);
       addresses = of_eight machine (packed first objects).addresses (packed_eights first objects);
-      follows = aligned (group_end Descriptors base objects) whole;
+      follows = aligned (group_end Descriptors base objects) (ap (λ n. n % 4) ends_at ∙ sum_even base (length inputs) (first_even first));
     }
 
 pub packed_admissible : (machine : MachineType) (ending : Ending) (first : ℕ) (inputs : List FlavorInput) (objects : List Object) → AllByRecursion (IsMadeFor machine) inputs →

@@ -142,8 +142,7 @@ tables_end machine ending blocks b suit even =
     let defined : List SymbolDefinition = definitions_all machine b blocks in
     let last : Bases = ends_behind b own in
     let parts : definitions (placed_from b (all_objects machine blocks (behind_tables ∷ []))) ≡ defined ++ at_address last.addresses = grind (arith, objects_split, placed_parts, flat_map-append, definitions-all, suit, even, append-nil, begins_at) in
-    let whole : definitions (placed_from b (all_objects machine blocks (behind_tables ∷ []))) ≡ defined ++ at_address (ends_all machine b blocks).addresses = grind (arith, definitions-all, suit, even, begins_at, ends_all) in
-    let ends : last.addresses ≡ (ends_all machine b blocks).addresses = grind (arith, one_address, ends_all, append_cancel_left) in
+    let ends : last.addresses ≡ (ends_all machine b blocks).addresses = grind (arith, definitions-all, suit, even, begins_at, ends_all, one_address, ends_all, append_cancel_left) in
     rest_behind ending ∙ sym (end_behind Addresses b own) ∙ ends ∙ addresses_all machine b blocks
   where
     rest_behind : (ending : Ending) → group_end Addresses b.addresses (all_objects machine blocks (rest_of ending)) ≡ group_end Addresses b.addresses (all_objects machine blocks [])
@@ -152,10 +151,7 @@ tables_end machine ending blocks b suit even =
 all_long : (machine : MachineType) (linked : List Placed) (ending : Ending) (blocks : List FlavorBlock) (b : Bases) → AllSuit ending blocks → AreEven ending machine b →
     length (filled b.addresses (contributions machine linked Addresses (placed_from b (all_objects machine blocks (rest_of ending))))) ≡ thunk_width machine * thunks_in (length blocks) blocks
 unfolding span
-all_long machine linked ending blocks b suit even =
-    let objects : List Object = all_objects machine blocks (rest_of ending) in
-    let ends : b.addresses + length (filled b.addresses (contributions machine linked Addresses (placed_from b objects))) ≡ group_end Addresses b.addresses objects = grind (arith, fills_objects machine linked Addresses b objects (all_sized machine ending blocks), all_sized machine ending blocks, ends) in
-    grind (arith, tables_end)
+all_long machine linked ending blocks b suit even = grind (arith, tables_end, fills_objects machine linked Addresses b (all_objects machine blocks (rest_of ending)) (all_sized machine ending blocks))
 
 -- The import tables have no base relocations: members for GNU's linker.
 
@@ -247,8 +243,7 @@ one_steady : (machine : MachineType) (flavor : Flavor) (dll : NamesOfDll) (es : 
 one_steady machine flavor dll es rest all = grind (arith, descriptor_steady, askings_steady, head_steady, exports_steady, tail_steady)
 
 blocks_steady : (machine : MachineType) (ending : Ending) (blocks : List FlavorBlock) → AllByRecursion (AllSteady machine) (all_objects machine blocks (rest_of ending))
-blocks_steady machine OfLinker [] = ((inr tt, tt), tt)
-blocks_steady machine OfMember [] = tt
+blocks_steady machine ending [] = grind arith
 blocks_steady machine ending (k ∷ blocks) = one_steady machine k.flavor k.dll k.exports (all_objects machine blocks (rest_of ending)) (blocks_steady machine ending blocks)
 
 null_steady : (machine : MachineType) → AllSteady machine (taken_null machine)

@@ -36,8 +36,7 @@ AsksInFlavor flavor machine s = ask_in flavor machine s.export ≡ ask_stated s
 each_asks : (flavor : Flavor) (machine : MachineType) (exports : List ExportView) (statements : List Export) → EachAsksForItsWord machine exports statements →
     AllByRecursion (AsksInFlavor flavor machine) (stated exports statements)
 unfolding AsksInFlavor
-each_asks flavor machine [] [] each = tt
-each_asks flavor machine [] (s ∷ statements) each = absurd each
+each_asks flavor machine [] statements each = grind arith
 each_asks flavor machine (e ∷ exports) [] each = absurd each
 each_asks flavor machine (e ∷ exports) (s ∷ statements) each = grind (arith, each_asks flavor machine exports statements each.1)
 
@@ -50,10 +49,9 @@ same_asks flavor machine (x ∷ xs) all = grind (arith, same_asks flavor machine
 asks_are : (flavor : Flavor) (machine : MachineType) (d : DefinitionView) (statements : List Export) → EachAsksForItsWord machine (renamed d).exports statements → (chosen : List ℕ) →
     map (ask_in flavor machine) (chosen_exports d chosen) ≡ map ask_stated (chosen_stated d statements chosen)
 asks_are flavor machine d statements each chosen =
-    let all : List Stated = filter (λ s. not s.export.private) (stated (renamed d).exports statements) in
     ap (map (ask_in flavor machine)) (sym (statements_are machine d statements each chosen))
     ∙ same_asks flavor machine (chosen_stated d statements chosen)
-    (all_chosen (AsksInFlavor flavor machine) all chosen
+    (all_chosen (AsksInFlavor flavor machine) (filter (λ s. not s.export.private) (stated (renamed d).exports statements)) chosen
     (all_filter (AsksInFlavor flavor machine) (λ s. not s.export.private) (stated (renamed d).exports statements) (each_asks flavor machine (renamed d).exports statements each)))
 
 -- Exports without symbol names are linked by their names.
@@ -106,10 +104,9 @@ same_imports : (machine : MachineType) (image : List Range) (linked : List Place
     InputImports machine image linked descriptor table (input_of s) → InputImports machine image linked descriptor table (input_parsed parsed s)
 same_imports machine image linked descriptor table s parsed held imports =
     let exports_same : chosen_exports s.source.library.definition s.source.chosen ≡ chosen_exports parsed s.source.chosen = chosen_renamed s.source.library parsed machine s.flavor s.source.chosen held in
-    let names_same : names_for s.flavor s.source.library.definition ≡ names_for s.flavor parsed = grind (arith, names_of_renamed) in
     from_parts machine image linked descriptor table (input_parsed parsed s)
     (subst (λ (es : List ExportView). ImportsOf machine image linked descriptor table s.flavor (names_for s.flavor parsed) es) exports_same
-    (subst (λ (names : NamesOfDll). ImportsOf machine image linked descriptor table s.flavor names (chosen_exports s.source.library.definition s.source.chosen)) names_same
+    (subst (λ (names : NamesOfDll). ImportsOf machine image linked descriptor table s.flavor names (chosen_exports s.source.library.definition s.source.chosen)) (grind (arith, names_of_renamed))
     (to_parts machine image linked descriptor table (input_of s) imports)))
 
 text_links : (machine : MachineType) (image : List Range) (linked : List Placed) (descriptor table : ℕ) (s : FlavorSource) → IsFlavorSource machine s →

@@ -26,8 +26,7 @@ pub joined : (memory : List Range) (xs ys : List ℕ) (a : ℕ) → BytesAt memo
 unfolding BytesAt
 joined memory [] ys a first second = let plain : a + 0 ≡ a = omega arith in subst (λ n. BytesAt memory n ys) plain second
 joined memory (x ∷ xs) ys a first second =
-    let further : a + suc (length xs) ≡ a + 1 + length xs = omega arith in
-    (first.0, joined memory xs ys (a + 1) first.1 (subst (λ n. BytesAt memory n ys) further second))
+    (first.0, joined memory xs ys (a + 1) first.1 (subst (λ n. BytesAt memory n ys) (omega arith) second))
 
 -- four bytes
 pub record Four (bytes : List ℕ) : Type 0 where
@@ -114,8 +113,7 @@ meets_from machine offset count r low high = grind arith
 pub alone_within : (machine : MachineType) (rs : List Relocation) (offset count inner size : ℕ) (r : Relocation) → MeetsAlone machine rs offset count r → offset ≤ inner → inner + size ≤ offset + count →
     meets machine inner size r ≡ true → MeetsAlone machine rs inner size r
 alone_within machine rs offset count inner size r alone from to here =
-    let wider : (s : Relocation) → meets machine inner size s ≡ true → meets machine offset count s ≡ true = grind (arith, meets_bounds, meets_from) in
-    filter_twice (meets machine offset count) (meets machine inner size) rs wider
+    filter_twice (meets machine offset count) (meets machine inner size) rs (grind (arith, meets_bounds, meets_from))
     ∙ ap (filter (meets machine inner size)) alone
     ∙ ap (λ b. cond b (r ∷ []) []) here
 
@@ -273,12 +271,10 @@ pub pair_read : (reads : ℕ → List ℕ → Option ℕ) (page_code load_code :
 pair_read reads page_code load_code behind rule image_base linked memory address old_adrp old_load name bytes is_adrp is_load x there =
     let adrp : List ℕ = x.adrp_there.bytes in
     let load : List ℕ = x.load_there.bytes in
-    let load_place : address + 4 ≡ address + length adrp = omega arith in
-    let place : address + 8 ≡ address + length adrp + length load = omega arith in
     record {
       code = adrp ++ (load ++ behind);
       there = joined memory adrp (load ++ behind) address x.adrp_there.located
-          (joined memory load behind (address + length adrp) (subst (λ a. BytesAt memory a load) load_place x.load_there.located) (subst (λ a. BytesAt memory a behind) place there));
+          (joined memory load behind (address + length adrp) (subst (λ a. BytesAt memory a load) (omega arith) x.load_there.located) (subst (λ a. BytesAt memory a behind) (omega arith) there));
       whole = omega (arith, length-append adrp (load ++ behind), length-append load behind);
       entry = x.entry;
       leads = grind arith;

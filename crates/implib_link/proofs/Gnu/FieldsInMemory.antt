@@ -60,8 +60,7 @@ module _ (machine : MachineType) (image_base : ℕ) (image : List Range) (linked
     range_covers : (a : ℕ) (d : LinkedCode) → Among d codes → list_any (covers a) (places_of_code machine d) ≡ true → is_in a (range_of_code d) ≡ true
     range_covers a d m covered =
         let inside = all_among (λ (x : LinkedCode). AllByRecursion (λ (p : Place). p.address + p.width ≤ x.position + length x.code.bytes) (places_of_code machine x)) d codes m moved.within in
-        let bounds = covering a d.position (d.position + length d.code.bytes) (places_of_code machine d) (places_from machine d.position d.code.relocations) inside covered in
-        grind (arith, code_size, is_in_from)
+        grind (arith, covering a d.position (d.position + length d.code.bytes) (places_of_code machine d) (places_from machine d.position d.code.relocations) inside covered, code_size, is_in_from)
 
     uncovered : (a b : ℕ) → byte_at (image ++ ranges_of_codes codes) a ≡ Some b → ((d : LinkedCode) → Among d codes → is_in a (range_of_code d) ≡ true → list_any (covers a) (places_of_code machine d) ≡ false) →
         list_any (covers a) places ≡ false
@@ -180,8 +179,7 @@ module _ (machine : MachineType) (image_base : ℕ) (image : List Range) (linked
   -- what a loader writes leaves code as it is
   unwritten : (k b : ℕ) → k < length c.code.bytes → byte_at memory (c.position + k) ≡ Some b → byte_at (written ++ memory) (c.position + k) ≡ Some b
   unwritten k b small is =
-      let size : length c.bytes ≡ length c.code.bytes = own.size in
-      let here : is_in (c.position + k) (range_of_code c) ≡ true = is_in_from (c.position + k) (range_of_code c) (omega arith) (omega arith) in
+      let here : is_in (c.position + k) (range_of_code c) ≡ true = is_in_from (c.position + k) (range_of_code c) (omega (arith, own.size)) (omega (arith, own.size)) in
       cc (kept_outside written memory (c.position + k) (code_untouched image (ranges_of_codes codes) written (range_of_code c) (c.position + k) covers_it at.beside.apart (among_map range_of_code c codes m) here))
 
   pub number_unwritten : (offset width n : ℕ) → offset + width ≤ length c.code.bytes → NumberAt memory width (c.position + offset) n → NumberAt (written ++ memory) width (c.position + offset) n
@@ -206,10 +204,8 @@ module _ (machine : MachineType) (image_base : ℕ) (image : List Range) (linked
       located_from (written ++ memory) bytes (c.position + offset) (λ i b is.
       let both = each i b is in
       let small : offset + i < length c.code.bytes = slice_get_within c.code.bytes (offset + i) b both.0 in
-      let place : c.position + offset + i ≡ c.position + (offset + i) = omega arith in
-      let clear : list_any (covers (c.position + (offset + i))) (places_of_code machine c) ≡ false = grind (arith, false_from_ne_true, covering_one, any_meets) in
-      subst (λ a. byte_at (written ++ memory) a ≡ Some b) (sym place)
-      (unwritten (offset + i) b small (at.code_kept c (offset + i) b m (own.kept (offset + i) both.1 ∙ both.0) clear)))
+      subst (λ a. byte_at (written ++ memory) a ≡ Some b) (sym (omega arith))
+      (unwritten (offset + i) b small (at.code_kept c (offset + i) b m (own.kept (offset + i) both.1 ∙ both.0) (grind (arith, false_from_ne_true, covering_one, any_meets)))))
 
   -- bytes that no relocation meets are in memory as they were
   pub part_there : (offset count : ℕ) → list_any (meets machine offset count) c.code.relocations ≡ false → BytesAt (written ++ memory) (c.position + offset) (take count (drop offset c.code.bytes))
@@ -221,9 +217,8 @@ module _ (machine : MachineType) (image_base : ℕ) (image : List Range) (linked
         false_from_ne_true (list_any (meets machine (offset + i) 1) c.code.relocations) (λ met.
             let s = meeting machine (offset + i) c.code.relocations met in
             let bounds = meets_bounds machine (offset + i) 1 s.0 s.1.1 in
-            let low : s.0.offset < offset + i + 1 = bounds.0 in
             let high : offset + i < s.0.offset + field_width machine s.0.kind = bounds.1 in
-            true≢false (sym (any_meets machine offset count c.code.relocations s.0 s.1.0 (meets_from machine offset count s.0 (omega arith) (omega arith))) ∙ none)),
+            true≢false (sym (any_meets machine offset count c.code.relocations s.0 s.1.0 (meets_from machine offset count s.0 (omega (arith, bounds.0)) (omega (arith, bounds.0)))) ∙ none)),
       ))
 
   -- A field that no other relocation meets.
@@ -248,8 +243,6 @@ module _ (machine : MachineType) (image_base : ℕ) (image : List Range) (linked
           bytes = take (field_width machine type) (drop offset c.bytes);
           located = located_from memory (take (field_width machine type) (drop offset c.bytes)) (c.position + offset) (λ i b is.
               let found = field_byte i b is in
-              let small : i < field_width machine type = found.1 in
-              let place : c.position + offset + i ≡ c.position + (offset + i) = omega arith in
               let clear : list_any (covers (c.position + (offset + i))) (places_of_code machine c) ≡ false =
               false_from_ne_true (list_any (covers (c.position + (offset + i))) (places_of_code machine c)) (λ covered.
               let s = covering_one machine c.position (offset + i) c.code.relocations covered in
@@ -259,7 +252,7 @@ module _ (machine : MachineType) (image_base : ℕ) (image : List Range) (linked
               let same : s.0 ≡ r = alone_same machine c.code.relocations offset (field_width machine type) r alone s.0 s.1.0 (meets_from machine offset (field_width machine type) s.0 (omega arith) (omega arith)) in
               let other : absolute_width machine type ≡ Some s.1.1.1.0 = subst (λ (x : Relocation). absolute_width machine x.kind ≡ Some s.1.1.1.0) same s.1.1.1.1 in
               none-some s.1.1.1.0 (sym none ∙ other)) in
-              subst (λ a. byte_at memory a ≡ Some b) (sym place) (at.code_kept c (offset + i) b m found.0 clear));
+              subst (λ a. byte_at memory a ≡ Some b) (sym (omega (arith, found.1))) (at.code_kept c (offset + i) b m found.0 clear));
           count = bytes_count;
           value = refl;
         })
@@ -279,8 +272,7 @@ module _ (machine : MachineType) (image_base : ℕ) (image : List Range) (linked
         let linked_number : NumberAt (image ++ ranges_of_codes codes) wide (c.position + offset) (field_at c.bytes offset wide) = record {
           bytes = take wide (drop offset c.bytes);
           located = located_from (image ++ ranges_of_codes codes) (take wide (drop offset c.bytes)) (c.position + offset) (λ i b got.
-              let place : c.position + offset + i ≡ c.position + (offset + i) = omega arith in
-              subst (λ a. byte_at (image ++ ranges_of_codes codes) a ≡ Some b) (sym place)
+              subst (λ a. byte_at (image ++ ranges_of_codes codes) a ≡ Some b) (sym (omega arith))
               (linked_byte machine image_base image linked codes targets at.from at.beside c (offset + i) b m (field_byte i b got).0));
           count = bytes_count;
           value = refl;

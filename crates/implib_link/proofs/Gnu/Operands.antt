@@ -119,14 +119,12 @@ module _ (machine : MachineType) (image_base : ℕ) (image : List Range) (linked
       address < 2 ^ 31 → CanBranch machine (c.position + offset) address → BranchArrives machine image_base (written ++ memory) (c.position + offset) after address
   branch_reaches c offset after address name held has taken small can =
       let m : Among c codes = contains_among c codes held in
-      let wide : field_width machine has.type ≡ 4 = branch_width machine has.type after (field_at c.code.bytes offset 4) has.counts in
       let found = steady_there machine image_base image linked codes targets memory at written covers_it c m offset has.type has.field.symbol has.field.alone has.field.inside
       (branch_steady machine has.type after (field_at c.code.bytes offset 4) has.counts) in
-      let end : c.position + length c.code.bytes + 16 ≤ 2 ^ 31 = own_end machine image_base image linked codes targets memory at written covers_it c m in
       record {
         number = found.0 4;
-        there = subst (λ w. NumberAt (written ++ memory) w (c.position + offset) (found.0 w)) wide found.1.0;
-        leads = grind (arith, branch_by);
+        there = subst (λ w. NumberAt (written ++ memory) w (c.position + offset) (found.0 w)) (branch_width machine has.type after (field_at c.code.bytes offset 4) has.counts) found.1.0;
+        leads = grind (arith, own_end machine image_base image linked codes targets memory at written covers_it c m, branch_by);
       }
 
   -- and is, but for its distance, as it was
@@ -134,13 +132,12 @@ module _ (machine : MachineType) (image_base : ℕ) (image : List Range) (linked
       CanBranch machine (c.position + offset) (d.position + t.value) → BranchStays machine (written ++ memory) (c.position + offset) (field_at c.code.bytes offset 4)
   branch_stays c d offset after name t held has d_held defines named can =
       let m : Among c codes = contains_among c codes held in
-      let target : targets c has.field.symbol ≡ d.position + t.value = where_defined c d name t held d_held defines named has.field.symbol has.field.names in
       let found = steady_there machine image_base image linked codes targets memory at written covers_it c m offset has.type has.field.symbol has.field.alone has.field.inside
       (branch_steady machine has.type after (field_at c.code.bytes offset 4) has.counts) in
       record {
         number = found.0 4;
         there = subst (λ w. NumberAt (written ++ memory) w (c.position + offset) (found.0 w)) (branch_width machine has.type after (field_at c.code.bytes offset 4) has.counts) found.1.0;
-        same = grind (arith, branch_rest_by);
+        same = grind (arith, where_defined c d name t held d_held defines named has.field.symbol has.field.names, branch_rest_by);
       }
 
   -- what leads to the only definition of a name, where these bytes are
@@ -183,11 +180,9 @@ module _ (machine : MachineType) (image_base : ℕ) (image : List Range) (linked
         let wide : field_width machine type ≡ 4 = operand_width machine type (length tail) (number_in field) counts in
         let parts : Parts c offset head field tail = parts_of c offset count head field tail code in
         let size : length c.code.bytes - offset ≡ length head + (length field + (length tail + length parts.back)) = cc (length-drop offset c.code.bytes, length-append head (field ++ (tail ++ parts.back)), length-append field (tail ++ parts.back), length-append tail parts.back) in
-        let inside : inner + field_width machine type ≤ length c.code.bytes = omega arith in
         let alone : MeetsAlone machine c.code.relocations inner (field_width machine type) r =
         alone_within machine c.code.relocations offset count inner (field_width machine type) r alone_in (omega arith) (omega arith) (meets_from machine inner (field_width machine type) r (omega arith) (omega arith)) in
-        let found : Found c inner type = found_at c inner type symbol held alone inside settles in
-        let end : c.position + length c.code.bytes + 16 ≤ 2 ^ 31 = end_of c held in
+        let found : Found c inner type = found_at c inner type symbol held alone (omega arith) settles in
         let at_field : drop inner c.code.bytes ≡ field ++ (tail ++ parts.back) = cc (drop-drop (length head) offset c.code.bytes, drop_at head (field ++ (tail ++ parts.back)) (length head) refl) in
         let at_tail : drop last c.code.bytes ≡ tail ++ parts.back = sym (drop-drop 4 inner c.code.bytes) ∙ ap (drop 4) at_field ∙ drop_at field (tail ++ parts.back) 4 four in
         let old : field_at c.code.bytes inner 4 ≡ number_in field = ap (λ xs. number_in (take 4 xs)) at_field ∙ ap number_in (take_at field (tail ++ parts.back) 4 four) in
@@ -215,19 +210,18 @@ module _ (machine : MachineType) (image_base : ℕ) (image : List Range) (linked
           clear (last + i) (omega arith) (omega arith) (inr (omega arith)),
         )) in
         let field_place : c.position + inner ≡ c.position + offset + length head = omega arith in
-        let tail_place : c.position + last ≡ c.position + inner + length number.bytes = omega arith in
         record {
           field = number.bytes;
           four = number.count;
           there = joined (written ++ memory) head (number.bytes ++ tail) (c.position + offset) head_there
               (subst (λ n. BytesAt (written ++ memory) n (number.bytes ++ tail)) field_place
-              (joined (written ++ memory) number.bytes tail (c.position + inner) number.located (subst (λ n. BytesAt (written ++ memory) n tail) tail_place tail_there)));
+              (joined (written ++ memory) number.bytes tail (c.position + inner) number.located (subst (λ n. BytesAt (written ++ memory) n tail) (omega (arith, end_of c held)) tail_there)));
           entry = entry;
           own = once;
           leads = ap (λ n. operand_leads machine (image_base + n) (length tail) (number_in number.bytes)) (sym field_place)
               ∙ ap (operand_leads machine (image_base + (c.position + inner)) (length tail)) number.value
               ∙ operand_by machine type image_base (c.position + inner) entry (length tail) (field_at c.code.bytes inner) found.0
-              (subst (IsOperand machine type (length tail)) (sym old) counts) found.1.1 can (omega arith) small;
+              (subst (IsOperand machine type (length tail)) (sym old) counts) found.1.1 can (omega (arith, end_of c held)) small;
           located = located;
         }
 
@@ -235,25 +229,22 @@ module _ (machine : MachineType) (image_base : ℕ) (image : List Range) (linked
     module _ (called : List ℕ) (settled : (c : LinkedCode) (symbol : ℕ) → Contains codes c → Names c.from symbol called → Settles machine image_base image linked codes targets memory at c symbol entry) where
       operand_arrives : (c : LinkedCode) (offset after : ℕ) → Contains codes c → HasOperand machine c offset after called → OperandArrives machine image_base linked (written ++ memory) (c.position + offset) after name bytes
       operand_arrives c offset after held has =
-          let wide : field_width machine has.type ≡ 4 = operand_width machine has.type after (field_at c.code.bytes offset 4) has.counts in
           let found : Found c offset has.type = found_at c offset has.type has.field.symbol held has.field.alone has.field.inside (settled c has.field.symbol held has.field.names) in
-          let end : c.position + length c.code.bytes + 16 ≤ 2 ^ 31 = end_of c held in
           record {
             number = found.0 4;
-            there = subst (λ w. NumberAt (written ++ memory) w (c.position + offset) (found.0 w)) wide found.1.0;
+            there = subst (λ w. NumberAt (written ++ memory) w (c.position + offset) (found.0 w)) (operand_width machine has.type after (field_at c.code.bytes offset 4) has.counts) found.1.0;
             entry = entry;
             own = once;
-            leads = operand_by machine has.type image_base (c.position + offset) entry after (field_at c.code.bytes offset) found.0 has.counts found.1.1 can (omega arith) small;
+            leads = operand_by machine has.type image_base (c.position + offset) entry after (field_at c.code.bytes offset) found.0 has.counts found.1.1 can (omega (arith, end_of c held)) small;
             located = located;
           }
 
       pointer_arrives : (c : LinkedCode) (offset : ℕ) → image_base + 2 ^ 31 ≤ 2 ^ 64 → Contains codes c → HasPointer machine c offset called → PointerArrives machine image_base linked (written ++ memory) (c.position + offset) name bytes
       pointer_arrives c offset fits held has =
-          let found : Found c offset has.type = found_at c offset has.type has.field.symbol held has.field.alone has.field.inside (settled c has.field.symbol held has.field.names) in
           record {
             entry = entry;
             own = once;
-            there = grind (arith, pointer_by, pointer_width);
+            there = grind (arith, found_at c offset has.type has.field.symbol held has.field.alone has.field.inside (settled c has.field.symbol held has.field.names), pointer_by, pointer_width);
             located = located;
           }
 
@@ -287,9 +278,7 @@ pair_at image_base image linked codes targets memory at written covers_it name b
       is_load = offset_holds.0;
       entry = entry;
       own = once;
-      leads = pair_leads (paged.0 4) (placed.0 4) (plus_signed 21 4096 (adrp_immediate (paged.0 4)) (page (image_base + (c.position + first)) * 4096)) (ldr_immediate (placed.0 4)) (image_base + entry)
-          (page_leads (paged.0 4) (field_at c.code.bytes first 4) image_base (c.position + first) entry page_holds.1 page_empty (omega arith) small)
-          (offset_leads (placed.0 4) (field_at d.code.bytes second 4) image_base entry offset_holds.0 eight offset_holds.1 offset_empty (sum_of_eights image_base entry can.0 can.1));
+      leads = grind (arith, offset_leads (placed.0 4) (field_at d.code.bytes second 4) image_base entry offset_holds.0 eight offset_holds.1 offset_empty (sum_of_eights image_base entry can.0 can.1));
       located = located;
     }
 
@@ -333,10 +322,7 @@ amd64_jump : (address : ℕ) (field : List ℕ) → length field ≡ 4 → jump_
 amd64_jump address field four = grind (arith, four_of field four)
 
 pub arm64_jump : ReadsPair (jump_reads ARM64) 0x9000_0010 0xF940_0210 (0 ∷ 2 ∷ 0x1F ∷ 0xD6 ∷ [])
-arm64_jump address adrp load four also is_adrp is_load =
-    let f = four_of adrp four in
-    let g = four_of load also in
-    rw (f.is, g.is) (rw (ap (λ xs. with_adrp 0 (number_in xs)) (sym f.is) ∙ is_adrp, ap (λ xs. with_bits 10 12 0 (number_in xs)) (sym g.is) ∙ is_load) refl)
+arm64_jump address adrp load four also is_adrp is_load = grind (arith, four_of adrp four, four_of load also)
 
 -- bytes of a stub that its relocations leave
 stub_part : (machine : MachineType) (image_base : ℕ) (image : List Range) (linked : List Placed) (codes : List LinkedCode) (targets : LinkedCode → ℕ → ℕ) (memory : List Range)
@@ -354,10 +340,9 @@ x86_jumps : (memory : List Range) (position : ℕ) (name bytes : List ℕ) (mach
 x86_jumps memory position name bytes machine image_base linked size x tail reads =
     let long : length (0xFF ∷ 0x25 ∷ (x.field ++ [])) ≡ 6 = omega (arith, length-append x.field []) in
     let whole : length (0xFF ∷ 0x25 ∷ (x.field ++ 0x90 ∷ 0x90 ∷ [])) ≡ 8 = omega (arith, length-append x.field (0x90 ∷ 0x90 ∷ [])) in
-    let f = four_of x.field x.four in
     record {
       code = 0xFF ∷ 0x25 ∷ (x.field ++ 0x90 ∷ 0x90 ∷ []);
-      there = grind (arith, joined);
+      there = grind (arith, four_of x.field x.four, joined);
       whole = whole ∙ sym size;
       entry = x.entry;
       reads = reads;
@@ -380,10 +365,9 @@ stub_arrives AMD64 image_base image linked codes targets memory at written cover
     let x = instruction_at AMD64 image_base image linked codes targets memory at written covers_it name bytes entry once small can located d 0 (0xFF ∷ 0x25 ∷ []) (0 ∷ 0 ∷ 0 ∷ 0 ∷ []) [] amd64_rel32 2 held
     (subst (λ rs. MeetsAlone AMD64 rs 0 6 (record { offset = 2; symbol = 2; kind = amd64_rel32 })) (sym stub.relocations) refl) refl
     (subst (λ xs. take 6 (drop 0 xs) ≡ 0xFF ∷ 0x25 ∷ 0 ∷ 0 ∷ 0 ∷ 0 ∷ []) (sym stub.bytes) refl) (0, (omega arith, (refl, refl))) (settled_in_tables AMD64 image_base image linked codes targets memory at d 2 entry stub.symbol held stub.held stub.placed) in
-    let place : image_base + d.position + 6 ≡ image_base + (d.position + 0 + 2) + 4 + 0 = omega arith in
     x86_jumps (written ++ memory) d.position name bytes AMD64 image_base linked refl x
     (stub_part AMD64 image_base image linked codes targets memory at written covers_it d held (stub_relocations AMD64 2) 6 2 (0x90 ∷ 0x90 ∷ []) (subst (λ xs. take 2 (drop 6 xs) ≡ 0x90 ∷ 0x90 ∷ []) (sym stub.bytes) refl) stub.relocations refl)
-    (amd64_jump (image_base + d.position) x.field x.four ∙ ap (λ a. Some (plus_signed 32 1 (number_in x.field) a)) place ∙ x.leads)
+    (amd64_jump (image_base + d.position) x.field x.four ∙ ap (λ a. Some (plus_signed 32 1 (number_in x.field) a)) (omega arith) ∙ x.leads)
 stub_arrives ARM64 image_base image linked codes targets memory at written covers_it name bytes entry once small can located d t held stub =
     let size : length d.code.bytes ≡ 12 = ap length stub.bytes in
     let page_code : field_at d.code.bytes 0 4 ≡ 0x9000_0010 = ap (λ xs. field_at xs 0 4) stub.bytes in
@@ -429,12 +413,11 @@ module _ (machine : MachineType) (c : LinkedCode) (offset type : ℕ) (name : Li
 
   call_branch : IsBranch machine type 0 0 → HasBranch machine c (offset + 1) 0 name
   call_branch counts =
-      let end : offset + 5 ≤ length c.code.bytes = own_inside machine c offset name code rs has in
       record {
         type = type;
-        field = record { symbol = has.index; alone = call_alone; inside = omega arith; names = own_names machine c offset name code rs has };
+        field = record { symbol = has.index; alone = call_alone; inside = omega (arith, own_inside machine c offset name code rs has); names = own_names machine c offset name code rs has };
         counts = subst (IsBranch machine type 0) (sym call_field) counts;
-        within = omega arith;
+        within = omega (arith, own_inside machine c offset name code rs has);
       }
 
   call_head : take 1 (drop offset c.code.bytes) ≡ 0xE8 ∷ []
@@ -464,12 +447,11 @@ x86_by_name : (machine : MachineType) (image_base : ℕ) (memory : List Range) (
     DirectCallArrives machine image_base memory (position + offset) bytes
 x86_by_name machine image_base memory position offset stub bytes size reads head x leads arrives =
     let field : List ℕ = x.there.bytes in
-    let four : length x.there.bytes ≡ 4 = x.there.count in
     let field_place : position + (offset + 1) ≡ position + offset + 1 = omega arith in
     let end : image_base + (position + offset) + 5 ≡ image_base + (position + (offset + 1)) + 4 + 0 = omega arith in
     let long : length (0xE8 ∷ x.there.bytes) ≡ 5 = omega arith in
     by_stub machine image_base memory (position + offset) stub (0xE8 ∷ field) bytes (joined memory (0xE8 ∷ []) field (position + offset) head (subst (λ a. BytesAt memory a field) field_place x.there.located)) (long ∙ sym size)
-    (reads (image_base + (position + offset)) field four ∙ ap (λ n. Some (plus_signed 32 1 n (image_base + (position + offset) + 5))) x.there.value
+    (reads (image_base + (position + offset)) field x.there.count ∙ ap (λ n. Some (plus_signed 32 1 n (image_base + (position + offset) + 5))) x.there.value
     ∙ ap (λ a. Some (plus_signed 32 1 x.number a)) end ∙ leads) arrives
 
 pub direct_arrives : (machine : MachineType) (image_base : ℕ) (image : List Range) (linked : List Placed) (codes : List LinkedCode) (targets : LinkedCode → ℕ → ℕ) (memory : List Range)

@@ -110,21 +110,17 @@ fills_one : (base end : ℕ) (c : Contribution) → base ≤ c.address → c.add
 unfolding span
 fills_one base end c low is =
     let padding : List ℕ = zeros (c.address - base) in
-    let padded : length padding ≡ c.address - base = length-replicate {A = ℕ} (c.address - base) 0 in
-    let all : length (padding ++ (c.bytes ++ [])) ≡ length padding + length (c.bytes ++ []) = length-append padding (c.bytes ++ []) in
-    let own : length (c.bytes ++ []) ≡ length c.bytes + 0 = length-append c.bytes [] in
     record {
-      ends = omega arith;
-      behind = λ rest. grind (arith, append_assoc);
+      ends = omega (arith, length-replicate {A = ℕ} (c.address - base) 0, length-append padding (c.bytes ++ []), length-append c.bytes []);
+      behind = λ rest. grind (arith, length-replicate {A = ℕ} (c.address - base) 0, length-append padding (c.bytes ++ []), length-append c.bytes [], append_assoc);
     }
 
 fills_both : (base middle end : ℕ) (front back : List Contribution) → Fills base front middle → Fills middle back end → Fills base (front ++ back) end
 unfolding span
 fills_both base middle end front back one two =
-    let sum : length (filled base front ++ filled middle back) ≡ length (filled base front) + length (filled middle back) = length-append (filled base front) (filled middle back) in
     record {
-      ends = ap (λ bytes. base + length bytes) (one.behind back) ∙ omega arith;
-      behind = grind (arith, append_assoc);
+      ends = ap (λ bytes. base + length bytes) (one.behind back) ∙ omega (arith, length-append (filled base front) (filled middle back));
+      behind = grind (arith, length-append (filled base front) (filled middle back), append_assoc);
     }
 
 module _ (machine : MachineType) (linked : List Placed) (group : Group) where
@@ -338,8 +334,7 @@ module _ (machine : MachineType) (linked : List Placed) (image : List Range) (b 
       let fills : Fills base (own group) (group_end group base front) = fills_objects machine linked group b front sized in
       let split : filled base (contributions machine linked group (placed_from b (front ++ rest))) ≡ filled base (own group) ++ filled (base_of group (ends_behind b front)) (later group) = grind (arith, placed_parts, flat_map-append, end_behind) in
       let found = located_parts image (filled base (own group)) (filled (base_of group (ends_behind b front)) (later group)) base (subst (BytesAt image base) split located) in
-      let end : base + length (filled base (own group)) ≡ base_of group (ends_behind b front) = fills.ends ∙ sym (end_behind group b front) in
-      (found.0, subst (λ n. BytesAt image n (filled (base_of group (ends_behind b front)) (later group))) end found.1)
+      (found.0, subst (λ n. BytesAt image n (filled (base_of group (ends_behind b front)) (later group))) (fills.ends ∙ sym (end_behind group b front)) found.1)
 
   pub located_behind : LocatedFrom machine linked image b (front ++ rest) → LocatedFrom machine linked image (ends_behind b front) rest
   located_behind located = grind (arith, parts Descriptors located.descriptors, parts Lookups located.lookups, parts Addresses located.addresses, parts HintNames located.hint_names, parts DllNames located.dll_names)

@@ -57,7 +57,6 @@ apart_back (x ∷ xs) ys apart = apart_back xs ys apart.1
 pub one_code : {X : Type 0} (f : X → Range) (a : ℕ) (c d : X) (xs : List X) → AllApart (map f xs) → Among c xs → Among d xs → is_in a (f c) ≡ true → is_in a (f d) ≡ true → c ≡ d
 unfolding Among
 one_code f a c d [] apart m n first second = absurd m
-one_code f a c d (x ∷ xs) apart (inl same) (inl other) first second = same ∙ sym other
-one_code f a c d (x ∷ xs) apart (inl same) (inr n) first second = grind (arith, all_among, among_map)
+one_code f a c d (x ∷ xs) apart (inl same) h7 first second = grind (arith, all_among, among_map)
 one_code f a c d (x ∷ xs) apart (inr m) (inl other) first second = grind (arith, all_among, among_map)
 one_code f a c d (x ∷ xs) apart (inr m) (inr n) first second = one_code f a c d xs apart.1 m n first second

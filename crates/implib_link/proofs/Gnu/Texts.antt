@@ -20,8 +20,7 @@ use Rattle.implib.proofs.Link.LinkedMembers.{all_at}
 -- the exports of a list that is stated are those of the list
 exports_stated : (machine : MachineType) (exports : List ExportView) (statements : List Export) → EachAsksForItsWord machine exports statements →
     map (λ (s : Stated). s.export) (stated exports statements) ≡ exports
-exports_stated machine [] [] each = refl
-exports_stated machine [] (s ∷ statements) each = absurd each
+exports_stated machine [] statements each = grind arith
 exports_stated machine (e ∷ exports) [] each = absurd each
 exports_stated machine (e ∷ exports) (s ∷ statements) each = ap (λ others. e ∷ others) (exports_stated machine exports statements each.1)
 

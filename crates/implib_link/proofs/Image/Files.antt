@@ -42,9 +42,7 @@ holds_keep memory [] all a b is = cc
 holds_keep memory (r ∷ ranges) all a b is =
     elim (cases_Bool (is_in a r)) [
       | inl within ↦ let bounds = within_bounds a r within in
-          let value : Some (slice_index r.bytes (a - r.start)) ≡ Some b = rw within at is in
-          let place : r.start + (a - r.start) ≡ a = omega arith in
-          subst (λ n. byte_at memory n ≡ Some (slice_index r.bytes (a - r.start))) place (index_located memory r.bytes r.start (a - r.start) all.0 (omega arith)) ∙ value
+          subst (λ n. byte_at memory n ≡ Some (slice_index r.bytes (a - r.start))) (omega arith) (index_located memory r.bytes r.start (a - r.start) all.0 (omega arith)) ∙ (rw within at is)
       | inr outside ↦ holds_keep memory ranges all.1 a b (rw outside at is)
     ]
 
@@ -73,8 +71,7 @@ module _ (machine : MachineType) (t : Tables) (bytes : List ℕ) (file : MappedF
   pub file_ends : (written : List Range) × LoadsFile file gives (length t.tables) written
   file_ends =
       let found = memory_can_be_read t.image file.image kept (thunk_width machine) gives t.directory (map imported_by_table t.tables) tables.directory in
-      let reads : ReadsAndWrites file.image file.width gives (length t.tables) t.directory found.0 = grind (arith, length-map) in
-      (found.0, subst (λ o. WritesFrom file gives o (length t.tables) found.0) (sym own.directory) reads)
+      (found.0, subst (λ o. WritesFrom file gives o (length t.tables) found.0) (sym own.directory) (grind (arith, length-map)))
 
   -- what is in tables that are in a directory
   all_in : (d : DataDirectory) → AllByRecursion (HasTable (thunk_width machine) d) t.tables → (written : List Range) →

@@ -1,5 +1,6 @@
 -- What the objects of a part give in an image: a descriptor that a strict loader takes, and its tables.
 use Rattle.std.proofs.Common.{◌≡◌, ℕ, zero, suc, ◌+◌, ◌*◌, ◌%◌, ◌^◌, ◌<◌, true, false, List, [], ◌∷◌, ◌++◌, length, map, Option, Some, None, refl, ap, sym, ◌∙◌, subst, inl, inr, arith, ◌⊎◌, if◌then◌else◌}
+use Rattle.std.proofs.lemmas.Grind.{common_steps}
 use Rattle.std.specs.Prelude.{◌&&◌, ◌||◌, ◌==◌, bytes_eq, not, slice_get}
 use Rattle.std.specs.List.{AllByRecursion, filter_map, list_any}
 use Rattle.std.specs.Option.{option_and_then}
@@ -46,14 +47,12 @@ entry_defined : (o : Object) (b : Bases) (s : ObjectSection) → only_section Ad
 entry_defined o b s is even name [] held = cc
 entry_defined o b s is even name (Auxiliary bytes ∷ entries) held = entry_defined o b s is even name entries held
 entry_defined o b s is even name (ASymbol x ∷ entries) held =
-    let addresses = section_addresses_of b o.sections in
-    let names : List (List ℕ) = filter_map (entry_name o.sections) entries in
     elim (cases_Bool (is_defined_external x && ((x.value == 0) && is_in_group Addresses (section_numbered o.sections x.section)))) [
       | inl all ↦
           let parts = and_parts (is_defined_external x) ((x.value == 0) && is_in_group Addresses (section_numbered o.sections x.section)) all in
           let at = and_parts (x.value == 0) (is_in_group Addresses (section_numbered o.sections x.section)) parts.1 in
-          let found : (bytes_eq name x.name || list_any (bytes_eq name) names) ≡ true = rw all at held in
-          let place : address_in addresses x.section x.value ≡ Some b.addresses = grind (arith, group_address, eqb-true, plus_none) in
+          let found : (bytes_eq name x.name || list_any (bytes_eq name) (filter_map (entry_name o.sections) entries)) ≡ true = rw all at held in
+          let place : address_in (section_addresses_of b o.sections) x.section x.value ≡ Some b.addresses = grind (arith, group_address, eqb-true, plus_none) in
           elim (cases_Bool (bytes_eq name x.name)) [
             | inl same ↦ grind (arith, bytes_eq-Decides, among_first)
             | inr other ↦ rw parts.0 (among_later _ _ _ (entry_defined o b s is even name entries (rw other at found)))
@@ -131,10 +130,9 @@ module _ (machine : MachineType) (linked : List Placed) (image : List Range) (st
       let lookup = thunk_located machine linked image starts ends o b (objects ++ later) sized.0 located Lookups e.ask tt even.lookups entry.lookup in
       let address = thunk_located machine linked image starts ends o b (objects ++ later) sized.0 located Addresses e.ask tt even.addresses entry.address in
       let next : Bases = ends_after b o.sections in
-      let lookups_are : next.lookups ≡ b.lookups + thunk_width machine = end_of_sections Lookups b o.sections ∙ lookup.1 in
       let addresses_are : next.addresses ≡ b.addresses + thunk_width machine = end_of_sections Addresses b o.sections ∙ address.1 in
       let rest = tables_from objects later entries next (aligned_one o b even entry.descriptors lookup.1 address.1) sized.1 (located_next o b (objects ++ later) sized.0 located) others in
-      let lookups = subst (λ n. StrictTableAt image (thunk_width machine) n (map (λ (e : TableEntry). e.ask) entries)) lookups_are rest.lookups in
+      let lookups = subst (λ n. StrictTableAt image (thunk_width machine) n (map (λ (e : TableEntry). e.ask) entries)) (end_of_sections Lookups b o.sections ∙ lookup.1) rest.lookups in
       let addresses = subst (λ n. StrictTableAt image (thunk_width machine) n (map (λ (e : TableEntry). e.ask) entries)) addresses_are rest.addresses in
       record {
         lookups = table_with image (thunk_width machine) b.lookups e.ask (map (λ (e : TableEntry). e.ask) entries) lookup.0 lookups;
@@ -166,12 +164,9 @@ module _ (machine : MachineType) (linked : List Placed) (image : List Range) (st
           IsEntryPlaced (ends_after b o.sections) (objects ++ later) q ((ends_after b o.sections).addresses + thunk_width machine * j)) →
           (j : ℕ) (q : Object) (x : TableEntry) → slice_get (o ∷ objects) j ≡ Some q → slice_get (e ∷ entries) j ≡ Some x → IsEntryPlaced b (o ∷ (objects ++ later)) q (b.addresses + thunk_width machine * j)
       at same rest zero q x is asked =
-          let own : o ≡ q = cc in
-          let section = has_section machine o e.ask (only_section Addresses o) entry.address in
-          grind (arith, among_first, times_none)
+          grind (arith, has_section machine o e.ask (only_section Addresses o) entry.address, among_first, times_none)
       at same rest (suc j) q x is asked =
-          let found = rest j q x is asked in
-          grind (arith, among_later, times_next)
+          grind (arith, rest j q x is asked, among_later, times_next)
 
   -- The head.
   module _ (o : Object) (b : Bases) (rest : List Object) (sized : IsSized o) (even : AreAligned b) (located : LocatedFrom machine linked image b (o ∷ rest)) where
@@ -209,16 +204,7 @@ module _ (machine : MachineType) (linked : List Placed) (image : List Range) (st
     row_filled [] row is = cc
     row_filled (r ∷ []) row is = cc
     row_filled (r ∷ q ∷ []) row is = cc
-    row_filled (r ∷ q ∷ n ∷ []) row is =
-        elim (cases_Bool (is_field machine 0 r && (is_field machine 12 q && is_field machine 16 n))) [
-          | inl are ↦ grind (arith, in_order)
-          | inr other ↦ second other (cases_Bool (is_field machine 0 r && (is_field machine 16 q && is_field machine 12 n)))
-        ]
-      where
-        second : (is_field machine 0 r && (is_field machine 12 q && is_field machine 16 n)) ≡ false →
-            ((is_field machine 0 r && (is_field machine 16 q && is_field machine 12 n)) ≡ true) ⊎ ((is_field machine 0 r && (is_field machine 16 q && is_field machine 12 n)) ≡ false) →
-            relocated machine linked p (r ∷ q ∷ n ∷ []) (zeros 20) ≡ filled_row (target_address linked p row.lookups) (target_address linked p row.name) (target_address linked p row.addresses)
-        second other h1 = grind (arith, name_last)
+    row_filled (r ∷ q ∷ n ∷ []) row is = grind (arith, common_steps, cases_Bool, in_order, name_last)
     row_filled (r ∷ q ∷ n ∷ m ∷ relocations) row is = cc
 
     -- the descriptor
@@ -232,31 +218,14 @@ module _ (machine : MachineType) (linked : List Placed) (image : List Range) (st
             × (sections_end Descriptors b.descriptors o.sections ≡ b.descriptors + 20)
         go None at is = cc
         go (Some s) at is =
-            let only = only_located machine linked image starts ends o b rest sized located Descriptors s tt at even.descriptors in
             elim (cases_Bool (bytes_eq s.bytes (zeros 20))) [
-              | inl blank ↦ grind (arith, bytes_eq-Decides, row_filled, only)
+              | inl blank ↦ grind (arith, bytes_eq-Decides, row_filled, (only_located machine linked image starts ends o b rest sized located Descriptors s tt at even.descriptors))
               | inr other ↦ let none : None ≡ Some row = rw other at is in cc
             ]
 
     -- where a table begins
     pub begin_of : (group : Group) (index : ℕ) → base_of group b % 4 ≡ 0 → begins group o index ≡ true → (target_address linked p index ≡ base_of group b) × (sections_end group (base_of group b) o.sections ≡ base_of group b)
-    begin_of group index level is =
-        let parts = and_parts (is_empty (only_section group o)) (leads_to group o (slice_get o.entries index)) is in
-        go (only_section group o) refl parts.0 parts.1
-      where
-        leads : (s : ObjectSection) → only_section group o ≡ Some s → (found : Option Entry) → leads_to group o found ≡ true → address_or_zero (option_and_then (symbol_address linked p) found) ≡ base_of group b
-        leads s at found led = grind (arith, and_parts, group_address, eqb-true, plus_none, cases_Bool)
-
-        go : (found : Option ObjectSection) → only_section group o ≡ found → is_empty found ≡ true → leads_to group o (slice_get o.entries index) ≡ true →
-            (target_address linked p index ≡ base_of group b) × (sections_end group (base_of group b) o.sections ≡ base_of group b)
-        go None at empty led = cc
-        go (Some s) at empty led =
-            let parts = and_parts (bytes_eq s.bytes []) (has_none s.relocations) empty in
-            let same : s.bytes ≡ [] = (bytes_eq-Decides s.bytes []).0 parts.0 in
-            let one = one_is (sections_of group o.sections) s at in (
-              leads s at (slice_get o.entries index) led,
-              one_ends group o.sections (base_of group b) s one.0 one.1 level ∙ ap (λ n. base_of group b + n) (ap length same) ∙ plus_none (base_of group b),
-            )
+    begin_of group index level is = grind (arith, common_steps, and_parts, group_address, eqb-true, plus_none, cases_Bool, bytes_eq-Decides, one_is, one_ends)
 
     name_found : (dll : List ℕ) (others later : List Object) (found : Option Entry) → AllByRecursion IsSized others → LocatedFrom machine linked image (ends_after b o.sections) (others ++ later) →
         ((d : SymbolDefinition) → Among d (definitions (placed_from (ends_after b o.sections) (others ++ later))) → definitions_of d.name linked ≡ d ∷ []) → dll_text others found ≡ Some dll →
@@ -304,10 +273,9 @@ module _ (machine : MachineType) (linked : List Placed) (image : List Range) (st
       let descriptors_are : next.descriptors ≡ b.descriptors + 20 = end_of_sections Descriptors b head.sections ∙ row.1 in
       let lookups_are : next.lookups ≡ b.lookups = end_of_sections Lookups b head.sections ∙ lookups.1 in
       let addresses_are : next.addresses ≡ b.addresses = end_of_sections Addresses b head.sections ∙ addresses.1 in
-      let later_even : AreAligned next = grind (arith, later_even, lookups, addresses) in
       let next_located : LocatedFrom machine linked image next rest = located_next head b rest sized.0 located in
       let name = name_found head b rest sized.0 even located dll others later (slice_get head.entries begin.row.name) sized.1 next_located (λ d m. only d (among_back d own behind m)) begin.name in
-      let tables = tables_from others later entries next later_even sized.1 next_located are in
+      let tables = tables_from others later entries next (grind (arith, later_even, lookups, addresses)) sized.1 next_located are in
       let asks : List Ask = map (λ (e : TableEntry). e.ask) entries in
       let bytes = subst (λ x. BytesAt image b.descriptors (filled_row head b rest sized.0 even located x (target_address linked (p head b rest sized.0 even located) begin.row.name) (target_address linked (p head b rest sized.0 even located) begin.row.addresses)))
       (lookups.0 ∙ sym (plus_none b.lookups)) row.0 in

@@ -72,10 +72,7 @@ after_by machine dll more es = map (λ e. exported machine dll (more e) e) es ++
 
 head_row : (machine : MachineType) (dll : NamesOfDll) → row_in machine (head machine dll) ≡ Some (record { lookups = 3; name = 5; addresses = 2 })
 unfolding head_object
-head_row I386 dll = refl
-head_row ARMNT dll = refl
-head_row AMD64 dll = refl
-head_row ARM64 dll = refl
+head_row machine dll = grind arith
 
 head_lookups : (machine : MachineType) (dll : NamesOfDll) → begins Lookups (head machine dll) 3 ≡ true
 unfolding head_object
@@ -106,8 +103,7 @@ names_at machine dll more e entries = filter_map (entry_name (exported machine d
 
 names_by : (machine : MachineType) (dll : NamesOfDll) (more : List AddedSymbol) (e : ExportView) (is_data : Bool) →
     (let x : ExportView = record e { is_data = is_data } in names_at machine dll more x (exported machine dll more x).entries ≡ imp_symbol e.name ∷ names_at machine dll more x (all_entries more))
-names_by machine dll more e true = refl
-names_by machine dll more e false = refl
+names_by machine dll more e is_data = grind arith
 
 pub names_are : (machine : MachineType) (dll : NamesOfDll) (more : List AddedSymbol) (e : ExportView) → names_at machine dll more e (exported machine dll more e).entries ≡ imp_symbol e.name ∷ names_at machine dll more e (all_entries more)
 names_are machine dll more e = names_by machine dll more e e.is_data
@@ -136,10 +132,7 @@ same_zeros : (machine : MachineType) → bytes_eq (zeros (thunk_width machine)) 
 same_zeros machine = same_text (zeros (thunk_width machine))
 
 same_kind : (machine : MachineType) → is_field machine 0 (relocation machine 0 0) ≡ true
-same_kind I386 = refl
-same_kind ARMNT = refl
-same_kind AMD64 = refl
-same_kind ARM64 = refl
+same_kind machine = grind arith
 
 asks_name : (machine : MachineType) (o : Object) (index : ℕ) (bytes : List ℕ) → own_bytes o (slice_get o.entries index) ≡ Some bytes →
     ask_of machine o (zeros (thunk_width machine)) (relocation machine 0 index ∷ []) ≡ hint_and_name bytes
@@ -232,20 +225,16 @@ members_objects machine p made = grind (arith, objects_are p.definition machine 
 pub members_are_part : (machine : MachineType) (p : LinkInput) → IsMade machine p → IsPart machine (part_of machine p)
 members_are_part machine p made =
     let dll : NamesOfDll = names_for Gnu p.definition in
-    let es : List ExportView = chosen_exports p.definition p.chosen in
-    part_is machine dll (λ e. []) (λ e. imp_symbol e.name) (today_named machine dll) (part_of machine p).objects es
+    part_is machine dll (λ e. []) (λ e. imp_symbol e.name) (today_named machine dll) (part_of machine p).objects (chosen_exports p.definition p.chosen)
     (members_objects machine p made) (dll_free p.definition machine p.members p.chosen made) (exports_fit p.definition machine p.members p.chosen made)
 
 -- Parts that store no address whole.
 
 none_whole : (width : Option ℕ) → not (is_whole width) ≡ true → width ≡ None
-none_whole None is = refl
-none_whole (Some n) is = cc
+none_whole width is = grind arith
 
 fields_none : (machine : MachineType) (relocations : List Relocation) → list_all (λ r. not (is_whole (absolute_width machine r.kind))) relocations ≡ true → NoneAbsolute machine relocations
-fields_none machine relocations all =
-    all_from (λ (r : Relocation). absolute_width machine r.kind ≡ None) relocations (λ r held.
-    none_whole (absolute_width machine r.kind) (each_of (λ (x : Relocation). not (is_whole (absolute_width machine x.kind))) r relocations all held))
+fields_none machine relocations all = grind (arith, all_from, none_whole, each_of)
 
 sections_steady : (machine : MachineType) (sections : List ObjectSection) →
     list_all (λ s. not (is_table s) || list_all (λ r. not (is_whole (absolute_width machine r.kind))) s.relocations) sections ≡ true → AllByRecursion (IsSteady machine) sections
@@ -301,9 +290,8 @@ numbered_among : (machine : MachineType) (dll : List ℕ) (exports : List Export
 numbered_among machine dll [] start n e is = cc
 numbered_among machine dll (x ∷ exports) start zero e is = grind (arith, among_front, among_back, among_first)
 numbered_among machine dll (x ∷ exports) start (suc n) e is =
-    let position : start + 1 + n ≡ start + suc n = omega arith in
     among_back _ (older_specs_of machine dll start x) (numbered_older_specs machine dll (start + 1) exports)
-    (subst (λ n. Among (older_spec machine dll n e) (numbered_older_specs machine dll (start + 1) exports)) position (numbered_among machine dll exports (start + 1) n e is))
+    (subst (λ n. Among (older_spec machine dll n e) (numbered_older_specs machine dll (start + 1) exports)) (omega arith) (numbered_among machine dll exports (start + 1) n e is))
 
 -- the further symbol of each export
 abbrev pub further : ExportView → List AddedSymbol
@@ -437,11 +425,9 @@ entry_found linked o b place None led = cc
 entry_found linked o b place (Some (Auxiliary bytes)) led = cc
 entry_found linked o b place (Some (ASymbol x)) led =
     let first = and_parts (not (is_undefined_external x)) ((x.value == 0) && is_in_group Addresses (section_numbered o.sections x.section)) led in
-    let second = and_parts (x.value == 0) (is_in_group Addresses (section_numbered o.sections x.section)) first.1 in
-    let here : address_in (section_addresses_of b o.sections) x.section x.value ≡ Some b.addresses = grind (arith, eqb-true, plus_none) in
     elim (cases_Bool (is_undefined_external x)) [
       | inl left ↦ let none : false ≡ true = rw left at first.0 in cc
-      | inr own ↦ (ASymbol x, (refl, rw own here))
+      | inr own ↦ (ASymbol x, (refl, rw own (grind (arith, and_parts (x.value == 0) (is_in_group Addresses (section_numbered o.sections x.section)) first.1, eqb-true, plus_none))))
     ]
 
 module _ (machine : MachineType) (bases : Bases) (parts : List Part) (objects : List Object) (are : AllByRecursion (IsPart machine) parts) (program : IsProgramOfParts machine bases parts objects) where
@@ -453,7 +439,6 @@ module _ (machine : MachineType) (bases : Bases) (parts : List Part) (objects : 
       Contains linked d.from → section_numbered d.from.object.sections d.number ≡ Some d.code → Defines d t → t.name ≡ name → StubAt machine linked d t (x.address + thunk_width machine * j)
   stub_of_part i j x p o e name d t own_part own_object own_entry stub own_table d_from d_section defines named =
       let packed = packed_at (thunk_width machine) (map (λ (q : Part). q.table) parts) bases.addresses i x own_table in
-      let table_is : bases.addresses + thunk_width machine * entries_until i (map (λ (q : Part). q.table) parts) ≡ x.address = ap (λ (y : Table). y.address) packed.1.1 in
       let place = entry_placed machine bases parts objects are program i j p o e own_part own_object own_entry in
       let own : Placed = record { object = o; section_addresses = section_addresses_of place.bases o.sections } in
       let symbol : ObjectSymbol = named_code name in
@@ -468,7 +453,7 @@ module _ (machine : MachineType) (bases : Bases) (parts : List Part) (objects : 
       let both : Some d.code ≡ Some (stub_section machine) = sym numbered ∙ stub.code in
       let code_is : d.code ≡ stub_section machine = cc in
       let at = entry_found linked o place.bases (group_address Addresses o place.bases place.section place.only place.aligned.addresses) (slice_get o.entries 2) stub.entry in
-      let entry_is : place.bases.addresses ≡ x.address + thunk_width machine * j = place.addresses ∙ ap (λ n. n + thunk_width machine * j) table_is in
+      let entry_is : place.bases.addresses ≡ x.address + thunk_width machine * j = place.addresses ∙ ap (λ n. n + thunk_width machine * j) (ap (λ (y : Table). y.address) packed.1.1) in
       record {
         bytes = ap (λ (y : ObjectSection). y.bytes) code_is;
         relocations = ap (λ (y : ObjectSection). y.relocations) code_is;

@@ -112,8 +112,7 @@ module _ (machine : MachineType) (linked : List Placed) (p : Placed) (group : Gr
             let parts = contribution_located image (base_of group b) (record { address = a; bytes = bytes }) others (at_least (alignment s.flags) (base_of group b))
             (subst (λ front. BytesAt image (base_of group b) (filled (base_of group b) ((front ++ filled_in (next b s) sections) ++ behind)))
             (contribution_one group b s.flags (group_named s.name) bytes here) located) in
-            let end : a + length bytes ≡ base_of group (next b s) = grind (arith, length-relocated, end_of_section, end_one) in
-            subst (λ n. BytesAt image n (filled n others)) end parts.1
+            subst (λ n. BytesAt image n (filled n others)) (grind (arith, length-relocated, end_of_section, end_one)) parts.1
         | inr other ↦ grind (arith, contribution_none, same_end)
       ])
 
@@ -190,8 +189,7 @@ unfolding BytesAt
 drop_located image zero bytes a located = subst (λ m. BytesAt image m bytes) (omega arith) located
 drop_located image (suc n) [] a located = tt
 drop_located image (suc n) (x ∷ bytes) a located =
-    let same : a + 1 + n ≡ a + suc n = omega arith in
-    subst (λ m. BytesAt image m (drop n bytes)) same (drop_located image n bytes (a + 1) located.1)
+    subst (λ m. BytesAt image m (drop n bytes)) (omega arith) (drop_located image n bytes (a + 1) located.1)
 
 pub ended_is : (bytes text : List ℕ) → before_nul bytes ≡ Some text → (rest : List ℕ) × ((bytes ≡ text ++ 0 ∷ rest) × HasNoNul text)
 unfolding before_nul
@@ -243,8 +241,7 @@ module _ (machine : MachineType) (linked : List Placed) (image : List Range) (st
       elim (cases_Bool (is_undefined_external s)) [
         | inl left ↦ let none : None ≡ Some bytes = rw left at is in cc
         | inr own ↦
-            let here : bytes_at_symbol o s ≡ Some bytes = rw own at is in
-            let found = in_numbered s.section s.value bytes here in
+            let found = in_numbered s.section s.value bytes (rw own at is) in
             (found.0, (rw own found.1.0, found.1.1))
       ]
 
@@ -258,12 +255,10 @@ module _ (machine : MachineType) (linked : List Placed) (image : List Range) (st
       elim (cases_Bool (is_defined_external s && bytes_eq name s.name)) [
         | inl both ↦
             let parts = and_parts (is_defined_external s) (bytes_eq name s.name) both in
-            let here : bytes_at_symbol o s ≡ Some bytes = rw both at is in
-            let found = in_numbered s.section s.value bytes here in
+            let found = in_numbered s.section s.value bytes (rw both at is) in
             let same : name ≡ s.name = (bytes_eq-Decides name s.name).0 parts.1 in
             let definition : record { name = s.name; address = address_in addresses s.section s.value } ≡ record { name = name; address = Some found.0 } = grind arith in
-            let first : Among (record { name = s.name; address = address_in addresses s.section s.value }) (filter_map (defined_by_entry addresses) (ASymbol s ∷ entries)) = rw parts.0 (among_first _ _) in
-            (found.0, (subst (λ (d : SymbolDefinition). Among d (filter_map (defined_by_entry addresses) (ASymbol s ∷ entries))) definition first, found.1.1))
+            (found.0, (subst (λ (d : SymbolDefinition). Among d (filter_map (defined_by_entry addresses) (ASymbol s ∷ entries))) definition (rw parts.0 (among_first _ _)), found.1.1))
         | inr other ↦ grind (arith, named_located name entries bytes (rw other at is), among_later)
       ]
 
@@ -293,11 +288,8 @@ module _ (machine : MachineType) (linked : List Placed) (image : List Range) (st
       named small below None at is = cc
       named small below (Some text) at is =
           let ended = ended_is bytes text at in
-          let hint : List ℕ = u16_bytes (low + 256 * high) in
-          let whole : low ∷ high ∷ bytes ≡ (hint ++ (text ++ 0 ∷ [])) ++ ended.0 = grind (arith, append_assoc, u16_is) in
-          let front = located_parts image (hint ++ (text ++ 0 ∷ [])) ended.0 place (subst (BytesAt image place) whole held) in
-          let same : Name text (low + 256 * high) ≡ ask = cc in
-          subst (StrictThunkAt image (thunk_width machine) a) same
+          let front = located_parts image ((u16_bytes (low + 256 * high)) ++ (text ++ 0 ∷ [])) ended.0 place (subst (BytesAt image place) (grind (arith, append_assoc, u16_is)) held) in
+          subst (StrictThunkAt image (thunk_width machine) a) (cc)
           (name_located machine image starts ends text (low + 256 * high) place a (hint_small low high small below) ended.1.1 here front.0)
 
   asked : (a : ℕ) (bytes : List ℕ) (relocations : List Relocation) (ask : Ask) → ask_of machine o bytes relocations ≡ Some ask → BytesAt image a (relocated machine linked p relocations bytes) →
@@ -328,9 +320,8 @@ module _ (machine : MachineType) (linked : List Placed) (image : List Range) (st
       led None at is here = cc
       led (Some text) at is here =
           let own = own_located (slice_get o.entries r.symbol) text at in
-          let target : target_address linked p r.symbol ≡ own.0 + 0 = ap address_or_zero own.1.0 ∙ sym (plus_none own.0) in
           hint_located text ask own.0 a is own.1.1
-          (subst (BytesAt image a) (ap (with_address (zeros (thunk_width machine)) 0) target ∙ with_address-zeros machine (own.0 + 0)) here)
+          (subst (BytesAt image a) (ap (with_address (zeros (thunk_width machine)) 0) (ap address_or_zero own.1.0 ∙ sym (plus_none own.0)) ∙ with_address-zeros machine (own.0 + 0)) here)
   asked a bytes (r ∷ q ∷ relocations) ask is held = cc
 
   -- an entry's thunk in a table

@@ -41,9 +41,8 @@ pub numbered_in : (machine : MachineType) (dll : List ℕ) (exports : List Expor
 numbered_in machine dll [] start n e p is held = cc
 numbered_in machine dll (x ∷ exports) start zero e p is held = grind (arith, among_front)
 numbered_in machine dll (x ∷ exports) start (suc n) e p is held =
-    let position : start + suc n ≡ start + 1 + n = omega arith in
     among_back p (numbered_specs_of machine dll start x) (numbered_specs machine dll (start + 1) exports)
-    (numbered_in machine dll exports (start + 1) n e p is (subst (λ n. Among p (numbered_specs_of machine dll n e)) position held))
+    (numbered_in machine dll exports (start + 1) n e p is (subst (λ n. Among p (numbered_specs_of machine dll n e)) (omega arith) held))
 
 -- The numbers of wanted exports.
 
@@ -61,8 +60,7 @@ wanted_number wanted [] start k held = absurd held
 wanted_number wanted (x ∷ exports) start k held =
     elim (cases_Bool (is_wanted wanted x)) [
       | inl here ↦
-          let either : Among k (start ∷ numbers_passing (is_wanted wanted) (start + 1) exports) = rw here at held in
-          elim either [
+          elim (rw here at held) [
             | inl is ↦ let position : start ≡ start + 0 = omega arith in (0, x, is ∙ position, refl, here)
             | inr behind ↦ next (wanted_number wanted exports (start + 1) k behind)
           ]
@@ -262,11 +260,7 @@ module _ (machine : MachineType) where
       symbols_of_groups (export_groups l start exports) ≡ flat_map symbols_of_export (reverse exports)
   unfolding export_groups
   symbols_of_exports l start [] = refl
-  symbols_of_exports l start (e ∷ exports) =
-      flat_map-append (λ (g : Group). g.symbols) (export_groups l (start + 1) exports) (export_group l start e ∷ [])
-      ∙ ap (λ names. names ++ (symbols_of_export e ++ [])) (symbols_of_exports l (start + 1) exports)
-      ∙ sym (flat_map-append symbols_of_export (reverse exports) (e ∷ []))
-      ∙ ap (flat_map symbols_of_export) (sym (reverse-append (e ∷ []) exports))
+  symbols_of_exports l start (e ∷ exports) = grind (arith, common_steps, flat_map-append, reverse-append, symbols_of_exports l (start + 1) exports)
 
   pub export_group_is : (l : Library) (exports : List ExportView) (start : ℕ) (g : Group) → Among g (export_groups l start exports) →
       (n : ℕ) × (e : ExportView) × (slice_get exports n ≡ Some e) × (g ≡ export_group l (start + n) e)
@@ -276,8 +270,7 @@ module _ (machine : MachineType) where
       elim (among_either g (export_groups l (start + 1) exports) (export_group l start x ∷ []) held) [
         | inl behind ↦
             let later = export_group_is l exports (start + 1) g behind in
-            let position : start + 1 + later.0 ≡ start + suc later.0 = omega arith in
-            (suc later.0, later.1, later.2, later.3 ∙ ap (λ n. export_group l n later.1) position)
+            (suc later.0, later.1, later.2, later.3 ∙ ap (λ n. export_group l n later.1) (omega arith))
         | inr last ↦ elim last [
           | inl e ↦ (let position : start ≡ start + 0 = omega arith in (0, x, refl, e ∙ ap (λ n. export_group l n x) position))
           | inr nothing ↦ absurd nothing
@@ -358,10 +351,7 @@ module _ (machine : MachineType) where
   pub weak_first : (l : Library) (n : ℕ) (e : ExportView) → is_alias e.alias_target e.name ≡ true → e.is_data ≡ true →
       first_listed (export_group machine l n e).members e.name ≡ Some (weak_of machine l n e)
   unfolding Among
-  weak_first l n e alias is_data =
-      let own : is_listed_for e.name (export_of machine l n e) ≡ false = grind (arith, false, false_from_ne_true, data_not_listed, listed_export, any_among) in
-      let address : is_listed_for e.name (weak_address_of machine l n e) ≡ false = search (rules, false, false_from_ne_true, no_address, only_one, any_among) in
-      cc (alias_members l n e alias, among_any e.name (weak_of machine l n e).symbols (inl refl))
+  weak_first l n e alias is_data = grind (arith, false_from_ne_true, data_not_listed, listed_export, any_among, no_address, only_one, alias_members l n e alias, among_any e.name (weak_of machine l n e).symbols (inl refl))
 
   -- what a name finds in an export's group
   pub data InExport (l : Library) (n : ℕ) (e : ExportView) (name : List ℕ) (m : MemberView) : Type 0 where
@@ -418,8 +408,7 @@ module _ (machine : MachineType) where
         let good : Sound e = all_at Sound (exports_of l) n e (sound l.definition machine l.members [] made) is in
         let position : 0 + n ≡ n = omega arith in
         let there : Among p (gnu_specs machine dll (exports_of l)) = grind (arith, weak_there n e alias, among_later, among_reverse, numbered_in) in
-        let short : encoded_size (weak_object machine e.name e.alias_target) ≤ 0xFFFF_FFFF =
-        short_enough p (none_among is_too_long p (gnu_specs machine dll (exports_of l)) there (not_long l.definition machine l.members [] made)) in
+        let short : encoded_size (weak_object machine e.name e.alias_target) ≤ 0xFFFF_FFFF = grind (arith, short_enough p (none_among is_too_long p (gnu_specs machine dll (exports_of l)) there (not_long l.definition machine l.members [] made))) in
         object_in-encoded (weak_object machine e.name e.alias_target) (Fits-weak_object machine e.name e.alias_target good.name good.alias_target) (omega arith)
 
   pub export_entries : (dll : NamesOfDll) (e : ExportView) → list_any is_weak_entry (export machine dll e).entries ≡ false

@@ -306,10 +306,7 @@ module _ (machine : MachineType) (libraries : List FlavorLibrary) (archive : IsF
     linked = e.before ++ (null ++ e.behind)
 
     tables : filter has_tables objects ≡ objects_taken machine (e.before ++ (first_null machine (msvc_among libraries) ++ e.behind))
-    tables =
-        e.tables
-        ∙ ap (λ (d : DefinitionView). objects_taken machine (e.before ++ null_member machine (linked_dll d) ∷ e.behind)) null_library.3
-        ∙ sym (null_tables machine (msvc_among libraries) archive.msvc e.before e.behind (names_for Msvc x.definition) x there (null_is machine x (made_of machine libraries archive Msvc x null_library.1)))
+    tables = grind (arith, null_tables machine (msvc_among libraries) archive.msvc e.before e.behind (names_for Msvc x.definition) x there (null_is machine x (made_of machine libraries archive Msvc x null_library.1)))
 
     null_there : (m : MemberView) → Among m null → Among m (filter (λ y. not (weak y)) taken)
     null_there = null_other machine libraries archive reads weak (expands machine libraries archive) own taken arranged objects closed_as x null_library.1 null_library.2
@@ -360,8 +357,7 @@ module _ (machine : MachineType) (libraries : List FlavorLibrary) (archive : IsF
     }
 
   is_ended : (ending : Ending) → AreEnded ending machine (inputs_in machine arranged own taken) objects → IsEnded machine ending own taken arranged objects
-  is_ended OfLinker e = by_linker e
-  is_ended OfMember e = by_member e
+  is_ended ending e = grind (arith, by_linker, by_member)
 
 module _ (machine : MachineType) (ending : Ending) (libraries : List FlavorLibrary) (archive : IsFlavorArchive machine libraries) (own : List Object) (taken : List MemberView) (arranged : List FlavorLibrary)
     (objects : List Object) (is : AreClosed machine ending libraries own taken arranged objects) where

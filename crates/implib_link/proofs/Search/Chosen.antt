@@ -160,8 +160,7 @@ module _ (machine : MachineType) (names : List (List ℕ)) where
       by (inr (inl is)) = TheLast (same ∙ ap member_of is)
       by (inr (inr c)) =
           let found = (numbers_are_wanted (exports_of l) names).only c.0 c.2 in
-          let own : found.0 ≡ c.1 = sym (same_Some c.1 found.0 (sym c.3 ∙ found.1)) in
-          AnOwn c.0 c.1 c.3 (same ∙ ap member_of c.4) (subst (λ e. is_wanted names e ≡ true) own found.2)
+          AnOwn c.0 c.1 c.3 (same ∙ ap member_of c.4) (subst (λ e. is_wanted names e ≡ true) (sym (same_Some c.1 found.0 (sym c.3 ∙ found.1))) found.2)
 
   -- what is linked of libraries is linked of one of which some export is chosen
   pub linked_from : (libraries : List FlavorLibrary) (m : MemberView) → Among m (all_members machine (flavor_inputs libraries names)) →
@@ -247,13 +246,10 @@ module _ (machine : MachineType) where
       few_linked : (name : List ℕ) → times name (null_of shorts ++ of_inputs (flavor_inputs arranged names)) ≤ 1
       few_linked name =
           let most : times name (null_of shorts) + times name (of_libraries machine libraries) ≤ 1 = few machine libraries archive name in
-          let turned : times name (of_libraries machine arranged) ≡ times name (of_libraries machine libraries) = times_moved (λ (l : FlavorLibrary). of_library machine l.flavor l.library) name libraries arranged moved in
-          grind (arith, times, of_libraries, inputs_fewer, null_of, times_both)
+          grind (arith, of_libraries, times, times_moved, of_library, inputs_fewer, null_of, times_both)
 
       with_null_distinct : IsDistinct bytes_eq (null_of shorts ++ symbols_listed (all_members machine (flavor_inputs arranged names)))
-      with_null_distinct =
-          subst (λ listed. IsDistinct bytes_eq (null_of shorts ++ listed)) (sym (inputs_symbols machine (flavor_inputs arranged names) both_made))
-          (distinct_from (null_of shorts ++ of_inputs (flavor_inputs arranged names)) few_linked)
+      with_null_distinct = grind (arith, null_of shorts, inputs_symbols machine (flavor_inputs arranged names) both_made, distinct_from (null_of shorts ++ of_inputs (flavor_inputs arranged names)) few_linked)
 
       pub both_distinct : (l : Library) → Among l (msvc_among libraries) → IsDistinct bytes_eq (null_descriptor_symbol ∷ symbols_listed (all_members machine (flavor_inputs arranged names)))
       unfolding Among

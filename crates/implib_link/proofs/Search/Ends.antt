@@ -24,8 +24,7 @@ same_names (x ∷ xs) (y ∷ ys) = bytes_eq x y && same_names xs ys
 
 names_same : (xs ys : List (List ℕ)) → same_names xs ys ≡ true → xs ≡ ys
 unfolding same_names
-names_same [] [] is = refl
-names_same [] (y ∷ ys) is = absurd (true≢false (sym is))
+names_same [] ys is = grind (arith, true≢false)
 names_same (x ∷ xs) [] is = absurd (true≢false (sym is))
 names_same (x ∷ xs) (y ∷ ys) is = grind (arith, names_same xs ys, and_parts, same_names, bytes_eq-Decides)
 

@@ -100,8 +100,7 @@ exports_count : (name : List ℕ) (es : List ExportView) →
 unfolding times
 exports_count name [] = omega arith
 exports_count name (e ∷ es) =
-    let behind = exports_count name es in
-    grind (arith, times, times_both, cases_Bool)
+    grind (arith, exports_count name es, times, times_both, cases_Bool)
 
 module _ (machine : MachineType) where
   library_count : (name : List ℕ) (libraries : List Library) →
@@ -115,8 +114,7 @@ module _ (machine : MachineType) where
       let few = exports_count name (exports_of l) in
       let split : times name (flat_map symbols_of_export (reverse (exports_of l)) ++ flat_map (symbols_of_library machine) libraries)
       ≡ times name (flat_map symbols_of_export (reverse (exports_of l))) + times name (flat_map (symbols_of_library machine) libraries) = grind (arith, times_both) in
-      let names : times name (map (λ (e : ExportView). e.name) (exports_of l) ++ names_in libraries) ≡ times name (map (λ (e : ExportView). e.name) (exports_of l)) + times name (names_in libraries) = grind (arith, times_both) in
-      grind (arith, times, map-append, times_both)
+      grind (arith, times, times_both, map-append)
 
   module _ (libraries : List Library) (apart : AreNamedApart machine libraries) where
     abbrev tails : List (List ℕ)
@@ -171,11 +169,7 @@ module _ (machine : MachineType) where
     listed_few : (name : List ℕ) → times name (flat_map (symbols_of_library machine) libraries) ≤ 1
     listed_few name =
         let most = few_from (tails ++ (heads ++ (names ++ imps))) all_differ name in
-        let first : times name (tails ++ (heads ++ (names ++ imps))) ≡ times name tails + times name (heads ++ (names ++ imps)) = times_both name tails (heads ++ (names ++ imps)) in
-        let second : times name (heads ++ (names ++ imps)) ≡ times name heads + times name (names ++ imps) = times_both name heads (names ++ imps) in
-        let third : times name (names ++ imps) ≡ times name names + times name imps = times_both name names imps in
-        let few = library_count name libraries in
-        omega arith
+        omega (arith, times_both name tails (heads ++ (names ++ imps)), times_both name heads (names ++ imps), times_both name names imps, library_count name libraries)
 
 pub named_apart : (machine : MachineType) (libraries : List Library) → AllByRecursion (IsLibrary machine) libraries → AreNamedApart machine libraries → IsArchive machine libraries
 named_apart machine libraries made apart = grind (arith, distinct_from, listed_few)
@@ -296,8 +290,7 @@ module _ (machine : MachineType) where
   group_is Gnu l g (inr (inl is)) = OfRole Top tt is
   group_is Gnu l g (inr (inr behind)) =
       let own = export_group_is machine l (exports_of l) 0 g behind in
-      let position : 0 + own.0 ≡ own.0 = omega arith in
-      OfExport own.0 own.1 own.2 (own.3 ∙ ap (λ n. export_group machine l n own.1) position)
+      OfExport own.0 own.1 own.2 (own.3 ∙ ap (λ n. export_group machine l n own.1) (omega arith))
 
   role_there : (flavor : Flavor) (l : Library) (r : Role) → IsEnd r → Among (role_group flavor l r) (groups_in flavor l)
   role_there Msvc l Top end = among_first _ _
@@ -389,9 +382,7 @@ module _ (machine : MachineType) where
             | inr some ↦ absurd (none (listed_in_library name y some.0 own some.1))
           ]
       by Msvc y own none first later =
-          let same : y ≡ x = cc in
-          let behind : List MemberView = thunk_of machine y ∷ members_of_groups (map (short_group machine y) (exports_of y)) in
-          cc (members_are machine y own, null_found name y (behind ++ archive_of_both libraries) named none)
+          cc (members_are machine y own, null_found name y ((thunk_of machine y ∷ members_of_groups (map (short_group machine y) (exports_of y))) ++ archive_of_both libraries) named none)
 
   sums_first : (name : List ℕ) (flavor : Flavor) (l : Library) (rest : List FlavorLibrary) →
       times name (of_libraries rest) ≡ times name (flat_map (symbols_of_library machine) (gnu_among rest)) + times name (flat_map symbols_of_shorts (msvc_among rest)) →
@@ -421,13 +412,12 @@ module _ (machine : MachineType) (libraries : List FlavorLibrary) (archive : IsF
   pub few : (name : List ℕ) → times name (null_of shorts) + times name (of_libraries machine libraries) ≤ 1
   few name =
       let gnu : List (List ℕ) = flat_map (symbols_of_library machine) (gnu_among libraries) in
-      let total : times name (of_libraries machine libraries) ≡ times name gnu + times name (flat_map symbols_of_shorts (msvc_among libraries)) = sums machine name libraries in
       let split : times name (symbols_of_all_shorts (msvc_among libraries)) ≡ times name (null_of shorts) + times name (flat_map symbols_of_shorts (msvc_among libraries)) = with_null name shorts in
       let gnu_once : times name gnu ≤ 1 = few_from gnu archive.gnu.distinct name in
       let short_once : times name (symbols_of_all_shorts (msvc_among libraries)) ≤ 1 = few_from (symbols_of_all_shorts shorts) (shorts_differ shorts archive.msvc.distinct) name in
       elim (cases_Bool (list_any (bytes_eq name) gnu)) [
-        | inl there ↦ grind (arith, times name (symbols_of_all_shorts (msvc_among libraries)), any_among name gnu there, none_times, all_among)
-        | inr none_there ↦ (let none : times name gnu ≡ 0 = none_times name gnu none_there in omega arith)
+        | inl there ↦ grind (arith, sums machine name libraries, times name (symbols_of_all_shorts (msvc_among libraries)), any_among name gnu there, none_times, all_among)
+        | inr none_there ↦ (let none : times name gnu ≡ 0 = none_times name gnu none_there in omega (arith, sums machine name libraries))
       ]
 
   symbols_differ : IsDistinct bytes_eq (null_of (msvc_among libraries) ++ of_libraries machine libraries)
@@ -574,8 +564,7 @@ module _ (machine : MachineType) (libraries : List FlavorLibrary) (archive : IsF
       Among name (symbols machine flavor l r) → first_listed (archive_of_both libraries) name ≡ Some (member machine flavor l r)
   finds flavor l Top name held is listed = role_finds machine libraries archive flavor l Top name held tt listed
   finds flavor l Last name held is listed = role_finds machine libraries archive flavor l Last name held tt listed
-  finds Gnu l Null name held is listed = absurd is
-  finds Msvc l Null name held is listed = null_finds machine libraries archive name (only_one name _ listed) l is.0 is.1
+  finds flavor l Null name held is listed = grind (arith, null_finds, only_one)
   finds Gnu l (Own n e) name held is listed = export_finds machine libraries archive Gnu l n e name _ held is.0 (own_symbols e name listed) (own_first machine l n e name listed)
   finds Msvc l (Own n e) name held is listed = export_finds machine libraries archive Msvc l n e name _ held is.0 (short_symbol e name is.1 listed) (short_first machine l e name is.1 listed)
   finds Gnu l (Weak n e true) name held is listed = absurd is.1

@@ -188,10 +188,8 @@ module _ (machine : MachineType) (libraries : List FlavorLibrary) (archive : IsF
   are_first : (reads : List ℕ → Option Object) (own : List Object) (taken : List MemberView) → AreTakenIntoAs reads (archive_of_both libraries) own taken → AreFirst (expanded_in machine) (archive_of_both libraries) taken
   are_first reads own taken turn x o name held read among =
       let by = pulled reads (archive_of_both libraries) (unresolved own) taken (in_turn_for reads (archive_of_both libraries) own taken turn) x held in
-      let one : IsFirstAs (expanded_in machine) (archive_of_both libraries) x =
-      first_by_role machine libraries archive (expanded_in machine) (is_weak_in machine) (expands machine libraries archive) x (found machine libraries archive by.0 x by.1).has in
-      let same : o ≡ one.object = same_Some o one.object (sym read ∙ one.read) in
-      one.first name (subst (Among name) one.claims (subst (λ y. Among name (claimed_names y)) same (weak_claimed o name among)))
+      let one : IsFirstAs (expanded_in machine) (archive_of_both libraries) x = grind (arith, first_by_role machine libraries archive (expanded_in machine) (is_weak_in machine) (expands machine libraries archive) x (found machine libraries archive by.0 x by.1).has) in
+      one.first name (subst (Among name) one.claims (subst (λ y. Among name (claimed_names y)) (same_Some o one.object (sym read ∙ one.read)) (weak_claimed o name among)))
 
   pub libraries_plain : (own : List Object) (taken : List MemberView) → HaveNoWeak own → TakesIntoFor machine (archive_of_both libraries) own taken →
       TakesPlainly (expanded_in machine) (archive_of_both libraries) own taken

@@ -183,8 +183,7 @@ left_as_role machine flavor l (Weak n e b) found = left_weak machine (weak_symbo
 
 pub weak_as : (machine : MachineType) (flavor : Flavor) (l : Library) (r : Role) → has_weak (Some (object machine flavor l r)) ≡ is_weak_role r
 unfolding head_object tail_object
-weak_as machine Msvc l Top = descriptor_not_weak machine (names_for Msvc l.definition)
-weak_as machine Gnu l Top = refl
+weak_as machine flavor l Top = grind (arith, descriptor_not_weak)
 weak_as machine Msvc l Last = thunk_not_weak machine (names_for Msvc l.definition)
 weak_as machine Gnu l Last = refl
 weak_as machine flavor l Null = null_not_weak machine

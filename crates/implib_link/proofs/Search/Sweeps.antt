@@ -167,11 +167,8 @@ module _ (reads : List ℕ → Option Object) (archive : List MemberView) (own :
         listed = first_at archive e.name e.number from.0 own_first from.1 from.2;
         new = λ held.
             let other = taken_number archive numbers from.0 (contains_among from.0 (members_at archive numbers) held) in
-            let up : e.number ≤ other.0 = own_first other.0 from.0 from.0 from.1 from.2 other.2 from.2 in
             let down : other.0 ≤ e.number = first other.0 (among_later other.0 e.number numbers other.1) e.number from.0 from.0 other.2 from.2 from.1 from.2 in
-            let one : other.0 ≡ e.number = omega arith in
-            let there : list_any (λ number. number == e.number) numbers ≡ true = among_number e.number numbers (subst (λ k. Among k numbers) one other.1) in
-            true≢false (sym parts.1 ∙ ap not there);
+            true≢false (sym parts.1 ∙ ap not (among_number e.number numbers (subst (λ k. Among k numbers) (omega (arith, own_first other.0 from.0 from.0 from.1 from.2 other.2 from.2)) other.1)));
       }
 
   -- What a sweep takes for these objects is taken for others (`whole`), for which each pull is one, too; where of what is taken
