@@ -31,22 +31,11 @@ use Rattle.implib_link.proofs.Tables.{covering, entry_in, stub_in_memory, thunk_
 
 -- Numbers of fields.
 
-stored_is : (machine : MachineType) (type base position target : ℕ) (old new : ℕ → ℕ) → IsPointer machine type → old (thunk_width machine) ≡ 0 → FieldHolds machine type base position target old new →
-    base + 2 ^ 31 ≤ 2 ^ (8 * thunk_width machine) → target < 2 ^ 31 → new (thunk_width machine) ≡ base + target
-stored_is machine type base position target old new stores empty holds fits small = grind (arith, dir32_is, addr64_is)
-
-relative_is : (n old target : ℕ) → n ≡ (old + target) % 2 ^ 32 → old ≡ 0 → target < 2 ^ 31 → n ≡ target
-relative_is n old target is empty small = omega arith
-
 relative_width : (machine : MachineType) (type : ℕ) → IsImageRelative machine type → field_width machine type ≡ 4
 relative_width machine type relative = grind arith
 
 relative_steady : (machine : MachineType) (type : ℕ) → IsImageRelative machine type → absolute_width machine type ≡ None
 relative_steady machine type relative = grind arith
-
--- the offset in a page is the same at a base that differs by whole pages
-added_is : (n from base target old : ℕ) → n ≡ (from + target + old) % 4096 → old ≡ 0 → from % 4096 ≡ base % 4096 → n ≡ (base + target) % 4096
-added_is n from base target old is empty paged = omega arith
 
 module _ (machine : MachineType) (image_base : ℕ) (image : List Range) (linked : List Placed) (codes : List LinkedCode) (targets : LinkedCode → ℕ → ℕ) (memory : List Range)
     (stored : StoredRests machine image_base image linked codes targets memory) (written : List Range) (covers_it : AllByRecursion (Covers image) written) where
@@ -71,7 +60,7 @@ module _ (machine : MachineType) (image_base : ℕ) (image : List Range) (linked
         let found = field_there machine image_base image linked codes targets memory stored.rests written covers_it c (contains_among c codes held) offset has.type has.field.symbol has.field.alone has.field.inside target
         (settled c has.field.symbol held has.field.names) in
         subst (λ n. NumberAt (written ++ memory) (thunk_width machine) (c.position + offset) n)
-        (stored_is machine has.type image_base (c.position + offset) target (field_at c.code.bytes offset) found.0 has.stores has.empty found.1.1 fits small)
+        (grind (arith, dir32_is, addr64_is, has.stores, has.empty))
         (subst (λ w. NumberAt (written ++ memory) w (c.position + offset) (found.0 w)) (pointer_width machine has.type has.stores) found.1.0)
 
     -- a field of a type that Fields leaves out, as it was linked
@@ -86,7 +75,7 @@ module _ (machine : MachineType) (image_base : ℕ) (image : List Range) (linked
         let there = linked_there machine image_base image linked codes targets memory stored.rests written covers_it c (contains_among c codes held) offset has.type has.field.symbol has.field.alone has.field.inside
         (relative_steady machine has.type has.relative) in
         let holds = further_holds c offset has.type has.field.symbol held has.field.alone has.field.inside has.field.names in
-        subst (λ n. NumberAt (written ++ memory) 4 (c.position + offset) n) (relative_is (field_at c.bytes offset 4) (field_at c.code.bytes offset 4) target (holds.relative has.relative) has.empty small)
+        subst (λ n. NumberAt (written ++ memory) 4 (c.position + offset) n) (omega (arith, holds.relative has.relative, has.empty))
         (subst (λ w. NumberAt (written ++ memory) w (c.position + offset) (field_at c.bytes offset w)) (relative_width machine has.type has.relative) there)
 
 -- ARM64's two instructions.
@@ -111,7 +100,7 @@ sum_holds image_base image linked codes targets memory stored written covers_it 
       add = add;
       add_there = there;
       is_add = added.0;
-      leads = grind (arith, own_end ARM64 image_base image linked codes targets memory stored.rests written covers_it c m, pair_leads, page_leads, added_is);
+      leads = grind (arith, own_end ARM64 image_base image linked codes targets memory stored.rests written covers_it c m, pair_leads, page_leads);
     }
 
 sums_hold : (machine : MachineType) (image_base : ℕ) (image : List Range) (linked : List Placed) (codes : List LinkedCode) (targets : LinkedCode → ℕ → ℕ) (memory : List Range)

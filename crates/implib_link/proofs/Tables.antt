@@ -390,8 +390,7 @@ module _ (machine : MachineType) (descriptors addresses : ℕ) (taken : List Sho
 -- lld's own tables store no address whole.
 pub lld_steady : (machine : MachineType) (addresses : ℕ) (taken : List ShortImport) (before behind : List Placed) → AreSteady machine before → AreSteady machine behind →
     AreSteady machine (before ++ placed_by_lld machine addresses taken ∷ behind)
-lld_steady machine addresses taken [] behind none none_behind = none_behind
-lld_steady machine addresses taken (p ∷ before) behind none none_behind = grind (arith, common_steps)
+lld_steady machine addresses taken before behind none none_behind = grind (arith, common_steps)
 
 -- How many tables there are, and that they can be read where stubs can jump.
 pub program_count : (machine : MachineType) (bases : Bases) (inputs : List FlavorInput) (objects : List Object) → length (tables_at machine bases objects (map (block_of_flavor machine) inputs)).tables ≡ length inputs
@@ -519,9 +518,6 @@ module _ (machine : MachineType) (image_base : ℕ) (t : Tables) (codes : List L
         stub_arrives machine image_base t.image t.linked codes targets memory resting written covering name (gives x.dll e.ask) (x.address + thunk_width machine * j) known.once known.small
         (entry_reached machine image_base x.address j can) known.located d s held stub
 
-    end_below : (d : LinkedCode) → Contains codes d → d.position + 16 ≤ 2 ^ 31
-    end_below d held = grind (arith, contains_among d codes held, all_among, resting, ends)
-
     -- where linked code begins with the definition of a name, symbols are that stand for it, be it the name itself or another
     abbrev pub AreAt : LinkedCode → List ℕ → ℕ → Type 0
     AreAt c name address = (index : ℕ) → Names c.from index name → targets c index ≡ address
@@ -532,12 +528,9 @@ module _ (machine : MachineType) (image_base : ℕ) (t : Tables) (codes : List L
         AreAt c called d.position → HasDirectCall machine (placed_code c) offset called → CanBranch machine (c.position + offset) d.position →
         DirectCallArrives machine image_base (written ++ memory) (c.position + offset) (gives x.dll e.ask)
     stub_called_by i j x e name is asked symbol can d s d_held stub c offset called held taken has near =
-        let below : d.position + 16 ≤ 2 ^ 31 = end_below d d_held in
+        let below : d.position + 16 ≤ 2 ^ 31 = grind (arith, contains_among d codes d_held, all_among, resting, ends) in
         direct_arrives machine image_base t.image t.linked codes targets memory resting written covering c offset d.position called (gives x.dll e.ask) held has taken (omega arith) near
         (stub_in_memory i j x e name is asked symbol can d s d_held stub)
-
-    plain_sum : (a n : ℕ) → n ≡ 0 → a + n ≡ a
-    plain_sum a n none = omega arith
 
     pub stub_called_in_memory : (i j : ℕ) (x : Table) (e : TableEntry) (name : List ℕ) → slice_get t.tables i ≡ Some x → slice_get x.entries j ≡ Some e → e.symbol ≡ Some name → CanReadFrom machine image_base x.address →
         (d : LinkedCode) (s : ObjectSymbol) → Contains codes d → StubAt machine t.linked (placed_code d) s (x.address + thunk_width machine * j) → (c : LinkedCode) (offset : ℕ) → Contains codes c → DefinesIn d s →
@@ -545,7 +538,7 @@ module _ (machine : MachineType) (image_base : ℕ) (t : Tables) (codes : List L
         DirectCallArrives machine image_base (written ++ memory) (c.position + offset) (gives x.dll e.ask)
     stub_called_in_memory i j x e name is asked symbol can d s d_held stub c offset held defines =
         stub_called_by i j x e name is asked symbol can d s d_held stub c offset s.name held
-        (λ index names. where_defined machine image_base t.image t.linked codes targets memory resting written covering c d s.name s held d_held defines refl index names ∙ plain_sum d.position s.value stub.begins)
+        (λ index names. where_defined machine image_base t.image t.linked codes targets memory resting written covering c d s.name s held d_held defines refl index names ∙ (omega (arith, stub.begins)))
 
     pub stub_called_otherwise : (i j : ℕ) (x : Table) (e : TableEntry) (name : List ℕ) → slice_get t.tables i ≡ Some x → slice_get x.entries j ≡ Some e → e.symbol ≡ Some name → CanReadFrom machine image_base x.address →
         (d : LinkedCode) (s : ObjectSymbol) → Contains codes d → StubAt machine t.linked (placed_code d) s (x.address + thunk_width machine * j) → (c : LinkedCode) (offset : ℕ) (alias : List ℕ) → Contains codes c → DefinesIn d s →
@@ -553,7 +546,7 @@ module _ (machine : MachineType) (image_base : ℕ) (t : Tables) (codes : List L
         DirectCallArrives machine image_base (written ++ memory) (c.position + offset) (gives x.dll e.ask)
     stub_called_otherwise i j x e name is asked symbol can d s d_held stub c offset alias held defines stands =
         stub_called_by i j x e name is asked symbol can d s d_held stub c offset alias held
-        (λ index names. stands.code c d index s held d_held names defines refl ∙ plain_sum d.position s.value stub.begins)
+        (λ index names. stands.code c d index s held d_held names defines refl ∙ (omega (arith, stub.begins)))
 
     -- lld's thunk of a short import, whose symbol the entry has
     pub thunk_in_memory : (i j : ℕ) (x : Table) (e : TableEntry) → slice_get t.tables i ≡ Some x → slice_get x.entries j ≡ Some e → CanReadFrom machine image_base x.address →
@@ -569,7 +562,7 @@ module _ (machine : MachineType) (image_base : ℕ) (t : Tables) (codes : List L
         AreAt c called (d.position + 0) → HasBranch machine c offset after called → CanBranch machine (c.position + offset) d.position →
         BranchArrivesByThunk machine image_base (written ++ memory) (c.position + offset) after (gives x.dll e.ask)
     thunk_called_by i j x e is asked can r d symbol d_held thunk c offset after called held taken has near =
-        let below : d.position + 16 ≤ 2 ^ 31 = end_below d d_held in
+        let below : d.position + 16 ≤ 2 ^ 31 = grind (arith, contains_among d codes d_held, all_among, resting, ends) in
         let plain : d.position + 0 ≡ d.position = omega arith in
         record {
           thunk = d.position;

@@ -371,10 +371,6 @@ entries_found kind members accepted some = grind (arith, readable kind members a
 
 -- They are the members' symbols, header by header.
 
-get_after : (front : List ℕ) (p : ℕ) (ps : List ℕ) → get_or (front ++ p ∷ ps) (length front) 0 ≡ p
-get_after [] p ps = refl
-get_after (x ∷ front) p ps = get_after front p ps
-
 symbols_shown : (places : List ℕ) (number p : ℕ) (symbols : List (List ℕ)) → place_of places number ≡ p →
     map (shown places) (map (listed_for number) symbols) ≡ map (listed_for p) symbols
 symbols_shown places number p [] is = refl
@@ -386,7 +382,7 @@ unfolding entries_from entries_by place_of
 entries_shown front [] [] many = refl
 entries_shown front [] (m ∷ members) many = absurd (omega (arith, many))
 entries_shown front (p ∷ ps) [] many = absurd (omega (arith, many))
-entries_shown front (p ∷ ps) (m ∷ members) many = grind (arith, common_steps, entries_shown (front ++ p ∷ []) ps members (omega (arith, many)), get_after, length-append, map-append, symbols_shown, many)
+entries_shown front (p ∷ ps) (m ∷ members) many = grind (arith, common_steps, entries_shown (front ++ p ∷ []) ps members (omega (arith, many)), length-append, map-append, symbols_shown, many)
 
 -- Where headers rise, the symbols at one are its member's.
 
@@ -443,11 +439,8 @@ members_after kind bytes before low (h ∷ headers) (m ∷ members) rising below
     members_after kind bytes (before ++ own) (h + 1) headers members rising.1
     (below_joined (h + 1) before own (below_on low (h + 1) before (omega (arith, rising.0)) below) (symbols_below h m.symbols))
     (is ∙ sym (append_assoc before own (entries_by headers members))) (later_same read) in
-    grind (arith, first_same read, none_below, below_on, rising, all_here, none_above, headers, append-nil)
+    grind (arith, none_below, below_on, rising, all_here, none_above, headers, append-nil)
   where
-    first_same : {x y : Option Read} {xs ys : List (Option Read)} → x ∷ xs ≡ y ∷ ys → x ≡ y
-    first_same is = cc
-
     later_same : {x y : Option Read} {xs ys : List (Option Read)} → x ∷ xs ≡ y ∷ ys → xs ≡ ys
     later_same is = cc
 
@@ -490,7 +483,7 @@ archive_has_members kind members accepted some either =
     let places = places_of kind members in
     let leads = each_index_leads kind members accepted in
     let located = headers_found kind members accepted in
-    let same : leads.headers ≡ places = same_places leads.headers places (sym leads.found ∙ located) in
+    let same : leads.headers ≡ places = cc in
     let many : length places ≡ length members = length-places _ members in
     let own : entries_of kind members ≡ entries_from 1 members = each_entry kind members either in
     let listed : nat_lt 0 (length (entries_of kind members)) ≡ true = lt-ltb 0 (length (entries_of kind members)) (subst (λ n. 0 < n) (sym (ap length own ∙ all_entries 1 members)) some) in
@@ -503,9 +496,6 @@ archive_has_members kind members accepted some either =
       ordered = entries;
     }
   where
-    same_places : (xs ys : List ℕ) → ◌≡◌ {A = Option (List ℕ)} (Some xs) (Some ys) → xs ≡ ys
-    same_places xs ys is = cc
-
     all_entries : (number : ℕ) (some : List MemberView) → length (entries_from number some) ≡ length (flat_map (λ m. m.symbols) some)
     all_entries number [] = refl
     all_entries number (m ∷ some) = grind (arith, length-append, length-map, all_entries (number + 1) some)

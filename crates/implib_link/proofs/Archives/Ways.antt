@@ -109,15 +109,11 @@ is_for machine l e = grind arith
 asks_so : (machine : MachineType) (l : Library) (e : ExportView) → ask_of_short_import (short_of_export machine l e) ≡ ask_in Msvc machine e
 asks_so machine l e = rw (name_type_is_ordinal machine e) refl
 
-short_in : (short : Option ShortImport) (object : Option Object) (r : ShortImport) → short_import_or_object short object ≡ Some (ShortImportFile r) → short ≡ Some r
-short_in short object r is = grind arith
-
 pub short_is_read : (machine : MachineType) (l : Library) (e : ExportView) → IsMsvcLibrary machine l → Among e (exports_of l) → short_for machine (short_of machine l e).bytes ≡ Some (short_of_export machine l e)
 unfolding short_for
 short_is_read machine l e made there =
     let read : short_import_in (short_of machine l e).bytes ≡ Some (short_of_export machine l e) =
-    short_in (short_import_in (short_of machine l e).bytes) (object_in (short_of machine l e).bytes) (short_of_export machine l e)
-    (read_of l.definition machine l.members [] made (short_import_spec machine (names_for Msvc l.definition) e) (short_at l.definition machine l.members [] made e there)) in
+    (grind (arith, read_of l.definition machine l.members [] made (short_import_spec machine (names_for Msvc l.definition) e) (short_at l.definition machine l.members [] made e there))) in
     ap (option_and_then (if_for machine)) read ∙ ap (λ b. if b then Some (short_of_export machine l e) else None) (is_for machine l e)
 
 -- What lld reads a member as claims what its expansion does.
@@ -351,9 +347,8 @@ module _ (machine : MachineType) (libraries : List Library) (archive : IsMsvcArc
 
   called_alike : AreCalledAlike libraries → (rs : List ShortImport) → AllByRecursion (λ r. (m : MemberView) × OfExport m r) rs → (r s : ShortImport) → Contains rs r → Contains rs s → in_small r.dll ≡ in_small s.dll → r.dll ≡ s.dll
   called_alike alike rs all r s first second same =
-      let one = all_among (λ x. (m : MemberView) × OfExport m x) r rs (contains_among r rs first) all in
       let two = all_among (λ x. (m : MemberView) × OfExport m x) s rs (contains_among s rs second) all in
-      grind (arith, among_contains)
+      grind (arith, all_among (λ x. (m : MemberView) × OfExport m x) r rs (contains_among r rs first) all, among_contains)
 
   is_program : AreCalledAlike libraries → (own : List Object) (taken : List MemberView) → TakesIntoAs (read_by_lld machine) (archive_of libraries) own taken → (is_live : ShortImport → Bool) (descriptors addresses : ℕ) (image : List Range) (linked : List Placed) →
       IsBuiltByLld machine descriptors addresses (filter is_live (shorts_in machine taken)) image linked → IsLldProgram machine descriptors addresses (filter is_live (shorts_in machine taken)) image linked

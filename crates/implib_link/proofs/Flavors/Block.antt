@@ -41,11 +41,6 @@ pub objects_behind : (machine : MachineType) (blocks : List Block) (rest : List 
 objects_behind machine [] rest = refl
 objects_behind machine (k ∷ blocks) rest = grind (arith, head, append_assoc, export, tail, blocks_objects, objects_behind machine blocks rest)
 
--- the descriptors' end after a block
-pub descriptors_after : (machine : MachineType) (dll : NamesOfDll) (b : Bases) (es : List ExportView) →
-    b.descriptors + 20 ≡ (ends_of_block machine dll b es).descriptors
-descriptors_after machine dll b es = descriptors_end machine dll (ends_of_head machine dll b) es
-
 -- the address tables' end after a block's thunks and its null thunk
 pub addresses_after : (machine : MachineType) (dll : NamesOfDll) (b : Bases) (es : List ExportView) →
     (ends_of_all machine dll b es).addresses ≡ b.addresses + thunk_width machine * (length es + 1)
@@ -58,8 +53,7 @@ pub null_located : (machine : MachineType) (linked : List Placed) (image : List 
     LocatedFrom machine linked image b (null_descriptor ∷ []) → BytesAt image b.descriptors (zeros 20)
 null_located machine linked image b even located =
     let none : b.descriptors - b.descriptors ≡ 0 = omega arith in
-    let all : List ℕ = zeros (next_multiple 4 b.descriptors - b.descriptors) ++ (zeros 20 ++ []) in
-    let same : all ≡ zeros 20 = rw ((aligned b.descriptors even.descriptors), none) refl in
+    let same : (zeros (next_multiple 4 b.descriptors - b.descriptors) ++ (zeros 20 ++ [])) ≡ zeros 20 = rw ((aligned b.descriptors even.descriptors), none) refl in
     subst (BytesAt image b.descriptors) same located.descriptors
 
 pub plus_sum : (a n : ℕ) → a + 20 + 20 * n ≡ a + 20 * suc n
@@ -136,9 +130,6 @@ even_aligned machine ending b even = grind (arith, wide_aligned)
 pub even_wide : (machine : MachineType) (ending : Ending) (b : Bases) → Suits ending Msvc → AreEven ending machine b → AreWide machine b
 even_wide machine ending b suits even = grind arith
 
-null_defined : (ending : Ending) (linked : List Placed) → Suits ending Msvc → NullDefined ending linked → IsDefinedAt linked null_descriptor_symbol
-null_defined ending linked suits null = grind arith
-
 -- what an export is used for
 abbrev pub use_for : ExportView → Use
 use_for e = if e.is_data then Data else if e.constant then Constant else Code
@@ -188,16 +179,11 @@ unfolding defined_behind ends_of_askings with_section_symbols object_of null_thu
 definitions-behind machine dll b [] rest even = ap definitions (placed-null_thunk machine dll b rest even)
 definitions-behind machine dll b (e ∷ es) rest even = grind (arith, placed-asking, defined_by_asking, wide_asking, append_assoc, definitions-behind machine dll (ends_of_asking machine b (ask_in Msvc machine e)) es rest (wide_asking machine b (ask_in Msvc machine e) even))
 
-names_of_use : (address : ℕ) (symbol : List ℕ) (is_data constant : Bool) (rest : List SymbolDefinition) →
-    map (λ (d : SymbolDefinition). d.name) (use_definitions address symbol (if is_data then Data else if constant then Constant else Code) ++ rest)
-    ≡ (if is_data then [] else symbol ∷ []) ++ map (λ (d : SymbolDefinition). d.name) rest
-names_of_use address symbol is_data constant rest = grind arith
-
 names-behind : (machine : MachineType) (dll : NamesOfDll) (b : Bases) (es : List ExportView) →
     map (λ (d : SymbolDefinition). d.name) (defined_behind machine dll b es) ≡ flat_map short_import_symbols es ++ null_thunk_symbol dll.linked ∷ []
 unfolding defined_behind
 names-behind machine dll b [] = refl
-names-behind machine dll b (e ∷ es) = grind (arith, ends_of_asking, names_of_use, append_assoc, names-behind machine dll (ends_of_asking machine b (ask_in Msvc machine e)) es)
+names-behind machine dll b (e ∷ es) = grind (arith, ends_of_asking, append_assoc, names-behind machine dll (ends_of_asking machine b (ask_in Msvc machine e)) es)
 
 unfoldable pub descriptor_definition : NamesOfDll → Bases → SymbolDefinition
 descriptor_definition dll b = record { name = descriptor_symbol dll.linked; address = Some (b.descriptors + 0) }
@@ -237,14 +223,9 @@ gnu_exports_wide machine dll b [] even = grind arith
 gnu_exports_wide machine dll b (e ∷ es) even =
     grind (arith, gnu_exports_wide machine dll (ends_of_export machine dll b e) es (record { descriptors = even.descriptors; lookups = wide_next machine b.lookups even.lookups; addresses = wide_next machine b.addresses even.addresses }))
 
-wide_in : (machine : MachineType) (flavor : Flavor) (dll : NamesOfDll) (b : Bases) (es : List ExportView) → AreWide machine b → AreWide machine (ends_in machine flavor dll b es)
-wide_in machine Msvc dll b es even = wide_askings machine (ends_of_descriptor dll b) es (wide_descriptor machine dll b even)
-wide_in machine Gnu dll b es even =
-    gnu_exports_wide machine dll (ends_of_head machine dll b) es (record { descriptors = omega arith; lookups = even.lookups; addresses = even.addresses })
-
 pub even_in : (machine : MachineType) (ending : Ending) (flavor : Flavor) (dll : NamesOfDll) (b : Bases) (es : List ExportView) → Suits ending flavor → AreEven ending machine b →
     AreEven ending machine (ends_in machine flavor dll b es)
-even_in machine ending flavor dll b es suits even = grind (arith, aligned_block, wide_in)
+even_in machine ending flavor dll b es suits even = grind (arith, aligned_block, wide_askings, ends_of_descriptor, wide_descriptor, gnu_exports_wide, ends_of_head)
 
 -- what an export asks can be asked
 unfoldable pub FitsIn : Flavor → MachineType → ExportView → Type 0
@@ -444,7 +425,7 @@ module _ (machine : MachineType) (dll : NamesOfDll) (linked : List Placed) (imag
       ((d : SymbolDefinition) → Among d (definitions_in machine flavor dll b es) → definitions_of d.name linked ≡ d ∷ []) →
       LocatedFrom machine linked image b (objects_of machine flavor dll es rest) → OneLinks machine linked image flavor dll es b rest
   one_links ending Msvc es b rest fit suits even found null only located =
-      msvc_links es b rest fit (even_wide machine ending b suits even) found (null_defined ending linked suits null) only located
+      msvc_links es b rest fit (even_wide machine ending b suits even) found (grind arith) only located
   one_links ending Gnu es b rest fit suits even found null only located = gnu_links es b rest fit (even_aligned machine ending b even) only located
 
 -- The objects of several DLLs, each in its flavour, link among others.
@@ -508,7 +489,7 @@ askings_descriptors machine b [] = refl
 askings_descriptors machine b (e ∷ es) = askings_descriptors machine (ends_of_asking machine b (ask_in Msvc machine e)) es
 
 pub descriptors_one : (machine : MachineType) (flavor : Flavor) (dll : NamesOfDll) (b : Bases) (es : List ExportView) → b.descriptors + 20 ≡ (ends_in machine flavor dll b es).descriptors
-descriptors_one machine flavor dll b es = grind (arith, askings_descriptors, ends_of_descriptor, descriptors_after)
+descriptors_one machine flavor dll b es = grind (arith, askings_descriptors, ends_of_descriptor, descriptors_end, ends_of_head)
 
 askings_addresses : (machine : MachineType) (b : Bases) (es : List ExportView) → (ends_of_askings machine b es).addresses ≡ b.addresses + thunk_width machine * (length es + 1)
 unfolding ends_of_askings

@@ -113,12 +113,9 @@ use_is : (is_data constant : Bool) →
     use_of (if is_data then import_data else if constant then import_const else import_code) ≡ Some (if is_data then Data else if constant then Constant else Code)
 use_is is_data constant = grind arith
 
-ask_is : (machine : MachineType) (dll : NamesOfDll) (e : ExportView) → ask_of_short_import (short_import_of machine dll.text e) ≡ ask_in Msvc machine e
-ask_is machine dll e = rw (name_type_is_ordinal machine e) refl
-
 -- the short import of an export is taken for the object that asks so
 pub short_import_taken : (machine : MachineType) (dll : NamesOfDll) (e : ExportView) → expansion machine (short_import_of machine dll.text e) ≡ Some (asking machine dll e)
-short_import_taken machine dll e = simp (le-leb, name_type_of_fits, same_machine, ask_is, use_is)
+short_import_taken machine dll e = simp (le-leb, name_type_of_fits, same_machine, name_type_is_ordinal, use_is)
 
 -- What a short import asks for has no NUL.
 
@@ -133,9 +130,6 @@ cut_free zero text free = refl
 cut_free (suc n) [] free = refl
 cut_free (suc n) (b ∷ rest) free = grind (arith, cut_free n rest)
 
-asked_free : (name_type : ℕ) (symbol : List ℕ) → holds 0 symbol ≡ false → holds 0 (asked_by_name_type name_type symbol) ≡ false
-asked_free name_type symbol free = grind (arith, prefix_free, if_free, cut_free)
-
 ask_fits : (no_name : Bool) (ordinal : ℕ) (text : List ℕ) → ordinal < 2 ^ 16 → HasNoNul text → AskFits (if no_name then Ordinal ordinal else Name text ordinal)
 unfolding AskFits
 ask_fits true ordinal text small free = small
@@ -143,7 +137,7 @@ ask_fits false ordinal text small free = (small, free)
 
 pub export_fits : (machine : MachineType) (e : ExportView) → Sound e → FitsIn Msvc machine e
 unfolding FitsIn
-export_fits machine e good = grind (arith, ask_fits, ltb-true, asked_free, symbol_without_nul)
+export_fits machine e good = grind (arith, ask_fits, ltb-true, prefix_free, if_free, cut_free, symbol_without_nul)
 
 -- a file that reads as another is taken as that
 taken_by : (machine : MachineType) (bytes : List ℕ) (file : File) → file_in bytes ≡ Some file → expanded_in machine bytes ≡ expanded_as machine file
@@ -247,13 +241,9 @@ msvc_symbols d machine chosen = grind (arith, flat_listed)
 
 -- The members for GNU's linker: a linker takes each for the object that it is.
 
--- the file of an object is no short import
-no_short : (bytes : List ℕ) (short : Option ShortImport) (object : Option Object) (o : Object) → short_import_or_object short object ≡ Some (ObjectFile o) → object ≡ Some o
-no_short bytes short object o is = grind arith
-
 -- the object of a file is taken with its section symbols
 object_taken : (machine : MachineType) (bytes : List ℕ) (o p : Object) → file_in bytes ≡ Some (ObjectFile o) → object_in bytes ≡ Some p → expanded_in machine bytes ≡ Some (with_section_symbols p)
-object_taken machine bytes o p is read = grind (arith, no_short, taken_by)
+object_taken machine bytes o p is read = grind (arith, taken_by)
 
 head_plain : (machine : MachineType) (dll : NamesOfDll) → with_section_symbols (head machine dll) ≡ head machine dll
 unfolding with_section_symbols head_object
@@ -416,13 +406,8 @@ inputs_taken machine [] are = tt
 inputs_taken machine (p ∷ ps) are =
     grind (arith, inputs_taken machine ps are.1, from_members p.input.definition machine p.flavor p.input.members p.input.chosen are.0, objects_read p.input.definition machine p.flavor p.input.members p.input.chosen are.0, taken_are machine p are.0, null_among p.input.definition machine p.flavor p.input.members p.input.chosen are.0)
 
--- the null descriptor of an input for Microsoft's linker, taken
-null_read : (d : DefinitionView) (machine : MachineType) (flavor : Flavor) (members : List MemberView) (chosen : List ℕ) → AreMembersOf d machine flavor members → flavor ≡ Msvc →
-    expanded_in machine (null_member machine (linked_dll d)).bytes ≡ Some (taken_null machine)
-null_read d machine flavor members chosen made is = grind (arith, null_taken)
-
 pub null_object : (machine : MachineType) (p : FlavorInput) → IsMadeFor machine p → p.flavor ≡ Msvc → expanded_in machine (null_member machine (linked_dll p.input.definition)).bytes ≡ Some (taken_null machine)
-null_object machine p made is = null_read p.input.definition machine p.flavor p.input.members p.input.chosen made is
+null_object machine p made is = grind (arith, null_taken)
 
 -- members with the null descriptor put in are taken for their objects with its object put in
 pub objects_with_null : (machine : MachineType) (before behind : List MemberView) (null : MemberView) → expanded_in machine null.bytes ≡ Some (taken_null machine) →

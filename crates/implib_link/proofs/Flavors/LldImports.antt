@@ -183,20 +183,14 @@ length_thunk machine place (Name text hint) = length-address machine place
 one_more : (machine : MachineType) (n : ℕ) → thunk_width machine + thunk_width machine * (n + 1) ≡ thunk_width machine * (suc n + 1)
 one_more machine n = by_width (λ w. w + w * (n + 1) ≡ w * (suc n + 1)) (omega arith) (omega arith) machine
 
-only_null : (machine : MachineType) → thunk_width machine ≡ thunk_width machine * 1
-only_null machine = by_width (λ w. w ≡ w * 1) refl refl machine
-
 length_thunks : (machine : MachineType) (place : ℕ) (asks : List Ask) → length (thunks_built machine place asks) ≡ thunk_width machine * (length asks + 1)
 unfolding thunks_built
-length_thunks machine place [] = length-replicate {A = ℕ} (thunk_width machine) 0 ∙ only_null machine
+length_thunks machine place [] = length-replicate {A = ℕ} (thunk_width machine) 0 ∙ (by_width (λ w. w ≡ w * 1) refl refl machine)
 length_thunks machine place (ask ∷ asks) = grind (arith, length-append, length_thunk, one_more, length_thunks machine (place + length (hint_built ask)) asks)
-
-no_thunks : (machine : MachineType) → 0 ≡ thunk_width machine * 0
-no_thunks machine = by_width (λ w. 0 ≡ w * 0) refl refl machine
 
 length_tables : (machine : MachineType) (place : ℕ) (imports : List Imported) → length (tables_built machine place imports) ≡ thunk_width machine * thunks_until (length imports) imports
 unfolding tables_built
-length_tables machine place [] = no_thunks machine
+length_tables machine place [] = by_width (λ w. 0 ≡ w * 0) refl refl machine
 length_tables machine place (i ∷ imports) = grind (arith, length-append, length_thunks, mul-add, length_tables machine (place + length (hints_built i.asks)) imports)
 
 length_descriptor : (lookups name addresses : ℕ) → length (descriptor_built lookups name addresses) ≡ 20
@@ -237,7 +231,7 @@ module _ (machine : MachineType) (image : List Range) (starts : AllByRecursion (
       table_with image (thunk_width machine) a ask asks (thunk_stands ask place a askable.0 thunks.0 texts.0) rest
 
   some_thunks : (place : ℕ) (asks : List Ask) → 0 < length (thunks_built machine place asks)
-  some_thunks place asks = grind (arith, some_bytes, length_thunks, mul-add, only_null)
+  some_thunks place asks = grind (arith, some_bytes, length_thunks, mul-add)
 
   descriptor_stands : (i : Imported) (descriptor lookups name addresses place : ℕ) → IsImportable i → BytesAt image descriptor (descriptor_built lookups name addresses) →
       BytesAt image lookups (thunks_built machine place i.asks) → BytesAt image addresses (thunks_built machine place i.asks) → BytesAt image place (hints_built i.asks) →
@@ -327,12 +321,9 @@ asks_written : (group : List ShortImport) → AllByRecursion IsWritable group �
 asks_written [] all = tt
 asks_written (r ∷ group) all = (all.0.asks.0, asks_written group all.1)
 
-name_written : (group : List ShortImport) → AllByRecursion IsWritable group → HasNoNul (dll_of_group group)
-name_written group all = grind arith
-
 groups_written : (groups : List (List ShortImport)) → AllByRecursion (AllByRecursion IsWritable) groups → AllByRecursion IsImportable (map imported_by groups)
 groups_written [] all = tt
-groups_written (group ∷ groups) all = grind (arith, groups_written groups all.1, name_written, group, asks_written)
+groups_written (group ∷ groups) all = grind (arith, groups_written groups all.1, group, asks_written)
 
 -- The DLLs of groups.
 
@@ -377,9 +368,6 @@ all_definitions width address [] = []
 all_definitions width address (group ∷ groups) =
     group_definitions width address group ++ all_definitions width (address + width * (length (map ask_of_short_import group) + 1)) groups
 
-plus_plus : (a b c : ℕ) → a + (b + c) ≡ a + b + c
-plus_plus a b c = omega arith
-
 entries_define : (width table offset : ℕ) (group : List ShortImport) →
     filter_map (defined_by_entry (At Addresses table ∷ [])) (group_entries width offset group) ≡ group_definitions width (table + offset) group
 unfolding group_entries group_definitions
@@ -390,7 +378,7 @@ groups_define : (width table offset : ℕ) (groups : List (List ShortImport)) �
     filter_map (defined_by_entry (At Addresses table ∷ [])) (entries_of_groups width offset groups) ≡ all_definitions width (table + offset) groups
 unfolding entries_of_groups all_definitions
 groups_define width table offset [] = refl
-groups_define width table offset (group ∷ groups) = grind (arith, filter_map-append, entries_define, plus_plus, groups_define width table (offset + (width * (length (map ask_of_short_import group) + 1))) groups)
+groups_define width table offset (group ∷ groups) = grind (arith, filter_map-append, entries_define, groups_define width table (offset + (width * (length (map ask_of_short_import group) + 1))) groups)
 
 group_names : (width address : ℕ) (group : List ShortImport) → map (λ (d : SymbolDefinition). d.name) (group_definitions width address group) ≡ imp_symbols_of group
 unfolding group_definitions
@@ -443,9 +431,6 @@ module _ (machine : MachineType) (descriptors addresses : ℕ) (taken : List Sho
   pub only : AllByRecursion (λ group. AllByRecursion (λ r. Contains taken r × (r.dll ≡ dll_of_group group)) group) (grouped taken)
   only = all_of_one taken program.agree (grouped taken) held (grouped_one taken)
 
-  own_distinct : IsDistinct bytes_eq (map (λ (d : SymbolDefinition). d.name) own)
-  own_distinct = grind (arith, all_names_of, distinct_from, grouped_times, few_from)
-
   own_definitions : (name : List ℕ) → definitions_of name (placed_by_lld machine addresses taken ∷ []) ≡ filter (λ (d : SymbolDefinition). bytes_eq name d.name) own
   own_definitions name = simp (append-nil, groups_define, plus_none)
 
@@ -461,7 +446,7 @@ module _ (machine : MachineType) (descriptors addresses : ℕ) (taken : List Sho
       ∙ ap (λ ds. definitions_of name (lld ∷ []) ++ ds) (all_among (λ n. definitions_of n program.behind ≡ []) name (imp_symbols_of taken) listed program.none_behind)
       ∙ append-nil (definitions_of name (lld ∷ []))
       ∙ own_definitions name
-      ∙ subst (λ n. filter (λ (other : SymbolDefinition). bytes_eq n other.name) own ≡ d ∷ []) named (only_definition d own among own_distinct)
+      ∙ subst (λ n. filter (λ (other : SymbolDefinition). bytes_eq n other.name) own ≡ d ∷ []) named (only_definition d own among (grind (arith, all_names_of, distinct_from, grouped_times, few_from)))
 
   is_imported : (r : ShortImport) → Contains taken r → IsImportedBy machine descriptors addresses taken image linked r
   is_imported r holds =

@@ -21,9 +21,6 @@ use Rattle.implib_link.specs.Tables.{CanReadFrom}
 use Rattle.implib_link.proofs.Gnu.Fields.{four_of, pair_read}
 use Rattle.implib_link.proofs.Gnu.Operands.{arm64_jump}
 
-i386_jump : (address : ℕ) (field : List ℕ) → length field ≡ 4 → jump_reads I386 address (0xFF ∷ 0x25 ∷ (field ++ [])) ≡ Some (number_in field)
-i386_jump address field four = (let f = four_of field four in subst (λ xs. jump_reads I386 address (0xFF ∷ 0x25 ∷ (xs ++ [])) ≡ Some (number_in xs)) (sym f.is) refl)
-
 amd64_jump : (address : ℕ) (field : List ℕ) → length field ≡ 4 → jump_reads AMD64 address (0xFF ∷ 0x25 ∷ (field ++ [])) ≡ Some (plus_signed 32 1 (number_in field) (address + 6))
 amd64_jump address field four = grind (arith, four_of field four)
 
@@ -76,7 +73,7 @@ module _ (image_base : ℕ) (linked : List Placed) (codes : List LinkedCode) (me
       AllLead machine image_base linked codes memory (imp_symbol r.symbol) bytes → AreKept machine codes memory → ThunkArrives machine image_base memory d.position bytes
   thunk_arrives I386 addresses can thunk own lead kept =
       let x = x86_arrives I386 i386_dir32 refl thunk own refl refl (refl, refl) lead in
-      x86_thunk I386 refl x (i386_jump (image_base + d.position) x.field x.four ∙ x.leads)
+      x86_thunk I386 refl x (((let f = four_of x.field x.four in subst (λ xs. jump_reads I386 ((image_base + d.position)) (0xFF ∷ 0x25 ∷ (xs ++ [])) ≡ Some (number_in xs)) (sym f.is) refl)) ∙ x.leads)
   thunk_arrives ARMNT addresses can thunk own lead kept = absurd can
   thunk_arrives AMD64 addresses can thunk own lead kept =
       let x = x86_arrives AMD64 amd64_rel32 refl thunk own refl refl (0, (omega arith, (refl, refl))) lead in

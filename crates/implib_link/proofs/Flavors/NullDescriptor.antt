@@ -84,9 +84,6 @@ filter_other test (x ∷ xs) ys n is = grind (arith, filter_other test xs ys n i
 flat_insert : {X Y : Type 0} (f : X → List Y) (xs ys : List X) (n : X) → flat_map f (xs ++ n ∷ ys) ≡ flat_map f xs ++ (f n ++ flat_map f ys)
 flat_insert f xs ys n = flat_map-append f xs (n ∷ ys)
 
-flat_none : {X Y : Type 0} (f : X → List Y) (xs ys : List X) (n : X) → f n ≡ [] → flat_map f (xs ++ n ∷ ys) ≡ flat_map f (xs ++ ys)
-flat_none f xs ys n none = grind (arith, flat_insert, flat_map-append)
-
 pub all_insert : {X : Type 0} (P : X → Type 0) (xs ys : List X) (n : X) → P n → AllByRecursion P (xs ++ ys) → AllByRecursion P (xs ++ n ∷ ys)
 all_insert P [] ys n here all = (here, all)
 all_insert P (x ∷ xs) ys n here all = (all.0, all_insert P xs ys n here all.1)
@@ -122,12 +119,11 @@ module _ (machine : MachineType) (b : Bases) (xs ys : List Object) (none : AllBy
 
   contributions_same : (linked : List Placed) (group : Group) → contributions_of machine linked group own ≡ [] →
       contributions machine linked group (placed_from b (xs ++ taken_null machine ∷ ys)) ≡ contributions machine linked group (placed_from b (xs ++ ys))
-  contributions_same linked group empty = grind (arith, with_null, flat_none, without)
+  contributions_same linked group empty = grind (arith, with_null, flat_insert, flat_map-append, without)
 
   -- a group that the null descriptor is not in
   pub group_same : (linked : List Placed) (group : Group) → same_group group DirectoryEnds ≡ false →
       contributions machine linked group (placed_from b (xs ++ taken_null machine ∷ ys)) ≡ contributions machine linked group (placed_from b (xs ++ ys))
-  unfolding with_section_symbols object_of null_descriptor entries_of name_text
   group_same linked group is = grind (arith, contributions_same)
 
   -- the null descriptor alone is in `.idata$3`
@@ -159,7 +155,7 @@ module _ (machine : MachineType) (b : Bases) (xs ys : List Object) (none : AllBy
   -- it leaves nothing to others
   pub undefined_same : undefined_names (placed_from b (xs ++ taken_null machine ∷ ys)) ≡ undefined_names (placed_from b (xs ++ ys))
   unfolding with_section_symbols object_of null_descriptor entries_of name_text
-  undefined_same = grind (arith, with_null, flat_none, without)
+  undefined_same = grind (arith, with_null, flat_insert, flat_map-append, without)
 
   -- and has no relocations
   pub finds_same : (linked : List Placed) → AllByRecursion (AllFind linked) (placed_from b (xs ++ ys)) → AllByRecursion (AllFind linked) (placed_from b (xs ++ taken_null machine ∷ ys))

@@ -82,10 +82,6 @@ pub none_left : (objects : List Object) → AllHave objects → filter (λ o. no
 none_left [] all = refl
 none_left (o ∷ objects) all = rw all.0 (none_left objects all.1)
 
-pub members_have : (machine : MachineType) (inputs : List LinkInput) → AllByRecursion (IsMade machine) inputs →
-    AllByRecursion (λ o. has_tables o ≡ true) (objects_in (all_linked machine inputs) ++ null_descriptor ∷ [])
-members_have machine inputs made = grind (arith, gnu_inputs_objects, objects_behind, block_of, blocks_have, null_has)
-
 -- The members' sections have no names in a string table.
 
 -- an object's names are whole, whatever the string table
@@ -154,20 +150,16 @@ gnu_thunks zero inputs = refl
 gnu_thunks (suc i) [] = refl
 gnu_thunks (suc i) (p ∷ inputs) = ap (λ n. length (chosen_exports p.definition p.chosen) + 1 + n) (gnu_thunks i inputs)
 
-pub gnu_ended : (machine : MachineType) (inputs : List LinkInput) (objects : List Object) → filter has_tables objects ≡ objects_in (all_linked machine inputs) ++ null_descriptor ∷ [] →
-    AreEndedByLinker machine (map gnu_input inputs) objects
-gnu_ended machine inputs objects tables = grind (arith, gnu_alone, gnu_members)
-
 -- the objects of a program
 pub gnu_objects : (machine : MachineType) (inputs : List LinkInput) (objects : List Object) → IsDistinct bytes_eq (linked_symbols machine inputs) →
     filter has_tables objects ≡ objects_in (all_linked machine inputs) ++ null_descriptor ∷ [] → AllByRecursion (ClaimsNone (linked_symbols machine inputs)) (filter (λ o. not (has_tables o)) objects) →
     AreProgramObjects machine OfLinker (map gnu_input inputs) objects
-gnu_objects machine inputs objects distinct tables others = grind (arith, gnu_members machine inputs, gnu_ended machine inputs objects tables, gnu_found inputs)
+gnu_objects machine inputs objects distinct tables others = grind (arith, gnu_members machine inputs, gnu_alone, gnu_found inputs)
 
 -- the members and the null descriptor are such objects by themselves
 pub members_are_objects : (machine : MachineType) (inputs : List LinkInput) → AllByRecursion (IsMade machine) inputs → IsDistinct bytes_eq (linked_symbols machine inputs) →
     AreProgramObjects machine OfLinker (map gnu_input inputs) (objects_in (all_linked machine inputs) ++ null_descriptor ∷ [])
-members_are_objects machine inputs made distinct = search (rules, members_have machine inputs made, gnu_objects, all_kept, none_left)
+members_are_objects machine inputs made distinct = search (rules, gnu_inputs_objects, objects_behind, block_of, blocks_have, null_has, gnu_objects, all_kept, none_left)
 
 -- A program of DLLs in both flavours links.
 
@@ -291,9 +283,6 @@ all_either : (inputs : List FlavorInput) → AllSuit OfMember (map block_in inpu
 all_either [] = tt
 all_either (p ∷ inputs) = (tt, all_either inputs)
 
-suited : (machine : MachineType) (ending : Ending) (inputs : List FlavorInput) (objects : List Object) → AreEnded ending machine inputs objects → AllSuit ending (map block_in inputs)
-suited machine ending inputs objects ended = grind (arith, all_gnu, all_either)
-
 -- what holds of the members' objects and of a null descriptor holds of all objects with import tables
 pub kept_all : (machine : MachineType) (ending : Ending) (inputs : List FlavorInput) (objects : List Object) → AllByRecursion (IsMadeFor machine) inputs → AreEnded ending machine inputs objects →
     (P : Object → Type 0) → P (taken_null machine) → AllByRecursion P (all_objects machine (map block_in inputs) (rest_of ending)) → AllByRecursion P (filter has_tables objects)
@@ -349,9 +338,6 @@ stand machine OfMember b inputs objects made program =
       undefined = ap undefined_names placed ∙ undefined_same machine b xs ys free even ∙ ap (λ os. undefined_names (placed_from b os)) parts;
     }
 
-even_for : (machine : MachineType) (ending : Ending) (b : Bases) (inputs : List FlavorInput) (objects : List Object) → IsProgramOf machine ending b inputs objects → AreEven ending machine b
-even_for machine ending b inputs objects program = grind (arith, even_bases)
-
 module _ (machine : MachineType) (ending : Ending) (b : Bases) (inputs : List FlavorInput) (objects : List Object) (made : AllByRecursion (IsMadeFor machine) inputs)
     (program : IsProgramOf machine ending b inputs objects) where
   abbrev linked : List Placed
@@ -364,10 +350,10 @@ module _ (machine : MachineType) (ending : Ending) (b : Bases) (inputs : List Fl
   dlls = map block_in inputs
 
   pub suit : AllSuit ending (map block_in inputs)
-  suit = suited machine ending inputs objects program.held.ended
+  suit = grind (arith, all_gnu, all_either, program.held.ended)
 
   pub even : AreEven ending machine b
-  even = even_for machine ending b inputs objects program
+  even = grind (arith, even_bases)
 
   stands : Stand machine ending b inputs objects
   stands = stand machine ending b inputs objects made program
@@ -393,11 +379,8 @@ module _ (machine : MachineType) (ending : Ending) (b : Bases) (inputs : List Fl
   names_are : map (λ (d : SymbolDefinition). d.name) defined ≡ symbols_listed (all_members machine inputs)
   names_are = names-all machine b dlls ∙ sym (inputs_symbols machine inputs made)
 
-  rest_defines : (kind : Ending) (c : Bases) → definitions (placed_from c (rest_of kind)) ≡ []
-  rest_defines kind c = grind arith
-
   pub definitions_are : definitions (placed_from b (all_objects machine (map block_in inputs) (rest_of ending))) ≡ definitions_all machine b (map block_in inputs)
-  definitions_are = grind (arith, definitions-all, rest_of, suit, even, defined, rest_defines, ends_all, append-nil)
+  definitions_are = grind (arith, definitions-all, rest_of, suit, even, defined, ends_all, append-nil)
 
   pub only : (d : SymbolDefinition) → Among d (definitions_all machine b (map block_in inputs)) → definitions_of d.name (placed_from b objects) ≡ d ∷ []
   only d m =
@@ -525,15 +508,12 @@ module _ (machine : MachineType) (ending : Ending) (b : Bases) (inputs : List Fl
             (null_there machine ending b inputs objects made program (image_of machine b all) (group_located machine b objects program.admissible DirectoryEnds (inr (inl refl))) each.located.descriptors));
         null = null_address machine ending b inputs objects made program;
         ended = null_ends machine ending b inputs objects made program;
-        targets = places.finds (each.targets (rest_finds ending last));
+        targets = places.finds (each.targets (grind arith));
         defined = subst (AllByRecursion (IsDefinedAt all)) (sym places.undefined) (each.defined (rest_leaves ending last));
         listed = grind (arith, names_are machine ending b inputs objects made program, once_of all (definitions_all machine b (map block_in inputs)) (only machine ending b inputs objects made program));
         claimed = claimed_are machine ending b inputs objects made program;
       }
     where
-      rest_finds : (kind : Ending) (c : Bases) → AllByRecursion (AllFind (placed_from b objects)) (placed_from c (rest_of kind))
-      rest_finds kind c = grind arith
-
       rest_leaves : (kind : Ending) (c : Bases) → AllByRecursion (IsDefinedAt (placed_from b objects)) (undefined_names (placed_from c (rest_of kind)))
       rest_leaves kind c = grind arith
 
@@ -541,15 +521,12 @@ module _ (machine : MachineType) (ending : Ending) (b : Bases) (inputs : List Fl
 
 -- Relocations are within their sections.
 
-stub_sized : (machine : MachineType) (use_kind : Use) → AreWithin (length (stub_for machine use_kind)) (stub_relocations_for machine use_kind)
-stub_sized machine use_kind = grind arith
-
 field_within : (machine : MachineType) → 0 + 4 ≤ length (zeros (thunk_width machine))
 field_within machine = grind arith
 
 asking_sized : (machine : MachineType) (dll : NamesOfDll) (symbol : List ℕ) (ask : Ask) (use_kind : Use) → IsSized (import_object machine dll.text symbol ask use_kind)
 unfolding import_object
-asking_sized machine dll symbol ask use_kind = grind (arith, stub_sized, field_within)
+asking_sized machine dll symbol ask use_kind = grind (arith, field_within)
 
 askings_sized : (machine : MachineType) (dll : NamesOfDll) (es : List ExportView) (rest : List Object) → AllByRecursion IsSized rest → AllByRecursion IsSized (behind_descriptor machine dll es rest)
 unfolding with_section_symbols object_of null_thunk entries_of name_text
@@ -560,12 +537,9 @@ descriptor_sized : (machine : MachineType) (dll : NamesOfDll) → IsSized (taken
 unfolding with_section_symbols object_of descriptor entries_of name_text
 descriptor_sized machine dll = ((omega arith, (omega arith, (omega arith, tt))), (tt, (tt, (tt, tt))))
 
-one_sized : (machine : MachineType) (flavor : Flavor) (dll : NamesOfDll) (es : List ExportView) (rest : List Object) → AllByRecursion IsSized rest → AllByRecursion IsSized (objects_of machine flavor dll es rest)
-one_sized machine flavor dll es rest all = grind (arith, descriptor_sized, askings_sized, head_sized, exports_sized, tail_sized)
-
 pub all_sized : (machine : MachineType) (ending : Ending) (blocks : List FlavorBlock) → AllByRecursion IsSized (all_objects machine blocks (rest_of ending))
 all_sized machine ending [] = grind arith
-all_sized machine ending (k ∷ blocks) = one_sized machine k.flavor k.dll k.exports (all_objects machine blocks (rest_of ending)) (all_sized machine ending blocks)
+all_sized machine ending (k ∷ blocks) = grind (arith, descriptor_sized, askings_sized, head_sized, exports_sized, tail_sized, all_sized machine ending blocks)
 
 null_sized : (machine : MachineType) → IsSized (taken_null machine)
 unfolding with_section_symbols object_of Rattle.implib.specs.Members.MsvcObjects.null_descriptor entries_of name_text
@@ -587,9 +561,6 @@ first_even : (first : ℕ) → packed_descriptors first % 4 ≡ 0
 unfolding next_multiple
 first_even first = omega arith
 
-sum_even : (n m : ℕ) → n % 4 ≡ 0 → (n + 20 * m) % 4 ≡ 0
-sum_even n m even = omega arith
-
 pub packed_objects : (machine : MachineType) (ending : Ending) (first : ℕ) (inputs : List FlavorInput) (objects : List Object) → AllByRecursion (IsMadeFor machine) inputs →
     AreProgramObjects machine ending inputs objects → 0 < first → packed_end first objects < 2 ^ 31 → IsProgramOf machine ending (packed first objects) inputs objects
 packed_objects machine OfLinker first inputs objects made held above below = grind (arith, admissible machine first objects (kept_sized machine OfLinker inputs objects made held.ended) above below)
@@ -601,7 +572,7 @@ packed_objects machine OfMember first inputs objects made held above below =
       admissible = admissible machine first objects (kept_sized machine OfMember inputs objects made held.ended) above below;
       lookups = of_eight machine (packed first objects).lookups (lookups_eights first objects);
       addresses = of_eight machine (packed first objects).addresses (packed_eights first objects);
-      follows = aligned (group_end Descriptors base objects) (ap (λ n. n % 4) ends_at ∙ sum_even base (length inputs) (first_even first));
+      follows = aligned (group_end Descriptors base objects) (ap (λ n. n % 4) ends_at ∙ (omega (arith, first_even first)));
     }
 
 pub packed_admissible : (machine : MachineType) (ending : Ending) (first : ℕ) (inputs : List FlavorInput) (objects : List Object) → AllByRecursion (IsMadeFor machine) inputs →

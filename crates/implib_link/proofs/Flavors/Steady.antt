@@ -143,10 +143,7 @@ tables_end machine ending blocks b suit even =
     let last : Bases = ends_behind b own in
     let parts : definitions (placed_from b (all_objects machine blocks (behind_tables ∷ []))) ≡ defined ++ at_address last.addresses = grind (arith, objects_split, placed_parts, flat_map-append, definitions-all, suit, even, append-nil, begins_at) in
     let ends : last.addresses ≡ (ends_all machine b blocks).addresses = grind (arith, definitions-all, suit, even, begins_at, ends_all, one_address, ends_all, append_cancel_left) in
-    rest_behind ending ∙ sym (end_behind Addresses b own) ∙ ends ∙ addresses_all machine b blocks
-  where
-    rest_behind : (ending : Ending) → group_end Addresses b.addresses (all_objects machine blocks (rest_of ending)) ≡ group_end Addresses b.addresses (all_objects machine blocks [])
-    rest_behind ending = grind (arith, objects_split, rest_of, group_end-append, all_objects)
+    (grind (arith, objects_split, rest_of, group_end-append, all_objects)) ∙ sym (end_behind Addresses b own) ∙ ends ∙ addresses_all machine b blocks
 
 all_long : (machine : MachineType) (linked : List Placed) (ending : Ending) (blocks : List FlavorBlock) (b : Bases) → AllSuit ending blocks → AreEven ending machine b →
     length (filled b.addresses (contributions machine linked Addresses (placed_from b (all_objects machine blocks (rest_of ending))))) ≡ thunk_width machine * thunks_in (length blocks) blocks
@@ -170,13 +167,9 @@ none_placed : (machine : MachineType) (address : ℕ) (relocations : List Reloca
 none_placed machine address [] all = refl
 none_placed machine address (r ∷ relocations) all = rw all.0 (none_placed machine address relocations all.1)
 
-one_none : (machine : MachineType) (address : SectionAddress) (addresses : List SectionAddress) (s : ObjectSection) (sections : List ObjectSection) → NoneAbsolute machine s.relocations →
-    table_places_in machine addresses sections ≡ [] → table_places_in machine (address ∷ addresses) (s ∷ sections) ≡ []
-one_none machine address addresses s sections all rest = grind (arith, none_placed)
-
 first_none : (machine : MachineType) (b : Bases) (s : ObjectSection) (addresses : List SectionAddress) (sections : List ObjectSection) → IsSteady machine s → table_places_in machine addresses sections ≡ [] →
     table_places_in machine (section_address_of b s ∷ addresses) (s ∷ sections) ≡ []
-first_none machine b s addresses sections h5 rest = grind (arith, one_none)
+first_none machine b s addresses sections h5 rest = grind (arith, none_placed)
 
 sections_none : (machine : MachineType) (b : Bases) (sections : List ObjectSection) → AllByRecursion (IsSteady machine) sections →
     table_places_in machine (section_addresses_of b sections) sections ≡ []
@@ -189,13 +182,10 @@ tables_none machine b (o ∷ objects) all = rw (sections_none machine b o.sectio
 
 -- Objects without import tables are steady.
 
-others_steady : (machine : MachineType) (sections : List ObjectSection) → list_any is_table sections ≡ false → AllByRecursion (IsSteady machine) sections
-others_steady machine sections none = all_from (IsSteady machine) sections (λ s held. inl (no_group s.name (none_among is_table s sections held none)))
-
 pub all_steady : (machine : MachineType) (objects : List Object) → AllByRecursion (AllSteady machine) (filter has_tables objects) → AllByRecursion (AllSteady machine) objects
 unfolding has_tables
 all_steady machine [] all = tt
-all_steady machine (o ∷ objects) all = grind (arith, all_steady machine objects, others_steady)
+all_steady machine (o ∷ objects) all = grind (arith, all_steady machine objects, all_from, no_group, none_among)
 
 -- Members are steady.
 
@@ -238,13 +228,9 @@ descriptor_steady : (machine : MachineType) (dll : NamesOfDll) → AllSteady mac
 unfolding with_section_symbols object_of descriptor entries_of name_text
 descriptor_steady machine dll = grind arith
 
-one_steady : (machine : MachineType) (flavor : Flavor) (dll : NamesOfDll) (es : List ExportView) (rest : List Object) → AllByRecursion (AllSteady machine) rest →
-    AllByRecursion (AllSteady machine) (objects_of machine flavor dll es rest)
-one_steady machine flavor dll es rest all = grind (arith, descriptor_steady, askings_steady, head_steady, exports_steady, tail_steady)
-
 blocks_steady : (machine : MachineType) (ending : Ending) (blocks : List FlavorBlock) → AllByRecursion (AllSteady machine) (all_objects machine blocks (rest_of ending))
 blocks_steady machine ending [] = grind arith
-blocks_steady machine ending (k ∷ blocks) = one_steady machine k.flavor k.dll k.exports (all_objects machine blocks (rest_of ending)) (blocks_steady machine ending blocks)
+blocks_steady machine ending (k ∷ blocks) = grind (arith, descriptor_steady, askings_steady, head_steady, exports_steady, tail_steady, blocks_steady machine ending blocks)
 
 null_steady : (machine : MachineType) → AllSteady machine (taken_null machine)
 unfolding with_section_symbols object_of null_descriptor entries_of name_text

@@ -133,10 +133,6 @@ asking_found : (machine : MachineType) (dll : NamesOfDll) (linked : List Placed)
 unfolding import_object
 asking_found machine dll linked b symbol ask use_kind entry same = grind arith
 
-exporting_found : (machine : MachineType) (dll : NamesOfDll) (linked : List Placed) (b : Bases) (e : ExportView) (entry : ℕ) → e.is_data ≡ false → b.addresses ≡ entry →
-    option_and_then (symbol_address linked (placed_export machine dll b e)) (slice_get (placed_export machine dll b e).object.entries 2) ≡ Some entry
-exporting_found machine dll linked b e entry is same = grind (arith, address_found machine dll linked b e is)
-
 -- what a jump needs, in either flavour
 pub record CodeOf (machine : MachineType) (linked : List Placed) (symbol : List ℕ) (own : Placed) (entry : ℕ) : Type 0 where
   pub defined : Among (ASymbol (record { name = symbol; value = 0; section = 1; kind = 0; class = class_external })) own.object.entries
@@ -161,7 +157,7 @@ code_in machine Gnu dll linked b e entry is same = record {
   defined = code_defined machine dll b e is;
   here = grind (arith, code_here machine dll b e, code_bytes machine e is, code_relocations machine e is);
   target = target_is machine dll linked b e entry is same;
-  found = exporting_found machine dll linked b e entry is same;
+  found = (grind (arith, address_found machine dll linked b e is));
 }
 
 -- the name of code is one that its member is listed for

@@ -56,11 +56,8 @@ asks_are flavor machine d statements each chosen =
 
 -- Exports without symbol names are linked by their names.
 
-empty_is : (text : List ℕ) → is_empty_text text ≡ true → text ≡ []
-empty_is text is = grind arith
-
 all_empty : (exports : List ExportView) → list_all (λ e. is_empty_text e.symbol_name) exports ≡ true → AllByRecursion (λ e. e.symbol_name ≡ []) exports
-all_empty exports all = all_from (λ (e : ExportView). e.symbol_name ≡ []) exports (λ e held. empty_is e.symbol_name (each_of (λ (x : ExportView). is_empty_text x.symbol_name) e exports all held))
+all_empty exports all = all_from (λ (e : ExportView). e.symbol_name ≡ []) exports (λ e held. (grind (arith, each_of (λ (x : ExportView). is_empty_text x.symbol_name) e exports all held)))
 
 plain_names : (exports : List ExportView) → AllByRecursion (λ e. e.symbol_name ≡ []) exports → map short_import_symbol exports ≡ map (λ e. e.name) exports
 plain_names [] all = refl
@@ -72,12 +69,9 @@ names_are Gnu exports all = refl
 
 -- A source's input is made.
 
-source_made : (machine : MachineType) (s : FlavorSource) → IsFlavorSource machine s → IsMadeFor machine (input_of s)
-source_made machine s is = grind arith
-
 sources_made : (machine : MachineType) (sources : List FlavorSource) → AllByRecursion (IsFlavorSource machine) sources → AllByRecursion (IsMadeFor machine) (map input_of sources)
 sources_made machine [] are = tt
-sources_made machine (s ∷ sources) are = (source_made machine s are.0, sources_made machine sources are.1)
+sources_made machine (s ∷ sources) are = ((grind (arith, are.0)), sources_made machine sources are.1)
 
 -- an input's imports, by its exports and its DLL's name
 record ImportsOf (machine : MachineType) (image : List Range) (linked : List Placed) (descriptor table : ℕ) (flavor : Flavor) (dll : NamesOfDll) (es : List ExportView) : Type 0 where
@@ -95,10 +89,6 @@ from_parts : (machine : MachineType) (image : List Range) (linked : List Placed)
     ImportsOf machine image linked descriptor table p.flavor (dll_names_in p) (exports_chosen p) → InputImports machine image linked descriptor table p
 from_parts machine image linked descriptor table p i = record { top = i.top; loads = i.loads; table_located = i.table_located; entries = i.entries; gets = i.gets }
 
--- the names of the DLL are those of the definition that is parsed
-names_of_renamed : (flavor : Flavor) (d : DefinitionView) → names_for flavor (renamed d) ≡ names_for flavor d
-names_of_renamed flavor d = grind arith
-
 same_imports : (machine : MachineType) (image : List Range) (linked : List Placed) (descriptor table : ℕ) (s : FlavorSource) (parsed : DefinitionView) →
     s.source.library ≡ record { definition = renamed parsed; machine = machine; flavor = s.flavor } →
     InputImports machine image linked descriptor table (input_of s) → InputImports machine image linked descriptor table (input_parsed parsed s)
@@ -106,7 +96,7 @@ same_imports machine image linked descriptor table s parsed held imports =
     let exports_same : chosen_exports s.source.library.definition s.source.chosen ≡ chosen_exports parsed s.source.chosen = chosen_renamed s.source.library parsed machine s.flavor s.source.chosen held in
     from_parts machine image linked descriptor table (input_parsed parsed s)
     (subst (λ (es : List ExportView). ImportsOf machine image linked descriptor table s.flavor (names_for s.flavor parsed) es) exports_same
-    (subst (λ (names : NamesOfDll). ImportsOf machine image linked descriptor table s.flavor names (chosen_exports s.source.library.definition s.source.chosen)) (grind (arith, names_of_renamed))
+    (subst (λ (names : NamesOfDll). ImportsOf machine image linked descriptor table s.flavor names (chosen_exports s.source.library.definition s.source.chosen)) (grind arith)
     (to_parts machine image linked descriptor table (input_of s) imports)))
 
 text_links : (machine : MachineType) (image : List Range) (linked : List Placed) (descriptor table : ℕ) (s : FlavorSource) → IsFlavorSource machine s →

@@ -47,11 +47,6 @@ four_of (a ∷ b ∷ c ∷ d ∷ e ∷ rest) four = absurd (omega arith)
 pub jump_field : (address : ℕ) (field : List ℕ) → length field ≡ 4 → jump_reads I386 address (0xFF ∷ 0x25 ∷ (field ++ 0x90 ∷ 0x90 ∷ [])) ≡ Some (number_in field)
 jump_field address field four = let f = four_of field four in subst (λ xs. jump_reads I386 address (0xFF ∷ 0x25 ∷ (xs ++ 0x90 ∷ 0x90 ∷ [])) ≡ Some (number_in xs)) (sym f.is) refl
 
--- where its code stores an address whole, there is a place
-pub code_places : (machine : MachineType) (codes : List LinkedCode) (c : LinkedCode) (r : Relocation) (width : ℕ) → Contains codes c → Contains c.code.relocations r → absolute_width machine r.kind ≡ Some width →
-    Contains (flat_map (places_of_code machine) codes) (record { address = c.position + r.offset; width = width })
-code_places machine codes c r width held m is = search (rules, c, is, among_contains, among_flat, contains_among, among_place)
-
 -- Fields of relocations: which of them meet bytes, and what they hold at another base.
 
 -- Lists by their places.
@@ -140,18 +135,8 @@ whole_width machine type width is = grind (arith, one_absolute)
 -- What fields hold at another base: a field that stores an address whole has the difference added, every other one is
 -- as it was.
 
-moved_by_32 : (old new from to target : ℕ) → new ≡ (old + (from + target)) % 2 ^ 32 → (new + to + (2 ^ 32 - from % 2 ^ 32)) % 2 ^ 32 ≡ (old + (to + target)) % 2 ^ 32
-moved_by_32 old new from to target is = omega arith
-
-moved_by_64 : (old new from to target : ℕ) → new ≡ (old + (from + target)) % 2 ^ 64 → (new + to + (2 ^ 64 - from % 2 ^ 64)) % 2 ^ 64 ≡ (old + (to + target)) % 2 ^ 64
-moved_by_64 old new from to target is = omega arith
-
 offset_moves : (from to target more : ℕ) → from % 4096 ≡ to % 4096 → (from + target + more) % 4096 / 8 ≡ (to + target + more) % 4096 / 8
 offset_moves from to target more paged = let same : (from + target + more) % 4096 ≡ (to + target + more) % 4096 = omega arith in ap (λ n. n / 8) same
-
-page_moves : (from to position target more : ℕ) → from % 4096 ≡ to % 4096 →
-    (page (from + target + more) + (2 ^ 21 - page (from + position) % 2 ^ 21)) % 2 ^ 21 ≡ (page (to + target + more) + (2 ^ 21 - page (to + position) % 2 ^ 21)) % 2 ^ 21
-page_moves from to position target more paged = grind arith
 
 not_i386 : (type width : ℕ) → absolute_width I386 type ≡ Some width → type ≡ i386_rel32 → ⊥
 not_i386 type width is other = let own : type ≡ i386_dir32 = (one_absolute (type == i386_dir32) type width refl is).0 in omega arith
@@ -164,10 +149,10 @@ not_arm64 type width other is same low high = grind arith
 
 pub holds_moved : (machine : MachineType) (type width from to position target : ℕ) (old new : ℕ → ℕ) → absolute_width machine type ≡ Some width → FieldHolds machine type from position target old new →
     FieldHolds machine type to position target old (λ w. moved_number w from to (new w))
-holds_moved I386 type width from to position target old new is holds = grind (arith, is, moved_by_32, not_i386)
+holds_moved I386 type width from to position target old new is holds = grind (arith, is, not_i386)
 holds_moved ARMNT type width from to position target old new is holds = tt
-holds_moved AMD64 type width from to position target old new is holds = grind (arith, is, moved_by_64, not_amd64)
-holds_moved ARM64 type width from to position target old new is holds = grind (arith, is, moved_by_64, not_arm64)
+holds_moved AMD64 type width from to position target old new is holds = grind (arith, is, not_amd64)
+holds_moved ARM64 type width from to position target old new is holds = grind (arith, is, not_arm64)
 
 stored : (machine : MachineType) (type own width : ℕ) → absolute_width machine own ≡ Some width → type ≡ own → absolute_width machine type ≡ None → ⊥
 stored machine type own width whole is none = let same : Some width ≡ None = sym whole ∙ subst (λ t. absolute_width machine t ≡ None) is none in cc
@@ -180,7 +165,7 @@ holds_steady AMD64 type from to position target old new none paged holds = grind
 holds_steady ARM64 type from to position target old new none paged holds = record {
   addr64 = λ addr. absurd (stored ARM64 type arm64_addr64 8 refl addr none);
   branch = holds.branch;
-  page_of = λ is. ((holds.page_of is).0, (holds.page_of is).1 ∙ page_moves from to position target (adrp_immediate (old 4)) paged);
+  page_of = λ is. ((holds.page_of is).0, (holds.page_of is).1 ∙ (grind arith));
   offset_of = λ is eight. ((holds.offset_of is eight).0, (holds.offset_of is eight).1 ∙ offset_moves from to target (ldr_immediate (old 4)) paged);
 }
 

@@ -230,9 +230,6 @@ module _ (machine : MachineType) (image_base : ℕ) (image : List Range) (linked
     holds_linked : FieldHolds machine type at.from (c.position + offset) (targets c symbol) (field_at c.code.bytes offset) (field_at c.bytes offset)
     holds_linked = own.fields (record { offset = offset; symbol = symbol; kind = type }) alone inside
 
-    bytes_count : length (take (field_width machine type) (drop offset c.bytes)) ≡ field_width machine type
-    bytes_count = grind (arith, own, length-take-le, length-drop)
-
     field_byte : (i b : ℕ) → slice_get (take (field_width machine type) (drop offset c.bytes)) i ≡ Some b → (slice_get c.bytes (offset + i) ≡ Some b) × (i < field_width machine type)
     field_byte i b is = grind (arith, slice_get_within (take (field_width machine type) (drop offset c.bytes)) i b is, get_drop offset c.bytes i, get_take (field_width machine type) (drop offset c.bytes) i b is)
 
@@ -253,7 +250,7 @@ module _ (machine : MachineType) (image_base : ℕ) (image : List Range) (linked
               let other : absolute_width machine type ≡ Some s.1.1.1.0 = subst (λ (x : Relocation). absolute_width machine x.kind ≡ Some s.1.1.1.0) same s.1.1.1.1 in
               none-some s.1.1.1.0 (sym none ∙ other)) in
               subst (λ a. byte_at memory a ≡ Some b) (sym (omega (arith, found.1))) (at.code_kept c (offset + i) b m found.0 clear));
-          count = bytes_count;
+          count = (grind (arith, own, length-take-le, length-drop));
           value = refl;
         })
 
@@ -274,7 +271,7 @@ module _ (machine : MachineType) (image_base : ℕ) (image : List Range) (linked
           located = located_from (image ++ ranges_of_codes codes) (take wide (drop offset c.bytes)) (c.position + offset) (λ i b got.
               subst (λ a. byte_at (image ++ ranges_of_codes codes) a ≡ Some b) (sym (omega arith))
               (linked_byte machine image_base image linked codes targets at.from at.beside c (offset + i) b m (field_byte i b got).0));
-          count = bytes_count;
+          count = (grind (arith, own, length-take-le, length-drop));
           value = refl;
         } in
         elim (settles.whole r wide (field_at c.bytes offset wide) refl (alone_among machine c.code.relocations offset wide r alone) whole linked_number) [

@@ -41,45 +41,26 @@ addr64_is n old base target is empty fits small = omega arith
 
 -- Types of relative fields.
 
-not_addr64 : (type further : ℕ) → type ≡ amd64_rel32 + further → (type == amd64_addr64) ≡ false
-not_addr64 type further is = ne_eqb type amd64_addr64 (λ same. omega arith)
-
 not_addr32 : (type further : ℕ) → type ≡ amd64_rel32 + further → (type == amd64_addr32) ≡ false
 not_addr32 type further is = ne_eqb type amd64_addr32 (λ same. omega arith)
 
 pub operand_width : (machine : MachineType) (type after number : ℕ) → IsOperand machine type after number → field_width machine type ≡ 4
-operand_width machine type after number counts = grind (arith, not_addr64)
+operand_width machine type after number counts = grind arith
 
 branch_width : (machine : MachineType) (type after number : ℕ) → IsBranch machine type after number → field_width machine type ≡ 4
 branch_width machine type after number counts = grind (arith, operand_width)
 
 branch_steady : (machine : MachineType) (type after number : ℕ) → IsBranch machine type after number → absolute_width machine type ≡ None
-branch_steady machine type after number counts = grind (arith, not_addr64, not_addr32)
+branch_steady machine type after number counts = grind (arith, not_addr32)
 
 pub pointer_width : (machine : MachineType) (type : ℕ) → IsPointer machine type → field_width machine type ≡ thunk_width machine
 pointer_width machine type stores = grind arith
 
 -- Where they lead, by the machines.
 
-pub words_lead : (address position target : ℕ) → position % 4 ≡ 0 → target % 4 ≡ 0 → position ≤ target + 2 ^ 27 → target < position + 2 ^ 27 → (n : ℕ) → n ≡ (target + (2 ^ 28 - position % 2 ^ 28)) / 4 % 2 ^ 26 →
-    plus_signed 26 4 n (address + position) ≡ address + target
-words_lead address position target first second far near n is = grind arith
-
 operand_by : (machine : MachineType) (type base position target after : ℕ) (old new : ℕ → ℕ) → IsOperand machine type after (old 4) → FieldHolds machine type base position target old new →
     CanReach machine base target → position + (4 + after) ≤ 2 ^ 31 → target < 2 ^ 31 → operand_leads machine (base + position) after (new 4) ≡ Some (base + target)
 operand_by machine type base position target after old new counts holds can near small = grind (arith, dir32_is, rel32_leads)
-
-branch_by : (machine : MachineType) (type base position target after : ℕ) (old new : ℕ → ℕ) → IsBranch machine type after (old 4) → FieldHolds machine type base position target old new →
-    CanBranch machine position target → position + (4 + after) ≤ 2 ^ 31 → target < 2 ^ 31 → branch_leads machine (base + position) after (new 4) ≡ Some (base + target)
-branch_by machine type base position target after old new counts holds can near small = grind (arith, rel32_leads)
-
-branch_rest_by : (machine : MachineType) (type base position target after : ℕ) (old new : ℕ → ℕ) → IsBranch machine type after (old 4) → FieldHolds machine type base position target old new → CanBranch machine position target →
-    branch_rest machine (new 4) ≡ branch_rest machine (old 4)
-branch_rest_by machine type base position target after old new counts holds can = grind arith
-
-pointer_by : (machine : MachineType) (type base position target : ℕ) (old new : ℕ → ℕ) → IsPointer machine type → old (thunk_width machine) ≡ 0 → FieldHolds machine type base position target old new →
-    CanReach machine base target → base + 2 ^ 31 ≤ 2 ^ 64 → target < 2 ^ 31 → new (thunk_width machine) ≡ base + target
-pointer_by machine type base position target old new stores empty holds can fits small = grind (arith, dir32_is, addr64_is)
 
 -- ARM64's page and offset.
 
@@ -124,7 +105,7 @@ module _ (machine : MachineType) (image_base : ℕ) (image : List Range) (linked
       record {
         number = found.0 4;
         there = subst (λ w. NumberAt (written ++ memory) w (c.position + offset) (found.0 w)) (branch_width machine has.type after (field_at c.code.bytes offset 4) has.counts) found.1.0;
-        leads = grind (arith, own_end machine image_base image linked codes targets memory at written covers_it c m, branch_by);
+        leads = grind (arith, own_end machine image_base image linked codes targets memory at written covers_it c m);
       }
 
   -- and is, but for its distance, as it was
@@ -137,7 +118,7 @@ module _ (machine : MachineType) (image_base : ℕ) (image : List Range) (linked
       record {
         number = found.0 4;
         there = subst (λ w. NumberAt (written ++ memory) w (c.position + offset) (found.0 w)) (branch_width machine has.type after (field_at c.code.bytes offset 4) has.counts) found.1.0;
-        same = grind (arith, where_defined c d name t held d_held defines named has.field.symbol has.field.names, branch_rest_by);
+        same = grind (arith, where_defined c d name t held d_held defines named has.field.symbol has.field.names);
       }
 
   -- what leads to the only definition of a name, where these bytes are
@@ -190,12 +171,9 @@ module _ (machine : MachineType) (image_base : ℕ) (image : List Range) (linked
         false_from_ne_true (list_any (meets machine k 1) c.code.relocations) (λ met.
         let s = meeting machine k c.code.relocations met in
         let bounds = meets_bounds machine k 1 s.0 s.1.1 in
-        let from : s.0.offset < k + 1 = bounds.0 in
-        let to : k < s.0.offset + field_width machine s.0.kind = bounds.1 in
         let same : s.0 ≡ r = alone_same machine c.code.relocations offset count r alone_in s.0 s.1.0 (meets_from machine offset count s.0 (omega arith) (omega arith)) in
-        let place : s.0.offset ≡ inner = ap (λ (x : Relocation). x.offset) same in
         let kind : field_width machine s.0.kind ≡ 4 = ap (λ (x : Relocation). field_width machine x.kind) same ∙ wide in
-        elim beside [ inl before ↦ omega arith | inr after ↦ omega arith ]) in
+        elim beside [ inl before ↦ omega (arith, bounds.0, bounds.1, ap (λ (x : Relocation). x.offset) same) | inr after ↦ omega (arith, bounds.0, bounds.1, ap (λ (x : Relocation). x.offset) same) ]) in
         let number : NumberAt (written ++ memory) 4 (c.position + inner) (found.0 4) = subst (λ w. NumberAt (written ++ memory) w (c.position + inner) (found.0 w)) wide found.1.0 in
         let head_there : BytesAt (written ++ memory) (c.position + offset) head =
         bytes_there machine image_base image linked codes targets memory at written covers_it c m offset head (λ i b is.
@@ -218,10 +196,7 @@ module _ (machine : MachineType) (image_base : ℕ) (image : List Range) (linked
               (joined (written ++ memory) number.bytes tail (c.position + inner) number.located (subst (λ n. BytesAt (written ++ memory) n tail) (omega (arith, end_of c held)) tail_there)));
           entry = entry;
           own = once;
-          leads = ap (λ n. operand_leads machine (image_base + n) (length tail) (number_in number.bytes)) (sym field_place)
-              ∙ ap (operand_leads machine (image_base + (c.position + inner)) (length tail)) number.value
-              ∙ operand_by machine type image_base (c.position + inner) entry (length tail) (field_at c.code.bytes inner) found.0
-              (subst (IsOperand machine type (length tail)) (sym old) counts) found.1.1 can (omega (arith, end_of c held)) small;
+          leads = grind (arith, operand_by, end_of);
           located = located;
         }
 
@@ -244,7 +219,7 @@ module _ (machine : MachineType) (image_base : ℕ) (image : List Range) (linked
           record {
             entry = entry;
             own = once;
-            there = grind (arith, found_at c offset has.type has.field.symbol held has.field.alone has.field.inside (settled c has.field.symbol held has.field.names), pointer_by, pointer_width);
+            there = grind (arith, found_at c offset has.type has.field.symbol held has.field.alone has.field.inside (settled c has.field.symbol held has.field.names), pointer_width);
             located = located;
           }
 
@@ -267,12 +242,11 @@ pair_at image_base image linked codes targets memory at written covers_it name b
     let paged = found_at ARM64 image_base image linked codes targets memory at written covers_it name bytes entry once small can located c first arm64_pagebase_rel21 page_symbol c_held page_alone page_inside page_settles in
     let placed = found_at ARM64 image_base image linked codes targets memory at written covers_it name bytes entry once small can located d second arm64_pageoffset_12l offset_symbol d_held offset_alone offset_inside offset_settles in
     let end : c.position + length c.code.bytes + 16 ≤ 2 ^ 31 = end_of ARM64 image_base image linked codes targets memory at written covers_it name bytes entry once small can located c c_held in
-    let page_holds = paged.1.1.page_of refl in
     let offset_holds = placed.1.1.offset_of refl eight in
     record {
       adrp = paged.0 4;
       adrp_there = paged.1.0;
-      is_adrp = page_holds.0;
+      is_adrp = (paged.1.1.page_of refl).0;
       load = placed.0 4;
       load_there = placed.1.0;
       is_load = offset_holds.0;
@@ -403,9 +377,6 @@ module _ (machine : MachineType) (c : LinkedCode) (offset type : ℕ) (name : Li
   abbrev code : List ℕ
   code = 0xE8 ∷ 0 ∷ 0 ∷ 0 ∷ 0 ∷ []
 
-  call_field : field_at c.code.bytes (offset + 1) 4 ≡ 0
-  call_field = ap (λ xs. number_in (take 4 xs)) (sym (drop-drop 1 offset c.code.bytes) ∙ ap (drop 1) (own_code machine c offset name code rs has))
-
   call_alone : MeetsAlone machine c.code.relocations (offset + 1) (field_width machine type) (record { offset = offset + 1; symbol = has.index; kind = type })
   call_alone =
       let r : Relocation = record { offset = offset + 1; symbol = has.index; kind = type } in
@@ -416,7 +387,7 @@ module _ (machine : MachineType) (c : LinkedCode) (offset type : ℕ) (name : Li
       record {
         type = type;
         field = record { symbol = has.index; alone = call_alone; inside = omega (arith, own_inside machine c offset name code rs has); names = own_names machine c offset name code rs has };
-        counts = subst (IsBranch machine type 0) (sym call_field) counts;
+        counts = subst (IsBranch machine type 0) (sym (ap (λ xs. number_in (take 4 xs)) (sym (drop-drop 1 offset c.code.bytes) ∙ ap (drop 1) (own_code machine c offset name code rs has)))) counts;
         within = omega (arith, own_inside machine c offset name code rs has);
       }
 
@@ -448,11 +419,10 @@ x86_by_name : (machine : MachineType) (image_base : ℕ) (memory : List Range) (
 x86_by_name machine image_base memory position offset stub bytes size reads head x leads arrives =
     let field : List ℕ = x.there.bytes in
     let field_place : position + (offset + 1) ≡ position + offset + 1 = omega arith in
-    let end : image_base + (position + offset) + 5 ≡ image_base + (position + (offset + 1)) + 4 + 0 = omega arith in
     let long : length (0xE8 ∷ x.there.bytes) ≡ 5 = omega arith in
     by_stub machine image_base memory (position + offset) stub (0xE8 ∷ field) bytes (joined memory (0xE8 ∷ []) field (position + offset) head (subst (λ a. BytesAt memory a field) field_place x.there.located)) (long ∙ sym size)
     (reads (image_base + (position + offset)) field x.there.count ∙ ap (λ n. Some (plus_signed 32 1 n (image_base + (position + offset) + 5))) x.there.value
-    ∙ ap (λ a. Some (plus_signed 32 1 x.number a)) end ∙ leads) arrives
+    ∙ ap (λ a. Some (plus_signed 32 1 x.number a)) (omega arith) ∙ leads) arrives
 
 pub direct_arrives : (machine : MachineType) (image_base : ℕ) (image : List Range) (linked : List Placed) (codes : List LinkedCode) (targets : LinkedCode → ℕ → ℕ) (memory : List Range)
     (at : Rests machine image_base image linked codes targets memory) (written : List Range) (covers_it : AllByRecursion (Covers image) written) (c : LinkedCode) (offset stub : ℕ) (name bytes : List ℕ) →
@@ -484,4 +454,4 @@ direct_arrives ARM64 image_base image linked codes targets memory at written cov
     let word : word_at found.1.0.bytes 0 ≡ found.0 4 = read_word found.1.0.bytes found.1.0.count ∙ found.1.0.value in
     by_stub ARM64 image_base (written ++ memory) (c.position + offset) stub found.1.0.bytes bytes found.1.0.located found.1.0.count
     (arm64_leads (image_base + (c.position + offset)) found.1.0.bytes (found.0 4) word (still_branch (found.0 4) (both.0 ∙ ap (with_bits 0 26 0) old))
-    ∙ ap Some (words_lead image_base (c.position + offset) stub can.0 can.1 can.2 can.3 (bits_of 0 26 (found.0 4)) both.1)) arrives
+    ∙ ap Some (grind (arith, can.0, can.1, can.2, can.3, both.1))) arrives

@@ -173,14 +173,10 @@ unfolding group_end has_tables
 end_kept group n [] = refl
 end_kept group n (o ∷ objects) = grind (arith, end_kept group (sections_end group n o.sections) objects, end_kept group n objects, end_without)
 
--- ends do not fall
-end_of_one : (group : Group) (n : ℕ) (s : ObjectSection) (named : Option Group) → n ≤ end_with group n s named
-end_of_one group n s named = grind (arith, at_least)
-
 sections_rise : (group : Group) (n : ℕ) (sections : List ObjectSection) → n ≤ sections_end group n sections
 unfolding sections_end
 sections_rise group n [] = omega arith
-sections_rise group n (s ∷ sections) = grind (arith, sections_rise group (end_with group n s (group_named s.name)) sections, end_of_one)
+sections_rise group n (s ∷ sections) = grind (arith, sections_rise group (end_with group n s (group_named s.name)) sections, at_least)
 
 ends_rise : (group : Group) (n : ℕ) (objects : List Object) → n ≤ group_end group n objects
 unfolding group_end
@@ -206,11 +202,6 @@ rising_ends : (low high : ℕ) (rs : List Range) → Rising low high rs → high
 unfolding Rising
 rising_ends low high [] rise below = tt
 rising_ends low high (r ∷ rs) rise below = grind (arith, rising_ends (range_end r) high rs rise.1 below, rising_reaches)
-
-rising_within : (low high : ℕ) (rs : List Range) → Rising low high rs → AllByRecursion (λ r. (low ≤ r.start) × (range_end r ≤ high)) rs
-unfolding Rising
-rising_within low high [] rise = tt
-rising_within low high (r ∷ rs) rise = grind (arith, rising_within low high rs (rising_from_below low (range_end r) high rs (omega arith) rise.1), rising_reaches, rising_from_below)
 
 apart_from : (first : Range) (low high : ℕ) (rs : List Range) → range_end first ≤ low → Rising low high rs → AllByRecursion (AreApart first) rs
 unfolding Rising
@@ -265,27 +256,24 @@ module _ (machine : MachineType) (first : ℕ) (objects : List Object) (sized : 
   all_rise : Rising (packed_descriptors first) (packed_end first objects) (image_of machine (packed first objects) (placed_from (packed first objects) objects))
   all_rise = rising_next 4 Descriptors _ (rising_next 8 DirectoryEnds _ (rising_next 8 Lookups _ (rising_next 8 Addresses _ (rising_next 8 HintNames _ last_rises))))
 
-  pub lies_within : AllByRecursion (λ r. (packed_descriptors first ≤ r.start) × (range_end r ≤ packed_end first objects)) (image_of machine (packed first objects) (placed_from (packed first objects) objects))
-  lies_within = rising_within (packed_descriptors first) (packed_end first objects) (image_of machine (packed first objects) (placed_from (packed first objects) objects)) all_rise
-
   descriptors_base : IsBase (packed_descriptors first)
   descriptors_base = aligned_base first above
 
   directory_ends_base : IsBase (packed_directory_ends first objects)
-  directory_ends_base = grind (arith, descriptors_base, ends_rise, aligned_end)
+  directory_ends_base = grind (arith, aligned_base, ends_rise, aligned_end)
 
   lookups_base : IsBase (packed_lookups first objects)
-  lookups_base = above_zero DirectoryEnds (packed_directory_ends first objects) objects directory_ends_base
+  lookups_base = above_zero DirectoryEnds (packed_directory_ends first objects) objects (grind (arith, descriptors_base, ends_rise, aligned_end))
 
   addresses_base : IsBase (packed_addresses first objects)
-  addresses_base = above_zero Lookups (packed_lookups first objects) objects lookups_base
+  addresses_base = above_zero Lookups (packed_lookups first objects) objects (above_zero DirectoryEnds (packed_directory_ends first objects) objects directory_ends_base)
 
   hint_names_base : IsBase (packed_hint_names first objects)
-  hint_names_base = above_zero Addresses (packed_addresses first objects) objects addresses_base
+  hint_names_base = above_zero Addresses (packed_addresses first objects) objects (above_zero Lookups (packed_lookups first objects) objects lookups_base)
 
   pub admissible : IsAdmissible machine (packed first objects) objects
   admissible = record {
-    descriptors = descriptors_base;
+    descriptors = (aligned_base first above);
     directory_ends = directory_ends_base;
     lookups = lookups_base;
     addresses = addresses_base;

@@ -32,15 +32,12 @@ none_covers f a (d ∷ xs) each = grind (arith, none_covers f a xs, list_any-app
 none_narrow : (width most : ℕ) → None ≡ Some width → width ≤ most
 none_narrow width most is = cc
 
-choice_narrow : (b whole : Bool) (width : ℕ) → (if b then Some 8 else if whole then Some 4 else None) ≡ Some width → width ≤ (if b then 8 else 4)
-choice_narrow b whole width is = grind (arith, none_narrow)
-
 i386_narrow : (b : Bool) (width : ℕ) → (if b then Some 4 else None) ≡ Some width → width ≤ 4
 i386_narrow b width is = grind (arith, none_narrow)
 
 -- what a base relocation changes is in the field
 pub narrow : (machine : MachineType) (type width : ℕ) → absolute_width machine type ≡ Some width → width ≤ field_width machine type
-narrow machine type width is = grind (arith, i386_narrow, none_narrow, choice_narrow)
+narrow machine type width is = grind (arith, i386_narrow, none_narrow)
 
 -- a relocation that stores an address whole has its place
 pub among_place : (machine : MachineType) (position : ℕ) (r : Relocation) (width : ℕ) (rs : List Relocation) → absolute_width machine r.kind ≡ Some width → Among r rs →

@@ -35,12 +35,9 @@ map_filter f test (x ∷ xs) = grind (arith, map_filter f test xs)
 pub all_chosen : {X : Type 0} (P : X → Type 0) (xs : List X) (chosen : List ℕ) → AllByRecursion P xs → AllByRecursion P (filter_map (slice_get xs) chosen)
 all_chosen P xs chosen all = all_from P (filter_map (slice_get xs) chosen) (λ x held. let from = kept_from (slice_get xs) chosen x held in all_at P xs from.0 x all from.2)
 
-map_cons_option : {X Y : Type 0} (f : X → Y) (o : Option X) (xs : List X) → map f (cons_option o xs) ≡ cons_option (option_map f o) (map f xs)
-map_cons_option f o xs = grind arith
-
 map_chosen : {X Y : Type 0} (f : X → Y) (xs : List X) (chosen : List ℕ) → map f (filter_map (slice_get xs) chosen) ≡ filter_map (slice_get (map f xs)) chosen
 map_chosen f xs [] = refl
-map_chosen f xs (n ∷ chosen) = grind (arith, map_chosen f xs chosen, map_cons_option, slice_get-map)
+map_chosen f xs (n ∷ chosen) = grind (arith, map_chosen f xs chosen, slice_get-map)
 
 module _ (machine : MachineType) (d : DefinitionView) (statements : List Export) (each : EachAsksForItsWord machine (renamed d).exports statements) (chosen : List ℕ) where
   pub statements_are : map (λ (s : Stated). s.export) (chosen_stated d statements chosen) ≡ chosen_exports d chosen

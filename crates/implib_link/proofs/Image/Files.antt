@@ -58,11 +58,8 @@ module _ (machine : MachineType) (t : Tables) (bytes : List ℕ) (file : MappedF
   kept : Keeps t.image file.image
   kept = holds_keep file.image t.image own.holds
 
-  reads_of : (n : ℕ) (written : List Range) → LoadsFile file gives n written → ReadsAndWrites file.image (thunk_width machine) gives n t.directory written
-  reads_of n written loads = grind arith
-
   pub read : (n : ℕ) (written : List Range) → LoadsFile file gives n written → (n ≡ length (map imported_by_table t.tables)) × Writes t.image (thunk_width machine) gives t.directory (map imported_by_table t.tables) written
-  read n written loads = memory_read t.image file.image kept (thunk_width machine) gives n t.directory (map imported_by_table t.tables) written tables.directory (reads_of n written loads)
+  read n written loads = memory_read t.image file.image kept (thunk_width machine) gives n t.directory (map imported_by_table t.tables) written tables.directory (grind arith)
 
   pub file_loads : (n : ℕ) (written : List Range) → LoadsFile file gives n written →
       (n ≡ length t.tables) × (AreTablesLoaded machine t gives written × Writes t.image (thunk_width machine) gives t.directory (map imported_by_table t.tables) written)

@@ -51,11 +51,10 @@ entry_defined o b s is even name (ASymbol x ∷ entries) held =
       | inl all ↦
           let parts = and_parts (is_defined_external x) ((x.value == 0) && is_in_group Addresses (section_numbered o.sections x.section)) all in
           let at = and_parts (x.value == 0) (is_in_group Addresses (section_numbered o.sections x.section)) parts.1 in
-          let found : (bytes_eq name x.name || list_any (bytes_eq name) (filter_map (entry_name o.sections) entries)) ≡ true = rw all at held in
           let place : address_in (section_addresses_of b o.sections) x.section x.value ≡ Some b.addresses = grind (arith, group_address, eqb-true, plus_none) in
           elim (cases_Bool (bytes_eq name x.name)) [
             | inl same ↦ grind (arith, bytes_eq-Decides, among_first)
-            | inr other ↦ rw parts.0 (among_later _ _ _ (entry_defined o b s is even name entries (rw other at found)))
+            | inr other ↦ rw parts.0 (among_later _ _ _ (entry_defined o b s is even name entries (rw other at (rw all at held))))
           ]
       | inr other ↦ grind (arith, entry_defined o b s is even name entries (rw other at held), held, among_later)
     ]
@@ -67,9 +66,6 @@ has_section machine o ask (Some s) is = (s, refl)
 
 next_table : (a w n : ℕ) → a + w + w * (n + 1) ≡ a + w * (suc n + 1)
 next_table a w n = let count : suc (n + 1) ≡ suc n + 1 = omega arith in times_next a w (n + 1) ∙ ap (λ k. a + w * k) count
-
-one_null : (a w : ℕ) → a + w ≡ a + w * (0 + 1)
-one_null a w = omega arith
 
 module _ (machine : MachineType) (linked : List Placed) (image : List Range) (starts : AllByRecursion (λ r. 0 < r.start) image) (ends : AllByRecursion (λ r. range_end r < 2 ^ 31) image) where
   located_next : (o : Object) (b : Bases) (rest : List Object) → IsSized o → LocatedFrom machine linked image b (o ∷ rest) → LocatedFrom machine linked image (ends_after b o.sections) rest
@@ -124,7 +120,7 @@ module _ (machine : MachineType) (linked : List Placed) (image : List Range) (st
         at = λ j q e is asked. cc;
         aligned = aligned_one o b even are.descriptors lookup.1 address.1;
         descriptors_end = end_of_sections Descriptors b o.sections ∙ none_ends Descriptors o.sections b.descriptors are.descriptors;
-        addresses_end = end_of_sections Addresses b o.sections ∙ address.1 ∙ one_null b.addresses (thunk_width machine);
+        addresses_end = end_of_sections Addresses b o.sections ∙ address.1 ∙ (omega arith);
       }
   tables_from (o ∷ objects) later (e ∷ entries) b even sized located (entry, others) =
       let lookup = thunk_located machine linked image starts ends o b (objects ++ later) sized.0 located Lookups e.ask tt even.lookups entry.lookup in

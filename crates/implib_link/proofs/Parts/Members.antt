@@ -108,9 +108,6 @@ names_by machine dll more e is_data = grind arith
 pub names_are : (machine : MachineType) (dll : NamesOfDll) (more : List AddedSymbol) (e : ExportView) → names_at machine dll more e (exported machine dll more e).entries ≡ imp_symbol e.name ∷ names_at machine dll more e (all_entries more)
 names_are machine dll more e = names_by machine dll more e e.is_data
 
-low_byte : (n : ℕ) → n % 256 < 256
-low_byte n = omega arith
-
 high_byte : (n : ℕ) → n / 256 % 256 < 256
 high_byte n = omega arith
 
@@ -119,7 +116,7 @@ hint_is n small = omega arith
 
 hint_read : (n : ℕ) (text : List ℕ) → n < 2 ^ 16 → HasNoNul text → hint_and_name (u16_bytes n ++ (text ++ 0 ∷ [])) ≡ Some (Name text n)
 unfolding u16_bytes
-hint_read n text small free = grind (arith, lt-ltb, low_byte, high_byte, before_nul-ended, free, hint_is)
+hint_read n text small free = grind (arith, lt-ltb, high_byte, before_nul-ended, free, hint_is)
 
 number_read : (n : ℕ) (rest : List ℕ) → n < 2 ^ 16 → number_in (take 2 (u16_bytes n ++ rest)) ≡ n
 unfolding u16_bytes
@@ -133,10 +130,6 @@ same_zeros machine = same_text (zeros (thunk_width machine))
 
 same_kind : (machine : MachineType) → is_field machine 0 (relocation machine 0 0) ≡ true
 same_kind machine = grind arith
-
-asks_name : (machine : MachineType) (o : Object) (index : ℕ) (bytes : List ℕ) → own_bytes o (slice_get o.entries index) ≡ Some bytes →
-    ask_of machine o (zeros (thunk_width machine)) (relocation machine 0 index ∷ []) ≡ hint_and_name bytes
-asks_name machine o index bytes is = rw (same_kind machine, same_zeros machine, is) refl
 
 module _ (machine : MachineType) (dll : NamesOfDll) (more : List AddedSymbol) (e : ExportView) (fits : CanBeAsked machine e) where
   own_hint : e.no_name ≡ false → own_bytes (exported machine dll more e) (slice_get (exported machine dll more e).entries (hint_name_symbol e)) ≡ Some (u16_bytes e.ordinal ++ (name_asked machine e ++ 0 ∷ []))
@@ -166,7 +159,7 @@ module _ (machine : MachineType) (dll : NamesOfDll) (more : List AddedSymbol) (e
   by_ordinal is = rw is refl
 
   asks : ask_of machine (exported machine dll more e) (thunk machine e) (relocations_of_thunk machine e) ≡ Some (expected_ask machine e)
-  asks = grind (arith, no_field, ordinal_thunk_is, number_read, ordinal_read, by_ordinal, named_field, named_thunk, asks_name, own_hint, hint_read, by_name)
+  asks = grind (arith, no_field, ordinal_thunk_is, number_read, ordinal_read, by_ordinal, named_field, named_thunk, own_hint, hint_read, by_name)
 
   export_entry : (name : List ℕ) → names_entry (exported machine dll more e) (Some name) ≡ true → IsEntry machine (exported machine dll more e) (record { ask = expected_ask machine e; symbol = Some name })
   export_entry name named = record { descriptors = refl; lookup = asks; address = asks; symbol = named }
@@ -230,18 +223,11 @@ members_are_part machine p made =
 
 -- Parts that store no address whole.
 
-none_whole : (width : Option ℕ) → not (is_whole width) ≡ true → width ≡ None
-none_whole width is = grind arith
-
 fields_none : (machine : MachineType) (relocations : List Relocation) → list_all (λ r. not (is_whole (absolute_width machine r.kind))) relocations ≡ true → NoneAbsolute machine relocations
-fields_none machine relocations all = grind (arith, all_from, none_whole, each_of)
-
-sections_steady : (machine : MachineType) (sections : List ObjectSection) →
-    list_all (λ s. not (is_table s) || list_all (λ r. not (is_whole (absolute_width machine r.kind))) s.relocations) sections ≡ true → AllByRecursion (IsSteady machine) sections
-sections_steady machine sections all = grind (arith, all_from, each_of, fields_none, no_group)
+fields_none machine relocations all = grind (arith, all_from, each_of)
 
 objects_steady : (machine : MachineType) (objects : List Object) → list_all (stores_none machine) objects ≡ true → AllByRecursion (AllSteady machine) objects
-objects_steady machine objects all = all_from (AllSteady machine) objects (λ o held. sections_steady machine o.sections (each_of (stores_none machine) o objects all held))
+objects_steady machine objects all = all_from (AllSteady machine) objects (λ o held. (grind (arith, all_from, each_of, fields_none, no_group, each_of (stores_none machine) o objects all held)))
 
 each_steady : (machine : MachineType) (parts : List Part) → AllByRecursion (λ (p : Part). list_all (stores_none machine) p.objects ≡ true) parts → AllByRecursion (AllSteady machine) (objects_of_parts parts ++ null_descriptor ∷ [])
 each_steady machine [] all = ((inr tt, tt), tt)
@@ -450,7 +436,6 @@ module _ (machine : MachineType) (bases : Bases) (parts : List Part) (objects : 
       let t_is : t ≡ symbol = symbol_of_entry t symbol one.1 in
       let first : d.number ≡ 1 = sym defines.here ∙ ap (λ (y : ObjectSymbol). y.section) t_is in
       let numbered : section_numbered o.sections 1 ≡ Some d.code = subst (λ n. section_numbered o.sections n ≡ Some d.code) first (subst (λ (y : Placed). section_numbered y.object.sections d.number ≡ Some d.code) one.0 d_section) in
-      let both : Some d.code ≡ Some (stub_section machine) = sym numbered ∙ stub.code in
       let code_is : d.code ≡ stub_section machine = cc in
       let at = entry_found linked o place.bases (group_address Addresses o place.bases place.section place.only place.aligned.addresses) (slice_get o.entries 2) stub.entry in
       let entry_is : place.bases.addresses ≡ x.address + thunk_width machine * j = place.addresses ∙ ap (λ n. n + thunk_width machine * j) (ap (λ (y : Table). y.address) packed.1.1) in

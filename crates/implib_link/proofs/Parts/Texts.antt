@@ -46,13 +46,6 @@ pub contribution_one : (group : Group) (b : Bases) (flags : ℕ) (named : Option
     contribution_at group (address_after b flags named) bytes ≡ record { address = next_multiple (alignment flags) (base_of group b); bytes = bytes } ∷ []
 contribution_one group b flags named bytes is = grind (arith, same_base)
 
-pub end_one : (group : Group) (n : ℕ) (s : ObjectSection) (named : Option Group) → is_of group named ≡ true → end_with group n s named ≡ next_multiple (alignment s.flags) n + length s.bytes
-end_one group n s named is = grind arith
-
-pub address_one : (group : Group) (b : Bases) (flags : ℕ) (named : Option Group) (value : ℕ) → is_of group named ≡ true →
-    address_at (address_after b flags named) value ≡ Some (next_multiple (alignment flags) (base_of group b) + value)
-address_one group b flags named value is = grind (arith, same_base)
-
 -- what one_of gives
 pub one_is : (xs : List ObjectSection) (s : ObjectSection) → one_of xs ≡ Some s → (xs ≡ s ∷ []) × (fits_four s ≡ true)
 one_is xs s is = grind arith
@@ -101,7 +94,7 @@ module _ (machine : MachineType) (linked : List Placed) (p : Placed) (group : Gr
       let parts = contribution_located image (base_of group b) (record { address = a; bytes = bytes }) (filled_in (next b s) sections ++ behind) (at_least (alignment s.flags) (base_of group b))
       (subst (λ front. BytesAt image (base_of group b) (filled (base_of group b) ((front ++ filled_in (next b s) sections) ++ behind)))
       (contribution_one group b s.flags (group_named s.name) bytes here) located) in
-      (a, (λ value. address_one group b s.flags (group_named s.name) value here, subst (λ (y : ObjectSection). BytesAt image a (relocated machine linked p y.relocations y.bytes)) same parts.0))
+      (a, (λ value. (grind (arith, same_base)), subst (λ (y : ObjectSection). BytesAt image a (relocated machine linked p y.relocations y.bytes)) same parts.0))
   nth_placed image (s ∷ sections) b (suc k) x behind sized is own located =
       let bytes : List ℕ = relocated machine linked p s.relocations s.bytes in
       let others : List Contribution = filled_in (next b s) sections ++ behind in
@@ -112,7 +105,7 @@ module _ (machine : MachineType) (linked : List Placed) (p : Placed) (group : Gr
             let parts = contribution_located image (base_of group b) (record { address = a; bytes = bytes }) others (at_least (alignment s.flags) (base_of group b))
             (subst (λ front. BytesAt image (base_of group b) (filled (base_of group b) ((front ++ filled_in (next b s) sections) ++ behind)))
             (contribution_one group b s.flags (group_named s.name) bytes here) located) in
-            subst (λ n. BytesAt image n (filled n others)) (grind (arith, length-relocated, end_of_section, end_one)) parts.1
+            subst (λ n. BytesAt image n (filled n others)) (grind (arith, length-relocated, end_of_section)) parts.1
         | inr other ↦ grind (arith, contribution_none, same_end)
       ])
 
@@ -127,13 +120,13 @@ pub one_ends : (group : Group) (sections : List ObjectSection) (n : ℕ) (s : Ob
     sections_end group n sections ≡ n + length s.bytes
 unfolding sections_end
 one_ends group [] n s is fits even = cc
-one_ends group (x ∷ sections) n s is fits even = grind (arith, one_ends group sections n s, end_one, stays, none_ends, end_none)
+one_ends group (x ∷ sections) n s is fits even = grind (arith, one_ends group sections n s, stays, none_ends, end_none)
 
 pub one_address : (group : Group) (sections : List ObjectSection) (b : Bases) (s : ObjectSection) (k : ℕ) (x : ObjectSection) (value : ℕ) → sections_of group sections ≡ s ∷ [] → fits_four s ≡ true →
     base_of group b % 4 ≡ 0 → slice_get sections k ≡ Some x → is_of group (group_named x.name) ≡ true →
     option_and_then (λ (c : SectionAddress). address_at c value) (slice_get (section_addresses_of b sections) k) ≡ Some (base_of group b + value)
 one_address group [] b s k x value is fits even at own = cc
-one_address group (y ∷ sections) b s zero x value is fits even at own = grind (arith, address_one, stays)
+one_address group (y ∷ sections) b s zero x value is fits even at own = grind (arith, stays)
 one_address group (y ∷ sections) b s (suc k) x value is fits even at own =
     elim (cases_Bool (is_of group (group_named y.name))) [
       | inl here ↦ grind (arith, nowhere)

@@ -309,7 +309,6 @@ unfolding Among
 code_listed e is = rw is (inl refl)
 
 data_not_listed : (e : ExportView) → e.is_data ≡ true → Among e.name (archive_symbols e) → ⊥
-unfolding Among
 data_not_listed e is held = grind (arith, no_address, only_one)
 
 module _ (machine : MachineType) where

@@ -189,19 +189,6 @@ pub linked_are : (machine : MachineType) (libraries : List Library) (names : Lis
     all_members machine (flavor_inputs (map (in_flavor Gnu) libraries) names) ≡ all_linked machine (inputs_wanted libraries names)
 linked_are machine libraries names = ap (all_members machine) (exports_are libraries names) ∙ gnu_members machine (inputs_wanted libraries names)
 
--- some export of them is chosen exactly where some input is linked
-pub some_short : (libraries : List Library) (names : List (List ℕ)) → 0 < length (short_inputs libraries names) → (x : Library) × Among x libraries × AnyOf names (in_flavor Msvc x)
-some_short libraries names some = grind (arith, first_one (short_inputs libraries names) some, in_flavor Msvc, shorts_are libraries names, input_is, among_mapped)
-
-pub short_some : (libraries : List Library) (names : List (List ℕ)) (x : Library) → Among x libraries → AnyOf names (in_flavor Msvc x) → 0 < length (short_inputs libraries names)
-short_some libraries names x held any =
-    by (short_inputs libraries names) (subst (Among (input_in names (in_flavor Msvc x))) (shorts_are libraries names)
-    (input_held names (map (in_flavor Msvc) libraries) (in_flavor Msvc x) (among_map (in_flavor Msvc) x libraries held) any))
-  where
-    by : (inputs : List FlavorInput) → Among (input_in names (in_flavor Msvc x)) inputs → 0 < length inputs
-    by [] none = absurd (in_nothing (input_in names (in_flavor Msvc x)) none)
-    by (p ∷ inputs) some = omega arith
-
 -- What is linked of an archive of both flavours, where the libraries may be in another order: its symbols differ, since those do
 -- that the archive lists.
 
@@ -221,7 +208,6 @@ module _ (machine : MachineType) where
   one_more name names flavor l others = grind (arith, of_library machine flavor l, input_if flavor names l, library_fewer name names flavor l, times, few, times_both, symbols_of)
 
   inputs_fewer : (name : List ℕ) (libraries : List FlavorLibrary) (names : List (List ℕ)) → times name (of_inputs (flavor_inputs libraries names)) ≤ times name (of_libraries machine libraries)
-  unfolding times
   inputs_fewer name [] names = omega arith
   inputs_fewer name (l ∷ rest) names = grind (arith, inputs_fewer name rest names, times, of_library, one_more, of_libraries, times_both)
 
@@ -245,8 +231,7 @@ module _ (machine : MachineType) where
 
       few_linked : (name : List ℕ) → times name (null_of shorts ++ of_inputs (flavor_inputs arranged names)) ≤ 1
       few_linked name =
-          let most : times name (null_of shorts) + times name (of_libraries machine libraries) ≤ 1 = few machine libraries archive name in
-          grind (arith, of_libraries, times, times_moved, of_library, inputs_fewer, null_of, times_both)
+          grind (arith, few machine libraries archive name, of_libraries, times, times_moved, of_library, inputs_fewer, null_of, times_both)
 
       with_null_distinct : IsDistinct bytes_eq (null_of shorts ++ symbols_listed (all_members machine (flavor_inputs arranged names)))
       with_null_distinct = grind (arith, null_of shorts, inputs_symbols machine (flavor_inputs arranged names) both_made, distinct_from (null_of shorts ++ of_inputs (flavor_inputs arranged names)) few_linked)

@@ -42,9 +42,6 @@ member_same m n is =
     let second = and_parts (bytes_eq m.bytes n.bytes) (same_names m.symbols n.symbols) first.1 in
     rw ((bytes_eq-Decides m.name n.name).0 first.0, (bytes_eq-Decides m.bytes n.bytes).0 second.0, names_same m.symbols n.symbols second.1)
 
-own_member : (m : MemberView) → is_same m m ≡ true
-own_member m = rw (same_text m.name, same_text m.bytes, own_names m.symbols) refl
-
 -- Whether a member is taken.
 
 pub is_taken : List MemberView → MemberView → Bool
@@ -59,7 +56,7 @@ taken_among (t ∷ taken) m is = grind (arith, taken_among taken m, member_same)
 pub among_taken : (taken : List MemberView) (m : MemberView) → Among m taken → is_taken taken m ≡ true
 unfolding is_taken Among
 among_taken [] m held = absurd held
-among_taken (t ∷ taken) m (inl e) = rw (subst (λ y. is_same m y ≡ true) e (own_member m)) refl
+among_taken (t ∷ taken) m (inl e) = rw (subst (λ y. is_same m y ≡ true) e (rw (same_text m.name, same_text m.bytes, own_names m.symbols) refl)) refl
 among_taken (t ∷ taken) m (inr held) = grind (arith, among_taken taken m held)
 
 -- How many of an archive's members are not taken.
@@ -76,7 +73,7 @@ not_more (m ∷ archive) taken t = grind (arith, not_more archive taken t)
 pub fewer : (archive taken : List MemberView) (t : MemberView) → Among t archive → is_taken taken t ≡ false → not_taken archive (t ∷ taken) < not_taken archive taken
 unfolding not_taken is_taken Among
 fewer [] taken t held new = absurd held
-fewer (m ∷ archive) taken t (inl e) new = grind (arith, not_taken, not_more, own_member, is_taken)
+fewer (m ∷ archive) taken t (inl e) new = grind (arith, not_taken, not_more, same_text, own_names, is_taken)
 fewer (m ∷ archive) taken t (inr held) new = grind (arith, fewer archive taken t held new)
 
 -- whether a name finds a member that is not taken

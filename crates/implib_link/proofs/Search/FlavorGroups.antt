@@ -36,39 +36,29 @@ use Rattle.implib_link.specs.Flavors.Program.{IsFoundByName, has_tables}
 
 -- Symbols that differ by their first bytes.
 
-no_underscore : (byte : ℕ) → byte ≡ underscore → not (byte == underscore) ≡ true → ⊥
-no_underscore byte is plain = true≢false (sym plain ∙ subst (λ n. not (n == underscore) ≡ false) (sym is) refl)
-
 first_byte : (x y : ℕ) (xs ys : List ℕ) → x ∷ xs ≡ y ∷ ys → x ≡ y
 first_byte x y xs ys same = cc
 
 later_bytes : (x y : ℕ) (xs ys : List ℕ) → x ∷ xs ≡ y ∷ ys → xs ≡ ys
 later_bytes x y xs ys same = cc
 
--- a text that begins so is none that begins with an underscore
-plain_apart : (text more rest : List ℕ) → begins_plain text ≡ true → text ++ more ≡ underscore ∷ rest → ⊥
-plain_apart text more rest plain same = grind (arith, true≢false, no_underscore, first_byte)
-
 two_numbers : (x y n m : ℕ) → x ≡ y → x ≡ n → y ≡ m → n + 1 ≤ m ⊎ m + 1 ≤ n → ⊥
 two_numbers x y n m same is other h7 = grind arith
-
-h_is_no_underscore : (xs ys : List ℕ) → 0x68 ∷ xs ≡ 0x5F ∷ ys → ⊥
-h_is_no_underscore xs ys same = two_numbers 0x68 0x5F 0x68 0x5F (first_byte 0x68 0x5F xs ys same) refl refl (inr (omega arith))
 
 h_is_no_i : (xs ys : List ℕ) → 0x68 ∷ xs ≡ 0x69 ∷ ys → ⊥
 h_is_no_i xs ys same = two_numbers 0x68 0x69 0x68 0x69 (first_byte 0x68 0x69 xs ys same) refl refl (inl (omega arith))
 
 tail_no_head : (machine : MachineType) (dll other : List ℕ) → begins_plain (mangled_name dll) ≡ true → iname_symbol machine dll ≡ head_symbol machine other → ⊥
 unfolding iname_symbol head_symbol
-tail_no_head machine dll other plain same = grind (arith, same, plain_apart, codes, append_cancel_left)
+tail_no_head machine dll other plain same = grind (arith, same, codes, append_cancel_left)
 
 tail_no_imp : (machine : MachineType) (dll name : List ℕ) → begins_plain (mangled_name dll) ≡ true → iname_symbol machine dll ≡ imp_symbol name → ⊥
 unfolding iname_symbol
-tail_no_imp machine dll name plain same = grind (arith, plain_apart, later_bytes)
+tail_no_imp machine dll name plain same = grind (arith, later_bytes)
 
 head_no_imp : (machine : MachineType) (dll name : List ℕ) → head_symbol machine dll ≡ imp_symbol name → ⊥
 unfolding head_symbol
-head_no_imp machine dll name same = grind (arith, h_is_no_i, later_bytes, h_is_no_underscore)
+head_no_imp machine dll name same = grind (arith, h_is_no_i, later_bytes)
 
 -- Texts that differ where others do.
 
@@ -99,8 +89,7 @@ exports_count : (name : List ℕ) (es : List ExportView) →
     times name (flat_map symbols_of_export es) ≤ times name (map (λ (e : ExportView). e.name) es) + times name (map imp_symbol (map (λ (e : ExportView). e.name) es))
 unfolding times
 exports_count name [] = omega arith
-exports_count name (e ∷ es) =
-    grind (arith, exports_count name es, times, times_both, cases_Bool)
+exports_count name (e ∷ es) = grind (arith, times, times_both, cases_Bool, exports_count name es)
 
 module _ (machine : MachineType) where
   library_count : (name : List ℕ) (libraries : List Library) →
@@ -112,8 +101,6 @@ module _ (machine : MachineType) where
       let behind = library_count name libraries in
       let turned : times name (flat_map symbols_of_export (reverse (exports_of l))) ≡ times name (flat_map symbols_of_export (exports_of l)) = grind (arith, times_moved symbols_of_export name (exports_of l) (reverse (exports_of l)) (IsPermutation-reverse (exports_of l))) in
       let few = exports_count name (exports_of l) in
-      let split : times name (flat_map symbols_of_export (reverse (exports_of l)) ++ flat_map (symbols_of_library machine) libraries)
-      ≡ times name (flat_map symbols_of_export (reverse (exports_of l))) + times name (flat_map (symbols_of_library machine) libraries) = grind (arith, times_both) in
       grind (arith, times, times_both, map-append)
 
   module _ (libraries : List Library) (apart : AreNamedApart machine libraries) where
@@ -207,12 +194,6 @@ shorts_archive machine libraries archive = grind (arith, no_gnu, shorts_alone, f
 
 -- A library of a flavour is among all.
 
-gnu_is : (flavor : Flavor) (l x : Library) → if_gnu flavor l ≡ Some x → in_flavor Gnu x ≡ in_flavor flavor l
-gnu_is flavor l x is = grind (arith, in_flavor)
-
-msvc_is : (flavor : Flavor) (l x : Library) → if_msvc flavor l ≡ Some x → in_flavor Msvc x ≡ in_flavor flavor l
-msvc_is flavor l x is = grind (arith, in_flavor)
-
 module _ (libraries : List FlavorLibrary) where
   pub gnu_there : (l : Library) → Among (in_flavor Gnu l) libraries → Among l (gnu_among libraries)
   gnu_there l held = kept_into (λ (x : FlavorLibrary). if_gnu x.flavor x.library) libraries l (in_flavor Gnu l) held refl
@@ -221,10 +202,10 @@ module _ (libraries : List FlavorLibrary) where
   msvc_there l held = kept_into (λ (x : FlavorLibrary). if_msvc x.flavor x.library) libraries l (in_flavor Msvc l) held refl
 
   pub there_gnu : (l : Library) → Among l (gnu_among libraries) → Among (in_flavor Gnu l) libraries
-  there_gnu l held = grind (arith, held, kept_from, gnu_is)
+  there_gnu l held = grind (arith, held, kept_from)
 
   pub there_msvc : (l : Library) → Among l (msvc_among libraries) → Among (in_flavor Msvc l) libraries
-  there_msvc l held = grind (arith, held, kept_from, msvc_is)
+  there_msvc l held = grind (arith, held, kept_from)
 
   pub first_held : (l : Library) (rest : List Library) → msvc_among libraries ≡ l ∷ rest → Among l (msvc_among libraries)
   first_held l rest is = subst (Among l) (sym is) (among_first l rest)
@@ -381,20 +362,13 @@ module _ (machine : MachineType) where
             | inl nothing ↦ first_behind name y.members (archive_of_both libraries) nothing ∙ later first
             | inr some ↦ absurd (none (listed_in_library name y some.0 own some.1))
           ]
-      by Msvc y own none first later =
-          cc (members_are machine y own, null_found name y ((thunk_of machine y ∷ members_of_groups (map (short_group machine y) (exports_of y))) ++ archive_of_both libraries) named none)
-
-  sums_first : (name : List ℕ) (flavor : Flavor) (l : Library) (rest : List FlavorLibrary) →
-      times name (of_libraries rest) ≡ times name (flat_map (symbols_of_library machine) (gnu_among rest)) + times name (flat_map symbols_of_shorts (msvc_among rest)) →
-      times name (of_library flavor l) + times name (of_libraries rest)
-      ≡ times name (flat_map (symbols_of_library machine) (cons_option (if_gnu flavor l) (gnu_among rest))) + times name (flat_map symbols_of_shorts (cons_option (if_msvc flavor l) (msvc_among rest)))
-  sums_first name flavor l rest later = grind (arith, times_both)
+      by Msvc y own none first later = cc (members_are machine y own, null_found name y ((thunk_of machine y ∷ members_of_groups (map (short_group machine y) (exports_of y))) ++ archive_of_both libraries) named none)
 
   sums : (name : List ℕ) (libraries : List FlavorLibrary) →
       times name (of_libraries libraries) ≡ times name (flat_map (symbols_of_library machine) (gnu_among libraries)) + times name (flat_map symbols_of_shorts (msvc_among libraries))
   unfolding times
   sums name [] = refl
-  sums name (l ∷ rest) = times_both name (of_library l.flavor l.library) (of_libraries rest) ∙ sums_first name l.flavor l.library rest (sums name rest)
+  sums name (l ∷ rest) = times_both name (of_library l.flavor l.library) (of_libraries rest) ∙ (grind (arith, times_both, sums name rest))
 
 module _ (machine : MachineType) (libraries : List FlavorLibrary) (archive : IsFlavorArchive machine libraries) where
   abbrev shorts : List Library
@@ -412,12 +386,11 @@ module _ (machine : MachineType) (libraries : List FlavorLibrary) (archive : IsF
   pub few : (name : List ℕ) → times name (null_of shorts) + times name (of_libraries machine libraries) ≤ 1
   few name =
       let gnu : List (List ℕ) = flat_map (symbols_of_library machine) (gnu_among libraries) in
-      let split : times name (symbols_of_all_shorts (msvc_among libraries)) ≡ times name (null_of shorts) + times name (flat_map symbols_of_shorts (msvc_among libraries)) = with_null name shorts in
       let gnu_once : times name gnu ≤ 1 = few_from gnu archive.gnu.distinct name in
       let short_once : times name (symbols_of_all_shorts (msvc_among libraries)) ≤ 1 = few_from (symbols_of_all_shorts shorts) (shorts_differ shorts archive.msvc.distinct) name in
       elim (cases_Bool (list_any (bytes_eq name) gnu)) [
-        | inl there ↦ grind (arith, sums machine name libraries, times name (symbols_of_all_shorts (msvc_among libraries)), any_among name gnu there, none_times, all_among)
-        | inr none_there ↦ (let none : times name gnu ≡ 0 = none_times name gnu none_there in omega (arith, sums machine name libraries))
+        | inl there ↦ grind (arith, with_null name shorts, sums machine name libraries, times name (symbols_of_all_shorts (msvc_among libraries)), any_among name gnu there, none_times, all_among)
+        | inr none_there ↦ (let none : times name gnu ≡ 0 = none_times name gnu none_there in omega (arith, with_null name shorts, sums machine name libraries))
       ]
 
   symbols_differ : IsDistinct bytes_eq (null_of (msvc_among libraries) ++ of_libraries machine libraries)
@@ -525,9 +498,6 @@ module _ (machine : MachineType) (libraries : List FlavorLibrary) (archive : IsF
   one : (name own : List ℕ) → name ≡ own → Among name (own ∷ [])
   one name own is = subst (λ n. Among n (own ∷ [])) (sym is) (among_first own [])
 
-  of_end : (flavor : Flavor) (l : Library) (r : Role) → IsEnd machine r → IsRole libraries (in_flavor flavor l) r
-  of_end flavor l r end = grind arith
-
   as_one : (name own : List ℕ) (m : MemberView) → Among name (own ∷ []) → first_listed (archive_of_both libraries) own ≡ Some m → first_listed (archive_of_both libraries) name ≡ Some m
   as_one name own m held is = ap (first_listed (archive_of_both libraries)) (only_one name own held) ∙ is
 
@@ -551,7 +521,7 @@ module _ (machine : MachineType) (libraries : List FlavorLibrary) (archive : IsF
       of_group flavor l g held (OfRole r end at) first =
           let there = listed_is (member machine flavor l r ∷ []) name m (subst (λ (y : Group). first_listed y.members name ≡ Some m) at first) in
           let same : m ≡ member machine flavor l r = only_one m (member machine flavor l r) there.0 in
-          find name m flavor l r held (of_end flavor l r end) same (subst (Among name) (listed_as machine flavor l r) (subst (λ (y : MemberView). Among name y.symbols) same there.1))
+          find name m flavor l r held (grind arith) same (subst (Among name) (listed_as machine flavor l r) (subst (λ (y : MemberView). Among name y.symbols) same there.1))
       of_group Gnu l g held (OfExport n e at own) first = of_gnu l n e held at (in_gnu machine l n e name m (subst (λ (y : Group). first_listed y.members name ≡ Some m) own first))
       of_group Msvc l g held (OfExport n e at own) first = of_short l n e held at (in_short machine l e name m (subst (λ (y : Group). first_listed y.members name ≡ Some m) own first))
 
@@ -590,9 +560,6 @@ module _ (machine : MachineType) (libraries : List FlavorLibrary) (archive : IsF
 
     pub left_by_role : (o : Object) (name : List ℕ) → reads m.bytes ≡ Some o → Among name (undefined_in o) → Among name (left machine x.library.flavor x.library.library x.role)
     left_by_role o name read held = grind (arith, held, names_read, left, left_as_role, by_name)
-
-    pub tables_by_role : (o : Object) → reads m.bytes ≡ Some o → has_tables o ≡ not (is_weak_role x.role)
-    tables_by_role o read = grind (arith, tables_read, is_weak_role, tables_as)
 
     pub first_by_role : IsFirstAs reads (archive_of_both libraries) m
     first_by_role =

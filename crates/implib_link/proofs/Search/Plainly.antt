@@ -172,16 +172,13 @@ module _ (reads : List ℕ → Option Object) where
 
 -- The laws.
 
-of_taken : (reads : List ℕ → Option Object) (archive taken : List MemberView) → WeakAreFirst reads archive taken → AreFirst reads archive taken
-of_taken reads archive taken first x o name held read among = first x o name (among_contains x taken held) read (among_contains name (weak_names o) among)
-
 pub plain : (reads : List ℕ → Option Object) (archive : List MemberView) (own : List Object) (taken : List MemberView) → WeakAreFirst reads archive taken → HaveNoWeak own →
     TakesIntoAs reads archive own taken → TakesPlainly reads archive own taken
-plain reads archive own taken first none = plain_takes reads own none archive taken (of_taken reads archive taken first)
+plain reads archive own taken first none = plain_takes reads own none archive taken (λ x o name held read among. first x o name (among_contains x taken held) read (among_contains name (weak_names o) among))
 
 pub weak : (reads : List ℕ → Option Object) (archive : List MemberView) (own : List Object) (taken : List MemberView) → WeakAreFirst reads archive taken → HaveNoWeak own →
     TakesPlainly reads archive own taken → TakesIntoAs reads archive own taken
-weak reads archive own taken first none = weak_takes reads own none archive taken (of_taken reads archive taken first)
+weak reads archive own taken first none = weak_takes reads own none archive taken (λ x o name held read among. first x o name (among_contains x taken held) read (among_contains name (weak_names o) among))
 
 module _ (machine : MachineType) (libraries : List FlavorLibrary) (archive : IsFlavorArchive machine libraries) where
   -- what is taken of libraries: each claims what it is listed for, and is the first

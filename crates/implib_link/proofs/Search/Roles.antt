@@ -211,7 +211,6 @@ module _ (machine : MachineType) (l : Library) (made : IsLibrary machine l) wher
   plain_as libraries r is = grind (arith, head_object_is, tail_object_is, export_object_is, weak_object_is, weak_plain)
 
   gnu_taken : (libraries : List FlavorLibrary) (r : Role) → IsRole libraries (in_flavor Gnu l) r → expanded_in machine (member machine Gnu l r).bytes ≡ Some (object machine Gnu l r)
-  unfolding head_spec tail_spec export_spec
   gnu_taken libraries Top is = head_taken l.definition machine l.members made
   gnu_taken libraries Last is = tail_taken l.definition machine l.members made
   gnu_taken libraries Null is = absurd is

@@ -269,15 +269,11 @@ module _ (machine : MachineType) (libraries : List FlavorLibrary) (archive : IsF
               among_contains m (filter (λ y. not (weak y)) taken) (passes (λ y. not (weak y)) m taken other.0 (not_from_false (weak m) other.1)),
         )
 
-        weak_in_role : (m : MemberView) (flavor : Flavor) (l : Library) (r : Role) → Among (in_flavor flavor l) libraries → IsRole libraries (in_flavor flavor l) r → Why all_wanted (in_flavor flavor l) r →
-            m ≡ member machine flavor l r → is_weak_role r ≡ true → IsWeakOfLibraries libraries all_wanted m
-        weak_in_role m flavor l r held is why same one = grind (arith, gnu_there, among_at, among_contains, msvc_there, weak_symbol, true≢false)
-
         pub weak_are : AllByRecursion (IsWeakOfLibraries libraries all_wanted) (filter weak taken)
         weak_are = all_each (IsWeakOfLibraries libraries all_wanted) (filter weak taken) (λ m held.
             let kept = passing weak m taken held in
             let x = needed_all m kept.0 in
-            weak_in_role m x.has.library.flavor x.has.library.library x.has.role x.has.held x.has.is x.why x.has.same (sym (weak_by_role machine libraries archive reads weak reader m x.has) ∙ kept.1))
+            (grind (arith, gnu_there, among_at, among_contains, msvc_there, weak_symbol, true≢false, x.has.is, x.has.same, sym (weak_by_role machine libraries archive reads weak reader m x.has) ∙ kept.1)))
 
 -- of an archive of both flavours
 pub both_taken : (machine : MachineType) (libraries : List FlavorLibrary) → IsFlavorArchive machine libraries → (wanted : List (List ℕ)) (taken : List MemberView) →

@@ -40,10 +40,6 @@ module _ (machine : MachineType) (first second : List Placed) (same : (name : Li
   contributions_same group [] = refl
   contributions_same group (p ∷ objects) = grind (arith, contributions_same group objects, in_same)
 
-flat_same : (f g : Group → List Range) → ((group : Group) → f group ≡ g group) → (gs : List Group) → flat_map f gs ≡ flat_map g gs
-flat_same f g same [] = refl
-flat_same f g same (group ∷ gs) = ap (λ own. own ++ flat_map f gs) (same group) ∙ ap (λ others. g group ++ others) (flat_same f g same gs)
-
 module _ (names : List (List ℕ)) (machine : MachineType) (bases : Bases) (objects : List Object) where
   abbrev with_list : List Placed
   with_list = placed_from bases (wanting names ∷ objects)
@@ -52,10 +48,7 @@ module _ (names : List (List ℕ)) (machine : MachineType) (bases : Bases) (obje
   definitions_same name = rw (none_defined names) refl
 
   pub image_same : image_of machine bases with_list ≡ image_of machine bases (placed_from bases objects)
-  image_same = grind (arith, flat_same, contributions_same, definitions_same)
-
-  admissible_same : (xs ys : List Object) → image_of machine bases (placed_from bases xs) ≡ image_of machine bases (placed_from bases ys) → IsAdmissible machine bases xs → IsAdmissible machine bases ys
-  admissible_same xs ys same a = grind arith
+  image_same = grind (arith, contributions_same, definitions_same)
 
   claims_nothing : (texts : List (List ℕ)) → ClaimsNone texts (wanting names)
   claims_nothing [] = tt
@@ -66,8 +59,8 @@ module _ (names : List (List ℕ)) (machine : MachineType) (bases : Bases) (obje
 
   pub program_without : (ending : Ending) (inputs : List FlavorInput) → IsProgramOf machine ending bases inputs (wanting names ∷ objects) → IsProgramOf machine ending bases inputs objects
   unfolding has_tables group_end sections_end
-  program_without ending inputs program = grind (arith, ended_same, admissible_same, image_same)
+  program_without ending inputs program = grind (arith, ended_same, image_same)
 
   pub program_with : (ending : Ending) (inputs : List FlavorInput) → IsProgramOf machine ending bases inputs objects → IsProgramOf machine ending bases inputs (wanting names ∷ objects)
   unfolding has_tables group_end sections_end
-  program_with ending inputs program = grind (arith, ended_same, claims_nothing, admissible_same, image_same)
+  program_with ending inputs program = grind (arith, ended_same, claims_nothing, image_same)
