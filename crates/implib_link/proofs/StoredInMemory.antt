@@ -1,5 +1,5 @@
 -- Fields for the address of a name hold it, in memory at any base.
-use Rattle.std.proofs.Common.{◌≡◌, ℕ, ◌+◌, ◌*◌, ◌%◌, ◌^◌, ◌<◌, ◌≤◌, List, ◌++◌, [], ◌∷◌, length, None, Some, refl, sym, subst, arith}
+use Rattle.std.proofs.Common.{◌≡◌, ℕ, ◌+◌, ◌*◌, ◌^◌, ◌<◌, ◌≤◌, List, ◌++◌, [], ◌∷◌, length, None, Some, refl, sym, subst, arith}
 use Rattle.std.specs.List.{AllByRecursion, Contains}
 use Rattle.implib.specs.declared.machine.MachineType.{MachineType}
 use Rattle.implib.specs.declared.machine.MachineType.TheVariants.{I386, ARMNT, AMD64, ARM64}
@@ -12,7 +12,7 @@ use Rattle.implib.specs.Link.Resolution.{definitions_of}
 use Rattle.implib.specs.Members.ImportTables.{thunk_width}
 use Rattle.implib.proofs.Link.LinkedMembers.{among_contains}
 use Rattle.implib.proofs.Link.Ranges.{Among, all_among}
-use Rattle.implib_link.specs.Gnu.Fields.{field_width, DefinesIn, FieldHolds, LinkedCode, MeetsAlone, field_at, HasPageField, HasPointer, IsPointer, Names, absolute_width, StubAt, placed_code, StubArrives}
+use Rattle.implib_link.specs.Gnu.Fields.{field_width, DefinesIn, LinkedCode, MeetsAlone, field_at, HasPageField, HasPointer, Names, absolute_width, StubAt, placed_code, StubArrives}
 use Rattle.implib_link.specs.Gnu.Stored.{HasAddField, HasRelative, HoldAddress, HoldsFurther, IsImageRelative, SumArrives, arm64_pageoffset_12a, AreStoredInMemory, PointsTo}
 use Rattle.implib_link.proofs.Gnu.FieldsInMemory.{Settles, StoredRests, field_there, linked_there, own_end, settled_in_tables, stored_in_memory, stored_rests}
 use Rattle.implib_link.proofs.Gnu.Loaded.{Covers}

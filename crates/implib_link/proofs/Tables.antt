@@ -30,7 +30,7 @@ use Rattle.implib_link.specs.Flavors.Program.{Ending, FlavorInput, SymbolsAt, im
 use Rattle.implib.specs.Formats.ShortImport.{ShortImport, ask_of_short_import}
 use Rattle.implib.proofs.Link.LinkedBlocks.{ends, starts}
 use Rattle.implib_link.specs.Flavors.LldImports.{IsLldProgram, dll_of_group, grouped, imported_by, imports_of_lld, placed_by_lld, ArePiecesAt, IsImportable, thunks_until, BranchArrivesByThunk, IsThunk, ThunkArrives}
-use Rattle.implib_link.specs.Gnu.Fields.{table_places, table_places_in, StubArrives, CanBranch, DirectCallArrives, HasDirectCall, StubAt, AreLinkedBeside, DefinesIn, LinkedCode, placed_code, field_at, ranges_of_codes, AllLead, AllLeadTo, AreKept, BranchArrives, HasBranch, BranchStays, Names}
+use Rattle.implib_link.specs.Gnu.Fields.{StubArrives, CanBranch, DirectCallArrives, HasDirectCall, StubAt, AreLinkedBeside, DefinesIn, LinkedCode, placed_code, field_at, ranges_of_codes, AllLead, AllLeadTo, AreKept, BranchArrives, HasBranch, BranchStays, Names}
 use Rattle.implib_link.specs.Stub.{CanJump}
 use Rattle.implib_link.proofs.Flavors.LldImports.{all_define, defined_once, get_map, lld_links, nth_stands, only, stand, pieces_directory, pieces_stand}
 use Rattle.implib_link.proofs.Flavors.Program.{program_links}

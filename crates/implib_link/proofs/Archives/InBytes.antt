@@ -1,6 +1,6 @@
 -- A search in the bytes of an archive is a search of its members.
 use Rattle.std.proofs.lemmas.Grind.{common_steps}
-use Rattle.std.proofs.Common.{◌≡◌, ℕ, suc, ◌+◌, ◌%◌, ◌≤◌, Bool, true, false, inl, inr, List, [], ◌∷◌, ◌++◌, Option, Some, None, if◌then◌else◌, is_some, length, map, option_and_then, refl, sym, ap, subst, ◌∙◌, arith, ◌<◌, get_or, nat_lt, unwrap_or, codes, append_assoc, append-nil, length-append}
+use Rattle.std.proofs.Common.{◌≡◌, ℕ, suc, ◌+◌, ◌%◌, ◌≤◌, Bool, true, false, inl, inr, List, [], ◌∷◌, ◌++◌, Option, Some, None, if◌then◌else◌, is_some, length, map, option_and_then, refl, sym, ap, subst, ◌∙◌, arith, ◌<◌, nat_lt, unwrap_or, codes, append_assoc, append-nil, length-append}
 use Rattle.std.specs.Prelude.{slice_get, ◌==◌, ◌||◌, ◌⊎◌, bytes_eq, fold}
 use Rattle.std.specs.List.{Contains, cons_option, filter_map, AllByRecursion, IsDistinct, flat_map, list_any}
 use Rattle.std.specs.Option.{option_map}
@@ -12,7 +12,7 @@ use Rattle.implib.proofs.Link.Ranges.{Among}
 use Rattle.implib_archive.specs.Archive.{archive_of, entries_from, entries_of, first_linker, is_listed, place_of, places_of, with_first}
 use Rattle.implib_archive.specs.Leads.{first_lister, header_for, headers_among, headers_in, lists, with_header}
 use Rattle.implib_archive.specs.ReadBack.{read_view, padded, parts_of, stored, stored_linkers}
-use Rattle.implib_archive.specs.Reader.{Linker, LongAt, LongNames, Name, Short, Stored, Unknown, member_at, name_in, Read, first_in}
+use Rattle.implib_archive.specs.Reader.{Name, Stored, member_at, Read, first_in}
 use Rattle.implib_archive.specs.declared.kind.Kind.{Kind}
 use Rattle.implib_archive.specs.declared.kind.Kind.TheVariants.{Coff, Gnu}
 use Rattle.implib_archive.proofs.Leading.{each_index_leads, each_second_leads, entries_texts, headers_found, near_at, short_places}

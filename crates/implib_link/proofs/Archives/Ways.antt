@@ -2,7 +2,7 @@
 use Rattle.std.proofs.Common.{rules, arith, ◌+◌, ◌*◌, Bool, List, ℕ, map, ◌∙◌, ◌≡◌, true, false, [], ◌∷◌, ◌++◌, Option, None, Some, refl, ap, sym, subst, inl, inr}
 use Rattle.std.specs.List.{AllByRecursion, Contains, IsDistinct, cons_option, filter, filter_map, flat_map, list_any}
 use Rattle.implib.specs.declared.machine.MachineType.{MachineType}
-use Rattle.implib.specs.Formats.Object.{Object, object_in}
+use Rattle.implib.specs.Formats.Object.{Object}
 use Rattle.implib.specs.Link.Placement.{Bases, Placed}
 use Rattle.implib.specs.Members.ImportTables.{thunk_width}
 use Rattle.implib.specs.Members.MemberSpec.{MemberView, MemberSpec, member_of}
@@ -22,15 +22,15 @@ use Rattle.implib_link.proofs.Search.Taken.{both_given_closes}
 use Rattle.implib_link.proofs.Tables.{tables_read, leads_beside, tables_load_in_memory, can_read, program_count, program_entry, program_tables, lld_tables}
 use Rattle.implib_link.specs.Tables.{AreTables, Tables, block_of_flavor, tables_at, tables_of_lld}
 use Rattle.implib_link.specs.Flavors.Expansion.{expanded_in, is_import_for}
-use Rattle.implib.specs.Import.{imp_symbol, Ask, Name, Ordinal}
+use Rattle.implib.specs.Import.{imp_symbol, Ask}
 use Rattle.std.specs.Prelude.{bytes_eq, if◌then◌else◌}
-use Rattle.std.specs.Option.{option_and_then, option_map}
+use Rattle.std.specs.Option.{option_and_then}
 use Rattle.std.proofs.lemmas.Bool.{cases_Bool, false_from_ne_true, true≢false}
 use Rattle.implib.specs.declared.flavor.Flavor.{Flavor}
 use Rattle.implib.specs.declared.flavor.Flavor.TheVariants.{Gnu, Msvc}
 use Rattle.implib.specs.Definition.{ExportView}
 use Rattle.std.proofs.lemmas.Slice.Eq.{bytes_eq-Decides}
-use Rattle.implib.specs.Formats.File.{ObjectFile, ShortImportFile, short_import_or_object}
+use Rattle.implib.specs.Formats.File.{ObjectFile}
 use Rattle.implib.specs.Formats.ShortImport.{ShortImport, ask_of_short_import, short_import_in}
 use Rattle.implib.specs.Link.Image.{Range}
 use Rattle.implib.specs.LibraryName.{NamesOfDll, linked_dll, names_for}

@@ -1,5 +1,5 @@
 -- Where the descriptors and the address tables of blocks are, and the null descriptor after them.
-use Rattle.std.proofs.Common.{◌≡◌, ℕ, suc, ◌+◌, ◌*◌, ◌-◌, List, [], ◌∷◌, ◌++◌, length, map, refl, ap, sym, ◌∙◌, subst, arith, false, Some, inl, inr, ◌%◌, ◌<◌, ◌^◌, Bool, true, None, if◌then◌else◌, zero}
+use Rattle.std.proofs.Common.{◌≡◌, ℕ, suc, ◌+◌, ◌*◌, ◌-◌, List, [], ◌∷◌, ◌++◌, length, map, refl, ap, sym, ◌∙◌, subst, arith, false, Some, inl, inr, ◌<◌, ◌^◌, None, if◌then◌else◌, zero}
 use Rattle.std.proofs.Math.Nat.{mul-add}
 use Rattle.std.proofs.lemmas.List.{append_assoc, map-append}
 use Rattle.implib.specs.declared.machine.MachineType.{MachineType}

@@ -1,5 +1,5 @@
 -- The names that the members of both flavours claim: those that they are listed for.
-use Rattle.std.proofs.Common.{◌≡◌, ℕ, Bool, true, false, List, [], ◌∷◌, ◌++◌, map, refl, ap, sym, ◌∙◌, subst, inl, inr, if◌then◌else◌, ◌<◌, ◌^◌, Option, Some, None, ◌+◌, arith}
+use Rattle.std.proofs.Common.{◌≡◌, ℕ, Bool, true, false, List, [], ◌∷◌, ◌++◌, map, refl, ap, sym, ◌∙◌, subst, inl, inr, if◌then◌else◌, ◌<◌, ◌^◌, Option, Some, arith}
 use Rattle.std.specs.List.{flat_map, AllByRecursion, Contains, cons_option, filter_map}
 use Rattle.std.proofs.lemmas.Grind.{flat_map-append}
 use Rattle.std.proofs.lemmas.List.{append_assoc, append-nil, map_push}
@@ -17,7 +17,7 @@ use Rattle.implib.proofs.Link.LinkedMembers.{among_contains, among_map, exports_
 use Rattle.implib.proofs.Link.Placement.{export, tail, head}
 use Rattle.implib.proofs.Link.Ranges.{Among, among_back, among_front, all_among, among_first, among_flat, among_later}
 use Rattle.implib_link.specs.Flavors.Expansion.{Code, Constant, Data, import_object, expansion, expanded_as, expanded_in, use_of, with_section_symbols}
-use Rattle.implib_link.specs.Flavors.Program.{Ending, OfLinker, OfMember, ask_in, claimed_names, HaveSame, FlavorInput, IsFoundByName, IsMadeFor, IsTaken, all_members, exports_chosen, members_linked, null_member, objects_taken, specs_in, symbols_listed, dll_names_in}
+use Rattle.implib_link.specs.Flavors.Program.{Ending, OfLinker, OfMember, claimed_names, HaveSame, FlavorInput, IsFoundByName, IsMadeFor, IsTaken, all_members, exports_chosen, members_linked, null_member, objects_taken, specs_in, symbols_listed, dll_names_in}
 use Rattle.implib_link.proofs.Flavors.Block.{claimed_after, claimed_head, behind_descriptor, objects_of, symbols_of, FitsIn, asking, FlavorBlock, all_objects, rest_of, AllSuit, CanLink}
 use Rattle.implib_link.proofs.Search.Lists.{among_either, contains_among, all_from}
 use Rattle.implib_link.proofs.Flavors.Expanded.{taken_descriptor, taken_null, taken_null_thunk, AskFits}
@@ -26,9 +26,8 @@ use Rattle.std.specs.Prelude.{◌==◌, slice_get, suc, take, zero}
 use Rattle.std.specs.Option.{option_and_then, option_map}
 use Rattle.std.proofs.lemmas.Bool.{cases_Bool, le-leb, ltb-true}
 use Rattle.std.proofs.lemmas.List.Elements.{filter_map-append}
-use Rattle.implib.specs.declared.machine.MachineType.TheVariants.{I386, ARMNT, AMD64, ARM64}
 use Rattle.implib.specs.Ascii.{holds}
-use Rattle.implib.specs.Formats.File.{File, ObjectFile, file_in, short_import_or_object}
+use Rattle.implib.specs.Formats.File.{File, ObjectFile, file_in}
 use Rattle.implib.specs.Members.GnuMembers.{export_spec, gnu_specs, head_spec, tail_spec, alias_specs, numbered_specs, numbered_specs_of}
 use Rattle.implib.specs.Link.LinkedMembers.{chosen_exports, numbered_spec, objects_in}
 use Rattle.implib.specs.Machine.{machine_number}
@@ -37,7 +36,7 @@ use Rattle.implib.specs.Members.Members.{AreMembersOf, member_specs}
 use Rattle.implib.specs.Members.MsvcMembers.{descriptor_spec, export_specs, header_specs, null_descriptor_spec, null_thunk_spec, short_import_spec}
 use Rattle.implib.specs.Members.ReadBack.{file_of}
 use Rattle.implib.specs.Renaming.{renamed}
-use Rattle.implib.specs.Formats.ShortImport.{ShortImport, ask_of_short_import, asked_by_name_type, import_code, import_const, import_data, without_prefix}
+use Rattle.implib.specs.Formats.ShortImport.{import_code, import_const, import_data, without_prefix}
 use Rattle.implib.proofs.Members.GnuReadings.{member_specs_read}
 use Rattle.implib.proofs.Members.Import.{name_type_is_ordinal, name_type_of_fits, symbol_without_nul}
 use Rattle.implib.proofs.Members.MemberReadings.{ReadsBack, map_after, member_specs_read_back}

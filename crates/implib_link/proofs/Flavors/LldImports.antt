@@ -1,7 +1,7 @@
 -- Grouping and sorting lose nothing, double nothing, and put nothing with another DLL.
 use Rattle.std.proofs.Common.{◌≡◌, ℕ, suc, ◌+◌, List, [], ◌∷◌, ◌++◌, Some, refl, ap, sym, ◌∙◌, subst, inl, inr, arith, true, ◌*◌, ◌-◌, ◌%◌, ◌^◌, ◌<◌, ◌≤◌, length, zero, map}
 use Rattle.std.specs.Prelude.{◌⊎◌, slice_get, bytes_eq}
-use Rattle.std.specs.List.{AllByRecursion, flat_map, Contains, IsDistinct, filter, filter_map}
+use Rattle.std.specs.List.{AllByRecursion, flat_map, Contains, filter, filter_map}
 use Rattle.std.proofs.lemmas.Bool.{cases_Bool}
 use Rattle.std.proofs.lemmas.Slice.Eq.{bytes_eq-Decides}
 use Rattle.implib.specs.Formats.ShortImport.{ShortImport, ask_of_short_import}
@@ -25,7 +25,6 @@ use Rattle.implib_link.proofs.Gnu.Stubs.{wide_thunk as some_bytes}
 use Rattle.implib_link.proofs.Gnu.Filling.{zero_table, table_with, bounds_of}
 use Rattle.implib_link.proofs.Gnu.Loaded.{by_width, times_none as nothing_before, plus_none}
 use Rattle.std.proofs.lemmas.List.Elements.{filter_map-append}
-use Rattle.implib.specs.Formats.Layout.{HasNoNul}
 use Rattle.implib.specs.Link.Placement.{Addresses, At, Placed}
 use Rattle.implib.specs.Link.Resolution.{SymbolDefinition, defined_by_entry, definitions_of}
 use Rattle.implib.proofs.Link.Definitions.{only_definition}

@@ -12,7 +12,7 @@ use Rattle.implib_link.specs.Flavors.LldImports.{IsLldProgram, dll_of_group, gro
 use Rattle.implib_link.specs.Gnu.Fields.{LinkedCode, CanBranch, AllLead, HasBranch}
 use Rattle.implib_link.specs.Gnu.Moves.{AreInMemory}
 use Rattle.implib_link.specs.Gnu.Writing.{ReadsAndWrites}
-use Rattle.implib_link.specs.Tables.{AreSteady, AreTables, Block, CanReadFrom, Table, TableEntry, block_of_group, entry_of_short, tables_of_lld}
+use Rattle.implib_link.specs.Tables.{AreSteady, AreTables, Block, CanReadFrom, Table, block_of_group, entry_of_short, tables_of_lld}
 use Rattle.implib_link.proofs.Flavors.LldImports.{grouped_holds, in_place, get_map, only}
 use Rattle.implib_link.proofs.Search.Lists.{contains_among}
 use Rattle.implib_link.proofs.Tables.{entry_leads, thunk_called_in_memory, HasEntry, block_entry, entries_until, packed_count, reads_further, lld_tables}

@@ -10,7 +10,7 @@ use Rattle.implib.specs.Formats.Layout.{entries_of, name_text, object_of}
 use Rattle.implib.specs.Link.Linked.{AllFind, undefined_names}
 use Rattle.implib.specs.Members.MsvcObjects.{null_descriptor, null_descriptor_symbol}
 use Rattle.implib.specs.Formats.Object.{Object, ObjectSection}
-use Rattle.implib.specs.Link.Placement.{Addresses, At, Bases, Descriptors, DirectoryEnds, DllNames, Group, HintNames, Lookups, Placed, end_after, ends_after, group_named, next_multiple, placed_from, section_addresses_of, same_group, section_address_of}
+use Rattle.implib.specs.Link.Placement.{At, Bases, Descriptors, DirectoryEnds, Group, Placed, end_after, ends_after, group_named, next_multiple, placed_from, section_addresses_of, same_group, section_address_of}
 use Rattle.implib.specs.Link.Resolution.{SymbolDefinition, defined_by, definitions, definitions_of}
 use Rattle.implib.proofs.Link.Definitions.{none_of, same_text}
 use Rattle.implib.proofs.Link.Placement.{aligned}

@@ -27,7 +27,7 @@ use Rattle.implib.specs.Link.Image.{Range, contributions, filled, image_of, IsAd
 use Rattle.implib.specs.Import.{Ask, Name, Ordinal, imp_symbol}
 use Rattle.implib.specs.Members.ImportTables.{thunk_width, zeros}
 use Rattle.implib.specs.Formats.Layout.{entries_of, name_text, object_of}
-use Rattle.implib.specs.Link.Linked.{AllFind, IsDefinedAt, IsDefinedOnce, undefined_names}
+use Rattle.implib.specs.Link.Linked.{AllFind, IsDefinedAt, undefined_names}
 use Rattle.implib.specs.Link.Load.{BytesAt}
 use Rattle.implib.specs.Members.Msvc.{short_import_symbol}
 use Rattle.implib.specs.Members.MsvcObjects.{descriptor, null_descriptor_symbol, null_thunk}
@@ -36,15 +36,14 @@ use Rattle.implib.specs.Link.Resolution.{SymbolDefinition, definitions, definiti
 use Rattle.implib.proofs.Link.Definitions.{not_same_turned, only_definition}
 use Rattle.implib.proofs.Link.Ranges.{Among, all_among, among_first, among_later}
 use Rattle.implib_link.specs.Directory.{DirectoryAt}
-use Rattle.implib_link.specs.Flavors.Expansion.{import_object, expanded_in, Code, Constant, Data, Use, stub_for, stub_relocations_for, with_section_symbols}
+use Rattle.implib_link.specs.Flavors.Expansion.{import_object, expanded_in, Use, with_section_symbols}
 use Rattle.implib_link.proofs.Flavors.Inputs.{all_claim_listed, claimed_with_null, block_in, inputs_link, inputs_objects, inputs_plainly, inputs_symbols, inputs_taken, null_object, objects_with_null}
 use Rattle.implib_link.proofs.Flavors.NullDescriptor.{EndsNothing, all_insert, among_same, descriptors_end_same, finds_same, null_filled, null_once, others_same, undefined_same, group_same}
 use Rattle.implib_link.proofs.Gnu.Others.{contributions_kept, definitions_kept, placed_kept}
-use Rattle.implib_link.proofs.Gnu.Packed.{end_kept, admissible, packed_eights, AreWithin, IsSized, exports_sized, head_sized, tail_sized}
+use Rattle.implib_link.proofs.Gnu.Packed.{end_kept, admissible, packed_eights, IsSized, exports_sized, head_sized, tail_sized}
 use Rattle.implib_link.proofs.Search.Lists.{contains_among}
 use Rattle.implib_link.proofs.Flavors.Expanded.{taken_null, taken_descriptor}
 use Rattle.implib_link.proofs.Gnu.Loaded.{times_none, by_width}
-use Rattle.implib.specs.declared.machine.MachineType.TheVariants.{I386, ARMNT, AMD64, ARM64}
 
 pub head_has : (machine : MachineType) (dll : NamesOfDll) → has_tables (head machine dll) ≡ true
 unfolding has_tables head_object

@@ -1,6 +1,6 @@
 -- The import tables of both flavours without the address tables: what a loader reads that writes there.
 use Rattle.std.proofs.Common.{◌≡◌, ℕ, suc, ◌+◌, ◌*◌, ◌<◌, ◌^◌, List, [], ◌∷◌, ◌++◌, length, map, refl, ap, sym, ◌∙◌, subst, arith, ◌⊎◌, false, None, inl, inr, zero, Some, codes, ◌-◌, ◌%◌}
-use Rattle.std.specs.List.{AllByRecursion, filter, list_any}
+use Rattle.std.specs.List.{AllByRecursion, filter}
 use Rattle.std.proofs.lemmas.List.{length-map, append-nil, append_cancel_left, append_assoc}
 use Rattle.implib.specs.declared.machine.MachineType.{MachineType}
 use Rattle.implib.specs.declared.flavor.Flavor.TheVariants.{Gnu, Msvc}
@@ -8,10 +8,10 @@ use Rattle.implib.specs.declared.flavor.Flavor.{Flavor}
 use Rattle.implib.specs.Definition.{ExportView}
 use Rattle.implib.specs.Formats.Layout.{HasNoNul, entries_of, name_text, object_of}
 use Rattle.implib.specs.Formats.Object.{Object, ObjectSection, ASymbol}
-use Rattle.implib.specs.Import.{Ask, Name, Ordinal}
+use Rattle.implib.specs.Import.{Ask}
 use Rattle.implib.specs.Link.Image.{Range, contributions, filled, range_end, IsAdmissible, image_of}
 use Rattle.implib.specs.Link.Load.{BytesAt}
-use Rattle.implib.specs.Link.Placement.{Addresses, Bases, Placed, next_multiple, placed_from, At, SectionAddress, Unplaced, end_after, ends_after, group_named, section_address_of, section_addresses_of, Descriptors, DirectoryEnds, DllNames, Group, HintNames, Lookups, base_of, same_group}
+use Rattle.implib.specs.Link.Placement.{Addresses, Bases, Placed, next_multiple, placed_from, SectionAddress, end_after, ends_after, group_named, section_address_of, section_addresses_of, Descriptors, DirectoryEnds, DllNames, Group, HintNames, Lookups, base_of, same_group}
 use Rattle.implib.specs.Link.Resolution.{SymbolDefinition, definitions, definitions_of, first_address}
 use Rattle.implib.specs.Members.Gnu.{head_object, export_object, relocations_of_thunk, tail_object}
 use Rattle.implib.specs.Members.ImportTables.{thunk_width, zeros}
@@ -20,7 +20,7 @@ use Rattle.implib.specs.Members.MsvcObjects.{descriptor, null_thunk, null_descri
 use Rattle.implib.proofs.Link.Placement.{export, head, tail}
 use Rattle.implib.proofs.Link.Ranges.{Among, among_back, among_front}
 use Rattle.implib_link.specs.Flavors.Expansion.{Use, import_object, with_section_symbols}
-use Rattle.implib_link.specs.Flavors.Program.{Ending, OfLinker, OfMember, ask_in, has_tables, is_table, AreEnded, FlavorInput, IsMadeFor, imported_in, thunks_of, IsProgramOf, group_end, sections_end}
+use Rattle.implib_link.specs.Flavors.Program.{Ending, ask_in, has_tables, AreEnded, FlavorInput, IsMadeFor, imported_in, thunks_of, IsProgramOf, group_end, sections_end}
 use Rattle.implib_link.proofs.Gnu.Filling.{LocatedBeside, block_beside, rest_beside, descriptor_beside, table_bounds, DescriptorBeside, DirectoryBeside, avoids_addresses, beside_of, keeps_beside, descriptors_beside, directory_ends_beside, dll_names_beside, ends_beside, hint_names_beside, lookups_beside, starts_beside, all_filled, can_run, left_alike, runs_once}
 use Rattle.implib_link.proofs.Flavors.Block.{AreEven, FitsIn, Suits, behind_descriptor, definitions-in, definitions_in, ends_in, even_aligned, even_in, even_wide, objects_of, use_for, askings_stand, AllSuit, BlocksIn, CanLink, FlavorBlock, addresses_one, all_objects, descriptors_one, ends_all, ends_one, imported_of, rest_of, thunks_in, definitions-all, definitions_all, table_sum}
 use Rattle.implib_link.proofs.Flavors.Expanded.{AreWide, ends_of_descriptor, wide_descriptor, descriptor_stands, taken_descriptor, taken_null}
@@ -28,7 +28,6 @@ use Rattle.implib.specs.LibraryName.{NamesOfDll}
 use Rattle.implib_link.proofs.Gnu.Loaded.{Keeps, memory_can_be_read, memory_read, thunks_asked}
 use Rattle.std.proofs.lemmas.Bool.{cases_Bool}
 use Rattle.implib.specs.declared.coff.object.Relocation.{Relocation}
-use Rattle.implib.specs.declared.machine.MachineType.TheVariants.{I386, ARMNT, AMD64, ARM64}
 use Rattle.implib.specs.Formats.Constants.{image_relative, class_external}
 use Rattle.implib_link.specs.Gnu.Fields.{absolute_width, places_at, table_places, table_places_in, LinkedCode}
 use Rattle.implib_link.proofs.Gnu.Others.{no_group}

@@ -1,5 +1,5 @@
 -- Placed code that defines the name of an export of code is its stub.
-use Rattle.std.proofs.Common.{◌≡◌, ℕ, List, Option, None, Some, refl, sym, ◌∙◌, subst, zero, suc, ◌+◌, ◌*◌, Bool, true, false, [], ◌∷◌, length, map, ap, inl, inr, if◌then◌else◌, arith, ◌≤◌}
+use Rattle.std.proofs.Common.{◌≡◌, ℕ, List, Option, None, Some, refl, sym, ◌∙◌, subst, zero, suc, ◌+◌, ◌*◌, Bool, false, [], ◌∷◌, length, map, ap, inl, inr, if◌then◌else◌, arith, ◌≤◌}
 use Rattle.std.specs.Prelude.{slice_get, option_map}
 use Rattle.std.specs.Option.{option_and_then}
 use Rattle.implib.specs.Formats.Object.{ASymbol, Entry, ObjectSection, ObjectSymbol, section_numbered, Object}

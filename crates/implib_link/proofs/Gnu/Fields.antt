@@ -1,19 +1,18 @@
 -- Parts of instructions, and pages at two bases that differ by whole ones.
-use Rattle.std.proofs.Common.{rules, ◌≡◌, ℕ, suc, ◌+◌, ◌-◌, ◌/◌, ◌%◌, ◌^◌, List, [], ◌∷◌, ◌++◌, length, Some, refl, sym, subst, arith, ◌≤◌, ap, ◌∙◌, inr, zero, ◌<◌, Bool, true, false, take, drop, None, inl, ◌*◌, map, Option}
+use Rattle.std.proofs.Common.{◌≡◌, ℕ, suc, ◌+◌, ◌/◌, ◌%◌, ◌^◌, List, [], ◌∷◌, ◌++◌, length, Some, refl, sym, subst, arith, ◌≤◌, ap, ◌∙◌, inr, zero, ◌<◌, Bool, true, false, take, drop, None, inl, ◌*◌, map, Option}
 use Rattle.implib.specs.declared.machine.MachineType.TheVariants.{I386, ARMNT, AMD64, ARM64}
 use Rattle.implib.specs.Link.Image.{Range, byte_at}
 use Rattle.implib.specs.Link.Load.{BytesAt, number_in}
 use Rattle.implib_link.specs.Stub.{jump_reads, page, adrp_immediate, ldr_immediate, plus_signed, with_adrp, with_bits, word_at}
-use Rattle.std.specs.List.{AllByRecursion, Contains, flat_map, list_any, filter}
+use Rattle.std.specs.List.{AllByRecursion, list_any, filter}
 use Rattle.implib.specs.declared.coff.object.Relocation.{Relocation}
 use Rattle.implib.specs.declared.machine.MachineType.{MachineType}
 use Rattle.implib.specs.Link.Placement.{Placed}
-use Rattle.implib.proofs.Link.LinkedMembers.{among_contains}
-use Rattle.implib.proofs.Link.Ranges.{among_flat, Among}
+use Rattle.implib.proofs.Link.Ranges.{Among}
 use Rattle.implib_link.specs.Gnu.Fields.{LinkedCode, arm64_addr64, field_width, i386_rel32, FieldHolds, MeetsAlone, meets, HasInstructions, IsAside, moved_by, placed_code, Names, PairArrives, absolute_width, covers, moved_number, places_at}
-use Rattle.implib_link.specs.Gnu.Moves.{ArePaged, places_of_code}
-use Rattle.implib_link.proofs.Gnu.Places.{among_place, covered_bounds, narrow}
-use Rattle.implib_link.proofs.Search.Lists.{contains_among, passes as among_filter, among_filter as filter_among, any_of}
+use Rattle.implib_link.specs.Gnu.Moves.{ArePaged}
+use Rattle.implib_link.proofs.Gnu.Places.{covered_bounds, narrow}
+use Rattle.implib_link.proofs.Search.Lists.{passes as among_filter, among_filter as filter_among, any_of}
 use Rattle.std.specs.Prelude.{◌==◌, if◌then◌else◌, cond, slice_get}
 use Rattle.std.proofs.lemmas.Bool.{eqb-true}
 use Rattle.implib.specs.Formats.Constants.{amd64_rel32, i386_dir32, arm64_pagebase_rel21, arm64_pageoffset_12l}

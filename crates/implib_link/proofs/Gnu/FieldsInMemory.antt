@@ -7,7 +7,6 @@ use Rattle.std.proofs.lemmas.List.{length-drop, length-take, length-take-le}
 use Rattle.std.proofs.lemmas.Option.{slice_get_within, none-some}
 use Rattle.implib.specs.declared.coff.object.Relocation.{Relocation}
 use Rattle.implib.specs.declared.machine.MachineType.{MachineType}
-use Rattle.implib.specs.declared.machine.MachineType.TheVariants.{I386, ARMNT, AMD64, ARM64}
 use Rattle.implib.specs.Formats.Object.{ASymbol, Entry, ObjectSymbol}
 use Rattle.implib.specs.Link.Image.{Range, byte_at, is_in}
 use Rattle.implib.specs.Link.Load.{BytesAt, NumberAt}

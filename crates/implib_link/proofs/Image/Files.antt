@@ -17,7 +17,7 @@ use Rattle.implib.proofs.Link.Ranges.{all_among, among_back}
 use Rattle.implib_link.specs.Image.Files.{DataDirectory, LoadsFile, MappedFile, WritesFrom}
 use Rattle.implib_link.specs.Image.Laws.{HasTable, IsFileOf, IsInDirectory, thunks_with_nulls}
 use Rattle.implib_link.specs.Gnu.Fields.{AreLinkedBeside, DefinesIn, LinkedCode, range_of_code, ranges_of_codes, AllLead, AreKept}
-use Rattle.implib_link.specs.Gnu.Writing.{Writes, ReadsAndWrites}
+use Rattle.implib_link.specs.Gnu.Writing.{Writes}
 use Rattle.implib_link.specs.Gnu.Stored.{AreFurtherHeld, HoldAddress}
 use Rattle.implib_link.specs.Tables.{AreSteady, AreTables, AreTablesLoaded, Block, CanReadFrom, IsInTable, Table, TableEntry, Tables, imported_by_table, packed_tables}
 use Rattle.implib_link.proofs.Gnu.Fields.{located_each}

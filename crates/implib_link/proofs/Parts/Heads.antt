@@ -1,7 +1,7 @@
 -- What the objects of a part give in an image: a descriptor that a strict loader takes, and its tables.
-use Rattle.std.proofs.Common.{◌≡◌, ℕ, zero, suc, ◌+◌, ◌*◌, ◌%◌, ◌^◌, ◌<◌, true, false, List, [], ◌∷◌, ◌++◌, length, map, Option, Some, None, refl, ap, sym, ◌∙◌, subst, inl, inr, arith, ◌⊎◌, if◌then◌else◌}
+use Rattle.std.proofs.Common.{◌≡◌, ℕ, zero, suc, ◌+◌, ◌*◌, ◌%◌, ◌^◌, ◌<◌, true, List, [], ◌∷◌, ◌++◌, length, map, Option, Some, None, refl, ap, sym, ◌∙◌, subst, inl, inr, arith, if◌then◌else◌}
 use Rattle.std.proofs.lemmas.Grind.{common_steps}
-use Rattle.std.specs.Prelude.{◌&&◌, ◌||◌, ◌==◌, bytes_eq, not, slice_get}
+use Rattle.std.specs.Prelude.{◌&&◌, ◌==◌, bytes_eq, slice_get}
 use Rattle.std.specs.List.{AllByRecursion, filter_map, list_any}
 use Rattle.std.specs.Option.{option_and_then}
 use Rattle.std.proofs.lemmas.Bool.{and_parts, cases_Bool, eqb-true}
@@ -24,7 +24,7 @@ use Rattle.implib.proofs.Link.Placement.{AreAligned, aligned_thunk}
 use Rattle.implib.proofs.Link.Ranges.{Among, among_back, among_first, among_front, among_later, located_parts}
 use Rattle.implib.proofs.Link.Thunks.{StrictTableAt}
 use Rattle.implib_link.specs.Flavors.Program.{sections_end}
-use Rattle.implib_link.specs.Parts.{AreEntries, IsHead, Row, ask_of, begins, dll_text, entry_name, has_none, is_empty, is_field, is_in_group, leads_to, named_bytes, names_entry, only_section, row_in, row_of, sections_of}
+use Rattle.implib_link.specs.Parts.{AreEntries, IsHead, Row, ask_of, begins, dll_text, entry_name, is_field, is_in_group, named_bytes, names_entry, only_section, row_in, row_of, sections_of}
 use Rattle.implib_link.specs.Tables.{TableEntry}
 use Rattle.implib_link.proofs.Gnu.Packed.{end_of_sections, ends_behind, located_behind, IsSized}
 use Rattle.implib_link.proofs.Parts.Texts.{none_ends, one_address, one_ends, one_is, ended_is, named_located, null_located, only_located, thunk_located, field_is}

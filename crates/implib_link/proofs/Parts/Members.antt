@@ -1,13 +1,12 @@
 -- What is linked of a definition for GNU's linker is a part, and parts that store no address whole are steady.
 use Rattle.std.proofs.Common.{rules, ◌≡◌, ℕ, ◌+◌, ◌*◌, ◌-◌, ◌%◌, ◌/◌, ◌^◌, ◌<◌, true, false, List, [], ◌∷◌, ◌++◌, codes, map, Option, Some, None, refl, ap, sym, ◌∙◌, subst, inl, inr, arith, ◌≤◌, zero, suc, length}
-use Rattle.std.specs.Prelude.{◌||◌, Bool, bytes_eq, not, slice_get, take, if◌then◌else◌, ◌&&◌, ◌==◌}
+use Rattle.std.specs.Prelude.{Bool, bytes_eq, not, slice_get, take, if◌then◌else◌, ◌&&◌, ◌==◌}
 use Rattle.std.specs.List.{AllByRecursion, filter_map, list_all, list_any, Contains, cons_option}
 use Rattle.std.proofs.lemmas.List.{append_assoc}
 use Rattle.std.proofs.lemmas.Bool.{and_from, cases_Bool, lt-ltb, ltb-true, and_parts, eqb-true}
 use Rattle.implib.specs.declared.coff.object.Place.TheVariants.{Section, Undefined}
 use Rattle.implib.specs.declared.coff.object.Relocation.{Relocation}
 use Rattle.implib.specs.declared.machine.MachineType.{MachineType}
-use Rattle.implib.specs.declared.machine.MachineType.TheVariants.{I386, ARMNT, AMD64, ARM64}
 use Rattle.implib.specs.Definition.{ExportView}
 use Rattle.implib.specs.Formats.Bytes.{u16_bytes}
 use Rattle.implib.specs.Formats.Constants.{class_external, class_static, image_relative, align_4bytes, cnt_code, mem_execute_read}
@@ -29,12 +28,12 @@ use Rattle.implib.proofs.Link.Linked.{all_append}
 use Rattle.implib.proofs.Link.LinkedMembers.{dll_free, exports_fit, objects_are, all_at, among_contains, among_map, among_reverse}
 use Rattle.implib.proofs.Link.Placement.{after_head, head, tail}
 use Rattle.implib.proofs.Link.Tables.{CanBeAsked}
-use Rattle.implib_link.specs.Flavors.Program.{is_table, null_descriptor}
+use Rattle.implib_link.specs.Flavors.Program.{null_descriptor}
 use Rattle.implib_link.specs.Gnu.Fields.{absolute_width, Defines, PlacedCode, StubAt}
 use Rattle.implib_link.specs.Parts.{AreEntries, BeginWithHead, HoldsFields, IsEntry, IsPart, IsProgramOfParts, IsTail, Part, ask_of, begins, dll_text, entry_name, hint_and_name, is_field, is_whole, named_bytes, names_entry, objects_of_parts, ordinal_with, own_bytes, part_of, row_in, stores_none, older_linked, older_numbered, older_part_of, is_in_group, leads_to}
 use Rattle.implib_link.specs.Tables.{AreSteady, TableEntry, Table, tables_at}
 use Rattle.implib_link.proofs.Gnu.Others.{no_group, one_definer}
-use Rattle.implib_link.proofs.Flavors.Steady.{AllSteady, IsSteady, NoneAbsolute, all_steady, tables_none, relative_steady}
+use Rattle.implib_link.proofs.Flavors.Steady.{AllSteady, NoneAbsolute, all_steady, tables_none, relative_steady}
 use Rattle.implib_link.proofs.Gnu.Packed.{export_sized, head_sized, tail_sized}
 use Rattle.implib_link.proofs.Search.Lists.{all_from, each_of, none_among, contains_among}
 use Rattle.std.specs.Option.{option_map}
@@ -53,7 +52,7 @@ use Rattle.implib.specs.Formats.File.{is_defined_external}
 use Rattle.implib.specs.Link.Resolution.{SymbolDefinition, address_in, defined_by_entry, definitions_of, is_undefined_external, symbol_address}
 use Rattle.implib_link.proofs.Flavors.LldImports.{get_map}
 use Rattle.implib_link.proofs.Flavors.Stubs.{symbol_of_entry}
-use Rattle.implib_link.proofs.Tables.{entries_until, packed_at}
+use Rattle.implib_link.proofs.Tables.{packed_at}
 use Rattle.implib_link.proofs.Parts.Heads.{group_address}
 use Rattle.implib_link.proofs.Parts.Programs.{defined_once, entry_placed, kept_is_linked}
 use Rattle.implib_link.proofs.Gnu.Loaded.{plus_none}

@@ -13,7 +13,7 @@ use Rattle.implib.specs.Link.Resolution.{address_at, SymbolDefinition, address_i
 use Rattle.implib.proofs.Link.Linked.{contribution_located, LocatedFrom, same_order}
 use Rattle.implib.proofs.Link.Placement.{at_least, length-thunk_of}
 use Rattle.implib_link.specs.Flavors.Program.{end_with, sections_end}
-use Rattle.implib_link.specs.Parts.{fits_four, is_of, one_of, sections_of, ask_of, bytes_at_symbol, bytes_from, has_none, hint_and_name, holds_texts, is_field, named_bytes_in, null_thunk_of, only_section, ordinal_with, own_bytes, thunk_ask}
+use Rattle.implib_link.specs.Parts.{fits_four, is_of, one_of, sections_of, ask_of, bytes_from, has_none, hint_and_name, holds_texts, is_field, named_bytes_in, null_thunk_of, only_section, ordinal_with, own_bytes, thunk_ask}
 use Rattle.implib_link.proofs.Gnu.Packed.{end_of_section, same_base, AreWithin, length-relocated, IsSized}
 use Rattle.std.proofs.lemmas.List.{append_assoc, length-replicate}
 use Rattle.std.proofs.lemmas.Slice.Eq.{bytes_eq-Decides}

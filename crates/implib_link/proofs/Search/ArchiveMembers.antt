@@ -1,5 +1,5 @@
 -- What a linker takes of the members for GNU's linker.
-use Rattle.std.proofs.Common.{rules, ◌≡◌, ℕ, zero, suc, ◌+◌, Bool, length, true, List, [], ◌∷◌, ◌++◌, Option, Some, None, refl, ap, sym, ◌∙◌, subst, inl, inr, ◌⊎◌, arith, map, ◌≤◌, false, if◌then◌else◌}
+use Rattle.std.proofs.Common.{◌≡◌, ℕ, zero, suc, ◌+◌, Bool, length, true, List, [], ◌∷◌, ◌++◌, Option, Some, None, refl, ap, sym, ◌∙◌, subst, inl, inr, ◌⊎◌, arith, map, ◌≤◌, false, if◌then◌else◌}
 use Rattle.std.specs.Prelude.{bytes_eq, slice_get, reverse, IsPermutation}
 use Rattle.std.specs.List.{filter, filter_map, list_any, AllByRecursion, IsDistinct, flat_map, sum_by}
 use Rattle.std.proofs.lemmas.Bool.{cases_Bool, false_from_ne_true}
@@ -14,7 +14,7 @@ use Rattle.implib.specs.Members.MemberSpec.{MemberSpec, member_of, MemberView}
 use Rattle.implib.specs.Members.GnuMembers.{export_spec, head_spec, numbered_specs, numbered_specs_of, tail_spec, alias_specs, gnu_specs}
 use Rattle.implib.proofs.Link.Placement.{export, head, tail}
 use Rattle.implib.proofs.Link.Ranges.{Among, among_back, among_first, among_front, among_later, among_flat}
-use Rattle.implib_link.specs.Search.Search.{is_wanted, undefined_in, numbers_passing, Library, symbols_of_export, first_listed, is_listed_for, IsLibrary, exports_of, is_weak_entry, symbols_of_library, exports_wanted}
+use Rattle.implib_link.specs.Search.Search.{is_wanted, undefined_in, numbers_passing, Library, symbols_of_export, first_listed, IsLibrary, exports_of, is_weak_entry, symbols_of_library, exports_wanted}
 use Rattle.implib_link.proofs.Search.Lists.{among_any, among_either, any_among, any_from, any_of, kept_into, kept_from, distinct_apart, distinct_later, listed_is, none_among, contains_among}
 use Rattle.implib.specs.LibraryName.{NamesOfDll, linked_name, names_for}
 use Rattle.std.proofs.lemmas.Option.{same_Some}

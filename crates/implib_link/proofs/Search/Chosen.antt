@@ -1,5 +1,5 @@
 -- What is linked of libraries in either flavour, for names that want their exports.
-use Rattle.std.proofs.Common.{rules, ◌≡◌, ℕ, ◌<◌, Bool, length, arith, true, List, [], ◌∷◌, map, Option, Some, None, refl, ap, sym, ◌∙◌, subst, inl, inr, ◌⊎◌, ◌+◌, ◌≤◌, ◌++◌}
+use Rattle.std.proofs.Common.{rules, ◌≡◌, ℕ, Bool, arith, true, List, [], ◌∷◌, map, Option, Some, None, refl, ap, sym, ◌∙◌, subst, inl, inr, ◌⊎◌, ◌+◌, ◌≤◌, ◌++◌}
 use Rattle.std.specs.Prelude.{slice_get, IsPermutation, bytes_eq}
 use Rattle.std.specs.List.{cons_option, filter, filter_map, AllByRecursion, IsDistinct, flat_map}
 use Rattle.implib.specs.declared.flavor.Flavor.{Flavor}
@@ -19,9 +19,9 @@ use Rattle.implib_link.specs.Flavors.Program.{FlavorInput, all_members, gnu_inpu
 use Rattle.implib_link.specs.Search.Search.{Library, exports_of, inputs_wanted, exports_wanted, is_wanted}
 use Rattle.implib_link.specs.Search.Libraries.{FlavorLibrary, flavor_input, flavor_inputs, symbols_in, imports_wanted, is_import_wanted, short_input_if_any, short_inputs, IsFlavorArchive, msvc_among}
 use Rattle.implib_link.proofs.Flavors.Program.{gnu_members}
-use Rattle.implib_link.proofs.Search.ArchiveMembers.{chosen_are as gnu_chosen_are, among_moved, library_fewer as gnu_fewer, distinct_from, times, times_both, times_moved, Chosen, in_nothing, member_spec_chosen, member_spec_linked, numbers_are_wanted, only_one, some_export, wanted_name, wants}
+use Rattle.implib_link.proofs.Search.ArchiveMembers.{chosen_are as gnu_chosen_are, among_moved, library_fewer as gnu_fewer, distinct_from, times, times_both, times_moved, Chosen, member_spec_chosen, member_spec_linked, numbers_are_wanted, only_one, some_export, wanted_name, wants}
 use Rattle.implib_link.proofs.Search.Lists.{among_at, among_either, among_flat_map, among_mapped, passes, passing, at_index, kept_from, kept_into, all_from as all_each, distinct_later}
-use Rattle.implib_link.proofs.Search.MsvcMembers.{both_parts, first_one, import_parts, imports_are, library_fewer as short_fewer}
+use Rattle.implib_link.proofs.Search.MsvcMembers.{both_parts, import_parts, imports_are, library_fewer as short_fewer}
 use Rattle.implib_link.proofs.Search.Roles.{IsOwn, Last, Own, Top, in_flavor, member}
 use Rattle.std.proofs.lemmas.Option.{same_Some}
 use Rattle.std.proofs.lemmas.List.Sorted.{IsPermutation-sym}

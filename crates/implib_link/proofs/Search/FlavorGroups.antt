@@ -1,38 +1,37 @@
 -- Libraries for GNU's linker that are named apart are an archive.
 use Rattle.std.proofs.Common.{rules, ◌≡◌, ℕ, ◌+◌, ◌≤◌, ◌⊎◌, true, false, List, [], ◌∷◌, ◌++◌, map, refl, ap, sym, ◌∙◌, subst, inl, inr, arith, codes, Some, Bool, Option}
-use Rattle.std.specs.Prelude.{bytes_eq, not, reverse, ◌==◌, ◌&&◌, slice_get}
+use Rattle.std.specs.Prelude.{bytes_eq, reverse, slice_get}
 use Rattle.std.specs.List.{AllByRecursion, IsDistinct, flat_map, list_any, cons_option}
 use Rattle.std.proofs.lemmas.Bool.{cases_Bool, false_from_ne_true, true≢false}
 use Rattle.std.proofs.lemmas.List.{append_cancel_left, append_cancel_right, map-append}
 use Rattle.std.proofs.lemmas.List.Sorted.{IsPermutation-reverse}
 use Rattle.std.proofs.lemmas.Slice.Eq.{bytes_eq-Decides}
 use Rattle.implib.specs.declared.machine.MachineType.{MachineType}
-use Rattle.implib.specs.declared.machine.MachineType.TheVariants.{I386, ARMNT, AMD64, ARM64}
 use Rattle.implib.specs.Definition.{ExportView}
-use Rattle.implib.specs.Import.{imp_symbol, is_alias, underscore}
+use Rattle.implib.specs.Import.{imp_symbol}
 use Rattle.implib.specs.Members.Gnu.{head_symbol, iname_symbol, mangled_name}
 use Rattle.implib.proofs.Link.Ranges.{Among, all_among, among_back, among_front, among_first, among_flat, among_later}
 use Rattle.implib_link.specs.Search.Search.{IsArchive, IsLibrary, Library, exports_of, symbols_of_export, symbols_of_library, archive_of, first_listed, is_listed_for, has_weak, undefined_in}
 use Rattle.implib_link.specs.Search.Libraries.{heads_of, tails_of, FlavorLibrary, IsFlavorArchive, archive_of_both, gnu_among, msvc_among, IsMsvcArchive, symbols_of_all_shorts, if_gnu, if_msvc, symbols_of_shorts, is_weak_in}
 use Rattle.implib_link.specs.Search.NamedApart.{AreNamedApart, begins_plain, names_in, stem}
-use Rattle.implib_link.proofs.Search.Closing.{there_not, IsFirstAs, is_first, names_read, tables_read}
+use Rattle.implib_link.proofs.Search.Closing.{there_not, IsFirstAs, is_first, names_read}
 use Rattle.implib_link.proofs.Search.ArchiveMembers.{distinct_from, few_from, times, times_both, times_moved, Group, IsWithin, export_group, export_group_is, export_groups, first_behind, first_in_group, found_or_not, group_is_export, group_of_first, head_of, members_of_exports, members_of_groups, symbols_of_exports, symbols_of_groups, tail_of, within_export as within_gnu, FindsOwn, FindsWeak, InExport as GnuExport, alias_symbols, in_export as in_gnu, own_first, own_symbols, weak_first, in_nothing, only_one, none_times}
 use Rattle.implib_link.proofs.Search.Lists.{among_either, among_mapped, distinct_join, all_from, among_at, among_flat_map, among_any, any_among, distinct_apart, distinct_later, listed_is, at_index, kept_from, kept_into}
-use Rattle.implib.specs.LibraryName.{linked_name, names_for, NamesOfDll, linked_dll}
+use Rattle.implib.specs.LibraryName.{linked_name, names_for, linked_dll}
 use Rattle.implib.specs.declared.flavor.Flavor.TheVariants.{Gnu, Msvc}
 use Rattle.implib.specs.declared.flavor.Flavor.{Flavor}
-use Rattle.implib_link.proofs.Search.Roles.{in_flavor, Last, Null, Own, Role, Top, Weak, listed_as, member, symbols, IsRole, claims_as, is_weak_role, left, left_as_role, object, pair, tables_as, taken_as, weak_as, weak_symbol, weak_target}
+use Rattle.implib_link.proofs.Search.Roles.{in_flavor, Last, Null, Own, Role, Top, Weak, listed_as, member, symbols, IsRole, claims_as, is_weak_role, left, left_as_role, object, pair, taken_as, weak_as, weak_symbol, weak_target}
 use Rattle.std.proofs.lemmas.Grind.{flat_map-append}
 use Rattle.implib.specs.Members.Members.{AreMembersOf}
 use Rattle.implib.specs.Members.MemberSpec.{MemberView}
 use Rattle.implib.specs.Members.MsvcMembers.{descriptor_spec, null_descriptor_spec}
-use Rattle.implib.specs.Members.MsvcObjects.{descriptor_symbol, null_descriptor_symbol, null_thunk_symbol}
+use Rattle.implib.specs.Members.MsvcObjects.{descriptor_symbol, null_descriptor_symbol}
 use Rattle.implib.proofs.Link.LinkedMembers.{among_map}
 use Rattle.implib_link.proofs.Search.MsvcMembers.{descriptor_of, members_are, null_of as null_member_of, short_group, symbols_of_groups_of, thunk_of, within_export as within_short, FindsShort, FindsWeak as FindsShortWeak, InExport as ShortExport, in_export as in_short, pair_first, pair_symbol, short_first, short_symbol, weak_of as short_weak_of}
 use Rattle.implib.specs.Formats.Object.{Object}
 use Rattle.implib.specs.Members.Msvc.{short_import_symbol}
 use Rattle.implib_link.specs.Flavors.Expansion.{expanded_in}
-use Rattle.implib_link.specs.Flavors.Program.{IsFoundByName, has_tables}
+use Rattle.implib_link.specs.Flavors.Program.{IsFoundByName}
 
 -- Symbols that differ by their first bytes.
 

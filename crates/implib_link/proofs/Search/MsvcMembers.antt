@@ -7,13 +7,13 @@ use Rattle.implib.specs.declared.machine.MachineType.{MachineType}
 use Rattle.implib.specs.Definition.{ExportView}
 use Rattle.implib.specs.Formats.Layout.{entries_of, name_text, object_of}
 use Rattle.implib.specs.Formats.Object.{Object}
-use Rattle.implib.specs.Import.{imp_symbol, Ask, Name, Ordinal}
+use Rattle.implib.specs.Import.{imp_symbol, Ask}
 use Rattle.implib.specs.Members.MemberSpec.{MemberView, member_of}
 use Rattle.implib.specs.Members.Msvc.{short_import_symbol, short_import_symbols}
 use Rattle.implib.specs.Members.MsvcMembers.{descriptor_spec, export_specs, header_specs, null_descriptor_spec, null_thunk_spec, short_import_spec, weak_specs}
 use Rattle.implib.specs.Members.WeakExternal.{weak_object, weak_spec}
 use Rattle.implib.proofs.Link.Ranges.{Among, among_back, among_first, among_flat, among_front, all_among}
-use Rattle.implib_link.specs.Flavors.Expansion.{expanded_in, Code, Constant, Data, Use, import_object, descriptor_symbol_by_name, with_section_symbols}
+use Rattle.implib_link.specs.Flavors.Expansion.{expanded_in, Use, import_object, descriptor_symbol_by_name, with_section_symbols}
 use Rattle.implib_link.specs.Flavors.Program.{claimed_names, has_tables, null_member, objects_taken}
 use Rattle.implib_link.specs.Search.Search.{Library, exports_of, first_listed, is_listed_for, undefined_in, has_weak}
 use Rattle.implib_link.specs.Search.Libraries.{IsMsvcLibrary, is_short_alias, symbols_of_short, IsMsvcArchive, first_null, imports_wanted, is_import_wanted, with_first_null, symbols_of_shorts, is_short_wanted}

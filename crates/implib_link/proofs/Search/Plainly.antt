@@ -1,12 +1,12 @@
 -- GNU `ld`'s search, which resolves nothing by weak externals, and one that does.
-use Rattle.std.proofs.Common.{rules, ◌≡◌, ℕ, ◌⊎◌, false, List, [], ◌∷◌, ◌++◌, Option, Some, None, map, refl, ap, sym, ◌∙◌, subst, inl, inr, arith}
+use Rattle.std.proofs.Common.{rules, ◌≡◌, ℕ, ◌⊎◌, false, List, [], ◌∷◌, ◌++◌, Option, Some, map, refl, ap, sym, ◌∙◌, subst, inl, inr, arith}
 use Rattle.std.specs.Prelude.{bytes_eq, not}
 use Rattle.std.specs.List.{Contains, cons_option, filter, flat_map, list_any}
 use Rattle.std.specs.Option.{option_map}
 use Rattle.std.proofs.lemmas.Bool.{cases_Bool, not_from_false, true≢false}
 use Rattle.std.proofs.lemmas.List.{map-append}
 use Rattle.implib.specs.declared.machine.MachineType.{MachineType}
-use Rattle.implib.specs.Formats.Object.{ASymbol, Auxiliary, Entry, Object}
+use Rattle.implib.specs.Formats.Object.{Entry, Object}
 use Rattle.implib.specs.Link.Linked.{undefined_name}
 use Rattle.implib.specs.Members.MemberSpec.{MemberView}
 use Rattle.implib.proofs.Link.LinkedMembers.{among_contains, among_map}

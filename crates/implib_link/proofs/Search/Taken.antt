@@ -1,5 +1,5 @@
 -- What a linker takes of an archive of libraries, however it reads members: what is wanted, and what that leaves.
-use Rattle.std.proofs.Common.{arith, rules, ◌≡◌, ℕ, ◌⊎◌, Bool, true, false, List, [], ◌∷◌, ◌++◌, map, Option, Some, refl, ap, sym, ◌∙◌, subst, inl, inr}
+use Rattle.std.proofs.Common.{arith, rules, ◌≡◌, ℕ, ◌⊎◌, Bool, true, false, List, [], ◌∷◌, ◌++◌, map, Option, Some, refl, sym, ◌∙◌, subst, inl, inr}
 use Rattle.std.specs.Prelude.{not, IsPermutation, bytes_eq, slice_get}
 use Rattle.std.specs.List.{AllByRecursion, filter, flat_map, list_any}
 use Rattle.std.proofs.lemmas.Bool.{cases_Bool, true≢false, not_from_false}
@@ -12,7 +12,6 @@ use Rattle.implib.specs.Import.{imp_symbol, is_alias}
 use Rattle.implib.specs.LibraryName.{linked_dll, linked_name}
 use Rattle.implib.specs.Link.LinkedMembers.{all_linked}
 use Rattle.implib.specs.Members.MemberSpec.{MemberView}
-use Rattle.implib.specs.Members.Msvc.{short_import_symbol}
 use Rattle.implib.proofs.Link.LinkedMembers.{among_contains, among_map}
 use Rattle.implib.proofs.Link.Ranges.{Among, all_among, among_back, among_first, among_front, among_later, among_flat}
 use Rattle.implib_link.specs.Flavors.Program.{all_members, HaveSame, AreEnded, Ending, objects_taken, ClaimsNone, has_tables}

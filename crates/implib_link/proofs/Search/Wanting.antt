@@ -1,14 +1,14 @@
 -- A list of names is wanted as an object's, and adds nothing to what is linked.
-use Rattle.std.proofs.Common.{arith, ◌≡◌, ℕ, List, [], ◌∷◌, ◌++◌, refl, ap, sym, ◌∙◌, map}
-use Rattle.std.specs.List.{filter, filter_map, flat_map}
+use Rattle.std.proofs.Common.{arith, ◌≡◌, ℕ, List, [], ◌∷◌, ◌++◌, refl, ap, map}
+use Rattle.std.specs.List.{filter, filter_map}
 use Rattle.std.proofs.lemmas.List.Elements.{filter-append}
 use Rattle.implib.specs.declared.machine.MachineType.{MachineType}
 use Rattle.implib.specs.Formats.Object.{Object, ObjectSection}
-use Rattle.implib.specs.Link.Image.{IsAdmissible, Range, contributions, contributions_in, image_of}
+use Rattle.implib.specs.Link.Image.{contributions, contributions_in, image_of}
 use Rattle.implib.specs.Link.Linked.{undefined_name}
 use Rattle.implib.specs.Link.Placement.{Bases, Group, Placed, SectionAddress, placed_from}
 use Rattle.implib.specs.Link.Resolution.{defined_by_entry, definitions_of}
-use Rattle.implib_link.specs.Flavors.Program.{AreEnded, Ending, FlavorInput, IsProgramOf, OfLinker, OfMember, ClaimsNone, claimed_name, has_tables, group_end, sections_end}
+use Rattle.implib_link.specs.Flavors.Program.{AreEnded, Ending, FlavorInput, IsProgramOf, ClaimsNone, claimed_name, has_tables, group_end, sections_end}
 use Rattle.implib_link.specs.Search.Search.{claims_of, references_of, unresolved, undefined_in, unclaimed, undefined_symbol, wanting}
 
 -- The list: what it leaves to others, what it claims, what it defines.
