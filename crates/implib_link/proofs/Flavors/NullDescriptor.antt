@@ -10,7 +10,7 @@ use Rattle.implib.specs.Formats.Layout.{entries_of, name_text, object_of}
 use Rattle.implib.specs.Link.Linked.{AllFind, undefined_names}
 use Rattle.implib.specs.Members.MsvcObjects.{null_descriptor, null_descriptor_symbol}
 use Rattle.implib.specs.Formats.Object.{Object, ObjectSection}
-use Rattle.implib.specs.Link.Placement.{At, Bases, Descriptors, DirectoryEnds, Group, Placed, end_after, ends_after, group_named, next_multiple, placed_from, section_addresses_of, same_group, section_address_of}
+use Rattle.implib.specs.Link.Placement.{Addresses, At, Bases, Descriptors, DirectoryEnds, DllNames, Group, HintNames, Lookups, Placed, end_after, ends_after, group_named, next_multiple, placed_from, section_addresses_of, same_group, section_address_of}
 use Rattle.implib.specs.Link.Resolution.{SymbolDefinition, defined_by, definitions, definitions_of}
 use Rattle.implib.proofs.Link.Definitions.{none_of, same_text}
 use Rattle.implib.proofs.Link.Placement.{aligned}
@@ -84,6 +84,9 @@ filter_other test (x ∷ xs) ys n is = grind (arith, filter_other test xs ys n i
 flat_insert : {X Y : Type 0} (f : X → List Y) (xs ys : List X) (n : X) → flat_map f (xs ++ n ∷ ys) ≡ flat_map f xs ++ (f n ++ flat_map f ys)
 flat_insert f xs ys n = flat_map-append f xs (n ∷ ys)
 
+flat_none : {X Y : Type 0} (f : X → List Y) (xs ys : List X) (n : X) → f n ≡ [] → flat_map f (xs ++ n ∷ ys) ≡ flat_map f (xs ++ ys)
+flat_none f xs ys n none = grind (arith, flat_insert, flat_map-append)
+
 pub all_insert : {X : Type 0} (P : X → Type 0) (xs ys : List X) (n : X) → P n → AllByRecursion P (xs ++ ys) → AllByRecursion P (xs ++ n ∷ ys)
 all_insert P [] ys n here all = (here, all)
 all_insert P (x ∷ xs) ys n here all = (all.0, all_insert P xs ys n here all.1)
@@ -115,16 +118,27 @@ module _ (machine : MachineType) (b : Bases) (xs ys : List Object) (none : AllBy
 
   with_null : placed_from b (xs ++ taken_null machine ∷ ys) ≡ front ++ own ∷ back
   unfolding with_section_symbols object_of null_descriptor entries_of name_text ends_behind
-  with_null = grind (arith, placed_parts b xs (taken_null machine ∷ ys), placed_same ((next_multiple 4 last.directory_ends) + 20) last ys (all_parts EndsNothing xs ys none).1, ends_behind_kept b xs (all_parts EndsNothing xs ys none).0, aligned)
+  with_null =
+      let place : ℕ = next_multiple 4 last.directory_ends in
+      let same : next_multiple 4 last.directory_ends ≡ b.directory_ends = grind (arith, ends_behind_kept b xs (all_parts EndsNothing xs ys none).0, all_parts EndsNothing xs ys none, aligned) in
+      placed_parts b xs (taken_null machine ∷ ys)
+      ∙ ap (λ ps. front ++ record { object = taken_null machine; section_addresses = At DirectoryEnds place ∷ [] } ∷ ps) (placed_same (place + 20) last ys (all_parts EndsNothing xs ys none).1)
+      ∙ ap (λ n. front ++ record { object = taken_null machine; section_addresses = At DirectoryEnds n ∷ [] } ∷ back) same
 
   contributions_same : (linked : List Placed) (group : Group) → contributions_of machine linked group own ≡ [] →
       contributions machine linked group (placed_from b (xs ++ taken_null machine ∷ ys)) ≡ contributions machine linked group (placed_from b (xs ++ ys))
-  contributions_same linked group empty = grind (arith, with_null, flat_insert, flat_map-append, without)
+  contributions_same linked group empty = grind (arith, with_null, flat_none, without)
 
   -- a group that the null descriptor is not in
   pub group_same : (linked : List Placed) (group : Group) → same_group group DirectoryEnds ≡ false →
       contributions machine linked group (placed_from b (xs ++ taken_null machine ∷ ys)) ≡ contributions machine linked group (placed_from b (xs ++ ys))
-  group_same linked group is = grind (arith, contributions_same)
+  unfolding with_section_symbols object_of null_descriptor entries_of name_text
+  group_same linked Descriptors is = contributions_same linked Descriptors refl
+  group_same linked DirectoryEnds is = cc
+  group_same linked Lookups is = contributions_same linked Lookups refl
+  group_same linked Addresses is = contributions_same linked Addresses refl
+  group_same linked HintNames is = contributions_same linked HintNames refl
+  group_same linked DllNames is = contributions_same linked DllNames refl
 
   -- the null descriptor alone is in `.idata$3`
   ends_are : (linked : List Placed) → contributions machine linked DirectoryEnds (placed_from b (xs ++ taken_null machine ∷ ys)) ≡ record { address = b.directory_ends; bytes = zeros 20 } ∷ []
@@ -155,7 +169,7 @@ module _ (machine : MachineType) (b : Bases) (xs ys : List Object) (none : AllBy
   -- it leaves nothing to others
   pub undefined_same : undefined_names (placed_from b (xs ++ taken_null machine ∷ ys)) ≡ undefined_names (placed_from b (xs ++ ys))
   unfolding with_section_symbols object_of null_descriptor entries_of name_text
-  undefined_same = grind (arith, with_null, flat_insert, flat_map-append, without)
+  undefined_same = grind (arith, with_null, flat_none, without)
 
   -- and has no relocations
   pub finds_same : (linked : List Placed) → AllByRecursion (AllFind linked) (placed_from b (xs ++ ys)) → AllByRecursion (AllFind linked) (placed_from b (xs ++ taken_null machine ∷ ys))

@@ -13,7 +13,7 @@ use Rattle.implib.specs.Link.Resolution.{address_at, SymbolDefinition, address_i
 use Rattle.implib.proofs.Link.Linked.{contribution_located, LocatedFrom, same_order}
 use Rattle.implib.proofs.Link.Placement.{at_least, length-thunk_of}
 use Rattle.implib_link.specs.Flavors.Program.{end_with, sections_end}
-use Rattle.implib_link.specs.Parts.{fits_four, is_of, one_of, sections_of, ask_of, bytes_from, has_none, hint_and_name, holds_texts, is_field, named_bytes_in, null_thunk_of, only_section, ordinal_with, own_bytes, thunk_ask}
+use Rattle.implib_link.specs.Parts.{fits_four, is_of, one_of, sections_of, ask_of, bytes_at_symbol, bytes_from, has_none, hint_and_name, holds_texts, is_field, named_bytes_in, null_thunk_of, only_section, ordinal_with, own_bytes, thunk_ask}
 use Rattle.implib_link.proofs.Gnu.Packed.{end_of_section, same_base, AreWithin, length-relocated, IsSized}
 use Rattle.std.proofs.lemmas.List.{append_assoc, length-replicate}
 use Rattle.std.proofs.lemmas.Slice.Eq.{bytes_eq-Decides}
@@ -37,18 +37,32 @@ stays step n one even = grind arith
 -- One section.
 
 pub contribution_none : (group : Group) (b : Bases) (flags : ℕ) (named : Option Group) (bytes : List ℕ) → is_of group named ≡ false → contribution_at group (address_after b flags named) bytes ≡ []
-contribution_none group b flags named bytes is = grind arith
+contribution_none group b flags None bytes is = refl
+contribution_none group b flags (Some other) bytes is = rw is refl
 
 pub end_none : (group : Group) (n : ℕ) (s : ObjectSection) (named : Option Group) → is_of group named ≡ false → end_with group n s named ≡ n
-end_none group n s named is = grind arith
+end_none group n s None is = refl
+end_none group n s (Some other) is = rw is refl
 
 pub contribution_one : (group : Group) (b : Bases) (flags : ℕ) (named : Option Group) (bytes : List ℕ) → is_of group named ≡ true →
     contribution_at group (address_after b flags named) bytes ≡ record { address = next_multiple (alignment flags) (base_of group b); bytes = bytes } ∷ []
-contribution_one group b flags named bytes is = grind (arith, same_base)
+contribution_one group b flags None bytes is = cc
+contribution_one group b flags (Some other) bytes is = rw (is, same_base group other b is) refl
+
+pub end_one : (group : Group) (n : ℕ) (s : ObjectSection) (named : Option Group) → is_of group named ≡ true → end_with group n s named ≡ next_multiple (alignment s.flags) n + length s.bytes
+end_one group n s None is = cc
+end_one group n s (Some other) is = rw is refl
+
+pub address_one : (group : Group) (b : Bases) (flags : ℕ) (named : Option Group) (value : ℕ) → is_of group named ≡ true →
+    address_at (address_after b flags named) value ≡ Some (next_multiple (alignment flags) (base_of group b) + value)
+address_one group b flags None value is = cc
+address_one group b flags (Some other) value is = rw (same_base group other b is) refl
 
 -- what one_of gives
 pub one_is : (xs : List ObjectSection) (s : ObjectSection) → one_of xs ≡ Some s → (xs ≡ s ∷ []) × (fits_four s ≡ true)
-one_is xs s is = grind arith
+one_is [] s is = cc
+one_is (x ∷ []) s is = grind arith
+one_is (x ∷ y ∷ xs) s is = cc
 
 -- Objects without sections of a group, and with one.
 
@@ -94,7 +108,7 @@ module _ (machine : MachineType) (linked : List Placed) (p : Placed) (group : Gr
       let parts = contribution_located image (base_of group b) (record { address = a; bytes = bytes }) (filled_in (next b s) sections ++ behind) (at_least (alignment s.flags) (base_of group b))
       (subst (λ front. BytesAt image (base_of group b) (filled (base_of group b) ((front ++ filled_in (next b s) sections) ++ behind)))
       (contribution_one group b s.flags (group_named s.name) bytes here) located) in
-      (a, (λ value. (grind (arith, same_base)), subst (λ (y : ObjectSection). BytesAt image a (relocated machine linked p y.relocations y.bytes)) same parts.0))
+      (a, (λ value. address_one group b s.flags (group_named s.name) value here, subst (λ (y : ObjectSection). BytesAt image a (relocated machine linked p y.relocations y.bytes)) same parts.0))
   nth_placed image (s ∷ sections) b (suc k) x behind sized is own located =
       let bytes : List ℕ = relocated machine linked p s.relocations s.bytes in
       let others : List Contribution = filled_in (next b s) sections ++ behind in
@@ -105,7 +119,8 @@ module _ (machine : MachineType) (linked : List Placed) (p : Placed) (group : Gr
             let parts = contribution_located image (base_of group b) (record { address = a; bytes = bytes }) others (at_least (alignment s.flags) (base_of group b))
             (subst (λ front. BytesAt image (base_of group b) (filled (base_of group b) ((front ++ filled_in (next b s) sections) ++ behind)))
             (contribution_one group b s.flags (group_named s.name) bytes here) located) in
-            subst (λ n. BytesAt image n (filled n others)) (grind (arith, length-relocated, end_of_section)) parts.1
+            let end : a + length bytes ≡ base_of group (next b s) = grind (arith, length-relocated, end_of_section, end_one) in
+            subst (λ n. BytesAt image n (filled n others)) end parts.1
         | inr other ↦ grind (arith, contribution_none, same_end)
       ])
 
@@ -120,13 +135,13 @@ pub one_ends : (group : Group) (sections : List ObjectSection) (n : ℕ) (s : Ob
     sections_end group n sections ≡ n + length s.bytes
 unfolding sections_end
 one_ends group [] n s is fits even = cc
-one_ends group (x ∷ sections) n s is fits even = grind (arith, one_ends group sections n s, stays, none_ends, end_none)
+one_ends group (x ∷ sections) n s is fits even = grind (arith, one_ends group sections n s, end_one, stays, none_ends, end_none)
 
 pub one_address : (group : Group) (sections : List ObjectSection) (b : Bases) (s : ObjectSection) (k : ℕ) (x : ObjectSection) (value : ℕ) → sections_of group sections ≡ s ∷ [] → fits_four s ≡ true →
     base_of group b % 4 ≡ 0 → slice_get sections k ≡ Some x → is_of group (group_named x.name) ≡ true →
     option_and_then (λ (c : SectionAddress). address_at c value) (slice_get (section_addresses_of b sections) k) ≡ Some (base_of group b + value)
 one_address group [] b s k x value is fits even at own = cc
-one_address group (y ∷ sections) b s zero x value is fits even at own = grind (arith, stays)
+one_address group (y ∷ sections) b s zero x value is fits even at own = grind (arith, address_one, stays)
 one_address group (y ∷ sections) b s (suc k) x value is fits even at own =
     elim (cases_Bool (is_of group (group_named y.name))) [
       | inl here ↦ grind (arith, nowhere)
@@ -138,7 +153,10 @@ one_address group (y ∷ sections) b s (suc k) x value is fits even at own =
   where
     nowhere : (rest : List ObjectSection) (i : ℕ) → sections_of group rest ≡ [] → slice_get rest i ≡ Some x → ⊥
     nowhere [] i none is = cc
-    nowhere (z ∷ rest) zero none is = grind arith
+    nowhere (z ∷ rest) zero none is =
+        let same : z ≡ x = cc in
+        let here : is_of group (group_named z.name) ≡ true = subst (λ (z : ObjectSection). is_of group (group_named z.name) ≡ true) (sym same) own in
+        let some : z ∷ sections_of group rest ≡ [] = rw here at none in cc
     nowhere (z ∷ rest) (suc i) none is =
         elim (cases_Bool (is_of group (group_named z.name))) [
           | inl here ↦ let some : z ∷ sections_of group rest ≡ [] = rw here at none in cc
@@ -182,7 +200,8 @@ unfolding BytesAt
 drop_located image zero bytes a located = subst (λ m. BytesAt image m bytes) (omega arith) located
 drop_located image (suc n) [] a located = tt
 drop_located image (suc n) (x ∷ bytes) a located =
-    subst (λ m. BytesAt image m (drop n bytes)) (omega arith) (drop_located image n bytes (a + 1) located.1)
+    let same : a + 1 + n ≡ a + suc n = omega arith in
+    subst (λ m. BytesAt image m (drop n bytes)) same (drop_located image n bytes (a + 1) located.1)
 
 pub ended_is : (bytes text : List ℕ) → before_nul bytes ≡ Some text → (rest : List ℕ) × ((bytes ≡ text ++ 0 ∷ rest) × HasNoNul text)
 unfolding before_nul
@@ -209,7 +228,8 @@ module _ (machine : MachineType) (linked : List Placed) (image : List Range) (st
   -- the bytes that a symbol of its own leads to
   plain_bytes : (x : ObjectSection) (relocations : List Relocation) (value : ℕ) (bytes : List ℕ) → bytes_from x relocations value ≡ Some bytes →
       (relocations ≡ []) × ((holds_texts (group_named x.name) ≡ true) × (drop value x.bytes ≡ bytes))
-  plain_bytes x relocations value bytes is = grind arith
+  plain_bytes x [] value bytes is = grind arith
+  plain_bytes x (r ∷ relocations) value bytes is = cc
 
   in_section : (k value : ℕ) (bytes : List ℕ) (found : Option ObjectSection) → slice_get o.sections k ≡ found → option_and_then (λ (x : ObjectSection). bytes_from x x.relocations value) found ≡ Some bytes →
       (a : ℕ) × ((address_in (section_addresses_of b o.sections) (suc k) value ≡ Some a) × BytesAt image a bytes)
@@ -234,7 +254,8 @@ module _ (machine : MachineType) (linked : List Placed) (image : List Range) (st
       elim (cases_Bool (is_undefined_external s)) [
         | inl left ↦ let none : None ≡ Some bytes = rw left at is in cc
         | inr own ↦
-            let found = in_numbered s.section s.value bytes (rw own at is) in
+            let here : bytes_at_symbol o s ≡ Some bytes = rw own at is in
+            let found = in_numbered s.section s.value bytes here in
             (found.0, (rw own found.1.0, found.1.1))
       ]
 
@@ -248,10 +269,12 @@ module _ (machine : MachineType) (linked : List Placed) (image : List Range) (st
       elim (cases_Bool (is_defined_external s && bytes_eq name s.name)) [
         | inl both ↦
             let parts = and_parts (is_defined_external s) (bytes_eq name s.name) both in
-            let found = in_numbered s.section s.value bytes (rw both at is) in
+            let here : bytes_at_symbol o s ≡ Some bytes = rw both at is in
+            let found = in_numbered s.section s.value bytes here in
             let same : name ≡ s.name = (bytes_eq-Decides name s.name).0 parts.1 in
             let definition : record { name = s.name; address = address_in addresses s.section s.value } ≡ record { name = name; address = Some found.0 } = grind arith in
-            (found.0, (subst (λ (d : SymbolDefinition). Among d (filter_map (defined_by_entry addresses) (ASymbol s ∷ entries))) definition (rw parts.0 (among_first _ _)), found.1.1))
+            let first : Among (record { name = s.name; address = address_in addresses s.section s.value }) (filter_map (defined_by_entry addresses) (ASymbol s ∷ entries)) = rw parts.0 (among_first _ _) in
+            (found.0, (subst (λ (d : SymbolDefinition). Among d (filter_map (defined_by_entry addresses) (ASymbol s ∷ entries))) definition first, found.1.1))
         | inr other ↦ grind (arith, named_located name entries bytes (rw other at is), among_later)
       ]
 
@@ -281,8 +304,11 @@ module _ (machine : MachineType) (linked : List Placed) (image : List Range) (st
       named small below None at is = cc
       named small below (Some text) at is =
           let ended = ended_is bytes text at in
-          let front = located_parts image ((u16_bytes (low + 256 * high)) ++ (text ++ 0 ∷ [])) ended.0 place (subst (BytesAt image place) (grind (arith, append_assoc, u16_is)) held) in
-          subst (StrictThunkAt image (thunk_width machine) a) (cc)
+          let hint : List ℕ = u16_bytes (low + 256 * high) in
+          let whole : low ∷ high ∷ bytes ≡ (hint ++ (text ++ 0 ∷ [])) ++ ended.0 = grind (arith, append_assoc, u16_is) in
+          let front = located_parts image (hint ++ (text ++ 0 ∷ [])) ended.0 place (subst (BytesAt image place) whole held) in
+          let same : Name text (low + 256 * high) ≡ ask = cc in
+          subst (StrictThunkAt image (thunk_width machine) a) same
           (name_located machine image starts ends text (low + 256 * high) place a (hint_small low high small below) ended.1.1 here front.0)
 
   asked : (a : ℕ) (bytes : List ℕ) (relocations : List Relocation) (ask : Ask) → ask_of machine o bytes relocations ≡ Some ask → BytesAt image a (relocated machine linked p relocations bytes) →
@@ -296,6 +322,7 @@ module _ (machine : MachineType) (linked : List Placed) (image : List Range) (st
             | inl both ↦
                 let parts = and_parts (bytes_eq bytes plain) (nat_lt n (2 ^ 16)) both in
                 let same : bytes ≡ plain = (bytes_eq-Decides bytes plain).0 parts.0 in
+                let found : Some (Ordinal n) ≡ Some ask = rw both at is in
                 let asks : Ordinal n ≡ ask = cc in (
                   subst (StrictThunkAt image (thunk_width machine) a) asks (ordinal_located machine image n a (ltb-true n (2 ^ 16) parts.1) (subst (BytesAt image a) same held)),
                   ap length same ∙ length-thunk_of machine n true,
@@ -313,8 +340,9 @@ module _ (machine : MachineType) (linked : List Placed) (image : List Range) (st
       led None at is here = cc
       led (Some text) at is here =
           let own = own_located (slice_get o.entries r.symbol) text at in
+          let target : target_address linked p r.symbol ≡ own.0 + 0 = ap address_or_zero own.1.0 ∙ sym (plus_none own.0) in
           hint_located text ask own.0 a is own.1.1
-          (subst (BytesAt image a) (ap (with_address (zeros (thunk_width machine)) 0) (ap address_or_zero own.1.0 ∙ sym (plus_none own.0)) ∙ with_address-zeros machine (own.0 + 0)) here)
+          (subst (BytesAt image a) (ap (with_address (zeros (thunk_width machine)) 0) target ∙ with_address-zeros machine (own.0 + 0)) here)
   asked a bytes (r ∷ q ∷ relocations) ask is held = cc
 
   -- an entry's thunk in a table
@@ -331,7 +359,8 @@ module _ (machine : MachineType) (linked : List Placed) (image : List Range) (st
           (thunk.0, only.1 ∙ ap (λ n. base_of group b + n) thunk.1)
 
   none_left : (relocations : List Relocation) → has_none relocations ≡ true → relocations ≡ []
-  none_left relocations is = grind arith
+  none_left [] is = refl
+  none_left (r ∷ relocations) is = cc
 
   -- the tail's
   pub null_located : (group : Group) → IsCarried group → base_of group b % 4 ≡ 0 → null_thunk_of machine (only_section group o) ≡ true →
