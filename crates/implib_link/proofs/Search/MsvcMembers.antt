@@ -286,11 +286,6 @@ by_symbol e name (inr behind) = grind arith
 none_below : (n : ℕ) → n < 0 → ⊥
 none_below n less = omega arith
 
-pub first_one : {X : Type 0} (xs : List X) → 0 < length xs → (x : X) × Among x xs
-unfolding Among
-first_one [] some = absurd (none_below 0 some)
-first_one (x ∷ xs) some = (x, inl refl)
-
 -- What is linked of libraries.
 
 pub imports_are : (l : Library) (names : List (List ℕ)) → chosen_exports l.definition (imports_wanted l names) ≡ filter (is_import_wanted names) (exports_of l)

@@ -191,16 +191,6 @@ weak_as machine Msvc l (Own n e) = asking_not_weak machine (names_for Msvc l.def
 weak_as machine Gnu l (Own n e) = export_entries machine (names_for Gnu l.definition) e
 weak_as machine flavor l (Weak n e b) = weak_is_weak machine (weak_symbol flavor e b) (weak_target e b)
 
-pub tables_as : (machine : MachineType) (flavor : Flavor) (l : Library) (r : Role) → has_tables (object machine flavor l r) ≡ not (is_weak_role r)
-tables_as machine Msvc l Top = descriptor_has machine (names_for Msvc l.definition)
-tables_as machine Gnu l Top = head_has machine (names_for Gnu l.definition)
-tables_as machine Msvc l Last = thunk_has machine (names_for Msvc l.definition)
-tables_as machine Gnu l Last = tail_has machine (names_for Gnu l.definition)
-tables_as machine flavor l Null = null_has machine
-tables_as machine Msvc l (Own n e) = asking_has machine (names_for Msvc l.definition) (short_import_symbol e) (ask_in Msvc machine e) (use_for e)
-tables_as machine Gnu l (Own n e) = export_has machine (names_for Gnu l.definition) e
-tables_as machine flavor l (Weak n e b) = weak_has_none machine (weak_symbol flavor e b) (weak_target e b)
-
 -- What members for GNU's linker are read as: as objects, and so are they taken.
 module _ (machine : MachineType) (l : Library) (made : IsLibrary machine l) where
   weak_plain : (weak target : List ℕ) → taken_weak machine weak target ≡ object_of (weak_object machine weak target)
