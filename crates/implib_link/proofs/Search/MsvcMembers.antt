@@ -1,5 +1,5 @@
 -- The members of a library for Microsoft's linker: which of an export's a name finds, and what they are taken for.
-use Rattle.std.proofs.Common.{rules, ◌≡◌, ℕ, true, false, List, [], ◌∷◌, ◌++◌, map, Some, refl, ap, sym, ◌∙◌, subst, inl, inr, ◌⊎◌, ◌<◌, length, arith, ◌≤◌}
+use Rattle.std.proofs.Common.{rules, ◌≡◌, ℕ, true, false, List, [], ◌∷◌, ◌++◌, map, Some, refl, ap, sym, ◌∙◌, subst, inl, inr, ◌⊎◌, ◌<◌, arith, ◌≤◌}
 use Rattle.std.specs.List.{flat_map, filter}
 use Rattle.std.proofs.lemmas.Bool.{cases_Bool, false_from_ne_true}
 use Rattle.std.proofs.lemmas.List.{map-append}
@@ -249,25 +249,9 @@ weak_is_weak machine weak target = refl
 
 -- Which of them hold import tables.
 
-pub descriptor_has : (machine : MachineType) (dll : NamesOfDll) → has_tables (taken_descriptor machine dll) ≡ true
-unfolding has_tables with_section_symbols object_of descriptor entries_of name_text
-descriptor_has machine dll = refl
-
 pub null_has : (machine : MachineType) → has_tables (taken_null machine) ≡ true
 unfolding has_tables with_section_symbols object_of null_descriptor entries_of name_text
 null_has machine = refl
-
-pub thunk_has : (machine : MachineType) (dll : NamesOfDll) → has_tables (taken_null_thunk machine dll) ≡ true
-unfolding has_tables with_section_symbols object_of null_thunk entries_of name_text
-thunk_has machine dll = refl
-
-pub asking_has : (machine : MachineType) (dll : NamesOfDll) (symbol : List ℕ) (ask : Ask) (use_kind : Use) → has_tables (import_object machine dll.text symbol ask use_kind) ≡ true
-unfolding has_tables import_object
-asking_has machine dll symbol ask use_kind = cc
-
-pub weak_has_none : (machine : MachineType) (weak target : List ℕ) → has_tables (taken_weak machine weak target) ≡ false
-unfolding has_tables with_section_symbols weak_object object_of entries_of name_text
-weak_has_none machine weak target = refl
 
 -- Archives of libraries for Microsoft's linker: which exports are wanted, what is linked of them, and the null descriptor that they share.
 

@@ -1,6 +1,6 @@
 -- The members of a library in either flavour, by their roles: what each is listed for, and what a linker takes it for.
 use Rattle.std.proofs.Common.{rules, arith, ◌≡◌, ℕ, Bool, true, false, List, [], ◌∷◌, Some, refl}
-use Rattle.std.specs.Prelude.{not, slice_get}
+use Rattle.std.specs.Prelude.{slice_get}
 use Rattle.implib.specs.declared.flavor.Flavor.{Flavor}
 use Rattle.implib.specs.declared.flavor.Flavor.TheVariants.{Gnu, Msvc}
 use Rattle.implib.specs.declared.machine.MachineType.{MachineType}
@@ -19,16 +19,15 @@ use Rattle.implib.specs.Members.WeakExternal.{weak_object, weak_spec}
 use Rattle.implib.specs.Formats.Layout.{entries_of, name_text, object_of}
 use Rattle.implib.proofs.Link.Placement.{export, head, tail}
 use Rattle.implib_link.specs.Flavors.Expansion.{expanded_in, with_section_symbols}
-use Rattle.implib_link.specs.Flavors.Program.{IsFoundByName, ask_in, symbol_in, claimed_names, has_tables}
+use Rattle.implib_link.specs.Flavors.Program.{IsFoundByName, ask_in, symbol_in, claimed_names}
 use Rattle.implib_link.specs.Search.Search.{IsLibrary, Library, exports_of, has_weak, undefined_in}
 use Rattle.implib_link.specs.Search.Libraries.{FlavorLibrary, msvc_among, symbols_in, is_short_alias}
 use Rattle.implib_link.proofs.Flavors.Block.{asking, use_for, claimed_export, claimed_head, claimed_tail}
 use Rattle.implib_link.proofs.Flavors.Inputs.{claims_asking, claims_descriptor, claims_null, claims_thunk, head_taken, tail_taken, export_taken, spec_taken, spec_held}
 use Rattle.implib_link.proofs.Flavors.Expanded.{taken_descriptor, taken_null, taken_null_thunk}
-use Rattle.implib_link.proofs.Flavors.Program.{export_has, head_has, tail_has}
 use Rattle.implib_link.proofs.Search.ArchiveMembers.{export_of, head_of, tail_of, export_entries, export_object_is, head_object_is, tail_object_is, weak_object_is, weak_there, left_export, left_head, left_tail}
 use Rattle.implib_link.proofs.Search.Lists.{among_at}
-use Rattle.implib_link.proofs.Search.MsvcMembers.{asking_has, asking_not_weak, descriptor_has, descriptor_not_weak, left_asking, left_descriptor, left_null, left_thunk, null_has, null_not_weak, thunk_has, thunk_not_weak, weak_has_none, weak_is_weak, IsPair, claims_weak, descriptor_is, descriptor_of, left_weak, null_is, null_of, short_is, short_of, taken_weak, thunk_is, thunk_of, weak_is}
+use Rattle.implib_link.proofs.Search.MsvcMembers.{asking_not_weak, descriptor_not_weak, left_asking, left_descriptor, left_null, left_thunk, null_not_weak, thunk_not_weak, weak_is_weak, IsPair, claims_weak, descriptor_is, descriptor_of, left_weak, null_is, null_of, short_is, short_of, taken_weak, thunk_is, thunk_of, weak_is}
 
 -- a library in a flavour
 abbrev pub in_flavor : Flavor → Library → FlavorLibrary
