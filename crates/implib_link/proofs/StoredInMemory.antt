@@ -1,5 +1,5 @@
 -- Fields for the address of a name hold it, in memory at any base.
-use Rattle.std.proofs.Common.{◌≡◌, ℕ, ◌+◌, ◌*◌, ◌%◌, ◌^◌, ◌<◌, ◌≤◌, List, ◌++◌, [], ◌∷◌, length, None, Some, refl, sym, subst, arith}
+use Rattle.std.proofs.Common.{◌≡◌, ℕ, ◌+◌, ◌*◌, ◌^◌, ◌<◌, ◌≤◌, List, ◌++◌, [], ◌∷◌, length, None, Some, refl, sym, subst, arith}
 use Rattle.std.specs.List.{AllByRecursion, Contains}
 use Rattle.implib.specs.declared.machine.MachineType.{MachineType}
 use Rattle.implib.specs.declared.machine.MachineType.TheVariants.{I386, ARMNT, AMD64, ARM64}
@@ -12,7 +12,7 @@ use Rattle.implib.specs.Link.Resolution.{definitions_of}
 use Rattle.implib.specs.Members.ImportTables.{thunk_width}
 use Rattle.implib.proofs.Link.LinkedMembers.{among_contains}
 use Rattle.implib.proofs.Link.Ranges.{Among, all_among}
-use Rattle.implib_link.specs.Gnu.Fields.{field_width, DefinesIn, FieldHolds, LinkedCode, MeetsAlone, field_at, HasPageField, HasPointer, IsPointer, Names, absolute_width, StubAt, placed_code, StubArrives}
+use Rattle.implib_link.specs.Gnu.Fields.{field_width, DefinesIn, LinkedCode, MeetsAlone, field_at, HasPageField, HasPointer, Names, absolute_width, StubAt, placed_code, StubArrives}
 use Rattle.implib_link.specs.Gnu.Stored.{HasAddField, HasRelative, HoldAddress, HoldsFurther, IsImageRelative, SumArrives, arm64_pageoffset_12a, AreStoredInMemory, PointsTo}
 use Rattle.implib_link.proofs.Gnu.FieldsInMemory.{Settles, StoredRests, field_there, linked_there, own_end, settled_in_tables, stored_in_memory, stored_rests}
 use Rattle.implib_link.proofs.Gnu.Loaded.{Covers}
@@ -31,31 +31,11 @@ use Rattle.implib_link.proofs.Tables.{covering, entry_in, stub_in_memory, thunk_
 
 -- Numbers of fields.
 
-stored_is : (machine : MachineType) (type base position target : ℕ) (old new : ℕ → ℕ) → IsPointer machine type → old (thunk_width machine) ≡ 0 → FieldHolds machine type base position target old new →
-    base + 2 ^ 31 ≤ 2 ^ (8 * thunk_width machine) → target < 2 ^ 31 → new (thunk_width machine) ≡ base + target
-stored_is I386 type base position target old new stores empty holds fits small = dir32_is (new 4) (old 4) base target (holds.dir32 stores) empty fits small
-stored_is ARMNT type base position target old new stores empty holds fits small = absurd stores
-stored_is AMD64 type base position target old new stores empty holds fits small = addr64_is (new 8) (old 8) base target (holds.addr64 stores) empty fits small
-stored_is ARM64 type base position target old new stores empty holds fits small = addr64_is (new 8) (old 8) base target (holds.addr64 stores) empty fits small
-
-relative_is : (n old target : ℕ) → n ≡ (old + target) % 2 ^ 32 → old ≡ 0 → target < 2 ^ 31 → n ≡ target
-relative_is n old target is empty small = omega arith
-
 relative_width : (machine : MachineType) (type : ℕ) → IsImageRelative machine type → field_width machine type ≡ 4
-relative_width I386 type relative = refl
-relative_width ARMNT type relative = absurd relative
-relative_width AMD64 type relative = subst (λ t. field_width AMD64 t ≡ 4) (sym relative) refl
-relative_width ARM64 type relative = subst (λ t. field_width ARM64 t ≡ 4) (sym relative) refl
+relative_width machine type relative = grind arith
 
 relative_steady : (machine : MachineType) (type : ℕ) → IsImageRelative machine type → absolute_width machine type ≡ None
-relative_steady I386 type relative = subst (λ t. absolute_width I386 t ≡ None) (sym relative) refl
-relative_steady ARMNT type relative = absurd relative
-relative_steady AMD64 type relative = subst (λ t. absolute_width AMD64 t ≡ None) (sym relative) refl
-relative_steady ARM64 type relative = subst (λ t. absolute_width ARM64 t ≡ None) (sym relative) refl
-
--- the offset in a page is the same at a base that differs by whole pages
-added_is : (n from base target old : ℕ) → n ≡ (from + target + old) % 4096 → old ≡ 0 → from % 4096 ≡ base % 4096 → n ≡ (base + target) % 4096
-added_is n from base target old is empty paged = omega arith
+relative_steady machine type relative = grind arith
 
 module _ (machine : MachineType) (image_base : ℕ) (image : List Range) (linked : List Placed) (codes : List LinkedCode) (targets : LinkedCode → ℕ → ℕ) (memory : List Range)
     (stored : StoredRests machine image_base image linked codes targets memory) (written : List Range) (covers_it : AllByRecursion (Covers image) written) where
@@ -80,7 +60,7 @@ module _ (machine : MachineType) (image_base : ℕ) (image : List Range) (linked
         let found = field_there machine image_base image linked codes targets memory stored.rests written covers_it c (contains_among c codes held) offset has.type has.field.symbol has.field.alone has.field.inside target
         (settled c has.field.symbol held has.field.names) in
         subst (λ n. NumberAt (written ++ memory) (thunk_width machine) (c.position + offset) n)
-        (stored_is machine has.type image_base (c.position + offset) target (field_at c.code.bytes offset) found.0 has.stores has.empty found.1.1 fits small)
+        (grind (arith, dir32_is, addr64_is, has.stores, has.empty))
         (subst (λ w. NumberAt (written ++ memory) w (c.position + offset) (found.0 w)) (pointer_width machine has.type has.stores) found.1.0)
 
     -- a field of a type that Fields leaves out, as it was linked
@@ -95,7 +75,7 @@ module _ (machine : MachineType) (image_base : ℕ) (image : List Range) (linked
         let there = linked_there machine image_base image linked codes targets memory stored.rests written covers_it c (contains_among c codes held) offset has.type has.field.symbol has.field.alone has.field.inside
         (relative_steady machine has.type has.relative) in
         let holds = further_holds c offset has.type has.field.symbol held has.field.alone has.field.inside has.field.names in
-        subst (λ n. NumberAt (written ++ memory) 4 (c.position + offset) n) (relative_is (field_at c.bytes offset 4) (field_at c.code.bytes offset 4) target (holds.relative has.relative) has.empty small)
+        subst (λ n. NumberAt (written ++ memory) 4 (c.position + offset) n) (omega (arith, holds.relative has.relative, has.empty))
         (subst (λ w. NumberAt (written ++ memory) w (c.position + offset) (field_at c.bytes offset w)) (relative_width machine has.type has.relative) there)
 
 -- ARM64's two instructions.
@@ -108,9 +88,6 @@ sum_holds image_base image linked codes targets memory stored written covers_it 
     let m : Among c codes = contains_among c codes c_held in
     let paged = field_there ARM64 image_base image linked codes targets memory stored.rests written covers_it c m first arm64_pagebase_rel21 page_field.field.symbol page_field.field.alone page_field.field.inside target
     (settled c page_field.field.symbol c_held page_field.field.names) in
-    let page_holds = paged.1.1.page_of refl in
-    let end : c.position + length c.code.bytes + 16 ≤ 2 ^ 31 = own_end ARM64 image_base image linked codes targets memory stored.rests written covers_it c m in
-    let inside : first + 4 ≤ length c.code.bytes = page_field.field.inside in
     let there = linked_there ARM64 image_base image linked codes targets memory stored.rests written covers_it d (contains_among d codes d_held) second arm64_pageoffset_12a add_field.field.symbol add_field.field.alone
     add_field.field.inside refl in
     let added = (further_holds ARM64 image_base image linked codes targets memory stored written covers_it name target small settled d second arm64_pageoffset_12a add_field.field.symbol d_held add_field.field.alone
@@ -119,11 +96,11 @@ sum_holds image_base image linked codes targets memory stored written covers_it 
     record {
       adrp = paged.0 4;
       adrp_there = paged.1.0;
-      is_adrp = page_holds.0;
+      is_adrp = (paged.1.1.page_of refl).0;
       add = add;
       add_there = there;
       is_add = added.0;
-      leads = grind (arith, pair_leads, page_leads, added_is);
+      leads = grind (arith, own_end ARM64 image_base image linked codes targets memory stored.rests written covers_it c m, pair_leads, page_leads);
     }
 
 sums_hold : (machine : MachineType) (image_base : ℕ) (image : List Range) (linked : List Placed) (codes : List LinkedCode) (targets : LinkedCode → ℕ → ℕ) (memory : List Range)
@@ -181,12 +158,10 @@ module _ (machine : MachineType) (image_base : ℕ) (t : Tables) (codes : List L
   points_to : (Holds : ℕ → Type 0) (d : LinkedCode) (s : ObjectSymbol) → Contains codes d → DefinesIn d s → s.value ≡ 0 → Holds d.position → (c : LinkedCode) (offset : ℕ) →
       image_base + 2 ^ 31 ≤ 2 ^ (8 * thunk_width machine) → Contains codes c → HasPointer machine c offset s.name → PointsTo machine image_base (written ++ memory) (c.position + offset) Holds
   points_to Holds d s d_held defines begins there c offset fits held has =
-      let end : d.position + length d.code.bytes + 16 ≤ 2 ^ 31 = end_of d d_held in
-      let plain : d.position ≡ d.position + s.value = omega arith in
       record {
         target = d.position + s.value;
-        there = (names_hold d s d_held defines (omega arith)).whole c offset fits held has;
-        reached = subst Holds plain there;
+        there = (names_hold d s d_held defines (omega (arith, end_of d d_held))).whole c offset fits held has;
+        reached = subst Holds (omega (arith, end_of d d_held)) there;
       }
 
   pub stubs_stored : (i j : ℕ) (x : Table) (e : TableEntry) (name : List ℕ) → slice_get t.tables i ≡ Some x → slice_get x.entries j ≡ Some e → e.symbol ≡ Some name → CanReadFrom machine image_base x.address →

@@ -1,5 +1,6 @@
 -- Tables that follow one another, each behind the null thunk of the one before it: where each is, and where its entries.
 use Rattle.std.proofs.Common.{◌≡◌, ℕ, zero, suc, ◌+◌, ◌*◌, ◌%◌, ◌^◌, ◌<◌, ◌≤◌, List, [], ◌∷◌, length, map, Option, Some, refl, ap, sym, ◌∙◌, subst, arith, ◌++◌, inl}
+use Rattle.std.proofs.lemmas.Grind.{common_steps}
 use Rattle.std.specs.Prelude.{slice_get, option_map}
 use Rattle.std.specs.List.{AllByRecursion, Contains}
 use Rattle.implib.specs.declared.machine.MachineType.{MachineType}
@@ -29,7 +30,7 @@ use Rattle.implib_link.specs.Flavors.Program.{Ending, FlavorInput, SymbolsAt, im
 use Rattle.implib.specs.Formats.ShortImport.{ShortImport, ask_of_short_import}
 use Rattle.implib.proofs.Link.LinkedBlocks.{ends, starts}
 use Rattle.implib_link.specs.Flavors.LldImports.{IsLldProgram, dll_of_group, grouped, imported_by, imports_of_lld, placed_by_lld, ArePiecesAt, IsImportable, thunks_until, BranchArrivesByThunk, IsThunk, ThunkArrives}
-use Rattle.implib_link.specs.Gnu.Fields.{table_places, table_places_in, StubArrives, CanBranch, DirectCallArrives, HasDirectCall, StubAt, AreLinkedBeside, DefinesIn, LinkedCode, placed_code, field_at, ranges_of_codes, AllLead, AllLeadTo, AreKept, BranchArrives, HasBranch, BranchStays, Names}
+use Rattle.implib_link.specs.Gnu.Fields.{StubArrives, CanBranch, DirectCallArrives, HasDirectCall, StubAt, AreLinkedBeside, DefinesIn, LinkedCode, placed_code, field_at, ranges_of_codes, AllLead, AllLeadTo, AreKept, BranchArrives, HasBranch, BranchStays, Names}
 use Rattle.implib_link.specs.Stub.{CanJump}
 use Rattle.implib_link.proofs.Flavors.LldImports.{all_define, defined_once, get_map, lld_links, nth_stands, only, stand, pieces_directory, pieces_stand}
 use Rattle.implib_link.proofs.Flavors.Program.{program_links}
@@ -76,9 +77,8 @@ module _ (width : ℕ) where
       (b : Block) × ((slice_get blocks i ≡ Some b) × (record { dll = b.dll; address = address + width * entries_until i blocks; entries = b.entries } ≡ x))
   packed_at [] address i x is = cc
   packed_at (b ∷ blocks) address zero x is =
-      let same : record { dll = b.dll; address = address; entries = b.entries } ≡ x = cc in
       let none : address + width * 0 ≡ address = omega arith in
-      (b, (refl, ap (λ a. record { dll = b.dll; address = a; entries = b.entries }) none ∙ same))
+      (b, (refl, ap (λ a. record { dll = b.dll; address = a; entries = b.entries }) none ∙ (cc)))
   packed_at (b ∷ blocks) address (suc i) x is = grind (arith, packed_at blocks (address + width * (length b.entries + 1)) i x is)
 
 -- What packed tables have of what is known of their blocks.
@@ -132,17 +132,7 @@ module _ (machine : MachineType) (image : List Range) (linked : List Placed) (di
   -- an entry of a block
   pub block_entry : (i j : ℕ) (b : Block) (e : TableEntry) (name : List ℕ) → slice_get blocks i ≡ Some b → slice_get b.entries j ≡ Some e → e.symbol ≡ Some name →
       HasEntry packed name b.dll e.ask (addresses + thunk_width machine * entries_until i blocks) j
-  block_entry i j b e name is asked symbol = record {
-    i = i;
-    table = record { dll = b.dll; address = addresses + thunk_width machine * entries_until i blocks; entries = b.entries };
-    entry = e;
-    is = packed_get (thunk_width machine) blocks addresses i b is;
-    asked = asked;
-    symbol = symbol;
-    of_dll = refl;
-    of_ask = refl;
-    at = refl;
-  }
+  block_entry i j b e name is asked symbol = grind (arith, packed_get (thunk_width machine) blocks addresses i b is)
 
 -- What a loader writes into import tables that follow one another is at their entries, and nowhere else.
 
@@ -161,9 +151,7 @@ first_field : (image : List Range) (descriptor : ℕ) (x : Table) (tables : List
 first_field image descriptor x tables fields = let place : descriptor + 20 * 0 + 16 ≡ descriptor + 16 = omega arith in subst (λ a. NumberAt image 4 a x.address) place (fields 0 x refl)
 
 later_fields : (image : List Range) (descriptor : ℕ) (x : Table) (tables : List Table) → HasFields image descriptor (x ∷ tables) → HasFields image (descriptor + 20) tables
-later_fields image descriptor x tables fields i y is =
-    let place : descriptor + 20 * suc i + 16 ≡ descriptor + 20 + 20 * i + 16 = omega arith in
-    subst (λ a. NumberAt image 4 a y.address) place (fields (suc i) y is)
+later_fields image descriptor x tables fields i y is = grind (arith, fields (suc i) y is)
 
 -- a table is above all that was before it
 risen : (width low i : ℕ) (tables : List Table) (x : Table) → RiseFrom width low tables → slice_get tables i ≡ Some x → low ≤ x.address
@@ -174,8 +162,7 @@ risen width low (suc i) (y ∷ tables) x rise is = grind (arith, risen width (y.
 
 in_later : (width : ℕ) (y : Table) (tables : List Table) (rs : List Range) → AllByRecursion (IsInTable width tables) rs → AllByRecursion (IsInTable width (y ∷ tables)) rs
 in_later width y tables [] all = tt
-in_later width y tables (r ∷ rs) all =
-    grind (arith, in_later width y tables rs all.1, among_contains all.0.table (y ∷ tables) (among_later all.0.table y tables (contains_among all.0.table tables all.0.held)), among_later all.0.table y tables (contains_among all.0.table tables all.0.held), contains_among all.0.table tables all.0.held)
+in_later width y tables (r ∷ rs) all = grind (arith, in_later width y tables rs all.1, among_contains all.0.table (y ∷ tables) (among_later all.0.table y tables (contains_among all.0.table tables all.0.held)))
 
 in_first : (width : ℕ) (x : Table) (tables : List Table) (rs : List Range) → AllByRecursion (λ r. (x.address ≤ r.start) × (range_end r ≤ x.address + width * length x.entries)) rs →
     AllByRecursion (IsInTable width (x ∷ tables)) rs
@@ -192,12 +179,7 @@ module _ (machine : MachineType) (gives : List ℕ → Ask → List ℕ) where
       Writes image (thunk_width machine) gives descriptor (map imported_by_table tables) written → written ≡ tables_filled tables
   unfolding Writes tables_filled
   writes_fill image [] descriptor written fields writes = writes
-  writes_fill image (x ∷ tables) descriptor written fields (table, (field, (behind, (is, later)))) =
-      let same : table ≡ x.address = number_once image 4 (descriptor + 16) table x.address field (first_field image descriptor x tables fields) in
-      is
-      ∙ ap (λ n. entries_written (thunk_width machine) n (gives x.dll) (asks_of x) ++ behind) same
-      ∙ ap (λ rest. entries_written (thunk_width machine) x.address (gives x.dll) (asks_of x) ++ rest)
-      (writes_fill image tables (descriptor + 20) behind (later_fields image descriptor x tables fields) later)
+  writes_fill image (x ∷ tables) descriptor written fields (table, (field, (behind, (is, later)))) = cc (number_once image 4 (descriptor + 16) table x.address field (first_field image descriptor x tables fields), writes_fill image tables (descriptor + 20) behind (later_fields image descriptor x tables fields) later)
 
   module _ (wide : (dll : List ℕ) (ask : Ask) → length (gives dll ask) ≡ thunk_width machine) where
     filled_at : (tables : List Table) (low : ℕ) (ranges : List Range) (i j : ℕ) (x : Table) (e : TableEntry) → RiseFrom (thunk_width machine) low tables → slice_get tables i ≡ Some x → slice_get x.entries j ≡ Some e →
@@ -290,9 +272,7 @@ inputs_blocks machine (p ∷ inputs) = simp (inputs_blocks machine inputs, asks_
 pub inputs_until : (machine : MachineType) (i : ℕ) (inputs : List FlavorInput) → entries_until i (map (block_of_flavor machine) inputs) ≡ thunks_of i inputs
 inputs_until machine zero inputs = refl
 inputs_until machine (suc i) [] = refl
-inputs_until machine (suc i) (p ∷ inputs) =
-    ap (λ n. n + 1 + entries_until i (map (block_of_flavor machine) inputs)) (length-map (exports_chosen p) (λ (e : ExportView). record { ask = ask_in p.flavor machine e; symbol = Some (imp_symbol (symbol_in p.flavor e)) }))
-    ∙ ap (λ n. length (exports_chosen p) + 1 + n) (inputs_until machine i inputs)
+inputs_until machine (suc i) (p ∷ inputs) = grind (arith, length-map, inputs_until machine i inputs)
 
 pub program_tables : (machine : MachineType) (ending : Ending) (bases : Bases) (inputs : List FlavorInput) (objects : List Object) → AllByRecursion (IsMadeFor machine) inputs → IsProgramOf machine ending bases inputs objects →
     AreTables machine (tables_at machine bases objects (map (block_of_flavor machine) inputs))
@@ -410,14 +390,7 @@ module _ (machine : MachineType) (descriptors addresses : ℕ) (taken : List Sho
 -- lld's own tables store no address whole.
 pub lld_steady : (machine : MachineType) (addresses : ℕ) (taken : List ShortImport) (before behind : List Placed) → AreSteady machine before → AreSteady machine behind →
     AreSteady machine (before ++ placed_by_lld machine addresses taken ∷ behind)
-lld_steady machine addresses taken [] behind none none_behind = none_behind
-lld_steady machine addresses taken (p ∷ before) behind none none_behind =
-    let parts = both_none (table_places_in machine p.section_addresses p.object.sections) (table_places machine before) none in
-    rw parts.0 (lld_steady machine addresses taken before behind parts.1 none_behind)
-  where
-    both_none : {X : Type 0} (xs ys : List X) → xs ++ ys ≡ [] → (xs ≡ []) × (ys ≡ [])
-    both_none [] ys is = (refl, is)
-    both_none (x ∷ xs) ys is = cc
+lld_steady machine addresses taken before behind none none_behind = grind (arith, common_steps)
 
 -- How many tables there are, and that they can be read where stubs can jump.
 pub program_count : (machine : MachineType) (bases : Bases) (inputs : List FlavorInput) (objects : List Object) → length (tables_at machine bases objects (map (block_of_flavor machine) inputs)).tables ≡ length inputs
@@ -479,9 +452,7 @@ module _ (machine : MachineType) (image_base : ℕ) (t : Tables) (codes : List L
   -- a loader that is handed the imports writes what one does that reads them in memory
   pub written_read : (written : List Range) → Writes t.image (thunk_width machine) gives t.directory (map imported_by_table t.tables) written →
       ReadsAndWrites memory (thunk_width machine) gives (length t.tables) t.directory written
-  written_read written writes =
-      subst (λ n. ReadsAndWrites memory (thunk_width machine) gives n t.directory written) (length-map t.tables imported_by_table)
-      (memory_reads t.image memory resting.image_kept (thunk_width machine) gives t.directory (map imported_by_table t.tables) written tables.directory writes)
+  written_read written writes = grind (arith, length-map t.tables imported_by_table, memory_reads t.image memory resting.image_kept (thunk_width machine) gives t.directory (map imported_by_table t.tables) written tables.directory writes)
 
   module _ (n : ℕ) (written : List Range) (wide : (dll : List ℕ) (ask : Ask) → length (gives dll ask) ≡ thunk_width machine)
       (reads : ReadsAndWrites memory (thunk_width machine) gives n t.directory written) where
@@ -536,8 +507,7 @@ module _ (machine : MachineType) (image_base : ℕ) (t : Tables) (codes : List L
     tables_stay_in_memory = branch_stays machine image_base t.image t.linked codes targets memory resting written covering
 
     pub tables_keep_in_memory : AreKept machine codes (written ++ memory)
-    tables_keep_in_memory c offset count held none =
-        part_there machine image_base t.image t.linked codes targets memory resting written covering c (contains_among c codes held) offset count none
+    tables_keep_in_memory c offset count held none = grind (arith, part_there machine image_base t.image t.linked codes targets memory resting written covering c (contains_among c codes held) offset count none)
 
     -- a stub of the entry
     pub stub_in_memory : (i j : ℕ) (x : Table) (e : TableEntry) (name : List ℕ) → slice_get t.tables i ≡ Some x → slice_get x.entries j ≡ Some e → e.symbol ≡ Some name → CanReadFrom machine image_base x.address →
@@ -547,9 +517,6 @@ module _ (machine : MachineType) (image_base : ℕ) (t : Tables) (codes : List L
         let known = entry_in i j x e name is asked symbol in
         stub_arrives machine image_base t.image t.linked codes targets memory resting written covering name (gives x.dll e.ask) (x.address + thunk_width machine * j) known.once known.small
         (entry_reached machine image_base x.address j can) known.located d s held stub
-
-    end_below : (d : LinkedCode) → Contains codes d → d.position + 16 ≤ 2 ^ 31
-    end_below d held = grind (arith, contains_among d codes held, all_among, resting, ends)
 
     -- where linked code begins with the definition of a name, symbols are that stand for it, be it the name itself or another
     abbrev pub AreAt : LinkedCode → List ℕ → ℕ → Type 0
@@ -561,12 +528,9 @@ module _ (machine : MachineType) (image_base : ℕ) (t : Tables) (codes : List L
         AreAt c called d.position → HasDirectCall machine (placed_code c) offset called → CanBranch machine (c.position + offset) d.position →
         DirectCallArrives machine image_base (written ++ memory) (c.position + offset) (gives x.dll e.ask)
     stub_called_by i j x e name is asked symbol can d s d_held stub c offset called held taken has near =
-        let below : d.position + 16 ≤ 2 ^ 31 = end_below d d_held in
+        let below : d.position + 16 ≤ 2 ^ 31 = grind (arith, contains_among d codes d_held, all_among, resting, ends) in
         direct_arrives machine image_base t.image t.linked codes targets memory resting written covering c offset d.position called (gives x.dll e.ask) held has taken (omega arith) near
         (stub_in_memory i j x e name is asked symbol can d s d_held stub)
-
-    plain_sum : (a n : ℕ) → n ≡ 0 → a + n ≡ a
-    plain_sum a n none = omega arith
 
     pub stub_called_in_memory : (i j : ℕ) (x : Table) (e : TableEntry) (name : List ℕ) → slice_get t.tables i ≡ Some x → slice_get x.entries j ≡ Some e → e.symbol ≡ Some name → CanReadFrom machine image_base x.address →
         (d : LinkedCode) (s : ObjectSymbol) → Contains codes d → StubAt machine t.linked (placed_code d) s (x.address + thunk_width machine * j) → (c : LinkedCode) (offset : ℕ) → Contains codes c → DefinesIn d s →
@@ -574,7 +538,7 @@ module _ (machine : MachineType) (image_base : ℕ) (t : Tables) (codes : List L
         DirectCallArrives machine image_base (written ++ memory) (c.position + offset) (gives x.dll e.ask)
     stub_called_in_memory i j x e name is asked symbol can d s d_held stub c offset held defines =
         stub_called_by i j x e name is asked symbol can d s d_held stub c offset s.name held
-        (λ index names. where_defined machine image_base t.image t.linked codes targets memory resting written covering c d s.name s held d_held defines refl index names ∙ plain_sum d.position s.value stub.begins)
+        (λ index names. where_defined machine image_base t.image t.linked codes targets memory resting written covering c d s.name s held d_held defines refl index names ∙ (omega (arith, stub.begins)))
 
     pub stub_called_otherwise : (i j : ℕ) (x : Table) (e : TableEntry) (name : List ℕ) → slice_get t.tables i ≡ Some x → slice_get x.entries j ≡ Some e → e.symbol ≡ Some name → CanReadFrom machine image_base x.address →
         (d : LinkedCode) (s : ObjectSymbol) → Contains codes d → StubAt machine t.linked (placed_code d) s (x.address + thunk_width machine * j) → (c : LinkedCode) (offset : ℕ) (alias : List ℕ) → Contains codes c → DefinesIn d s →
@@ -582,7 +546,7 @@ module _ (machine : MachineType) (image_base : ℕ) (t : Tables) (codes : List L
         DirectCallArrives machine image_base (written ++ memory) (c.position + offset) (gives x.dll e.ask)
     stub_called_otherwise i j x e name is asked symbol can d s d_held stub c offset alias held defines stands =
         stub_called_by i j x e name is asked symbol can d s d_held stub c offset alias held
-        (λ index names. stands.code c d index s held d_held names defines refl ∙ plain_sum d.position s.value stub.begins)
+        (λ index names. stands.code c d index s held d_held names defines refl ∙ (omega (arith, stub.begins)))
 
     -- lld's thunk of a short import, whose symbol the entry has
     pub thunk_in_memory : (i j : ℕ) (x : Table) (e : TableEntry) → slice_get t.tables i ≡ Some x → slice_get x.entries j ≡ Some e → CanReadFrom machine image_base x.address →
@@ -598,7 +562,7 @@ module _ (machine : MachineType) (image_base : ℕ) (t : Tables) (codes : List L
         AreAt c called (d.position + 0) → HasBranch machine c offset after called → CanBranch machine (c.position + offset) d.position →
         BranchArrivesByThunk machine image_base (written ++ memory) (c.position + offset) after (gives x.dll e.ask)
     thunk_called_by i j x e is asked can r d symbol d_held thunk c offset after called held taken has near =
-        let below : d.position + 16 ≤ 2 ^ 31 = end_below d d_held in
+        let below : d.position + 16 ≤ 2 ^ 31 = grind (arith, contains_among d codes d_held, all_among, resting, ends) in
         let plain : d.position + 0 ≡ d.position = omega arith in
         record {
           thunk = d.position;

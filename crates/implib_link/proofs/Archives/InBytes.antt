@@ -1,6 +1,6 @@
 -- A search in the bytes of an archive is a search of its members.
 use Rattle.std.proofs.lemmas.Grind.{common_steps}
-use Rattle.std.proofs.Common.{◌≡◌, ℕ, suc, ◌+◌, ◌%◌, ◌≤◌, Bool, true, false, inl, inr, List, [], ◌∷◌, ◌++◌, Option, Some, None, if◌then◌else◌, is_some, length, map, option_and_then, refl, sym, ap, subst, ◌∙◌, arith, ◌<◌, get_or, nat_lt, unwrap_or, codes, append_assoc, append-nil, length-append}
+use Rattle.std.proofs.Common.{◌≡◌, ℕ, suc, ◌+◌, ◌%◌, ◌≤◌, Bool, true, false, inl, inr, List, [], ◌∷◌, ◌++◌, Option, Some, None, if◌then◌else◌, is_some, length, map, option_and_then, refl, sym, ap, subst, ◌∙◌, arith, ◌<◌, nat_lt, unwrap_or, codes, append_assoc, append-nil, length-append}
 use Rattle.std.specs.Prelude.{slice_get, ◌==◌, ◌||◌, ◌⊎◌, bytes_eq, fold}
 use Rattle.std.specs.List.{Contains, cons_option, filter_map, AllByRecursion, IsDistinct, flat_map, list_any}
 use Rattle.std.specs.Option.{option_map}
@@ -12,7 +12,7 @@ use Rattle.implib.proofs.Link.Ranges.{Among}
 use Rattle.implib_archive.specs.Archive.{archive_of, entries_from, entries_of, first_linker, is_listed, place_of, places_of, with_first}
 use Rattle.implib_archive.specs.Leads.{first_lister, header_for, headers_among, headers_in, lists, with_header}
 use Rattle.implib_archive.specs.ReadBack.{read_view, padded, parts_of, stored, stored_linkers}
-use Rattle.implib_archive.specs.Reader.{Linker, LongAt, LongNames, Name, Short, Stored, Unknown, member_at, name_in, Read, first_in}
+use Rattle.implib_archive.specs.Reader.{Name, Stored, member_at, Read, first_in}
 use Rattle.implib_archive.specs.declared.kind.Kind.{Kind}
 use Rattle.implib_archive.specs.declared.kind.Kind.TheVariants.{Coff, Gnu}
 use Rattle.implib_archive.proofs.Leading.{each_index_leads, each_second_leads, entries_texts, headers_found, near_at, short_places}
@@ -41,18 +41,12 @@ rising_from low high (h ∷ headers) less rising = (omega (arith, less, rising.0
 
 rising_name : (n : Name) (place next : ℕ) (headers : List ℕ) → place + 1 ≤ next → AreRising next headers → AreRising place (with_header n place headers)
 unfolding AreRising with_header
-rising_name Linker place next headers more rising = rising_from place next headers (omega (arith, more)) rising
-rising_name LongNames place next headers more rising = rising_from place next headers (omega (arith, more)) rising
-rising_name (LongAt offset) place next headers more rising = (omega arith, rising_from (place + 1) next headers more rising)
-rising_name (Short text) place next headers more rising = (omega arith, rising_from (place + 1) next headers more rising)
-rising_name Unknown place next headers more rising = (omega arith, rising_from (place + 1) next headers more rising)
+rising_name n place next headers more rising = grind (arith, rising_from)
 
 rising_among : (place : ℕ) (parts : List Stored) → AreRising place (headers_among place parts)
 unfolding AreRising headers_among
 rising_among place [] = tt
-rising_among place (s ∷ parts) =
-    let next = place + (60 + length s.contents + length s.contents % 2) in
-    rising_name (name_in s.field) place next (headers_among next parts) (omega arith) (rising_among next parts)
+rising_among place (s ∷ parts) = grind (arith, rising_name, rising_among (place + (60 + length s.contents + length s.contents % 2)) parts)
 
 pub rising_headers : (bytes headers : List ℕ) → headers_in bytes ≡ Some headers → AreRising 8 headers
 unfolding headers_in
@@ -151,26 +145,19 @@ module _ (kind : Kind) (linker : LinkerMember) (bytes headers : List ℕ) (membe
     (reads : map (member_at kind bytes) headers ≡ map (λ m. Some (read_view m)) members) where
   pub read_at : (h : ℕ) (m : MemberView) → IsHeaderOf headers members h m → member_at kind bytes h ≡ Some (read_view m)
   read_at h m is =
-      let one : slice_get (map (member_at kind bytes) headers) is.number ≡ Some (member_at kind bytes h) = slice_get-map (member_at kind bytes) headers is.number ∙ ap (option_map (member_at kind bytes)) is.header_is in
-      let two : slice_get (map (λ m. Some (read_view m)) members) is.number ≡ Some (Some (read_view m)) = slice_get-map (λ m. Some (read_view m)) members is.number ∙ ap (option_map (λ m. Some (read_view m))) is.member_is in
-      let both : Some (member_at kind bytes h) ≡ Some (Some (read_view m)) = sym one ∙ (ap (λ t. slice_get t is.number) reads ∙ two) in
-      cc
+      grind (arith, slice_get-map (member_at kind bytes) headers is.number ∙ ap (option_map (member_at kind bytes)) is.header_is, slice_get-map)
 
   paired_read : (taken : List ℕ) (found : List MemberView) → ArePaired headers members taken found → map (member_at kind bytes) taken ≡ map (λ m. Some (read_view m)) found
   unfolding ArePaired
   paired_read [] [] paired = refl
-  paired_read (h ∷ taken) (m ∷ found) paired =
-      ap (λ t. t ∷ map (member_at kind bytes) taken) (read_at h m (first_is_header headers members paired.0.0 h m paired.0.1)) ∙ ap (λ t. Some (read_view m) ∷ t) (paired_read taken found paired.1)
-  paired_read [] (m ∷ found) paired = absurd paired
-  paired_read (h ∷ taken) [] paired = absurd paired
+  paired_read (h ∷ taken) (m ∷ found) paired = cc (read_at h m (first_is_header headers members paired.0.0 h m paired.0.1), paired_read taken found paired.1)
+  paired_read taken found paired = absurd paired
 
   contents_read : (taken : List ℕ) (found : List MemberView) → ArePaired headers members taken found → contents_at kind bytes taken ≡ map (λ m. m.bytes) found
   unfolding ArePaired
   contents_read [] [] paired = refl
-  contents_read (h ∷ taken) (m ∷ found) paired =
-      ap (λ r. cons_option (option_map (λ r. r.bytes) r) (contents_at kind bytes taken)) (read_at h m (first_is_header headers members paired.0.0 h m paired.0.1)) ∙ ap (λ t. m.bytes ∷ t) (contents_read taken found paired.1)
-  contents_read [] (m ∷ found) paired = absurd paired
-  contents_read (h ∷ taken) [] paired = absurd paired
+  contents_read (h ∷ taken) (m ∷ found) paired = cc (read_at h m (first_is_header headers members paired.0.0 h m paired.0.1), contents_read taken found paired.1)
+  contents_read taken found paired = absurd paired
 
   module _ (own : List Object) (by : List ℕ → Option Object) where
     -- the objects of members in the bytes
@@ -187,9 +174,7 @@ module _ (kind : Kind) (linker : LinkerMember) (bytes headers : List ℕ) (membe
     pulled_back taken found name h paired pulls = by_first (first_lister headers members name) refl
       where
         by_first : (r : Option (ℕ × MemberView)) → first_lister headers members name ≡ r → IsPulledBack found name h
-        by_first None is =
-            let none : header_by linker bytes name ≡ None = find name ∙ ap (option_map (λ f. f.0)) is in
-            let no : Some h ≡ None = sym pulls.found ∙ none in absurd (cc)
+        by_first None is = grind arith
         by_first (Some f) is =
             let at : Some f.0 ≡ Some h = sym (find name ∙ ap (option_map (λ f. f.0)) is) ∙ pulls.found in
             let same : f.0 ≡ h = cc in
@@ -215,8 +200,7 @@ module _ (kind : Kind) (linker : LinkerMember) (bytes headers : List ℕ) (membe
       where
         by_first : (r : Option (ℕ × MemberView)) → first_lister headers members name ≡ r → IsPulledForth taken name m
         by_first None is =
-            let none : first_listed members name ≡ None = sym (first_member headers members name many) ∙ ap (option_map (λ f. f.1)) is in
-            let no : Some m ≡ None = sym pulls.listed ∙ none in absurd (cc)
+            let no : Some m ≡ None = sym pulls.listed ∙ (sym (first_member headers members name many) ∙ ap (option_map (λ f. f.1)) is) in absurd (cc)
         by_first (Some f) is =
             let at : Some f.1 ≡ Some m = sym (sym (first_member headers members name many) ∙ ap (option_map (λ f. f.1)) is) ∙ pulls.listed in
             let same : f.1 ≡ m = cc in
@@ -322,16 +306,7 @@ either_same Gnu Second members ready name = absurd ready.has
 
 pub is_ready : (kind : Kind) (linker : LinkerMember) (members : List MemberView) (ready : HaveArchive kind linker members) → IsReady kind linker members ready
 is_ready kind linker members ready =
-    let leads = each_index_leads kind members ready.accepted in
-    let bytes = archive_of kind members in
-    record {
-      headers = leads.headers;
-      located = leads.found;
-      rising = rising_headers bytes leads.headers leads.found;
-      find = λ name. either_same kind linker members ready name ∙ leads.leads name;
-      many = sym (length-map leads.headers (member_at kind bytes)) ∙ (ap length leads.read ∙ length-map members (λ m. Some (read_view m)));
-      read = leads.read;
-    }
+    grind (arith, each_index_leads kind members ready.accepted, rising_headers, either_same, length-map)
 
 -- a search in the bytes takes members of which what a search of the members says holds
 pub takes_just : (kind : Kind) (linker : LinkerMember) (members : List MemberView) (reads : List ℕ → Option Object) (own : List Object) (P : List MemberView → Type 0) → HaveArchive kind linker members
@@ -368,8 +343,7 @@ pub search_of : (kind : Kind) (linker : LinkerMember) (members : List MemberView
     IsSearchOf kind linker members reads own found
 search_of kind linker members reads own found ready takes =
     let r = is_ready kind linker members ready in
-    let forth = search_forth kind linker (archive_of kind members) r.headers members r.rising r.find r.many r.read own reads found takes in
-    record { headers = r.headers; located = r.located; taken = forth.taken; at = forth.paired; takes = forth.takes }
+    grind (arith, search_forth kind linker (archive_of kind members) r.headers members r.rising r.find r.many r.read own reads found takes)
 
 -- The bytes of an archive of members have these members.
 
@@ -388,8 +362,7 @@ readable kind members accepted = grind (arith, accepted_parts kind members accep
 
 first_stored : (kind : Kind) (members : List MemberView) → nat_lt 0 (length (entries_of kind members)) ≡ true → slice_get (parts_of kind members) 0 ≡ Some (stored (codes "/") (padded 0 (first_linker (places_of kind members) (entries_of kind members))))
 unfolding parts_of stored_linkers
-first_stored Coff members some = refl
-first_stored Gnu members some = grind arith
+first_stored kind members some = grind arith
 
 entries_found : (kind : Kind) (members : List MemberView) → refusal_of kind members ≡ None → nat_lt 0 (length (entries_of kind members)) ≡ true →
     entries_in (archive_of kind members) ≡ map (shown (places_of kind members)) (entries_of kind members)
@@ -397,10 +370,6 @@ unfolding entries_in first_in
 entries_found kind members accepted some = grind (arith, readable kind members accepted, parts_read_back kind members accepted, first_stored kind members some, linker_there, first_data, first_read)
 
 -- They are the members' symbols, header by header.
-
-get_after : (front : List ℕ) (p : ℕ) (ps : List ℕ) → get_or (front ++ p ∷ ps) (length front) 0 ≡ p
-get_after [] p ps = refl
-get_after (x ∷ front) p ps = get_after front p ps
 
 symbols_shown : (places : List ℕ) (number p : ℕ) (symbols : List (List ℕ)) → place_of places number ≡ p →
     map (shown places) (map (listed_for number) symbols) ≡ map (listed_for p) symbols
@@ -413,7 +382,7 @@ unfolding entries_from entries_by place_of
 entries_shown front [] [] many = refl
 entries_shown front [] (m ∷ members) many = absurd (omega (arith, many))
 entries_shown front (p ∷ ps) [] many = absurd (omega (arith, many))
-entries_shown front (p ∷ ps) (m ∷ members) many = grind (arith, common_steps, entries_shown (front ++ p ∷ []) ps members (omega (arith, many)), get_after, length-append, map-append, symbols_shown, many)
+entries_shown front (p ∷ ps) (m ∷ members) many = grind (arith, common_steps, entries_shown (front ++ p ∷ []) ps members (omega (arith, many)), length-append, map-append, symbols_shown, many)
 
 -- Where headers rise, the symbols at one are its member's.
 
@@ -466,21 +435,12 @@ members_after kind bytes before low [] (m ∷ members) rising below is read = ab
 members_after kind bytes before low (h ∷ headers) [] rising below is read = absurd (cc)
 members_after kind bytes before low (h ∷ headers) (m ∷ members) rising below is read =
     let own = map (listed_for h) m.symbols in
-    let rest = entries_by headers members in
-    let at : member_at kind bytes h ≡ Some (read_view m) = first_same read in
-    let later : map (member_at kind bytes) headers ≡ map (λ x. Some (read_view x)) members = later_same read in
-    let symbols : symbols_at (entries_in bytes) h ≡ m.symbols = grind (arith, none_below, below_on, rising, all_here, none_above, headers, append-nil) in
     let behind : filter_map (member_after kind bytes) headers ≡ members =
     members_after kind bytes (before ++ own) (h + 1) headers members rising.1
     (below_joined (h + 1) before own (below_on low (h + 1) before (omega (arith, rising.0)) below) (symbols_below h m.symbols))
-    (is ∙ sym (append_assoc before own rest)) later in
-    ap (λ r. cons_option (option_map (λ x. record { name = x.name; bytes = x.bytes; symbols = symbols_at (entries_in bytes) h }) r) (filter_map (member_after kind bytes) headers)) at
-    ∙ (ap (λ names. record { name = m.name; bytes = m.bytes; symbols = names } ∷ filter_map (member_after kind bytes) headers) symbols
-    ∙ ap (λ t. m ∷ t) behind)
+    (is ∙ sym (append_assoc before own (entries_by headers members))) (later_same read) in
+    grind (arith, none_below, below_on, rising, all_here, none_above, headers, append-nil)
   where
-    first_same : {x y : Option Read} {xs ys : List (Option Read)} → x ∷ xs ≡ y ∷ ys → x ≡ y
-    first_same is = cc
-
     later_same : {x y : Option Read} {xs ys : List (Option Read)} → x ∷ xs ≡ y ∷ ys → xs ≡ ys
     later_same is = cc
 
@@ -513,9 +473,7 @@ names_from number (m ∷ members) = grind (arith, names_from (number + 1) member
 
 each_entry : (kind : Kind) (members : List MemberView) → (kind ≡ Gnu) ⊎ IsDistinct bytes_eq (flat_map (λ m. m.symbols) members) → entries_of kind members ≡ entries_from 1 members
 unfolding entries_of
-each_entry Gnu members either = refl
-each_entry Coff members (inl gnu) = cc
-each_entry Coff members (inr distinct) = all_firsts [] (entries_from 1 members) (subst (IsDistinct bytes_eq) (sym (names_from 1 members)) distinct)
+each_entry kind members either = grind (arith, all_firsts, names_from)
 
 pub archive_has_members : (kind : Kind) (members : List MemberView) → refusal_of kind members ≡ None → 0 < length (flat_map (λ m. m.symbols) members) → (kind ≡ Gnu) ⊎ IsDistinct bytes_eq (flat_map (λ m. m.symbols) members) →
     HasMembersAs kind (archive_of kind members) members
@@ -525,7 +483,7 @@ archive_has_members kind members accepted some either =
     let places = places_of kind members in
     let leads = each_index_leads kind members accepted in
     let located = headers_found kind members accepted in
-    let same : leads.headers ≡ places = same_places leads.headers places (sym leads.found ∙ located) in
+    let same : leads.headers ≡ places = cc in
     let many : length places ≡ length members = length-places _ members in
     let own : entries_of kind members ≡ entries_from 1 members = each_entry kind members either in
     let listed : nat_lt 0 (length (entries_of kind members)) ≡ true = lt-ltb 0 (length (entries_of kind members)) (subst (λ n. 0 < n) (sym (ap length own ∙ all_entries 1 members)) some) in
@@ -538,12 +496,6 @@ archive_has_members kind members accepted some either =
       ordered = entries;
     }
   where
-    same_places : (xs ys : List ℕ) → ◌≡◌ {A = Option (List ℕ)} (Some xs) (Some ys) → xs ≡ ys
-    same_places xs ys is = cc
-
     all_entries : (number : ℕ) (some : List MemberView) → length (entries_from number some) ≡ length (flat_map (λ m. m.symbols) some)
     all_entries number [] = refl
-    all_entries number (m ∷ some) =
-        length-append (map (listed_for number) m.symbols) (entries_from (number + 1) some)
-        ∙ (ap (λ n. n + length (entries_from (number + 1) some)) (length-map m.symbols (listed_for number))
-        ∙ (ap (λ n. length m.symbols + n) (all_entries (number + 1) some) ∙ sym (length-append m.symbols (flat_map (λ x. x.symbols) some))))
+    all_entries number (m ∷ some) = grind (arith, length-append, length-map, all_entries (number + 1) some)

@@ -2,7 +2,7 @@
 use Rattle.std.proofs.Common.{rules, arith, ◌+◌, ◌*◌, Bool, List, ℕ, map, ◌∙◌, ◌≡◌, true, false, [], ◌∷◌, ◌++◌, Option, None, Some, refl, ap, sym, subst, inl, inr}
 use Rattle.std.specs.List.{AllByRecursion, Contains, IsDistinct, cons_option, filter, filter_map, flat_map, list_any}
 use Rattle.implib.specs.declared.machine.MachineType.{MachineType}
-use Rattle.implib.specs.Formats.Object.{Object, object_in}
+use Rattle.implib.specs.Formats.Object.{Object}
 use Rattle.implib.specs.Link.Placement.{Bases, Placed}
 use Rattle.implib.specs.Members.ImportTables.{thunk_width}
 use Rattle.implib.specs.Members.MemberSpec.{MemberView, MemberSpec, member_of}
@@ -22,15 +22,15 @@ use Rattle.implib_link.proofs.Search.Taken.{both_given_closes}
 use Rattle.implib_link.proofs.Tables.{tables_read, leads_beside, tables_load_in_memory, can_read, program_count, program_entry, program_tables, lld_tables}
 use Rattle.implib_link.specs.Tables.{AreTables, Tables, block_of_flavor, tables_at, tables_of_lld}
 use Rattle.implib_link.specs.Flavors.Expansion.{expanded_in, is_import_for}
-use Rattle.implib.specs.Import.{imp_symbol, Ask, Name, Ordinal}
+use Rattle.implib.specs.Import.{imp_symbol, Ask}
 use Rattle.std.specs.Prelude.{bytes_eq, if◌then◌else◌}
-use Rattle.std.specs.Option.{option_and_then, option_map}
+use Rattle.std.specs.Option.{option_and_then}
 use Rattle.std.proofs.lemmas.Bool.{cases_Bool, false_from_ne_true, true≢false}
 use Rattle.implib.specs.declared.flavor.Flavor.{Flavor}
 use Rattle.implib.specs.declared.flavor.Flavor.TheVariants.{Gnu, Msvc}
 use Rattle.implib.specs.Definition.{ExportView}
 use Rattle.std.proofs.lemmas.Slice.Eq.{bytes_eq-Decides}
-use Rattle.implib.specs.Formats.File.{ObjectFile, ShortImportFile, short_import_or_object}
+use Rattle.implib.specs.Formats.File.{ObjectFile}
 use Rattle.implib.specs.Formats.ShortImport.{ShortImport, ask_of_short_import, short_import_in}
 use Rattle.implib.specs.Link.Image.{Range}
 use Rattle.implib.specs.LibraryName.{NamesOfDll, linked_dll, names_for}
@@ -109,17 +109,11 @@ is_for machine l e = grind arith
 asks_so : (machine : MachineType) (l : Library) (e : ExportView) → ask_of_short_import (short_of_export machine l e) ≡ ask_in Msvc machine e
 asks_so machine l e = rw (name_type_is_ordinal machine e) refl
 
-short_in : (short : Option ShortImport) (object : Option Object) (r : ShortImport) → short_import_or_object short object ≡ Some (ShortImportFile r) → short ≡ Some r
-short_in (Some s) object r is = cc
-short_in None None r is = cc
-short_in None (Some o) r is = cc
-
 pub short_is_read : (machine : MachineType) (l : Library) (e : ExportView) → IsMsvcLibrary machine l → Among e (exports_of l) → short_for machine (short_of machine l e).bytes ≡ Some (short_of_export machine l e)
 unfolding short_for
 short_is_read machine l e made there =
     let read : short_import_in (short_of machine l e).bytes ≡ Some (short_of_export machine l e) =
-    short_in (short_import_in (short_of machine l e).bytes) (object_in (short_of machine l e).bytes) (short_of_export machine l e)
-    (read_of l.definition machine l.members [] made (short_import_spec machine (names_for Msvc l.definition) e) (short_at l.definition machine l.members [] made e there)) in
+    (grind (arith, read_of l.definition machine l.members [] made (short_import_spec machine (names_for Msvc l.definition) e) (short_at l.definition machine l.members [] made e there))) in
     ap (option_and_then (if_for machine)) read ∙ ap (λ b. if b then Some (short_of_export machine l e) else None) (is_for machine l e)
 
 -- What lld reads a member as claims what its expansion does.
@@ -130,16 +124,10 @@ defines (name ∷ names) = ap (λ t. name ∷ t) (defines names)
 
 read_first : (machine : MachineType) (members : List MemberView) (m : MemberView) → IsFirstAs (expanded_in machine) members m → IsFirstAs (read_by_lld machine) members m
 unfolding read_by_lld
-read_first machine members m one = record {
-  object = if is_short m.bytes then defining_alone one.object else one.object;
-  read = ap (option_map (λ (o : Object). if is_short m.bytes then defining_alone o else o)) one.read;
-  claims = by (is_short m.bytes) ∙ one.claims;
-  first = one.first;
-}
+read_first machine members m one = grind (arith, by (is_short m.bytes))
   where
     by : (b : Bool) → claimed_names (if b then defining_alone one.object else one.object) ≡ claimed_names one.object
-    by true = defines (claimed_names one.object)
-    by false = refl
+    by b = grind (arith, defines)
 
 -- What is taken of an archive of libraries.
 module _ (machine : MachineType) (libraries : List Library) (archive : IsMsvcArchive machine libraries) where
@@ -160,8 +148,7 @@ module _ (machine : MachineType) (libraries : List Library) (archive : IsMsvcArc
 
   -- it claims what it is listed for, and each name that it is listed for finds it
   is_first : (m : MemberView) → Pulled m → IsFirstAs (read_by_lld machine) (archive_of libraries) m
-  is_first m from =
-      grind (arith, short_members libraries, first_by_role machine in_msvc of_all (expanded_in machine) (is_weak_in machine) (expands machine in_msvc of_all) m (role_of m from), expands machine in_msvc of_all, role_of m from, read_first)
+  is_first m from = grind (arith, short_members libraries, first_by_role machine in_msvc of_all (expanded_in machine) (is_weak_in machine) (expands machine in_msvc of_all) m (role_of m from), read_first)
 
   pulled : (own : List Object) (taken : List MemberView) → AreTakenIntoAs (read_by_lld machine) (archive_of libraries) own taken → (m : MemberView) → Among m taken → Pulled m
   unfolding AreTakenIntoAs Among
@@ -178,16 +165,12 @@ module _ (machine : MachineType) (libraries : List Library) (archive : IsMsvcArc
       let m : MemberView = short_of machine l e in
       let objects : List Object = objects_as (read_by_lld machine) taken in
       let held : Among l libraries = contains_among l libraries wanted.library in
-      let there : Among e (exports_of l) = contains_among e (exports_of l) wanted.export in
-      let at = at_index e (exports_of l) there in
-      let is : first_listed (archive_of libraries) name ≡ Some m =
-      ap (λ ms. first_listed ms name) (sym (short_members libraries))
-      ∙ finds machine in_msvc of_all Msvc l (Own at.0 e) name (among_map (in_flavor Msvc) l libraries held) (at.1, wanted.plain) (contains_among name (short_import_symbols e) wanted.listed) in
+      let at = at_index e (exports_of l) (contains_among e (exports_of l) wanted.export) in
+      let is : first_listed (archive_of libraries) name ≡ Some m = cc (short_members libraries, finds machine in_msvc of_all Msvc l (Own at.0 e) name (among_map (in_flavor Msvc) l libraries held) (at.1, wanted.plain) (contains_among name (short_import_symbols e) wanted.listed)) in
       elim (cases_Bool (list_any (is_listed_for name) taken)) [
         | inl some ↦
             let t = any_member name taken some in
-            let same : t.0 ≡ m = same_Some t.0 m (sym ((is_first t.0 (pulled own taken takes.in_turn t.0 t.1)).first name t.2) ∙ is) in
-            subst (λ x. Among x taken) same t.1
+            subst (λ x. Among x taken) (same_Some t.0 m (sym ((is_first t.0 (pulled own taken takes.in_turn t.0 t.1)).first name t.2) ∙ is)) t.1
         | inr none ↦ absurd (takes.ended name m (record {
           named = among_contains name (unresolved (own ++ objects)) (unresolved_from (own ++ objects) name (contains_among name (flat_map undefined_in (own ++ objects)) wanted.left)
               (λ claimed. elim (among_either name (flat_map claimed_names own) (flat_map claimed_names objects) (subst (Among name) (flat_map-append claimed_names own objects) claimed)) [
@@ -238,14 +221,12 @@ module _ (machine : MachineType) (libraries : List Library) (archive : IsMsvcArc
       by Msvc l (Own n e) held is same =
           let there : Among e (exports_of l) = among_at e (exports_of l) n is.0 in
           let read : Some (short_of_export machine l e) ≡ Some r = sym (short_is_read machine l e (made_of machine in_msvc of_all Msvc l held) there) ∙ ap (λ (y : MemberView). short_for machine y.bytes) (sym same) ∙ short in
-          let own : short_of_export machine l e ≡ r = cc in
-          record { library = l; held = subst (Among l) (shorts_alone libraries) (msvc_there in_msvc l held); export = e; there = there; plain = is.1; is_member = same; is_short_import = sym own }
+          record { library = l; held = subst (Among l) (shorts_alone libraries) (msvc_there in_msvc l held); export = e; there = there; plain = is.1; is_member = same; is_short_import = sym (cc) }
 
   -- which can be written
   as_askable : (ask : Ask) → AskFits ask → IsAskable ask
   unfolding AskFits IsAskable
-  as_askable (Ordinal n) fits = fits
-  as_askable (Name text hint) fits = fits
+  as_askable ask fits = grind arith
 
   writable : (m : MemberView) (r : ShortImport) → OfExport m r → IsImportable (record { dll = r.dll; asks = ask_of_short_import r ∷ [] })
   unfolding FitsIn
@@ -290,10 +271,8 @@ module _ (machine : MachineType) (libraries : List Library) (archive : IsMsvcArc
               let same : name ≡ imp_symbol s.symbol = (bytes_eq-Decides name (imp_symbol s.symbol)).0 equal in
               let other = each m (among_first m ms) in
               let first : first_listed (archive_of libraries) name ≡ Some t = (is_first t from).first name (lists_imp t r (of_export t r from is)) in
-              let second : first_listed (archive_of libraries) name ≡ Some m = grind (arith, is_first m other, lists_imp m s (of_export m s other at), of_export m s other, name) in
-              let one : Some t ≡ Some m = sym first ∙ second in
-              let member : t ≡ m = cc in
-              new (subst (λ x. Among x (m ∷ ms)) (sym member) (among_first m ms))),
+              let one : Some t ≡ Some m = sym first ∙ (grind (arith, is_first m other, lists_imp m s (of_export m s other at), of_export m s other, name)) in
+              new (subst (λ x. Among x (m ∷ ms)) (sym (cc)) (among_first m ms))),
           later,
         )
 
@@ -368,13 +347,8 @@ module _ (machine : MachineType) (libraries : List Library) (archive : IsMsvcArc
 
   called_alike : AreCalledAlike libraries → (rs : List ShortImport) → AllByRecursion (λ r. (m : MemberView) × OfExport m r) rs → (r s : ShortImport) → Contains rs r → Contains rs s → in_small r.dll ≡ in_small s.dll → r.dll ≡ s.dll
   called_alike alike rs all r s first second same =
-      let one = all_among (λ x. (m : MemberView) × OfExport m x) r rs (contains_among r rs first) all in
       let two = all_among (λ x. (m : MemberView) × OfExport m x) s rs (contains_among s rs second) all in
-      let first_dll : r.dll ≡ one.1.library.definition.import_name = ap (λ (x : ShortImport). x.dll) one.1.is_short_import in
-      let second_dll : s.dll ≡ two.1.library.definition.import_name = ap (λ (x : ShortImport). x.dll) two.1.is_short_import in
-      first_dll
-      ∙ alike one.1.library two.1.library (among_contains one.1.library libraries one.1.held) (among_contains two.1.library libraries two.1.held) (sym (ap in_small first_dll) ∙ same ∙ ap in_small second_dll)
-      ∙ sym second_dll
+      grind (arith, all_among (λ x. (m : MemberView) × OfExport m x) r rs (contains_among r rs first) all, among_contains)
 
   is_program : AreCalledAlike libraries → (own : List Object) (taken : List MemberView) → TakesIntoAs (read_by_lld machine) (archive_of libraries) own taken → (is_live : ShortImport → Bool) (descriptors addresses : ℕ) (image : List Range) (linked : List Placed) →
       IsBuiltByLld machine descriptors addresses (filter is_live (shorts_in machine taken)) image linked → IsLldProgram machine descriptors addresses (filter is_live (shorts_in machine taken)) image linked

@@ -1,5 +1,5 @@
 -- Where the descriptors and the address tables of blocks are, and the null descriptor after them.
-use Rattle.std.proofs.Common.{◌≡◌, ℕ, suc, ◌+◌, ◌*◌, ◌-◌, List, [], ◌∷◌, ◌++◌, length, map, refl, ap, sym, ◌∙◌, subst, arith, false, Some, inl, inr, ◌%◌, ◌<◌, ◌^◌, Bool, true, None, if◌then◌else◌, zero}
+use Rattle.std.proofs.Common.{◌≡◌, ℕ, suc, ◌+◌, ◌*◌, ◌-◌, List, [], ◌∷◌, ◌++◌, length, map, refl, ap, sym, ◌∙◌, subst, arith, false, Some, inl, inr, ◌<◌, ◌^◌, None, if◌then◌else◌, zero}
 use Rattle.std.proofs.Math.Nat.{mul-add}
 use Rattle.std.proofs.lemmas.List.{append_assoc, map-append}
 use Rattle.implib.specs.declared.machine.MachineType.{MachineType}
@@ -39,13 +39,7 @@ use Rattle.implib_link.specs.Directory.{DirectoryAt, Imported}
 pub objects_behind : (machine : MachineType) (blocks : List Block) (rest : List Object) →
     blocks_objects machine blocks [] ++ rest ≡ blocks_objects machine blocks rest
 objects_behind machine [] rest = refl
-objects_behind machine (k ∷ blocks) rest =
-    grind (arith, objects_behind machine blocks rest, head machine k.dll, append_assoc (map (export machine k.dll) k.exports) (tail machine k.dll ∷ blocks_objects machine blocks []) rest, export machine k.dll, tail machine k.dll, blocks_objects machine blocks [])
-
--- the descriptors' end after a block
-pub descriptors_after : (machine : MachineType) (dll : NamesOfDll) (b : Bases) (es : List ExportView) →
-    b.descriptors + 20 ≡ (ends_of_block machine dll b es).descriptors
-descriptors_after machine dll b es = descriptors_end machine dll (ends_of_head machine dll b) es
+objects_behind machine (k ∷ blocks) rest = grind (arith, head, append_assoc, export, tail, blocks_objects, objects_behind machine blocks rest)
 
 -- the address tables' end after a block's thunks and its null thunk
 pub addresses_after : (machine : MachineType) (dll : NamesOfDll) (b : Bases) (es : List ExportView) →
@@ -58,10 +52,8 @@ addresses_after machine dll b (e ∷ es) = grind (arith, addresses_after machine
 pub null_located : (machine : MachineType) (linked : List Placed) (image : List Range) (b : Bases) → AreAligned b →
     LocatedFrom machine linked image b (null_descriptor ∷ []) → BytesAt image b.descriptors (zeros 20)
 null_located machine linked image b even located =
-    let position : next_multiple 4 b.descriptors ≡ b.descriptors = aligned b.descriptors even.descriptors in
     let none : b.descriptors - b.descriptors ≡ 0 = omega arith in
-    let all : List ℕ = zeros (next_multiple 4 b.descriptors - b.descriptors) ++ (zeros 20 ++ []) in
-    let same : all ≡ zeros 20 = rw (position, none) refl in
+    let same : (zeros (next_multiple 4 b.descriptors - b.descriptors) ++ (zeros 20 ++ [])) ≡ zeros 20 = rw ((aligned b.descriptors even.descriptors), none) refl in
     subst (BytesAt image b.descriptors) same located.descriptors
 
 pub plus_sum : (a n : ℕ) → a + 20 + 20 * n ≡ a + 20 * suc n
@@ -133,16 +125,10 @@ abbrev pub NullDefined : Ending → List Placed → Type 0
 NullDefined ending linked = WhereMember ending (IsDefinedAt linked null_descriptor_symbol)
 
 pub even_aligned : (machine : MachineType) (ending : Ending) (b : Bases) → AreEven ending machine b → AreAligned b
-even_aligned machine OfLinker b even = even
-even_aligned machine OfMember b even = wide_aligned machine b even
+even_aligned machine ending b even = grind (arith, wide_aligned)
 
 pub even_wide : (machine : MachineType) (ending : Ending) (b : Bases) → Suits ending Msvc → AreEven ending machine b → AreWide machine b
-even_wide machine OfLinker b suits even = cc
-even_wide machine OfMember b suits even = even
-
-null_defined : (ending : Ending) (linked : List Placed) → Suits ending Msvc → NullDefined ending linked → IsDefinedAt linked null_descriptor_symbol
-null_defined OfLinker linked suits null = cc
-null_defined OfMember linked suits null = null
+even_wide machine ending b suits even = grind arith
 
 -- what an export is used for
 abbrev pub use_for : ExportView → Use
@@ -185,45 +171,19 @@ defined_behind machine dll b (e ∷ es) =
 defined_by_asking : (machine : MachineType) (dll : NamesOfDll) (b : Bases) (symbol : List ℕ) (ask : Ask) (use_kind : Use) →
     defined_by (placed_asking machine dll b symbol ask use_kind) ≡ imp_definition b symbol ∷ use_definitions b.addresses symbol use_kind
 unfolding import_object
-defined_by_asking machine dll b symbol (Ordinal n) Code = refl
-defined_by_asking machine dll b symbol (Ordinal n) Data = refl
-defined_by_asking machine dll b symbol (Ordinal n) Constant = refl
-defined_by_asking machine dll b symbol (Name text hint) Code = refl
-defined_by_asking machine dll b symbol (Name text hint) Data = refl
-defined_by_asking machine dll b symbol (Name text hint) Constant = refl
+defined_by_asking machine dll b symbol ask use_kind = grind arith
 
 definitions-behind : (machine : MachineType) (dll : NamesOfDll) (b : Bases) (es : List ExportView) (rest : List Object) → AreWide machine b →
     definitions (placed_from b (behind_descriptor machine dll es rest)) ≡ defined_behind machine dll b es ++ definitions (placed_from (ends_of_askings machine b es) rest)
 unfolding defined_behind ends_of_askings with_section_symbols object_of null_thunk entries_of name_text
 definitions-behind machine dll b [] rest even = ap definitions (placed-null_thunk machine dll b rest even)
-definitions-behind machine dll b (e ∷ es) rest even =
-    let symbol : List ℕ = short_import_symbol e in
-    let later : Bases = ends_of_asking machine b (ask_in Msvc machine e) in
-    let own : List SymbolDefinition = imp_definition b symbol ∷ use_definitions b.addresses symbol (use_for e) in
-    ap definitions (placed-asking machine dll b symbol (ask_in Msvc machine e) (use_for e) (behind_descriptor machine dll es rest) even)
-    ∙ ap (λ ds. ds ++ definitions (placed_from later (behind_descriptor machine dll es rest))) (defined_by_asking machine dll b symbol (ask_in Msvc machine e) (use_for e))
-    ∙ ap (λ ds. own ++ ds) (definitions-behind machine dll later es rest (wide_asking machine b (ask_in Msvc machine e) even))
-    ∙ sym (append_assoc own (defined_behind machine dll later es) (definitions (placed_from (ends_of_askings machine later es) rest)))
-
-names_of_use : (address : ℕ) (symbol : List ℕ) (is_data constant : Bool) (rest : List SymbolDefinition) →
-    map (λ (d : SymbolDefinition). d.name) (use_definitions address symbol (if is_data then Data else if constant then Constant else Code) ++ rest)
-    ≡ (if is_data then [] else symbol ∷ []) ++ map (λ (d : SymbolDefinition). d.name) rest
-names_of_use address symbol true constant rest = refl
-names_of_use address symbol false true rest = refl
-names_of_use address symbol false false rest = refl
+definitions-behind machine dll b (e ∷ es) rest even = grind (arith, placed-asking, defined_by_asking, wide_asking, append_assoc, definitions-behind machine dll (ends_of_asking machine b (ask_in Msvc machine e)) es rest (wide_asking machine b (ask_in Msvc machine e) even))
 
 names-behind : (machine : MachineType) (dll : NamesOfDll) (b : Bases) (es : List ExportView) →
     map (λ (d : SymbolDefinition). d.name) (defined_behind machine dll b es) ≡ flat_map short_import_symbols es ++ null_thunk_symbol dll.linked ∷ []
 unfolding defined_behind
 names-behind machine dll b [] = refl
-names-behind machine dll b (e ∷ es) =
-    let symbol : List ℕ = short_import_symbol e in
-    let later : Bases = ends_of_asking machine b (ask_in Msvc machine e) in
-    let own : List (List ℕ) = if e.is_data then [] else symbol ∷ [] in
-    ap (λ names. imp_symbol symbol ∷ names) (
-    names_of_use b.addresses symbol e.is_data e.constant (defined_behind machine dll later es)
-    ∙ ap (λ names. own ++ names) (names-behind machine dll later es)
-    ∙ sym (append_assoc own (flat_map short_import_symbols es) (null_thunk_symbol dll.linked ∷ [])))
+names-behind machine dll b (e ∷ es) = grind (arith, ends_of_asking, append_assoc, names-behind machine dll (ends_of_asking machine b (ask_in Msvc machine e)) es)
 
 unfoldable pub descriptor_definition : NamesOfDll → Bases → SymbolDefinition
 descriptor_definition dll b = record { name = descriptor_symbol dll.linked; address = Some (b.descriptors + 0) }
@@ -250,17 +210,12 @@ symbols_of machine Gnu dll es = head_symbol machine dll.linked ∷ (flat_map arc
 pub definitions-in : (machine : MachineType) (ending : Ending) (flavor : Flavor) (dll : NamesOfDll) (b : Bases) (es : List ExportView) (rest : List Object) → Suits ending flavor → AreEven ending machine b →
     definitions (placed_from b (objects_of machine flavor dll es rest)) ≡ definitions_in machine flavor dll b es ++ definitions (placed_from (ends_in machine flavor dll b es) rest)
 unfolding descriptor_definition with_section_symbols object_of descriptor entries_of name_text
-definitions-in machine ending Msvc dll b es rest suits even =
-    let wide : AreWide machine b = even_wide machine ending b suits even in
-    ap definitions (placed-descriptor machine dll b (behind_descriptor machine dll es rest) wide)
-    ∙ ap (λ ds. descriptor_definition dll b ∷ ds) (definitions-behind machine dll (ends_of_descriptor dll b) es rest (wide_descriptor machine dll b wide))
-definitions-in machine ending Gnu dll b es rest suits even = definitions-block machine dll b es rest (even_aligned machine ending b even)
+definitions-in machine ending flavor dll b es rest suits even = grind (arith, even_wide, placed-descriptor, definitions-behind, ends_of_descriptor, wide_descriptor, definitions-block, even_aligned)
 
 pub names-in : (machine : MachineType) (flavor : Flavor) (dll : NamesOfDll) (b : Bases) (es : List ExportView) →
     map (λ (d : SymbolDefinition). d.name) (definitions_in machine flavor dll b es) ≡ symbols_of machine flavor dll es
 unfolding descriptor_definition block_definitions head_definition
-names-in machine Msvc dll b es = ap (λ names. descriptor_symbol dll.linked ∷ names) (names-behind machine dll (ends_of_descriptor dll b) es)
-names-in machine Gnu dll b es = ap (λ names. head_symbol machine dll.linked ∷ names) (names-after machine dll _ es)
+names-in machine flavor dll b es = grind (arith, names-behind, ends_of_descriptor, names-after)
 
 gnu_exports_wide : (machine : MachineType) (dll : NamesOfDll) (b : Bases) (es : List ExportView) → AreWide machine b → AreWide machine (ends_of_all machine dll b es)
 unfolding ends_of_exports
@@ -268,17 +223,9 @@ gnu_exports_wide machine dll b [] even = grind arith
 gnu_exports_wide machine dll b (e ∷ es) even =
     grind (arith, gnu_exports_wide machine dll (ends_of_export machine dll b e) es (record { descriptors = even.descriptors; lookups = wide_next machine b.lookups even.lookups; addresses = wide_next machine b.addresses even.addresses }))
 
-wide_in : (machine : MachineType) (flavor : Flavor) (dll : NamesOfDll) (b : Bases) (es : List ExportView) → AreWide machine b → AreWide machine (ends_in machine flavor dll b es)
-wide_in machine Msvc dll b es even = wide_askings machine (ends_of_descriptor dll b) es (wide_descriptor machine dll b even)
-wide_in machine Gnu dll b es even =
-    let whole : b.descriptors % 4 ≡ 0 = even.descriptors in
-    gnu_exports_wide machine dll (ends_of_head machine dll b) es (record { descriptors = omega arith; lookups = even.lookups; addresses = even.addresses })
-
 pub even_in : (machine : MachineType) (ending : Ending) (flavor : Flavor) (dll : NamesOfDll) (b : Bases) (es : List ExportView) → Suits ending flavor → AreEven ending machine b →
     AreEven ending machine (ends_in machine flavor dll b es)
-even_in machine OfLinker Msvc dll b es suits even = cc
-even_in machine OfLinker Gnu dll b es suits even = aligned_block machine dll b es even
-even_in machine OfMember flavor dll b es suits even = wide_in machine flavor dll b es even
+even_in machine ending flavor dll b es suits even = grind (arith, aligned_block, wide_askings, ends_of_descriptor, wide_descriptor, gnu_exports_wide, ends_of_head)
 
 -- what an export asks can be asked
 unfoldable pub FitsIn : Flavor → MachineType → ExportView → Type 0
@@ -362,12 +309,7 @@ module _ (machine : MachineType) (dll : NamesOfDll) (linked : List Placed) (imag
   undefined_by_asking : (b : Bases) (symbol : List ℕ) (ask : Ask) (use_kind : Use) (others : List Placed) →
       undefined_names (placed_asking machine dll b symbol ask use_kind ∷ others) ≡ descriptor_symbol_by_name dll.text ∷ undefined_names others
   unfolding import_object
-  undefined_by_asking b symbol (Ordinal n) Code others = refl
-  undefined_by_asking b symbol (Ordinal n) Data others = refl
-  undefined_by_asking b symbol (Ordinal n) Constant others = refl
-  undefined_by_asking b symbol (Name text hint) Code others = refl
-  undefined_by_asking b symbol (Name text hint) Data others = refl
-  undefined_by_asking b symbol (Name text hint) Constant others = refl
+  undefined_by_asking b symbol ask use_kind others = grind arith
 
   undefined_behind : (es : List ExportView) (b : Bases) (rest : List Object) → AreWide machine b → IsDefinedAt linked (descriptor_symbol_by_name dll.text) →
       AllByRecursion (IsDefinedAt linked) (undefined_names (placed_from (ends_of_askings machine b es) rest)) →
@@ -389,8 +331,7 @@ module _ (machine : MachineType) (dll : NamesOfDll) (linked : List Placed) (imag
   unfolding import_object
   stub_finds b symbol ask use_kind Code =
       all_of_stub machine dll linked machine (FindsTarget linked (placed_asking machine dll b symbol ask use_kind)) (λ offset number. (b.addresses + 0, refl))
-  stub_finds b symbol ask use_kind Data = tt
-  stub_finds b symbol ask use_kind Constant = tt
+  stub_finds b symbol ask use_kind relocated_for = tt
 
   asking_finds : (b : Bases) (symbol : List ℕ) (ask : Ask) (use_kind : Use) → AllFind linked (placed_asking machine dll b symbol ask use_kind)
   unfolding import_object
@@ -404,8 +345,7 @@ module _ (machine : MachineType) (dll : NamesOfDll) (linked : List Placed) (imag
       AllByRecursion (AllFind linked) (placed_from (ends_of_askings machine b es) rest) →
       AllByRecursion (AllFind linked) (placed_from b (behind_descriptor machine dll es rest))
   unfolding ends_of_askings with_section_symbols object_of null_thunk entries_of name_text
-  targets_behind [] b rest even others =
-      subst (AllByRecursion (AllFind linked)) (sym (placed-null_thunk machine dll b rest even)) ((tt, (tt, tt)), others)
+  targets_behind [] b rest even others = grind (arith, placed-null_thunk machine dll b rest even)
   targets_behind (e ∷ es) b rest even others =
       let ask : Ask = ask_in Msvc machine e in
       subst (AllByRecursion (AllFind linked)) (sym (placed-asking machine dll b (short_import_symbol e) ask (use_for e) (behind_descriptor machine dll es rest) even))
@@ -436,8 +376,7 @@ module _ (machine : MachineType) (dll : NamesOfDll) (linked : List Placed) (imag
       let plain : b.descriptors + 0 ≡ b.descriptors = omega arith in
       let own : SymbolDefinition = descriptor_definition dll b in
       let behind_only = λ (d : SymbolDefinition) (m : Among d (defined_behind machine dll (ends_of_descriptor dll b) es)). only d (among_later d own (defined_behind machine dll (ends_of_descriptor dll b) es) m) in
-      let top : definitions_of (descriptor_symbol dll.linked) linked ≡ record { name = descriptor_symbol dll.linked; address = Some b.descriptors } ∷ [] =
-      only own (among_first own _) ∙ ap (λ n. record { name = descriptor_symbol dll.linked; address = Some n } ∷ []) plain in
+      let top : definitions_of (descriptor_symbol dll.linked) linked ≡ record { name = descriptor_symbol dll.linked; address = Some b.descriptors } ∷ [] = rw (only own (among_first own _), plain) in
       let thunk = thunk_defined es later in
       let name_text : TextAt image (next_multiple 2 b.hint_names) dll.text = record { no_nul = dll_text; located = one.name } in
       let loaded = descriptor_loads machine image starts ends b.descriptors b.lookups b.addresses (next_multiple 2 b.hint_names) dll.text (map (ask_in Msvc machine) es)
@@ -486,7 +425,7 @@ module _ (machine : MachineType) (dll : NamesOfDll) (linked : List Placed) (imag
       ((d : SymbolDefinition) → Among d (definitions_in machine flavor dll b es) → definitions_of d.name linked ≡ d ∷ []) →
       LocatedFrom machine linked image b (objects_of machine flavor dll es rest) → OneLinks machine linked image flavor dll es b rest
   one_links ending Msvc es b rest fit suits even found null only located =
-      msvc_links es b rest fit (even_wide machine ending b suits even) found (null_defined ending linked suits null) only located
+      msvc_links es b rest fit (even_wide machine ending b suits even) found (grind arith) only located
   one_links ending Gnu es b rest fit suits even found null only located = gnu_links es b rest fit (even_aligned machine ending b even) only located
 
 -- The objects of several DLLs, each in its flavour, link among others.
@@ -534,22 +473,13 @@ pub definitions-all : (machine : MachineType) (ending : Ending) (b : Bases) (blo
     definitions (placed_from b (all_objects machine blocks rest)) ≡ definitions_all machine b blocks ++ definitions (placed_from (ends_all machine b blocks) rest)
 unfolding definitions_all ends_all
 definitions-all machine ending b [] rest suit even = refl
-definitions-all machine ending b (k ∷ blocks) rest suit even =
-    let later : Bases = ends_one machine b k in
-    let own : List SymbolDefinition = definitions_in machine k.flavor k.dll b k.exports in
-    definitions-in machine ending k.flavor k.dll b k.exports (all_objects machine blocks rest) suit.0 even
-    ∙ ap (λ ds. own ++ ds) (definitions-all machine ending later blocks rest suit.1 (even_in machine ending k.flavor k.dll b k.exports suit.0 even))
-    ∙ sym (append_assoc own (definitions_all machine later blocks) (definitions (placed_from (ends_all machine later blocks) rest)))
+definitions-all machine ending b (k ∷ blocks) rest suit even = grind (arith, definitions-in, even_in, append_assoc, definitions-all machine ending (ends_one machine b k) blocks rest suit.1 (even_in machine ending k.flavor k.dll b k.exports suit.0 even))
 
 pub names-all : (machine : MachineType) (b : Bases) (blocks : List FlavorBlock) →
     map (λ (d : SymbolDefinition). d.name) (definitions_all machine b blocks) ≡ flat_map (λ (k : FlavorBlock). symbols_of machine k.flavor k.dll k.exports) blocks
 unfolding definitions_all
 names-all machine b [] = refl
-names-all machine b (k ∷ blocks) =
-    let later : Bases = ends_one machine b k in
-    map-append (λ (d : SymbolDefinition). d.name) (definitions_in machine k.flavor k.dll b k.exports) (definitions_all machine later blocks)
-    ∙ ap (λ names. names ++ map (λ (d : SymbolDefinition). d.name) (definitions_all machine later blocks)) (names-in machine k.flavor k.dll b k.exports)
-    ∙ ap (λ rest. symbols_of machine k.flavor k.dll k.exports ++ rest) (names-all machine later blocks)
+names-all machine b (k ∷ blocks) = grind (arith, map-append, names-in, names-all machine (ends_one machine b k) blocks)
 
 -- The ends of one block.
 
@@ -559,8 +489,7 @@ askings_descriptors machine b [] = refl
 askings_descriptors machine b (e ∷ es) = askings_descriptors machine (ends_of_asking machine b (ask_in Msvc machine e)) es
 
 pub descriptors_one : (machine : MachineType) (flavor : Flavor) (dll : NamesOfDll) (b : Bases) (es : List ExportView) → b.descriptors + 20 ≡ (ends_in machine flavor dll b es).descriptors
-descriptors_one machine Msvc dll b es = askings_descriptors machine (ends_of_descriptor dll b) es
-descriptors_one machine Gnu dll b es = descriptors_after machine dll b es
+descriptors_one machine flavor dll b es = grind (arith, askings_descriptors, ends_of_descriptor, descriptors_end, ends_of_head)
 
 askings_addresses : (machine : MachineType) (b : Bases) (es : List ExportView) → (ends_of_askings machine b es).addresses ≡ b.addresses + thunk_width machine * (length es + 1)
 unfolding ends_of_askings
@@ -569,8 +498,7 @@ askings_addresses machine b (e ∷ es) = grind (arith, askings_addresses machine
 
 pub addresses_one : (machine : MachineType) (flavor : Flavor) (dll : NamesOfDll) (b : Bases) (es : List ExportView) →
     (ends_in machine flavor dll b es).addresses ≡ b.addresses + thunk_width machine * (length es + 1)
-addresses_one machine Msvc dll b es = askings_addresses machine (ends_of_descriptor dll b) es
-addresses_one machine Gnu dll b es = addresses_after machine dll (ends_of_head machine dll b) es
+addresses_one machine flavor dll b es = grind (arith, askings_addresses, ends_of_descriptor, addresses_after, ends_of_head)
 
 unfoldable pub BlocksIn : MachineType → List Placed → List Range → List Object → Bases → List FlavorBlock → Type 0
 BlocksIn machine linked image rest b [] = Unit {0}
@@ -594,19 +522,13 @@ module _ (machine : MachineType) (ending : Ending) (linked : List Placed) (image
   unfolding definitions_all ends_all BlocksIn
   each_in [] b fit even only located = record { imports = tt; defined = λ all. all; targets = λ all. all; located = located }
   each_in (k ∷ blocks) b fit even only located =
-      let behind : List Object = all_objects machine blocks rest in
       let later : Bases = ends_one machine b k in
       let own : List SymbolDefinition = definitions_in machine k.flavor k.dll b k.exports in
-      let one = one_links machine k.dll linked image starts ends fit.0.dll ending k.flavor k.exports b behind fit.0.exports fit.0.suits even fit.0.found null
+      let one = one_links machine k.dll linked image starts ends fit.0.dll ending k.flavor k.exports b (all_objects machine blocks rest) fit.0.exports fit.0.suits even fit.0.found null
       (λ d m. only d (among_front d own (definitions_all machine later blocks) m)) located in
       let others = each_in blocks later fit.1 (even_in machine ending k.flavor k.dll b k.exports fit.0.suits even)
       (λ d m. only d (among_back d own (definitions_all machine later blocks) m)) one.rest_located in
-      record {
-        imports = (one, others.imports);
-        defined = λ all. one.defined (others.defined all);
-        targets = λ all. one.targets (others.targets all);
-        located = others.located;
-      }
+      grind arith
 
 -- the thunks of the first few blocks, with the null thunks that end them
 abbrev pub thunks_in : ℕ → List FlavorBlock → ℕ

@@ -3,7 +3,6 @@ use Rattle.std.proofs.Common.{◌≡◌, ℕ, ◌+◌, ◌-◌, ◌%◌, ◌<◌
 use Rattle.std.specs.List.{AllByRecursion}
 use Rattle.std.proofs.lemmas.List.{length-replicate}
 use Rattle.implib.specs.declared.machine.MachineType.{MachineType}
-use Rattle.implib.specs.declared.machine.MachineType.TheVariants.{I386, ARMNT, AMD64, ARM64}
 use Rattle.implib.specs.Formats.Bytes.{u16_bytes, u32_bytes}
 use Rattle.implib.specs.Link.Image.{Contribution, Range, contributions, filled, range_end, relocated, with_address}
 use Rattle.implib.specs.Import.{Ask, Name, Ordinal}
@@ -103,22 +102,12 @@ placed-descriptor machine dll b rest even = grind (arith, aligned, of_four, plus
 pub placed-asking : (machine : MachineType) (dll : NamesOfDll) (b : Bases) (symbol : List ℕ) (ask : Ask) (use_kind : Use) (rest : List Object) → AreWide machine b →
     placed_from b (import_object machine dll.text symbol ask use_kind ∷ rest) ≡ placed_asking machine dll b symbol ask use_kind ∷ placed_from (ends_of_asking machine b ask) rest
 unfolding import_object u16_bytes
-placed-asking I386 dll b symbol (Ordinal n) use_kind rest even = rw (aligned b.addresses even.addresses, aligned b.lookups even.lookups) refl
-placed-asking ARMNT dll b symbol (Ordinal n) use_kind rest even = rw (aligned b.addresses even.addresses, aligned b.lookups even.lookups) refl
-placed-asking AMD64 dll b symbol (Ordinal n) use_kind rest even = rw (aligned_8 b.addresses even.addresses, aligned_8 b.lookups even.lookups) refl
-placed-asking ARM64 dll b symbol (Ordinal n) use_kind rest even = rw (aligned_8 b.addresses even.addresses, aligned_8 b.lookups even.lookups) refl
-placed-asking I386 dll b symbol (Name text hint) use_kind rest even = rw (aligned b.addresses even.addresses, aligned b.lookups even.lookups) refl
-placed-asking ARMNT dll b symbol (Name text hint) use_kind rest even = rw (aligned b.addresses even.addresses, aligned b.lookups even.lookups) refl
-placed-asking AMD64 dll b symbol (Name text hint) use_kind rest even = rw (aligned_8 b.addresses even.addresses, aligned_8 b.lookups even.lookups) refl
-placed-asking ARM64 dll b symbol (Name text hint) use_kind rest even = rw (aligned_8 b.addresses even.addresses, aligned_8 b.lookups even.lookups) refl
+placed-asking machine dll b symbol ask use_kind rest even = grind (arith, aligned, aligned_8)
 
 pub placed-null_thunk : (machine : MachineType) (dll : NamesOfDll) (b : Bases) (rest : List Object) → AreWide machine b →
     placed_from b (taken_null_thunk machine dll ∷ rest) ≡ placed_null_thunk machine dll b ∷ placed_from (ends_of_null_thunk machine b) rest
 unfolding with_section_symbols object_of null_thunk entries_of name_text
-placed-null_thunk I386 dll b rest even = rw (aligned b.addresses even.addresses, aligned b.lookups even.lookups) refl
-placed-null_thunk ARMNT dll b rest even = rw (aligned b.addresses even.addresses, aligned b.lookups even.lookups) refl
-placed-null_thunk AMD64 dll b rest even = rw (aligned_8 b.addresses even.addresses, aligned_8 b.lookups even.lookups) refl
-placed-null_thunk ARM64 dll b rest even = rw (aligned_8 b.addresses even.addresses, aligned_8 b.lookups even.lookups) refl
+placed-null_thunk machine dll b rest even = grind (arith, aligned, aligned_8)
 
 pub wide_descriptor : (machine : MachineType) (dll : NamesOfDll) (b : Bases) → AreWide machine b → AreWide machine (ends_of_descriptor dll b)
 wide_descriptor machine dll b even = grind arith

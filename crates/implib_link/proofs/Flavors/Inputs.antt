@@ -1,5 +1,5 @@
 -- The names that the members of both flavours claim: those that they are listed for.
-use Rattle.std.proofs.Common.{◌≡◌, ℕ, Bool, true, false, List, [], ◌∷◌, ◌++◌, map, refl, ap, sym, ◌∙◌, subst, inl, inr, if◌then◌else◌, ◌<◌, ◌^◌, Option, Some, None, ◌+◌, arith}
+use Rattle.std.proofs.Common.{◌≡◌, ℕ, Bool, true, false, List, [], ◌∷◌, ◌++◌, map, refl, ap, sym, ◌∙◌, subst, inl, inr, if◌then◌else◌, ◌<◌, ◌^◌, Option, Some, arith}
 use Rattle.std.specs.List.{flat_map, AllByRecursion, Contains, cons_option, filter_map}
 use Rattle.std.proofs.lemmas.Grind.{flat_map-append}
 use Rattle.std.proofs.lemmas.List.{append_assoc, append-nil, map_push}
@@ -17,7 +17,7 @@ use Rattle.implib.proofs.Link.LinkedMembers.{among_contains, among_map, exports_
 use Rattle.implib.proofs.Link.Placement.{export, tail, head}
 use Rattle.implib.proofs.Link.Ranges.{Among, among_back, among_front, all_among, among_first, among_flat, among_later}
 use Rattle.implib_link.specs.Flavors.Expansion.{Code, Constant, Data, import_object, expansion, expanded_as, expanded_in, use_of, with_section_symbols}
-use Rattle.implib_link.specs.Flavors.Program.{Ending, OfLinker, OfMember, ask_in, claimed_names, HaveSame, FlavorInput, IsFoundByName, IsMadeFor, IsTaken, all_members, exports_chosen, members_linked, null_member, objects_taken, specs_in, symbols_listed, dll_names_in}
+use Rattle.implib_link.specs.Flavors.Program.{Ending, OfLinker, OfMember, claimed_names, HaveSame, FlavorInput, IsFoundByName, IsMadeFor, IsTaken, all_members, exports_chosen, members_linked, null_member, objects_taken, specs_in, symbols_listed, dll_names_in}
 use Rattle.implib_link.proofs.Flavors.Block.{claimed_after, claimed_head, behind_descriptor, objects_of, symbols_of, FitsIn, asking, FlavorBlock, all_objects, rest_of, AllSuit, CanLink}
 use Rattle.implib_link.proofs.Search.Lists.{among_either, contains_among, all_from}
 use Rattle.implib_link.proofs.Flavors.Expanded.{taken_descriptor, taken_null, taken_null_thunk, AskFits}
@@ -26,9 +26,8 @@ use Rattle.std.specs.Prelude.{◌==◌, slice_get, suc, take, zero}
 use Rattle.std.specs.Option.{option_and_then, option_map}
 use Rattle.std.proofs.lemmas.Bool.{cases_Bool, le-leb, ltb-true}
 use Rattle.std.proofs.lemmas.List.Elements.{filter_map-append}
-use Rattle.implib.specs.declared.machine.MachineType.TheVariants.{I386, ARMNT, AMD64, ARM64}
 use Rattle.implib.specs.Ascii.{holds}
-use Rattle.implib.specs.Formats.File.{File, ObjectFile, file_in, short_import_or_object}
+use Rattle.implib.specs.Formats.File.{File, ObjectFile, file_in}
 use Rattle.implib.specs.Members.GnuMembers.{export_spec, gnu_specs, head_spec, tail_spec, alias_specs, numbered_specs, numbered_specs_of}
 use Rattle.implib.specs.Link.LinkedMembers.{chosen_exports, numbered_spec, objects_in}
 use Rattle.implib.specs.Machine.{machine_number}
@@ -37,7 +36,7 @@ use Rattle.implib.specs.Members.Members.{AreMembersOf, member_specs}
 use Rattle.implib.specs.Members.MsvcMembers.{descriptor_spec, export_specs, header_specs, null_descriptor_spec, null_thunk_spec, short_import_spec}
 use Rattle.implib.specs.Members.ReadBack.{file_of}
 use Rattle.implib.specs.Renaming.{renamed}
-use Rattle.implib.specs.Formats.ShortImport.{ShortImport, ask_of_short_import, asked_by_name_type, import_code, import_const, import_data, without_prefix}
+use Rattle.implib.specs.Formats.ShortImport.{import_code, import_const, import_data, without_prefix}
 use Rattle.implib.proofs.Members.GnuReadings.{member_specs_read}
 use Rattle.implib.proofs.Members.Import.{name_type_is_ordinal, name_type_of_fits, symbol_without_nul}
 use Rattle.implib.proofs.Members.MemberReadings.{ReadsBack, map_after, member_specs_read_back}
@@ -62,12 +61,7 @@ claims_thunk machine dll = refl
 pub claims_asking : (machine : MachineType) (dll : NamesOfDll) (symbol : List ℕ) (ask : Ask) (is_data constant : Bool) →
     claimed_names (import_object machine dll.text symbol ask (if is_data then Data else if constant then Constant else Code)) ≡ imp_symbol symbol ∷ (if is_data then [] else symbol ∷ [])
 unfolding import_object
-claims_asking machine dll symbol (Ordinal n) true constant = refl
-claims_asking machine dll symbol (Ordinal n) false true = refl
-claims_asking machine dll symbol (Ordinal n) false false = refl
-claims_asking machine dll symbol (Name text hint) true constant = refl
-claims_asking machine dll symbol (Name text hint) false true = refl
-claims_asking machine dll symbol (Name text hint) false false = refl
+claims_asking machine dll symbol ask is_data constant = grind arith
 
 askings_claim : (machine : MachineType) (dll : NamesOfDll) (es : List ExportView) (rest : List Object) →
     flat_map claimed_names (behind_descriptor machine dll es rest) ≡ (flat_map short_import_symbols es ++ null_thunk_symbol dll.linked ∷ []) ++ flat_map claimed_names rest
@@ -76,8 +70,7 @@ askings_claim machine dll (e ∷ es) rest = grind (arith, askings_claim machine 
 
 one_claims : (machine : MachineType) (flavor : Flavor) (dll : NamesOfDll) (es : List ExportView) (rest : List Object) →
     flat_map claimed_names (objects_of machine flavor dll es rest) ≡ symbols_of machine flavor dll es ++ flat_map claimed_names rest
-one_claims machine Msvc dll es rest = grind (arith, behind_descriptor, claims_descriptor, askings_claim)
-one_claims machine Gnu dll es rest = grind (arith, export, tail, claimed_head, claimed_after)
+one_claims machine flavor dll es rest = grind (arith, behind_descriptor, claims_descriptor, askings_claim, export, tail, claimed_head, claimed_after)
 
 pub all_claim_listed : (machine : MachineType) (ending : Ending) (blocks : List FlavorBlock) →
     flat_map claimed_names (all_objects machine blocks (rest_of ending)) ≡ flat_map (λ (k : FlavorBlock). symbols_of machine k.flavor k.dll k.exports) blocks
@@ -113,29 +106,20 @@ claimed_with_null machine xs ys names is name =
 -- Short imports.
 
 pub same_machine : (machine : MachineType) → (machine_number machine == machine_number machine) ≡ true
-same_machine I386 = refl
-same_machine ARMNT = refl
-same_machine AMD64 = refl
-same_machine ARM64 = refl
+same_machine machine = grind arith
 
 use_is : (is_data constant : Bool) →
     use_of (if is_data then import_data else if constant then import_const else import_code) ≡ Some (if is_data then Data else if constant then Constant else Code)
-use_is true constant = refl
-use_is false true = refl
-use_is false false = refl
-
-ask_is : (machine : MachineType) (dll : NamesOfDll) (e : ExportView) → ask_of_short_import (short_import_of machine dll.text e) ≡ ask_in Msvc machine e
-ask_is machine dll e = rw (name_type_is_ordinal machine e) refl
+use_is is_data constant = grind arith
 
 -- the short import of an export is taken for the object that asks so
 pub short_import_taken : (machine : MachineType) (dll : NamesOfDll) (e : ExportView) → expansion machine (short_import_of machine dll.text e) ≡ Some (asking machine dll e)
-short_import_taken machine dll e = simp (le-leb, name_type_of_fits, same_machine, ask_is, use_is)
+short_import_taken machine dll e = simp (le-leb, name_type_of_fits, same_machine, name_type_is_ordinal, use_is)
 
 -- What a short import asks for has no NUL.
 
 if_free : (test : Bool) (one other : List ℕ) → holds 0 one ≡ false → holds 0 other ≡ false → holds 0 (if test then one else other) ≡ false
-if_free true one other first second = first
-if_free false one other first second = second
+if_free test one other first second = grind arith
 
 prefix_free : (text : List ℕ) → holds 0 text ≡ false → holds 0 (without_prefix text) ≡ false
 prefix_free text free = grind arith
@@ -145,9 +129,6 @@ cut_free zero text free = refl
 cut_free (suc n) [] free = refl
 cut_free (suc n) (b ∷ rest) free = grind (arith, cut_free n rest)
 
-asked_free : (name_type : ℕ) (symbol : List ℕ) → holds 0 symbol ≡ false → holds 0 (asked_by_name_type name_type symbol) ≡ false
-asked_free name_type symbol free = grind (arith, prefix_free, if_free, cut_free)
-
 ask_fits : (no_name : Bool) (ordinal : ℕ) (text : List ℕ) → ordinal < 2 ^ 16 → HasNoNul text → AskFits (if no_name then Ordinal ordinal else Name text ordinal)
 unfolding AskFits
 ask_fits true ordinal text small free = small
@@ -155,7 +136,7 @@ ask_fits false ordinal text small free = (small, free)
 
 pub export_fits : (machine : MachineType) (e : ExportView) → Sound e → FitsIn Msvc machine e
 unfolding FitsIn
-export_fits machine e good = grind (arith, ask_fits, ltb-true, asked_free, symbol_without_nul)
+export_fits machine e good = grind (arith, ask_fits, ltb-true, prefix_free, if_free, cut_free, symbol_without_nul)
 
 -- a file that reads as another is taken as that
 taken_by : (machine : MachineType) (bytes : List ℕ) (file : File) → file_in bytes ≡ Some file → expanded_in machine bytes ≡ expanded_as machine file
@@ -259,15 +240,9 @@ msvc_symbols d machine chosen = grind (arith, flat_listed)
 
 -- The members for GNU's linker: a linker takes each for the object that it is.
 
--- the file of an object is no short import
-no_short : (bytes : List ℕ) (short : Option ShortImport) (object : Option Object) (o : Object) → short_import_or_object short object ≡ Some (ObjectFile o) → object ≡ Some o
-no_short bytes (Some r) object o is = cc
-no_short bytes None None o is = cc
-no_short bytes None (Some p) o is = cc
-
 -- the object of a file is taken with its section symbols
 object_taken : (machine : MachineType) (bytes : List ℕ) (o p : Object) → file_in bytes ≡ Some (ObjectFile o) → object_in bytes ≡ Some p → expanded_in machine bytes ≡ Some (with_section_symbols p)
-object_taken machine bytes o p is read = grind (arith, no_short, taken_by)
+object_taken machine bytes o p is read = grind (arith, taken_by)
 
 head_plain : (machine : MachineType) (dll : NamesOfDll) → with_section_symbols (head machine dll) ≡ head machine dll
 unfolding with_section_symbols head_object
@@ -295,9 +270,8 @@ module _ (d : DefinitionView) (machine : MachineType) (members : List MemberView
   pub spec_held : (n : ℕ) (e : ExportView) (p : MemberSpec) → slice_get (public_exports (renamed d)) n ≡ Some e → Among p (numbered_specs_of machine (linked_name d) n e) →
       Among p (gnu_specs machine (names_for Gnu d) (public_exports (renamed d)))
   spec_held n e p is own =
-      let position : 0 + n ≡ n = omega arith in
       among_later _ _ _ (among_later _ _ _ (among_reverse p (numbered_specs machine (linked_name d) 0 (public_exports (renamed d)))
-      (numbered_in machine (linked_name d) (public_exports (renamed d)) 0 n e p is (subst (λ k. Among p (numbered_specs_of machine (linked_name d) k e)) (sym position) own))))
+      (numbered_in machine (linked_name d) (public_exports (renamed d)) 0 n e p is (subst (λ k. Among p (numbered_specs_of machine (linked_name d) k e)) (sym (omega arith)) own))))
 
   pub head_taken : expanded_in machine (member_of (head_spec machine (linked_name d))).bytes ≡ Some (head machine (names_for Gnu d))
   unfolding head_spec
@@ -311,8 +285,7 @@ module _ (d : DefinitionView) (machine : MachineType) (members : List MemberView
   unfolding export_spec
   export_taken n e is =
       let p : MemberSpec = export_spec machine (linked_name d) n e in
-      spec_taken p _ _ refl (spec_held n e p is (among_back p (alias_specs machine (linked_name d) n e) (p ∷ []) (among_first _ _))) (export_object_is machine library made n e is)
-      ∙ ap Some (export_plain machine (names_for Gnu d) e)
+      cc (spec_taken p _ _ refl (spec_held n e p is (among_back p (alias_specs machine (linked_name d) n e) (p ∷ []) (among_first _ _))) (export_object_is machine library made n e is), export_plain machine (names_for Gnu d) e)
 
   abbrev reading : MemberSpec → Option Object
   reading p = expanded_in machine (member_of p).bytes
@@ -323,8 +296,7 @@ module _ (d : DefinitionView) (machine : MachineType) (members : List MemberView
   one_more : (n : ℕ) (o : Option ExportView) (specs : List MemberSpec) (es : List ExportView) → slice_get (public_exports (renamed d)) n ≡ o →
       map reading (specs ++ last ∷ []) ≡ map Some (map (export machine (names_for Gnu d)) es ++ tail machine (names_for Gnu d) ∷ []) →
       map reading (cons_option (option_map (export_spec machine (linked_name d) n) o) specs ++ last ∷ []) ≡ map Some (map (export machine (names_for Gnu d)) (cons_option o es) ++ tail machine (names_for Gnu d) ∷ [])
-  one_more n None specs es is later = later
-  one_more n (Some e) specs es is later = ap (λ o. o ∷ map reading (specs ++ last ∷ [])) (export_taken n e is) ∙ ap (λ os. Some (export machine (names_for Gnu d) e) ∷ os) later
+  one_more n o specs es is later = grind (arith, export_taken, export)
 
   behind_taken : (chosen : List ℕ) → map reading (filter_map (numbered_spec machine (linked_name d) (public_exports (renamed d))) chosen ++ last ∷ [])
       ≡ map Some (map (export machine (names_for Gnu d)) (chosen_exports d chosen) ++ tail machine (names_for Gnu d) ∷ [])
@@ -386,8 +358,7 @@ taken_are machine p made = grind (arith, filter_map-present, present, objects_re
 
 pub objects_behind : (machine : MachineType) (flavor : Flavor) (dll : NamesOfDll) (es : List ExportView) (rest : List Object) →
     objects_of machine flavor dll es [] ++ rest ≡ objects_of machine flavor dll es rest
-objects_behind machine Msvc dll es rest = ap (λ os. taken_descriptor machine dll ∷ os) (append_assoc (map (asking machine dll) es) (taken_null_thunk machine dll ∷ []) rest)
-objects_behind machine Gnu dll es rest = ap (λ os. head machine dll ∷ os) (append_assoc (map (export machine dll) es) (tail machine dll ∷ []) rest)
+objects_behind machine flavor dll es rest = grind (arith, taken_descriptor, append_assoc, asking, taken_null_thunk, head, export, tail)
 
 -- what members are read as, by any reading that has those of each input as its objects, and others behind them
 inputs_as : (reading : List ℕ → Option Object) (machine : MachineType) (ps : List FlavorInput) (rest : List Object) →
@@ -422,28 +393,20 @@ inputs_plainly machine ps rest are gnu = inputs_as object_in machine ps rest (al
 pub inputs_symbols : (machine : MachineType) (ps : List FlavorInput) → AllByRecursion (IsMadeFor machine) ps →
     symbols_listed (all_members machine ps) ≡ flat_map (λ (k : FlavorBlock). symbols_of machine k.flavor k.dll k.exports) (map block_in ps)
 inputs_symbols machine [] are = refl
-inputs_symbols machine (p ∷ ps) are =
-    grind (arith, inputs_symbols machine ps are.1, symbols_are_in p.input.definition machine p.flavor p.input.members p.input.chosen are.0, symbols_of machine p.flavor (dll_names_in p) (exports_chosen p), flat_map-append)
+inputs_symbols machine (p ∷ ps) are = grind (arith, inputs_symbols machine ps are.1, symbols_are_in p.input.definition machine p.flavor p.input.members p.input.chosen are.0, symbols_of machine p.flavor (dll_names_in p) (exports_chosen p), flat_map-append)
 
 pub inputs_link : (machine : MachineType) (ending : Ending) (ps : List FlavorInput) → AllByRecursion (IsMadeFor machine) ps → AllByRecursion (λ p. IsFoundByName p.flavor (dll_names_in p)) ps →
     AllSuit ending (map block_in ps) → AllByRecursion (CanLink machine ending) (map block_in ps)
 inputs_link machine ending [] are found suit = tt
-inputs_link machine ending (p ∷ ps) are found suit =
-    grind (arith, inputs_link machine ending ps are.1 found.1 suit.1, import_name_is_free p.input.definition machine p.flavor p.input.members are.0, fit_in p.input.definition machine p.flavor p.input.members p.input.chosen are.0)
+inputs_link machine ending (p ∷ ps) are found suit = grind (arith, inputs_link machine ending ps are.1 found.1 suit.1, import_name_is_free p.input.definition machine p.flavor p.input.members are.0, fit_in p.input.definition machine p.flavor p.input.members p.input.chosen are.0)
 
 pub inputs_taken : (machine : MachineType) (ps : List FlavorInput) → AllByRecursion (IsMadeFor machine) ps → AllByRecursion (IsTaken machine) ps
 inputs_taken machine [] are = tt
 inputs_taken machine (p ∷ ps) are =
     grind (arith, inputs_taken machine ps are.1, from_members p.input.definition machine p.flavor p.input.members p.input.chosen are.0, objects_read p.input.definition machine p.flavor p.input.members p.input.chosen are.0, taken_are machine p are.0, null_among p.input.definition machine p.flavor p.input.members p.input.chosen are.0)
 
--- the null descriptor of an input for Microsoft's linker, taken
-null_read : (d : DefinitionView) (machine : MachineType) (flavor : Flavor) (members : List MemberView) (chosen : List ℕ) → AreMembersOf d machine flavor members → flavor ≡ Msvc →
-    expanded_in machine (null_member machine (linked_dll d)).bytes ≡ Some (taken_null machine)
-null_read d machine Msvc members chosen made is = null_taken d machine members chosen made
-null_read d machine Gnu members chosen made is = cc
-
 pub null_object : (machine : MachineType) (p : FlavorInput) → IsMadeFor machine p → p.flavor ≡ Msvc → expanded_in machine (null_member machine (linked_dll p.input.definition)).bytes ≡ Some (taken_null machine)
-null_object machine p made is = null_read p.input.definition machine p.flavor p.input.members p.input.chosen made is
+null_object machine p made is = grind (arith, null_taken)
 
 -- members with the null descriptor put in are taken for their objects with its object put in
 pub objects_with_null : (machine : MachineType) (before behind : List MemberView) (null : MemberView) → expanded_in machine null.bytes ≡ Some (taken_null machine) →

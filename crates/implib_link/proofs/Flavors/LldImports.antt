@@ -1,7 +1,7 @@
 -- Grouping and sorting lose nothing, double nothing, and put nothing with another DLL.
 use Rattle.std.proofs.Common.{◌≡◌, ℕ, suc, ◌+◌, List, [], ◌∷◌, ◌++◌, Some, refl, ap, sym, ◌∙◌, subst, inl, inr, arith, true, ◌*◌, ◌-◌, ◌%◌, ◌^◌, ◌<◌, ◌≤◌, length, zero, map}
 use Rattle.std.specs.Prelude.{◌⊎◌, slice_get, bytes_eq}
-use Rattle.std.specs.List.{AllByRecursion, flat_map, Contains, IsDistinct, filter, filter_map}
+use Rattle.std.specs.List.{AllByRecursion, flat_map, Contains, filter, filter_map}
 use Rattle.std.proofs.lemmas.Bool.{cases_Bool}
 use Rattle.std.proofs.lemmas.Slice.Eq.{bytes_eq-Decides}
 use Rattle.implib.specs.Formats.ShortImport.{ShortImport, ask_of_short_import}
@@ -25,7 +25,6 @@ use Rattle.implib_link.proofs.Gnu.Stubs.{wide_thunk as some_bytes}
 use Rattle.implib_link.proofs.Gnu.Filling.{zero_table, table_with, bounds_of}
 use Rattle.implib_link.proofs.Gnu.Loaded.{by_width, times_none as nothing_before, plus_none}
 use Rattle.std.proofs.lemmas.List.Elements.{filter_map-append}
-use Rattle.implib.specs.Formats.Layout.{HasNoNul}
 use Rattle.implib.specs.Link.Placement.{Addresses, At, Placed}
 use Rattle.implib.specs.Link.Resolution.{SymbolDefinition, defined_by_entry, definitions_of}
 use Rattle.implib.proofs.Link.Definitions.{only_definition}
@@ -52,8 +51,7 @@ put_all P r (s ∷ group) own all = grind (arith, put_all P r group own all.1)
 
 put_key : (r : ShortImport) (group : List ShortImport) → in_small r.dll ≡ key group → key (put_in r group) ≡ in_small r.dll
 unfolding put_in
-put_key r [] same = refl
-put_key r (s ∷ group) same = grind arith
+put_key r group same = grind arith
 
 put_one : (r : ShortImport) (group : List ShortImport) → in_small r.dll ≡ key group → OneDll group → OneDll (put_in r group)
 put_one r group same one =
@@ -184,31 +182,15 @@ length_thunk machine place (Name text hint) = length-address machine place
 one_more : (machine : MachineType) (n : ℕ) → thunk_width machine + thunk_width machine * (n + 1) ≡ thunk_width machine * (suc n + 1)
 one_more machine n = by_width (λ w. w + w * (n + 1) ≡ w * (suc n + 1)) (omega arith) (omega arith) machine
 
-only_null : (machine : MachineType) → thunk_width machine ≡ thunk_width machine * 1
-only_null machine = by_width (λ w. w ≡ w * 1) refl refl machine
-
 length_thunks : (machine : MachineType) (place : ℕ) (asks : List Ask) → length (thunks_built machine place asks) ≡ thunk_width machine * (length asks + 1)
 unfolding thunks_built
-length_thunks machine place [] = length-replicate {A = ℕ} (thunk_width machine) 0 ∙ only_null machine
-length_thunks machine place (ask ∷ asks) =
-    let later : ℕ = place + length (hint_built ask) in
-    length-append (thunk_built machine place ask) (thunks_built machine later asks)
-    ∙ ap (λ n. n + length (thunks_built machine later asks)) (length_thunk machine place ask)
-    ∙ ap (λ n. thunk_width machine + n) (length_thunks machine later asks)
-    ∙ one_more machine (length asks)
-
-no_thunks : (machine : MachineType) → 0 ≡ thunk_width machine * 0
-no_thunks machine = by_width (λ w. 0 ≡ w * 0) refl refl machine
+length_thunks machine place [] = length-replicate {A = ℕ} (thunk_width machine) 0 ∙ (by_width (λ w. w ≡ w * 1) refl refl machine)
+length_thunks machine place (ask ∷ asks) = grind (arith, length-append, length_thunk, one_more, length_thunks machine (place + length (hint_built ask)) asks)
 
 length_tables : (machine : MachineType) (place : ℕ) (imports : List Imported) → length (tables_built machine place imports) ≡ thunk_width machine * thunks_until (length imports) imports
 unfolding tables_built
-length_tables machine place [] = no_thunks machine
-length_tables machine place (i ∷ imports) =
-    let later : ℕ = place + length (hints_built i.asks) in
-    length-append (thunks_built machine place i.asks) (tables_built machine later imports)
-    ∙ ap (λ n. n + length (tables_built machine later imports)) (length_thunks machine place i.asks)
-    ∙ ap (λ n. thunk_width machine * (length i.asks + 1) + n) (length_tables machine later imports)
-    ∙ sym (mul-add (thunk_width machine) (length i.asks + 1) (thunks_until (length imports) imports))
+length_tables machine place [] = by_width (λ w. 0 ≡ w * 0) refl refl machine
+length_tables machine place (i ∷ imports) = grind (arith, length-append, length_thunks, mul-add, length_tables machine (place + length (hints_built i.asks)) imports)
 
 length_descriptor : (lookups name addresses : ℕ) → length (descriptor_built lookups name addresses) ≡ 20
 unfolding descriptor_built u32_bytes
@@ -217,8 +199,7 @@ length_descriptor lookups name addresses = refl
 length_directory : (machine : MachineType) (lookups name addresses : ℕ) (imports : List Imported) → length (directory_built machine lookups name addresses imports) ≡ 20 * (length imports + 1)
 unfolding directory_built
 length_directory machine lookups name addresses [] = refl
-length_directory machine lookups name addresses (i ∷ imports) =
-    grind (arith, length_directory machine (lookups + thunk_width machine * (length i.asks + 1)) (name + length (i.dll ++ 0 ∷ [])) (addresses + thunk_width machine * (length i.asks + 1)) imports, i, length_descriptor, length-append)
+length_directory machine lookups name addresses (i ∷ imports) = grind (arith, length_descriptor, length-append, length_directory machine (lookups + thunk_width machine * (length i.asks + 1)) (name + length (i.dll ++ 0 ∷ [])) (addresses + thunk_width machine * (length i.asks + 1)) imports)
 
 -- The pieces stand.
 
@@ -233,9 +214,8 @@ module _ (machine : MachineType) (image : List Range) (starts : AllByRecursion (
   thunk_stands (Name text hint) place a askable located hint_located =
       let own = located_parts image (hint_and_text text hint) (zeros (length (hint_and_text text hint) % 2)) place hint_located in
       let long : 0 < length (hint_and_text text hint) = rw (length-append (u16_bytes hint) (text ++ 0 ∷ []), length-u16 hint) (omega arith) in
-      let small = bounds_of image starts ends (hint_and_text text hint) place own.0 long in
       name_located machine image starts ends text hint place a askable.0 askable.1
-      (subst (λ n. BytesAt image a (u32_bytes n ++ zeros (thunk_width machine - 4))) (small_number place small.1) located) own.0
+      (subst (λ n. BytesAt image a (u32_bytes n ++ zeros (thunk_width machine - 4))) (small_number place (bounds_of image starts ends (hint_and_text text hint) place own.0 long).1) located) own.0
 
   table_stands : (asks : List Ask) (place a : ℕ) → AllByRecursion IsAskable asks → BytesAt image a (thunks_built machine place asks) → BytesAt image place (hints_built asks) →
       StrictTableAt image (thunk_width machine) a asks
@@ -245,30 +225,25 @@ module _ (machine : MachineType) (image : List Range) (starts : AllByRecursion (
       let later : ℕ = place + length (hint_built ask) in
       let thunks = located_parts image (thunk_built machine place ask) (thunks_built machine later asks) a located in
       let texts = located_parts image (hint_built ask) (hints_built asks) place hints in
-      let first = thunk_stands ask place a askable.0 thunks.0 texts.0 in
       let rest = table_stands asks later (a + thunk_width machine) askable.1
       (subst (λ n. BytesAt image (a + n) (thunks_built machine later asks)) (length_thunk machine place ask) thunks.1) texts.1 in
-      table_with image (thunk_width machine) a ask asks first rest
+      table_with image (thunk_width machine) a ask asks (thunk_stands ask place a askable.0 thunks.0 texts.0) rest
 
   some_thunks : (place : ℕ) (asks : List Ask) → 0 < length (thunks_built machine place asks)
-  some_thunks place asks = grind (arith, some_bytes, length_thunks, mul-add, only_null)
+  some_thunks place asks = grind (arith, some_bytes, length_thunks, mul-add)
 
   descriptor_stands : (i : Imported) (descriptor lookups name addresses place : ℕ) → IsImportable i → BytesAt image descriptor (descriptor_built lookups name addresses) →
       BytesAt image lookups (thunks_built machine place i.asks) → BytesAt image addresses (thunks_built machine place i.asks) → BytesAt image place (hints_built i.asks) →
       BytesAt image name (i.dll ++ 0 ∷ []) → LoadsFrom image (thunk_width machine) descriptor addresses i.dll i.asks
   unfolding descriptor_built
   descriptor_stands i descriptor lookups name addresses place importable located lookup_table address_table hints text =
-      let long : 0 < length (i.dll ++ 0 ∷ []) = rw (length-append i.dll (0 ∷ [])) (omega arith) in
-      let lookups_small = bounds_of image starts ends (thunks_built machine place i.asks) lookups lookup_table (some_thunks place i.asks) in
-      let addresses_small = bounds_of image starts ends (thunks_built machine place i.asks) addresses address_table (some_thunks place i.asks) in
-      let name_small = bounds_of image starts ends (i.dll ++ 0 ∷ []) name text long in
       descriptor_loads machine image starts ends descriptor lookups addresses name i.dll i.asks
       (subst (λ n. BytesAt image descriptor (u32_bytes n ++ (zeros 4 ++ (zeros 4 ++ (u32_bytes ((0 + (name + 0)) % 2 ^ 32) ++ u32_bytes ((0 + (addresses + 0)) % 2 ^ 32))))))
-      (small_number lookups lookups_small.1)
+      (small_number lookups (bounds_of image starts ends (thunks_built machine place i.asks) lookups lookup_table (some_thunks place i.asks)).1)
       (subst (λ n. BytesAt image descriptor (u32_bytes lookups ++ (zeros 4 ++ (zeros 4 ++ (u32_bytes n ++ u32_bytes ((0 + (addresses + 0)) % 2 ^ 32))))))
-      (small_number name name_small.1)
+      (small_number name (bounds_of image starts ends (i.dll ++ 0 ∷ []) name text (rw (length-append i.dll (0 ∷ [])) (omega arith))).1)
       (subst (λ n. BytesAt image descriptor (u32_bytes lookups ++ (zeros 4 ++ (zeros 4 ++ (u32_bytes name ++ u32_bytes n)))))
-      (small_number addresses addresses_small.1) located)))
+      (small_number addresses (bounds_of image starts ends (thunks_built machine place i.asks) addresses address_table (some_thunks place i.asks)).1) located)))
       (table_stands i.asks place lookups importable.asks lookup_table hints)
       (table_stands i.asks place addresses importable.asks address_table hints)
       (record { no_nul = importable.name; located = text })
@@ -319,30 +294,17 @@ built_pieces machine base imports image apart holds =
     let lookups : ℕ = lookups_at machine base imports in
     let addresses : ℕ = addresses_at machine base imports in
     let hints : ℕ = hints_at machine base imports in
-    let names : ℕ = names_at machine base imports in
-    let rows : List ℕ = directory_built machine lookups names addresses imports in
+    let rows : List ℕ = directory_built machine lookups (names_at machine base imports) addresses imports in
     let gap : List ℕ = zeros (lookups - directory_end base imports) in
     let tables : List ℕ = tables_built machine hints imports in
     let behind_second : List ℕ = all_hints imports ++ all_names imports in
     let behind_first : List ℕ = tables ++ behind_second in
     let behind_gap : List ℕ = tables ++ behind_first in
-    let whole : BytesAt image base (rows ++ (gap ++ behind_gap)) = range_located (built machine base imports) image (contains_among (built machine base imports) image holds) apart in
-    let first = located_parts image rows (gap ++ behind_gap) base whole in
-    let at_gap : BytesAt image (directory_end base imports) (gap ++ behind_gap) = grind (arith, length_directory) in
-    let second = located_parts image gap behind_gap (directory_end base imports) at_gap in
-    let at_lookups : BytesAt image lookups behind_gap = grind (arith, step, at_least, length-replicate) in
-    let third = located_parts image tables behind_first lookups at_lookups in
+    let first = located_parts image rows (gap ++ behind_gap) base (range_located (built machine base imports) image (contains_among (built machine base imports) image holds) apart) in
+    let second = located_parts image gap behind_gap (directory_end base imports) (grind (arith, length_directory)) in
+    let third = located_parts image tables behind_first lookups (grind (arith, step, at_least, length-replicate)) in
     let at_addresses : BytesAt image addresses behind_first = subst (λ n. BytesAt image (lookups + n) behind_first) (length_tables machine hints imports) third.1 in
-    let fourth = located_parts image tables behind_second addresses at_addresses in
-    let at_hints : BytesAt image hints behind_second = subst (λ n. BytesAt image (addresses + n) behind_second) (length_tables machine hints imports) fourth.1 in
-    let fifth = located_parts image (all_hints imports) (all_names imports) hints at_hints in
-    record {
-      directory = first.0;
-      lookup_tables = third.0;
-      address_tables = fourth.0;
-      hint_names = fifth.0;
-      dll_names = fifth.1;
-    }
+    grind (arith, subst (λ n. BytesAt image (addresses + n) behind_second) (length_tables machine hints imports) (located_parts image tables behind_second addresses at_addresses).1, located_parts)
 
 -- Short imports that lld took are imported, each at an entry of its own.
 
@@ -358,13 +320,9 @@ asks_written : (group : List ShortImport) → AllByRecursion IsWritable group �
 asks_written [] all = tt
 asks_written (r ∷ group) all = (all.0.asks.0, asks_written group all.1)
 
-name_written : (group : List ShortImport) → AllByRecursion IsWritable group → HasNoNul (dll_of_group group)
-name_written [] all = refl
-name_written (r ∷ group) all = all.0.name
-
 groups_written : (groups : List (List ShortImport)) → AllByRecursion (AllByRecursion IsWritable) groups → AllByRecursion IsImportable (map imported_by groups)
 groups_written [] all = tt
-groups_written (group ∷ groups) all = grind (arith, groups_written groups all.1, name_written, group, asks_written)
+groups_written (group ∷ groups) all = grind (arith, groups_written groups all.1, group, asks_written)
 
 -- The DLLs of groups.
 
@@ -390,10 +348,8 @@ pub nth_stands : (image : List Range) (width : ℕ) (imports : List Imported) (d
 unfolding StandAt
 nth_stands image width [] descriptor table i p all is = cc
 nth_stands image width (q ∷ imports) descriptor table zero p all is =
-    let same : q ≡ p = cc in
-    let first : descriptor ≡ descriptor + 20 * 0 = omega arith in
-    subst (λ (x : Imported). LoadsFrom image width (descriptor + 20 * 0) (table + width * 0) x.dll x.asks) same
-    (subst (λ n. LoadsFrom image width n (table + width * 0) q.dll q.asks) first
+    subst (λ (x : Imported). LoadsFrom image width (descriptor + 20 * 0) (table + width * 0) x.dll x.asks) (cc)
+    (subst (λ n. LoadsFrom image width n (table + width * 0) q.dll q.asks) (omega arith)
     (subst (λ n. LoadsFrom image width descriptor n q.dll q.asks) (nothing_before table width) all.0))
 nth_stands image width (q ∷ imports) descriptor table (suc i) p all is =
     subst (λ n. LoadsFrom image width n (table + width * (length q.asks + 1 + thunks_until i imports)) p.dll p.asks) (next_row descriptor i)
@@ -411,9 +367,6 @@ all_definitions width address [] = []
 all_definitions width address (group ∷ groups) =
     group_definitions width address group ++ all_definitions width (address + width * (length (map ask_of_short_import group) + 1)) groups
 
-plus_plus : (a b c : ℕ) → a + (b + c) ≡ a + b + c
-plus_plus a b c = omega arith
-
 entries_define : (width table offset : ℕ) (group : List ShortImport) →
     filter_map (defined_by_entry (At Addresses table ∷ [])) (group_entries width offset group) ≡ group_definitions width (table + offset) group
 unfolding group_entries group_definitions
@@ -424,11 +377,7 @@ groups_define : (width table offset : ℕ) (groups : List (List ShortImport)) �
     filter_map (defined_by_entry (At Addresses table ∷ [])) (entries_of_groups width offset groups) ≡ all_definitions width (table + offset) groups
 unfolding entries_of_groups all_definitions
 groups_define width table offset [] = refl
-groups_define width table offset (group ∷ groups) =
-    let span : ℕ = width * (length (map ask_of_short_import group) + 1) in
-    filter_map-append (defined_by_entry (At Addresses table ∷ [])) (group_entries width offset group) (entries_of_groups width (offset + span) groups)
-    ∙ ap (λ ds. ds ++ filter_map (defined_by_entry (At Addresses table ∷ [])) (entries_of_groups width (offset + span) groups)) (entries_define width table offset group)
-    ∙ ap (λ ds. group_definitions width (table + offset) group ++ ds) (groups_define width table (offset + span) groups ∙ ap (λ n. all_definitions width n groups) (plus_plus table offset span))
+groups_define width table offset (group ∷ groups) = grind (arith, filter_map-append, entries_define, groups_define width table (offset + (width * (length (map ask_of_short_import group) + 1))) groups)
 
 group_names : (width address : ℕ) (group : List ShortImport) → map (λ (d : SymbolDefinition). d.name) (group_definitions width address group) ≡ imp_symbols_of group
 unfolding group_definitions
@@ -438,11 +387,7 @@ group_names width address (r ∷ group) = ap (λ names. imp_symbol r.symbol ∷ 
 all_names_of : (width address : ℕ) (groups : List (List ShortImport)) → map (λ (d : SymbolDefinition). d.name) (all_definitions width address groups) ≡ flat_map imp_symbols_of groups
 unfolding all_definitions
 all_names_of width address [] = refl
-all_names_of width address (group ∷ groups) =
-    let later : ℕ = address + width * (length (map ask_of_short_import group) + 1) in
-    map-append (λ (d : SymbolDefinition). d.name) (group_definitions width address group) (all_definitions width later groups)
-    ∙ ap (λ names. names ++ map (λ (d : SymbolDefinition). d.name) (all_definitions width later groups)) (group_names width address group)
-    ∙ ap (λ names. imp_symbols_of group ++ names) (all_names_of width later groups)
+all_names_of width address (group ∷ groups) = grind (arith, map-append, group_names, all_names_of width (address + width * (length (map ask_of_short_import group) + 1)) groups)
 
 group_defines : (width address : ℕ) (group : List ShortImport) (j : ℕ) (r : ShortImport) → slice_get group j ≡ Some r →
     Among (record { name = imp_symbol r.symbol; address = Some (address + width * j) }) (group_definitions width address group)
@@ -485,9 +430,6 @@ module _ (machine : MachineType) (descriptors addresses : ℕ) (taken : List Sho
   pub only : AllByRecursion (λ group. AllByRecursion (λ r. Contains taken r × (r.dll ≡ dll_of_group group)) group) (grouped taken)
   only = all_of_one taken program.agree (grouped taken) held (grouped_one taken)
 
-  own_distinct : IsDistinct bytes_eq (map (λ (d : SymbolDefinition). d.name) own)
-  own_distinct = grind (arith, all_names_of, distinct_from, grouped_times, few_from)
-
   own_definitions : (name : List ℕ) → definitions_of name (placed_by_lld machine addresses taken ∷ []) ≡ filter (λ (d : SymbolDefinition). bytes_eq name d.name) own
   own_definitions name = simp (append-nil, groups_define, plus_none)
 
@@ -495,17 +437,15 @@ module _ (machine : MachineType) (descriptors addresses : ℕ) (taken : List Sho
   defined_once r m d named among =
       let name : List ℕ = imp_symbol r.symbol in
       let listed : Among name (imp_symbols_of taken) = among_map (λ (x : ShortImport). imp_symbol x.symbol) r taken m in
-      let before = all_among (λ n. definitions_of n program.before ≡ []) name (imp_symbols_of taken) listed program.none_before in
-      let behind = all_among (λ n. definitions_of n program.behind ≡ []) name (imp_symbols_of taken) listed program.none_behind in
       let lld : Placed = placed_by_lld machine addresses taken in
       ap (definitions_of name) program.placed
       ∙ definitions_parts name program.before (lld ∷ program.behind)
-      ∙ ap (λ ds. ds ++ definitions_of name (lld ∷ program.behind)) before
+      ∙ ap (λ ds. ds ++ definitions_of name (lld ∷ program.behind)) (all_among (λ n. definitions_of n program.before ≡ []) name (imp_symbols_of taken) listed program.none_before)
       ∙ definitions_parts name (lld ∷ []) program.behind
-      ∙ ap (λ ds. definitions_of name (lld ∷ []) ++ ds) behind
+      ∙ ap (λ ds. definitions_of name (lld ∷ []) ++ ds) (all_among (λ n. definitions_of n program.behind ≡ []) name (imp_symbols_of taken) listed program.none_behind)
       ∙ append-nil (definitions_of name (lld ∷ []))
       ∙ own_definitions name
-      ∙ subst (λ n. filter (λ (other : SymbolDefinition). bytes_eq n other.name) own ≡ d ∷ []) named (only_definition d own among own_distinct)
+      ∙ subst (λ n. filter (λ (other : SymbolDefinition). bytes_eq n other.name) own ≡ d ∷ []) named (only_definition d own among (grind (arith, all_names_of, distinct_from, grouped_times, few_from)))
 
   is_imported : (r : ShortImport) → Contains taken r → IsImportedBy machine descriptors addresses taken image linked r
   is_imported r holds =
@@ -518,10 +458,7 @@ module _ (machine : MachineType) (descriptors addresses : ℕ) (taken : List Sho
       let from : LoadsFrom image (thunk_width machine) (descriptors + 20 * at.i) table r.dll (map ask_of_short_import at.group) =
       subst (λ dll. LoadsFrom image (thunk_width machine) (descriptors + 20 * at.i) table dll (map ask_of_short_import at.group)) (sym same)
       (nth_stands image (thunk_width machine) (imports_of_lld taken) descriptors addresses at.i (imported_by at.group) stand (get_map imported_by (grouped taken) at.i at.group at.its_group)) in
-      let entry : definitions_of (imp_symbol r.symbol) linked ≡ record { name = imp_symbol r.symbol; address = Some (from.loads.plain.addresses + thunk_width machine * at.j) } ∷ [] =
-      subst (λ n. definitions_of (imp_symbol r.symbol) linked ≡ record { name = imp_symbol r.symbol; address = Some (n + thunk_width machine * at.j) } ∷ []) (sym from.table_located)
-      (defined_once r m (record { name = imp_symbol r.symbol; address = Some (table + thunk_width machine * at.j) }) refl
-      (all_define (thunk_width machine) addresses (grouped taken) at.i at.j at.group r at.its_group at.is)) in
+      let entry : definitions_of (imp_symbol r.symbol) linked ≡ record { name = imp_symbol r.symbol; address = Some (from.loads.plain.addresses + thunk_width machine * at.j) } ∷ [] = cc (defined_once r m (record { name = imp_symbol r.symbol; address = Some (table + thunk_width machine * at.j) }) refl (all_define (thunk_width machine) addresses (grouped taken) at.i at.j at.group r at.its_group at.is)) in
       record {
         i = at.i;
         j = at.j;

@@ -12,7 +12,7 @@ use Rattle.implib_link.specs.Flavors.LldImports.{IsLldProgram, dll_of_group, gro
 use Rattle.implib_link.specs.Gnu.Fields.{LinkedCode, CanBranch, AllLead, HasBranch}
 use Rattle.implib_link.specs.Gnu.Moves.{AreInMemory}
 use Rattle.implib_link.specs.Gnu.Writing.{ReadsAndWrites}
-use Rattle.implib_link.specs.Tables.{AreSteady, AreTables, Block, CanReadFrom, Table, TableEntry, block_of_group, entry_of_short, tables_of_lld}
+use Rattle.implib_link.specs.Tables.{AreSteady, AreTables, Block, CanReadFrom, Table, block_of_group, entry_of_short, tables_of_lld}
 use Rattle.implib_link.proofs.Flavors.LldImports.{grouped_holds, in_place, get_map, only}
 use Rattle.implib_link.proofs.Search.Lists.{contains_among}
 use Rattle.implib_link.proofs.Tables.{entry_leads, thunk_called_in_memory, HasEntry, block_entry, entries_until, packed_count, reads_further, lld_tables}
@@ -57,9 +57,8 @@ module _ (machine : MachineType) (descriptors addresses : ℕ) (taken : List Sho
     lld_calls n written wide reads r d holds can held thunk c offset after caller has near =
         let own = in_table r holds in
         let x : Table = own.1.1.table in
-        let e : TableEntry = own.1.1.entry in
         subst (λ dll. BranchArrivesByThunk machine image_base (written ++ memory) (c.position + offset) after (gives dll (ask_of_short_import r))) own.1.1.of_dll
         (subst (λ ask. BranchArrivesByThunk machine image_base (written ++ memory) (c.position + offset) after (gives x.dll ask)) own.1.1.of_ask
         (thunk_called_in_memory machine image_base (tables_of_lld machine descriptors addresses taken image linked) codes targets memory gives tables steady at n written wide reads
-        own.1.1.i own.1.0 x e own.1.1.is own.1.1.asked (subst (CanReadFrom machine image_base) (sym own.1.1.at) (reads_further machine image_base addresses own.0 can))
+        own.1.1.i own.1.0 x own.1.1.entry own.1.1.is own.1.1.asked (subst (CanReadFrom machine image_base) (sym own.1.1.at) (reads_further machine image_base addresses own.0 can))
         r d own.1.1.symbol held thunk c offset after caller has near))

@@ -21,9 +21,6 @@ use Rattle.implib_link.specs.Tables.{CanReadFrom}
 use Rattle.implib_link.proofs.Gnu.Fields.{four_of, pair_read}
 use Rattle.implib_link.proofs.Gnu.Operands.{arm64_jump}
 
-i386_jump : (address : ℕ) (field : List ℕ) → length field ≡ 4 → jump_reads I386 address (0xFF ∷ 0x25 ∷ (field ++ [])) ≡ Some (number_in field)
-i386_jump address field four = (let f = four_of field four in subst (λ xs. jump_reads I386 address (0xFF ∷ 0x25 ∷ (xs ++ [])) ≡ Some (number_in xs)) (sym f.is) refl)
-
 amd64_jump : (address : ℕ) (field : List ℕ) → length field ≡ 4 → jump_reads AMD64 address (0xFF ∷ 0x25 ∷ (field ++ [])) ≡ Some (plus_signed 32 1 (number_in field) (address + 6))
 amd64_jump address field four = grind (arith, four_of field four)
 
@@ -47,13 +44,10 @@ module _ (image_base : ℕ) (linked : List Placed) (codes : List LinkedCode) (me
   x86_thunk : (machine : MachineType) → length (thunk_code machine) ≡ 6 → (x : InstructionArrives machine image_base linked memory (d.position + 0) (0xFF ∷ 0x25 ∷ []) [] (imp_symbol r.symbol) bytes) →
       jump_reads machine (image_base + d.position) (0xFF ∷ 0x25 ∷ (x.field ++ [])) ≡ Some (image_base + x.entry) → ThunkArrives machine image_base memory d.position bytes
   x86_thunk machine size x reads =
-      let four : length x.field ≡ 4 = x.four in
-      let plain : d.position + 0 ≡ d.position = omega arith in
-      let long : length (0xFF ∷ 0x25 ∷ (x.field ++ [])) ≡ 6 = omega (arith, length-append x.field []) in
       record {
         code = 0xFF ∷ 0x25 ∷ (x.field ++ []);
-        there = subst (λ a. BytesAt memory a (0xFF ∷ 0x25 ∷ (x.field ++ []))) plain x.there;
-        whole = long ∙ sym size;
+        there = subst (λ a. BytesAt memory a (0xFF ∷ 0x25 ∷ (x.field ++ []))) (omega arith) x.there;
+        whole = (omega (arith, length-append x.field [])) ∙ sym size;
         entry = x.entry;
         reads = reads;
         located = x.located;
@@ -79,16 +73,13 @@ module _ (image_base : ℕ) (linked : List Placed) (codes : List LinkedCode) (me
       AllLead machine image_base linked codes memory (imp_symbol r.symbol) bytes → AreKept machine codes memory → ThunkArrives machine image_base memory d.position bytes
   thunk_arrives I386 addresses can thunk own lead kept =
       let x = x86_arrives I386 i386_dir32 refl thunk own refl refl (refl, refl) lead in
-      x86_thunk I386 refl x (i386_jump (image_base + d.position) x.field x.four ∙ x.leads)
+      x86_thunk I386 refl x (((let f = four_of x.field x.four in subst (λ xs. jump_reads I386 ((image_base + d.position)) (0xFF ∷ 0x25 ∷ (xs ++ [])) ≡ Some (number_in xs)) (sym f.is) refl)) ∙ x.leads)
   thunk_arrives ARMNT addresses can thunk own lead kept = absurd can
   thunk_arrives AMD64 addresses can thunk own lead kept =
       let x = x86_arrives AMD64 amd64_rel32 refl thunk own refl refl (0, (omega arith, (refl, refl))) lead in
-      let place : image_base + d.position + 6 ≡ image_base + (d.position + 0 + 2) + 4 + 0 = omega arith in
-      x86_thunk AMD64 refl x (amd64_jump (image_base + d.position) x.field x.four ∙ ap (λ a. Some (plus_signed 32 1 (number_in x.field) a)) place ∙ x.leads)
+      x86_thunk AMD64 refl x (amd64_jump (image_base + d.position) x.field x.four ∙ ap (λ a. Some (plus_signed 32 1 (number_in x.field) a)) (omega arith) ∙ x.leads)
   thunk_arrives ARM64 addresses can thunk own lead kept =
       let code : d.code.bytes ≡ thunk_code ARM64 = ap (λ (s : ObjectSection). s.bytes) own in
-      let relocations : d.code.relocations ≡ thunk_relocations ARM64 1 = ap (λ (s : ObjectSection). s.relocations) own in
-      let size : length d.code.bytes ≡ 12 = ap length code in
       let page_code : field_at d.code.bytes 0 4 ≡ 0x9000_0010 = ap (λ xs. field_at xs 0 4) code in
       let load_code : field_at d.code.bytes 4 4 ≡ 0xF940_0210 = ap (λ xs. field_at xs 4 4) code in
       let names = thunk_names ARM64 d r thunk in
@@ -103,7 +94,7 @@ module _ (image_base : ℕ) (linked : List Placed) (codes : List LinkedCode) (me
       }) in
       let branch : BytesAt memory (d.position + 8) (0 ∷ 2 ∷ 0x1F ∷ 0xD6 ∷ []) =
       subst (BytesAt memory (d.position + 8)) (ap (λ xs. take 4 (drop 8 xs)) code)
-      (kept d 8 4 held (subst (λ rs. list_any (meets ARM64 8 4) rs ≡ false) (sym relocations) refl)) in
+      (kept d 8 4 held (subst (λ rs. list_any (meets ARM64 8 4) rs ≡ false) (sym (ap (λ (s : ObjectSection). s.relocations) own)) refl)) in
       let plain : d.position + 0 ≡ d.position = omega arith in
       let read = pair_read (jump_reads ARM64) 0x9000_0010 0xF940_0210 (0 ∷ 2 ∷ 0x1F ∷ 0xD6 ∷ []) arm64_jump image_base linked memory d.position (field_at d.code.bytes 0 4) (field_at d.code.bytes 4 4) (imp_symbol r.symbol) bytes
       (ap (with_adrp 0) page_code) (ap (with_bits 10 12 0) load_code)

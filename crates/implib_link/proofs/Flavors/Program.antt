@@ -27,7 +27,7 @@ use Rattle.implib.specs.Link.Image.{Range, contributions, filled, image_of, IsAd
 use Rattle.implib.specs.Import.{Ask, Name, Ordinal, imp_symbol}
 use Rattle.implib.specs.Members.ImportTables.{thunk_width, zeros}
 use Rattle.implib.specs.Formats.Layout.{entries_of, name_text, object_of}
-use Rattle.implib.specs.Link.Linked.{AllFind, IsDefinedAt, IsDefinedOnce, undefined_names}
+use Rattle.implib.specs.Link.Linked.{AllFind, IsDefinedAt, undefined_names}
 use Rattle.implib.specs.Link.Load.{BytesAt}
 use Rattle.implib.specs.Members.Msvc.{short_import_symbol}
 use Rattle.implib.specs.Members.MsvcObjects.{descriptor, null_descriptor_symbol, null_thunk}
@@ -36,15 +36,14 @@ use Rattle.implib.specs.Link.Resolution.{SymbolDefinition, definitions, definiti
 use Rattle.implib.proofs.Link.Definitions.{not_same_turned, only_definition}
 use Rattle.implib.proofs.Link.Ranges.{Among, all_among, among_first, among_later}
 use Rattle.implib_link.specs.Directory.{DirectoryAt}
-use Rattle.implib_link.specs.Flavors.Expansion.{import_object, expanded_in, Code, Constant, Data, Use, stub_for, stub_relocations_for, with_section_symbols}
+use Rattle.implib_link.specs.Flavors.Expansion.{import_object, expanded_in, Use, with_section_symbols}
 use Rattle.implib_link.proofs.Flavors.Inputs.{all_claim_listed, claimed_with_null, block_in, inputs_link, inputs_objects, inputs_plainly, inputs_symbols, inputs_taken, null_object, objects_with_null}
 use Rattle.implib_link.proofs.Flavors.NullDescriptor.{EndsNothing, all_insert, among_same, descriptors_end_same, finds_same, null_filled, null_once, others_same, undefined_same, group_same}
 use Rattle.implib_link.proofs.Gnu.Others.{contributions_kept, definitions_kept, placed_kept}
-use Rattle.implib_link.proofs.Gnu.Packed.{end_kept, admissible, packed_eights, AreWithin, IsSized, exports_sized, head_sized, tail_sized}
+use Rattle.implib_link.proofs.Gnu.Packed.{end_kept, admissible, packed_eights, IsSized, exports_sized, head_sized, tail_sized}
 use Rattle.implib_link.proofs.Search.Lists.{contains_among}
 use Rattle.implib_link.proofs.Flavors.Expanded.{taken_null, taken_descriptor}
 use Rattle.implib_link.proofs.Gnu.Loaded.{times_none, by_width}
-use Rattle.implib.specs.declared.machine.MachineType.TheVariants.{I386, ARMNT, AMD64, ARM64}
 
 pub head_has : (machine : MachineType) (dll : NamesOfDll) → has_tables (head machine dll) ≡ true
 unfolding has_tables head_object
@@ -82,10 +81,6 @@ pub none_left : (objects : List Object) → AllHave objects → filter (λ o. no
 none_left [] all = refl
 none_left (o ∷ objects) all = rw all.0 (none_left objects all.1)
 
-pub members_have : (machine : MachineType) (inputs : List LinkInput) → AllByRecursion (IsMade machine) inputs →
-    AllByRecursion (λ o. has_tables o ≡ true) (objects_in (all_linked machine inputs) ++ null_descriptor ∷ [])
-members_have machine inputs made = grind (arith, gnu_inputs_objects, objects_behind, block_of, blocks_have, null_has)
-
 -- The members' sections have no names in a string table.
 
 -- an object's names are whole, whatever the string table
@@ -117,8 +112,7 @@ same_by_full_names bytes o whole read = rw (read, whole (strings_of bytes)) refl
 
 all_by_full_names : (members : List MemberView) (objects : List Object) → AllByRecursion HasWholeNames objects →
     map (λ (m : MemberView). object_in m.bytes) members ≡ map Some objects → map (λ (m : MemberView). object_by_full_names m.bytes) members ≡ map Some objects
-all_by_full_names [] [] whole read = refl
-all_by_full_names [] (o ∷ objects) whole read = cc
+all_by_full_names [] objects whole read = grind arith
 all_by_full_names (m ∷ members) [] whole read = cc
 all_by_full_names (m ∷ members) (o ∷ objects) whole read = grind (arith, all_by_full_names members objects whole.1, same_by_full_names)
 
@@ -155,20 +149,16 @@ gnu_thunks zero inputs = refl
 gnu_thunks (suc i) [] = refl
 gnu_thunks (suc i) (p ∷ inputs) = ap (λ n. length (chosen_exports p.definition p.chosen) + 1 + n) (gnu_thunks i inputs)
 
-pub gnu_ended : (machine : MachineType) (inputs : List LinkInput) (objects : List Object) → filter has_tables objects ≡ objects_in (all_linked machine inputs) ++ null_descriptor ∷ [] →
-    AreEndedByLinker machine (map gnu_input inputs) objects
-gnu_ended machine inputs objects tables = grind (arith, gnu_alone, gnu_members)
-
 -- the objects of a program
 pub gnu_objects : (machine : MachineType) (inputs : List LinkInput) (objects : List Object) → IsDistinct bytes_eq (linked_symbols machine inputs) →
     filter has_tables objects ≡ objects_in (all_linked machine inputs) ++ null_descriptor ∷ [] → AllByRecursion (ClaimsNone (linked_symbols machine inputs)) (filter (λ o. not (has_tables o)) objects) →
     AreProgramObjects machine OfLinker (map gnu_input inputs) objects
-gnu_objects machine inputs objects distinct tables others = grind (arith, gnu_members machine inputs, gnu_ended machine inputs objects tables, gnu_found inputs)
+gnu_objects machine inputs objects distinct tables others = grind (arith, gnu_members machine inputs, gnu_alone, gnu_found inputs)
 
 -- the members and the null descriptor are such objects by themselves
 pub members_are_objects : (machine : MachineType) (inputs : List LinkInput) → AllByRecursion (IsMade machine) inputs → IsDistinct bytes_eq (linked_symbols machine inputs) →
     AreProgramObjects machine OfLinker (map gnu_input inputs) (objects_in (all_linked machine inputs) ++ null_descriptor ∷ [])
-members_are_objects machine inputs made distinct = search (rules, members_have machine inputs made, gnu_objects, all_kept, none_left)
+members_are_objects machine inputs made distinct = search (rules, gnu_inputs_objects, objects_behind, block_of, blocks_have, null_has, gnu_objects, all_kept, none_left)
 
 -- A program of DLLs in both flavours links.
 
@@ -193,8 +183,7 @@ exports_end machine dll (e ∷ es) rest all = ((refl, (refl, (refl, (refl, (refl
 objects_end : (machine : MachineType) (flavor : Flavor) (dll : NamesOfDll) (es : List ExportView) (rest : List Object) → AllByRecursion EndsNothing rest →
     AllByRecursion EndsNothing (objects_of machine flavor dll es rest)
 unfolding with_section_symbols object_of descriptor entries_of name_text head_object
-objects_end machine Msvc dll es rest all = ((refl, (refl, (refl, (refl, tt)))), askings_end machine dll es rest all)
-objects_end machine Gnu dll es rest all = ((refl, (refl, (refl, (refl, (refl, (refl, tt)))))), exports_end machine dll es rest all)
+objects_end machine flavor dll es rest all = grind (arith, askings_end, exports_end)
 
 pub blocks_end : (machine : MachineType) (blocks : List FlavorBlock) → AllByRecursion EndsNothing (all_objects machine blocks [])
 blocks_end machine [] = tt
@@ -204,8 +193,7 @@ blocks_end machine (k ∷ blocks) = objects_end machine k.flavor k.dll k.exports
 
 asking_keeps : (machine : MachineType) (dll : NamesOfDll) (symbol : List ℕ) (ask : Ask) (e : ExportView) (n : ℕ) → sections_end Descriptors n (import_object machine dll.text symbol ask (use_for e)).sections ≡ n
 unfolding import_object sections_end
-asking_keeps machine dll symbol (Ordinal n) e m = refl
-asking_keeps machine dll symbol (Name text hint) e m = refl
+asking_keeps machine dll symbol ask e n = grind arith
 
 askings_keep : (machine : MachineType) (dll : NamesOfDll) (es : List ExportView) (rest : List Object) (n : ℕ) → group_end Descriptors n (behind_descriptor machine dll es rest) ≡ group_end Descriptors n rest
 unfolding group_end sections_end with_section_symbols object_of null_thunk entries_of name_text
@@ -221,8 +209,7 @@ exports_keep machine dll (e ∷ es) rest n = exports_keep machine dll es rest n
 one_end : (machine : MachineType) (flavor : Flavor) (dll : NamesOfDll) (es : List ExportView) (rest : List Object) (n : ℕ) → n % 4 ≡ 0 →
     group_end Descriptors n (objects_of machine flavor dll es rest) ≡ group_end Descriptors (n + 20) rest
 unfolding group_end sections_end with_section_symbols object_of descriptor entries_of name_text head_object
-one_end machine Msvc dll es rest n even = grind (arith, behind_descriptor, aligned, even, askings_keep)
-one_end machine Gnu dll es rest n even = grind (arith, export, tail, aligned, even, exports_keep)
+one_end machine flavor dll es rest n even = grind (arith, behind_descriptor, aligned, even, askings_keep, export, tail, exports_keep)
 
 pub later_even : (n : ℕ) → n % 4 ≡ 0 → (n + 20) % 4 ≡ 0
 later_even n even = omega arith
@@ -295,10 +282,6 @@ all_either : (inputs : List FlavorInput) → AllSuit OfMember (map block_in inpu
 all_either [] = tt
 all_either (p ∷ inputs) = (tt, all_either inputs)
 
-suited : (machine : MachineType) (ending : Ending) (inputs : List FlavorInput) (objects : List Object) → AreEnded ending machine inputs objects → AllSuit ending (map block_in inputs)
-suited machine OfLinker inputs objects ended = all_gnu inputs ended.gnu
-suited machine OfMember inputs objects ended = all_either inputs
-
 -- what holds of the members' objects and of a null descriptor holds of all objects with import tables
 pub kept_all : (machine : MachineType) (ending : Ending) (inputs : List FlavorInput) (objects : List Object) → AllByRecursion (IsMadeFor machine) inputs → AreEnded ending machine inputs objects →
     (P : Object → Type 0) → P (taken_null machine) → AllByRecursion P (all_objects machine (map block_in inputs) (rest_of ending)) → AllByRecursion P (filter has_tables objects)
@@ -308,8 +291,7 @@ kept_all machine OfMember inputs objects made ended P null all = search (rules, 
 -- the names of members, without that of a null descriptor
 names_differ : (machine : MachineType) (ending : Ending) (inputs : List FlavorInput) → IsDistinct bytes_eq (own_names ending machine inputs) → IsDistinct bytes_eq (symbols_listed (all_members machine inputs))
 unfolding IsDistinct
-names_differ machine OfLinker inputs distinct = distinct
-names_differ machine OfMember inputs distinct = distinct.1
+names_differ machine ending inputs distinct = grind arith
 
 -- What is placed of all objects with import tables is what is placed of the members' objects, and of what is behind them.
 pub record Stand (machine : MachineType) (ending : Ending) (b : Bases) (inputs : List FlavorInput) (objects : List Object) : Type 0 where
@@ -355,10 +337,6 @@ stand machine OfMember b inputs objects made program =
       undefined = ap undefined_names placed ∙ undefined_same machine b xs ys free even ∙ ap (λ os. undefined_names (placed_from b os)) parts;
     }
 
-even_for : (machine : MachineType) (ending : Ending) (b : Bases) (inputs : List FlavorInput) (objects : List Object) → IsProgramOf machine ending b inputs objects → AreEven ending machine b
-even_for machine OfLinker b inputs objects program = even_bases machine b objects program.admissible
-even_for machine OfMember b inputs objects program = grind arith
-
 module _ (machine : MachineType) (ending : Ending) (b : Bases) (inputs : List FlavorInput) (objects : List Object) (made : AllByRecursion (IsMadeFor machine) inputs)
     (program : IsProgramOf machine ending b inputs objects) where
   abbrev linked : List Placed
@@ -371,10 +349,10 @@ module _ (machine : MachineType) (ending : Ending) (b : Bases) (inputs : List Fl
   dlls = map block_in inputs
 
   pub suit : AllSuit ending (map block_in inputs)
-  suit = suited machine ending inputs objects program.held.ended
+  suit = grind (arith, all_gnu, all_either, program.held.ended)
 
   pub even : AreEven ending machine b
-  even = even_for machine ending b inputs objects program
+  even = grind (arith, even_bases)
 
   stands : Stand machine ending b inputs objects
   stands = stand machine ending b inputs objects made program
@@ -400,12 +378,8 @@ module _ (machine : MachineType) (ending : Ending) (b : Bases) (inputs : List Fl
   names_are : map (λ (d : SymbolDefinition). d.name) defined ≡ symbols_listed (all_members machine inputs)
   names_are = names-all machine b dlls ∙ sym (inputs_symbols machine inputs made)
 
-  rest_defines : (kind : Ending) (c : Bases) → definitions (placed_from c (rest_of kind)) ≡ []
-  rest_defines OfLinker c = refl
-  rest_defines OfMember c = refl
-
   pub definitions_are : definitions (placed_from b (all_objects machine (map block_in inputs) (rest_of ending))) ≡ definitions_all machine b (map block_in inputs)
-  definitions_are = grind (arith, definitions-all, rest_of, suit, even, defined, rest_defines, ends_all, append-nil)
+  definitions_are = grind (arith, definitions-all, rest_of, suit, even, defined, ends_all, append-nil)
 
   pub only : (d : SymbolDefinition) → Among d (definitions_all machine b (map block_in inputs)) → definitions_of d.name (placed_from b objects) ≡ d ∷ []
   only d m =
@@ -533,40 +507,25 @@ module _ (machine : MachineType) (ending : Ending) (b : Bases) (inputs : List Fl
             (null_there machine ending b inputs objects made program (image_of machine b all) (group_located machine b objects program.admissible DirectoryEnds (inr (inl refl))) each.located.descriptors));
         null = null_address machine ending b inputs objects made program;
         ended = null_ends machine ending b inputs objects made program;
-        targets = places.finds (each.targets (rest_finds ending last));
+        targets = places.finds (each.targets (grind arith));
         defined = subst (AllByRecursion (IsDefinedAt all)) (sym places.undefined) (each.defined (rest_leaves ending last));
-        listed = subst (AllByRecursion (IsDefinedOnce all)) (names_are machine ending b inputs objects made program)
-            (once_of all (definitions_all machine b (map block_in inputs)) (only machine ending b inputs objects made program));
+        listed = grind (arith, names_are machine ending b inputs objects made program, once_of all (definitions_all machine b (map block_in inputs)) (only machine ending b inputs objects made program));
         claimed = claimed_are machine ending b inputs objects made program;
       }
     where
-      rest_finds : (kind : Ending) (c : Bases) → AllByRecursion (AllFind (placed_from b objects)) (placed_from c (rest_of kind))
-      rest_finds OfLinker c = ((tt, tt), tt)
-      rest_finds OfMember c = tt
-
       rest_leaves : (kind : Ending) (c : Bases) → AllByRecursion (IsDefinedAt (placed_from b objects)) (undefined_names (placed_from c (rest_of kind)))
-      rest_leaves OfLinker c = tt
-      rest_leaves OfMember c = tt
+      rest_leaves kind c = grind arith
 
 -- Packed placement of both flavours makes a program.
 
 -- Relocations are within their sections.
-
-stub_sized : (machine : MachineType) (use_kind : Use) → AreWithin (length (stub_for machine use_kind)) (stub_relocations_for machine use_kind)
-stub_sized I386 Code = (omega arith, tt)
-stub_sized ARMNT Code = (omega arith, tt)
-stub_sized AMD64 Code = (omega arith, tt)
-stub_sized ARM64 Code = (omega arith, (omega arith, tt))
-stub_sized machine Data = tt
-stub_sized machine Constant = tt
 
 field_within : (machine : MachineType) → 0 + 4 ≤ length (zeros (thunk_width machine))
 field_within machine = grind arith
 
 asking_sized : (machine : MachineType) (dll : NamesOfDll) (symbol : List ℕ) (ask : Ask) (use_kind : Use) → IsSized (import_object machine dll.text symbol ask use_kind)
 unfolding import_object
-asking_sized machine dll symbol (Ordinal n) use_kind = (stub_sized machine use_kind, (tt, (tt, tt)))
-asking_sized machine dll symbol (Name text hint) use_kind = (stub_sized machine use_kind, ((field_within machine, tt), ((field_within machine, tt), (tt, tt))))
+asking_sized machine dll symbol ask use_kind = grind (arith, field_within)
 
 askings_sized : (machine : MachineType) (dll : NamesOfDll) (es : List ExportView) (rest : List Object) → AllByRecursion IsSized rest → AllByRecursion IsSized (behind_descriptor machine dll es rest)
 unfolding with_section_symbols object_of null_thunk entries_of name_text
@@ -577,14 +536,9 @@ descriptor_sized : (machine : MachineType) (dll : NamesOfDll) → IsSized (taken
 unfolding with_section_symbols object_of descriptor entries_of name_text
 descriptor_sized machine dll = ((omega arith, (omega arith, (omega arith, tt))), (tt, (tt, (tt, tt))))
 
-one_sized : (machine : MachineType) (flavor : Flavor) (dll : NamesOfDll) (es : List ExportView) (rest : List Object) → AllByRecursion IsSized rest → AllByRecursion IsSized (objects_of machine flavor dll es rest)
-one_sized machine Msvc dll es rest all = (descriptor_sized machine dll, askings_sized machine dll es rest all)
-one_sized machine Gnu dll es rest all = (head_sized machine dll, exports_sized machine dll es _ (tail_sized machine dll, all))
-
 pub all_sized : (machine : MachineType) (ending : Ending) (blocks : List FlavorBlock) → AllByRecursion IsSized (all_objects machine blocks (rest_of ending))
-all_sized machine OfLinker [] = ((tt, tt), tt)
-all_sized machine OfMember [] = tt
-all_sized machine ending (k ∷ blocks) = one_sized machine k.flavor k.dll k.exports (all_objects machine blocks (rest_of ending)) (all_sized machine ending blocks)
+all_sized machine ending [] = grind arith
+all_sized machine ending (k ∷ blocks) = grind (arith, descriptor_sized, askings_sized, head_sized, exports_sized, tail_sized, all_sized machine ending blocks)
 
 null_sized : (machine : MachineType) → IsSized (taken_null machine)
 unfolding with_section_symbols object_of Rattle.implib.specs.Members.MsvcObjects.null_descriptor entries_of name_text
@@ -606,23 +560,18 @@ first_even : (first : ℕ) → packed_descriptors first % 4 ≡ 0
 unfolding next_multiple
 first_even first = omega arith
 
-sum_even : (n m : ℕ) → n % 4 ≡ 0 → (n + 20 * m) % 4 ≡ 0
-sum_even n m even = omega arith
-
 pub packed_objects : (machine : MachineType) (ending : Ending) (first : ℕ) (inputs : List FlavorInput) (objects : List Object) → AllByRecursion (IsMadeFor machine) inputs →
     AreProgramObjects machine ending inputs objects → 0 < first → packed_end first objects < 2 ^ 31 → IsProgramOf machine ending (packed first objects) inputs objects
-packed_objects machine OfLinker first inputs objects made held above below =
-    grind (arith, admissible machine first objects (kept_sized machine OfLinker inputs objects made held.ended) above below, kept_sized machine OfLinker inputs objects made held.ended)
+packed_objects machine OfLinker first inputs objects made held above below = grind (arith, admissible machine first objects (kept_sized machine OfLinker inputs objects made held.ended) above below)
 packed_objects machine OfMember first inputs objects made held above below =
     let base : ℕ = packed_descriptors first in
     let ends_at : group_end Descriptors base objects ≡ base + 20 * length inputs = directory_end machine inputs objects made held.ended base (first_even first) in
-    let whole : group_end Descriptors base objects % 4 ≡ 0 = ap (λ n. n % 4) ends_at ∙ sum_even base (length inputs) (first_even first) in
     record {
       held = held;
       admissible = admissible machine first objects (kept_sized machine OfMember inputs objects made held.ended) above below;
       lookups = of_eight machine (packed first objects).lookups (lookups_eights first objects);
       addresses = of_eight machine (packed first objects).addresses (packed_eights first objects);
-      follows = aligned (group_end Descriptors base objects) whole;
+      follows = aligned (group_end Descriptors base objects) (ap (λ n. n % 4) ends_at ∙ (omega (arith, first_even first)));
     }
 
 pub packed_admissible : (machine : MachineType) (ending : Ending) (first : ℕ) (inputs : List FlavorInput) (objects : List Object) → AllByRecursion (IsMadeFor machine) inputs →

@@ -1,6 +1,6 @@
 -- The import tables of both flavours without the address tables: what a loader reads that writes there.
 use Rattle.std.proofs.Common.{◌≡◌, ℕ, suc, ◌+◌, ◌*◌, ◌<◌, ◌^◌, List, [], ◌∷◌, ◌++◌, length, map, refl, ap, sym, ◌∙◌, subst, arith, ◌⊎◌, false, None, inl, inr, zero, Some, codes, ◌-◌, ◌%◌}
-use Rattle.std.specs.List.{AllByRecursion, filter, list_any}
+use Rattle.std.specs.List.{AllByRecursion, filter}
 use Rattle.std.proofs.lemmas.List.{length-map, append-nil, append_cancel_left, append_assoc}
 use Rattle.implib.specs.declared.machine.MachineType.{MachineType}
 use Rattle.implib.specs.declared.flavor.Flavor.TheVariants.{Gnu, Msvc}
@@ -8,10 +8,10 @@ use Rattle.implib.specs.declared.flavor.Flavor.{Flavor}
 use Rattle.implib.specs.Definition.{ExportView}
 use Rattle.implib.specs.Formats.Layout.{HasNoNul, entries_of, name_text, object_of}
 use Rattle.implib.specs.Formats.Object.{Object, ObjectSection, ASymbol}
-use Rattle.implib.specs.Import.{Ask, Name, Ordinal}
+use Rattle.implib.specs.Import.{Ask}
 use Rattle.implib.specs.Link.Image.{Range, contributions, filled, range_end, IsAdmissible, image_of}
 use Rattle.implib.specs.Link.Load.{BytesAt}
-use Rattle.implib.specs.Link.Placement.{Addresses, Bases, Placed, next_multiple, placed_from, At, SectionAddress, Unplaced, end_after, ends_after, group_named, section_address_of, section_addresses_of, Descriptors, DirectoryEnds, DllNames, Group, HintNames, Lookups, base_of, same_group}
+use Rattle.implib.specs.Link.Placement.{Addresses, Bases, Placed, next_multiple, placed_from, SectionAddress, end_after, ends_after, group_named, section_address_of, section_addresses_of, Descriptors, DirectoryEnds, DllNames, Group, HintNames, Lookups, base_of, same_group}
 use Rattle.implib.specs.Link.Resolution.{SymbolDefinition, definitions, definitions_of, first_address}
 use Rattle.implib.specs.Members.Gnu.{head_object, export_object, relocations_of_thunk, tail_object}
 use Rattle.implib.specs.Members.ImportTables.{thunk_width, zeros}
@@ -20,7 +20,7 @@ use Rattle.implib.specs.Members.MsvcObjects.{descriptor, null_thunk, null_descri
 use Rattle.implib.proofs.Link.Placement.{export, head, tail}
 use Rattle.implib.proofs.Link.Ranges.{Among, among_back, among_front}
 use Rattle.implib_link.specs.Flavors.Expansion.{Use, import_object, with_section_symbols}
-use Rattle.implib_link.specs.Flavors.Program.{Ending, OfLinker, OfMember, ask_in, has_tables, is_table, AreEnded, FlavorInput, IsMadeFor, imported_in, thunks_of, IsProgramOf, group_end, sections_end}
+use Rattle.implib_link.specs.Flavors.Program.{Ending, ask_in, has_tables, AreEnded, FlavorInput, IsMadeFor, imported_in, thunks_of, IsProgramOf, group_end, sections_end}
 use Rattle.implib_link.proofs.Gnu.Filling.{LocatedBeside, block_beside, rest_beside, descriptor_beside, table_bounds, DescriptorBeside, DirectoryBeside, avoids_addresses, beside_of, keeps_beside, descriptors_beside, directory_ends_beside, dll_names_beside, ends_beside, hint_names_beside, lookups_beside, starts_beside, all_filled, can_run, left_alike, runs_once}
 use Rattle.implib_link.proofs.Flavors.Block.{AreEven, FitsIn, Suits, behind_descriptor, definitions-in, definitions_in, ends_in, even_aligned, even_in, even_wide, objects_of, use_for, askings_stand, AllSuit, BlocksIn, CanLink, FlavorBlock, addresses_one, all_objects, descriptors_one, ends_all, ends_one, imported_of, rest_of, thunks_in, definitions-all, definitions_all, table_sum}
 use Rattle.implib_link.proofs.Flavors.Expanded.{AreWide, ends_of_descriptor, wide_descriptor, descriptor_stands, taken_descriptor, taken_null}
@@ -28,7 +28,6 @@ use Rattle.implib.specs.LibraryName.{NamesOfDll}
 use Rattle.implib_link.proofs.Gnu.Loaded.{Keeps, memory_can_be_read, memory_read, thunks_asked}
 use Rattle.std.proofs.lemmas.Bool.{cases_Bool}
 use Rattle.implib.specs.declared.coff.object.Relocation.{Relocation}
-use Rattle.implib.specs.declared.machine.MachineType.TheVariants.{I386, ARMNT, AMD64, ARM64}
 use Rattle.implib.specs.Formats.Constants.{image_relative, class_external}
 use Rattle.implib_link.specs.Gnu.Fields.{absolute_width, places_at, table_places, table_places_in, LinkedCode}
 use Rattle.implib_link.proofs.Gnu.Others.{no_group}
@@ -142,22 +141,13 @@ tables_end machine ending blocks b suit even =
     let defined : List SymbolDefinition = definitions_all machine b blocks in
     let last : Bases = ends_behind b own in
     let parts : definitions (placed_from b (all_objects machine blocks (behind_tables ∷ []))) ≡ defined ++ at_address last.addresses = grind (arith, objects_split, placed_parts, flat_map-append, definitions-all, suit, even, append-nil, begins_at) in
-    let whole : definitions (placed_from b (all_objects machine blocks (behind_tables ∷ []))) ≡ defined ++ at_address (ends_all machine b blocks).addresses = grind (arith, definitions-all, suit, even, begins_at, ends_all) in
-    let ends : last.addresses ≡ (ends_all machine b blocks).addresses = grind (arith, one_address, ends_all, append_cancel_left) in
-    rest_behind ending ∙ sym (end_behind Addresses b own) ∙ ends ∙ addresses_all machine b blocks
-  where
-    rest_behind : (ending : Ending) → group_end Addresses b.addresses (all_objects machine blocks (rest_of ending)) ≡ group_end Addresses b.addresses (all_objects machine blocks [])
-    rest_behind OfLinker = ap (group_end Addresses b.addresses) (objects_split machine blocks (rest_of OfLinker)) ∙ group_end-append Addresses b.addresses (all_objects machine blocks []) (rest_of OfLinker)
-    rest_behind OfMember = refl
+    let ends : last.addresses ≡ (ends_all machine b blocks).addresses = grind (arith, definitions-all, suit, even, begins_at, ends_all, one_address, ends_all, append_cancel_left) in
+    (grind (arith, objects_split, rest_of, group_end-append, all_objects)) ∙ sym (end_behind Addresses b own) ∙ ends ∙ addresses_all machine b blocks
 
 all_long : (machine : MachineType) (linked : List Placed) (ending : Ending) (blocks : List FlavorBlock) (b : Bases) → AllSuit ending blocks → AreEven ending machine b →
     length (filled b.addresses (contributions machine linked Addresses (placed_from b (all_objects machine blocks (rest_of ending))))) ≡ thunk_width machine * thunks_in (length blocks) blocks
 unfolding span
-all_long machine linked ending blocks b suit even =
-    let objects : List Object = all_objects machine blocks (rest_of ending) in
-    let ends : b.addresses + length (filled b.addresses (contributions machine linked Addresses (placed_from b objects))) ≡ group_end Addresses b.addresses objects = grind (arith, fills_objects machine linked Addresses b objects (all_sized machine ending blocks), all_sized machine ending blocks, ends) in
-    let end = tables_end machine ending blocks b suit even in
-    omega arith
+all_long machine linked ending blocks b suit even = grind (arith, tables_end, fills_objects machine linked Addresses b (all_objects machine blocks (rest_of ending)) (all_sized machine ending blocks))
 
 -- The import tables have no base relocations: members for GNU's linker.
 
@@ -176,22 +166,14 @@ none_placed : (machine : MachineType) (address : ℕ) (relocations : List Reloca
 none_placed machine address [] all = refl
 none_placed machine address (r ∷ relocations) all = rw all.0 (none_placed machine address relocations all.1)
 
-one_none : (machine : MachineType) (address : SectionAddress) (addresses : List SectionAddress) (s : ObjectSection) (sections : List ObjectSection) → NoneAbsolute machine s.relocations →
-    table_places_in machine addresses sections ≡ [] → table_places_in machine (address ∷ addresses) (s ∷ sections) ≡ []
-one_none machine Unplaced addresses s sections all rest = rest
-one_none machine (At group address) addresses s sections all rest = rw (none_placed machine address s.relocations all) rest
-
 first_none : (machine : MachineType) (b : Bases) (s : ObjectSection) (addresses : List SectionAddress) (sections : List ObjectSection) → IsSteady machine s → table_places_in machine addresses sections ≡ [] →
     table_places_in machine (section_address_of b s ∷ addresses) (s ∷ sections) ≡ []
-first_none machine b s addresses sections (inl none) rest = rw none rest
-first_none machine b s addresses sections (inr all) rest = one_none machine (section_address_of b s) addresses s sections all rest
+first_none machine b s addresses sections h5 rest = grind (arith, none_placed)
 
 sections_none : (machine : MachineType) (b : Bases) (sections : List ObjectSection) → AllByRecursion (IsSteady machine) sections →
     table_places_in machine (section_addresses_of b sections) sections ≡ []
 sections_none machine b [] all = refl
-sections_none machine b (s ∷ sections) all =
-    let later : Bases = end_after b (section_address_of b s) (length s.bytes) in
-    first_none machine b s (section_addresses_of later sections) sections all.0 (sections_none machine later sections all.1)
+sections_none machine b (s ∷ sections) all = cc (first_none machine b s (section_addresses_of (end_after b (section_address_of b s) (length s.bytes)) sections) sections all.0 (sections_none machine (end_after b (section_address_of b s) (length s.bytes)) sections all.1))
 
 pub tables_none : (machine : MachineType) (b : Bases) (objects : List Object) → AllByRecursion (AllSteady machine) objects → table_places machine (placed_from b objects) ≡ []
 tables_none machine b [] all = refl
@@ -199,21 +181,15 @@ tables_none machine b (o ∷ objects) all = rw (sections_none machine b o.sectio
 
 -- Objects without import tables are steady.
 
-others_steady : (machine : MachineType) (sections : List ObjectSection) → list_any is_table sections ≡ false → AllByRecursion (IsSteady machine) sections
-others_steady machine sections none = all_from (IsSteady machine) sections (λ s held. inl (no_group s.name (none_among is_table s sections held none)))
-
 pub all_steady : (machine : MachineType) (objects : List Object) → AllByRecursion (AllSteady machine) (filter has_tables objects) → AllByRecursion (AllSteady machine) objects
 unfolding has_tables
 all_steady machine [] all = tt
-all_steady machine (o ∷ objects) all = grind (arith, all_steady machine objects, others_steady)
+all_steady machine (o ∷ objects) all = grind (arith, all_steady machine objects, all_from, no_group, none_among)
 
 -- Members are steady.
 
 pub relative_steady : (machine : MachineType) → absolute_width machine (image_relative machine) ≡ None
-relative_steady I386 = refl
-relative_steady ARMNT = refl
-relative_steady AMD64 = refl
-relative_steady ARM64 = refl
+relative_steady machine = grind arith
 
 pub head_steady : (machine : MachineType) (dll : NamesOfDll) → AllSteady machine (head machine dll)
 unfolding head_object
@@ -240,8 +216,7 @@ exports_steady machine dll (e ∷ es) rest all = (export_steady machine dll e, e
 
 asking_steady : (machine : MachineType) (dll : NamesOfDll) (symbol : List ℕ) (ask : Ask) (use_kind : Use) → AllSteady machine (import_object machine dll.text symbol ask use_kind)
 unfolding import_object
-asking_steady machine dll symbol (Ordinal n) use_kind = (inl refl, (inr tt, (inr tt, tt)))
-asking_steady machine dll symbol (Name text hint) use_kind = (inl refl, (inr (relative_steady machine, tt), (inr (relative_steady machine, tt), (inr tt, tt))))
+asking_steady machine dll symbol ask use_kind = grind (arith, relative_steady)
 
 askings_steady : (machine : MachineType) (dll : NamesOfDll) (es : List ExportView) (rest : List Object) → AllByRecursion (AllSteady machine) rest → AllByRecursion (AllSteady machine) (behind_descriptor machine dll es rest)
 unfolding with_section_symbols object_of null_thunk entries_of name_text
@@ -252,15 +227,9 @@ descriptor_steady : (machine : MachineType) (dll : NamesOfDll) → AllSteady mac
 unfolding with_section_symbols object_of descriptor entries_of name_text
 descriptor_steady machine dll = grind arith
 
-one_steady : (machine : MachineType) (flavor : Flavor) (dll : NamesOfDll) (es : List ExportView) (rest : List Object) → AllByRecursion (AllSteady machine) rest →
-    AllByRecursion (AllSteady machine) (objects_of machine flavor dll es rest)
-one_steady machine Msvc dll es rest all = (descriptor_steady machine dll, askings_steady machine dll es rest all)
-one_steady machine Gnu dll es rest all = (head_steady machine dll, exports_steady machine dll es _ (tail_steady machine dll, all))
-
 blocks_steady : (machine : MachineType) (ending : Ending) (blocks : List FlavorBlock) → AllByRecursion (AllSteady machine) (all_objects machine blocks (rest_of ending))
-blocks_steady machine OfLinker [] = ((inr tt, tt), tt)
-blocks_steady machine OfMember [] = tt
-blocks_steady machine ending (k ∷ blocks) = one_steady machine k.flavor k.dll k.exports (all_objects machine blocks (rest_of ending)) (blocks_steady machine ending blocks)
+blocks_steady machine ending [] = grind arith
+blocks_steady machine ending (k ∷ blocks) = grind (arith, descriptor_steady, askings_steady, head_steady, exports_steady, tail_steady, blocks_steady machine ending blocks)
 
 null_steady : (machine : MachineType) → AllSteady machine (taken_null machine)
 unfolding with_section_symbols object_of null_descriptor entries_of name_text
@@ -268,9 +237,7 @@ null_steady machine = (inr tt, tt)
 
 pub program_tables_none : (machine : MachineType) (ending : Ending) (bases : Bases) (inputs : List FlavorInput) (objects : List Object) → AllByRecursion (IsMadeFor machine) inputs →
     AreEnded ending machine inputs objects → table_places machine (placed_from bases objects) ≡ []
-program_tables_none machine ending bases inputs objects made ended =
-    tables_none machine bases objects (all_steady machine objects
-    (kept_all machine ending inputs objects made ended (AllSteady machine) (null_steady machine) (blocks_steady machine ending (map block_in inputs))))
+program_tables_none machine ending bases inputs objects made ended = cc (tables_none machine bases objects (all_steady machine objects (kept_all machine ending inputs objects made ended (AllSteady machine) (null_steady machine) (blocks_steady machine ending (map block_in inputs)))))
 
 -- A loader that writes as it goes loads a program, as one that reads first.
 

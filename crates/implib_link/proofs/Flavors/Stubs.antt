@@ -1,5 +1,5 @@
 -- Placed code that defines the name of an export of code is its stub.
-use Rattle.std.proofs.Common.{◌≡◌, ℕ, List, Option, None, Some, refl, sym, ◌∙◌, subst, zero, suc, ◌+◌, ◌*◌, Bool, true, false, [], ◌∷◌, length, map, ap, inl, inr, if◌then◌else◌, arith, ◌≤◌}
+use Rattle.std.proofs.Common.{◌≡◌, ℕ, List, Option, None, Some, refl, sym, ◌∙◌, subst, zero, suc, ◌+◌, ◌*◌, Bool, false, [], ◌∷◌, length, map, ap, inl, inr, if◌then◌else◌, arith, ◌≤◌}
 use Rattle.std.specs.Prelude.{slice_get, option_map}
 use Rattle.std.specs.Option.{option_and_then}
 use Rattle.implib.specs.Formats.Object.{ASymbol, Entry, ObjectSection, ObjectSymbol, section_numbered, Object}
@@ -59,8 +59,7 @@ asking_placed machine dll (x ∷ es) b rest even zero e is =
     grind (arith, behind_descriptor machine dll es rest, use_for x, ends_of_asking machine b (ask_in Msvc machine x), times_none b.addresses (thunk_width machine), placed-asking, even, among_first)
 asking_placed machine dll (x ∷ es) b rest even (suc j) e is =
     let ask : Ask = ask_in Msvc machine x in
-    let later : Bases = ends_of_asking machine b ask in
-    let found = asking_placed machine dll es later rest (wide_asking machine b ask even) j e is in (
+    let found = asking_placed machine dll es (ends_of_asking machine b ask) rest (wide_asking machine b ask even) j e is in (
       found.0,
       (
         subst (Among (placed_in machine Msvc dll found.0 e)) (sym (placed-asking machine dll b (short_import_symbol x) ask (use_for x) (behind_descriptor machine dll es rest) even))
@@ -111,9 +110,7 @@ all_placed machine ending rest (q ∷ blocks) b suit even (suc i) j k e is chose
 -- The code of an export for Microsoft's linker.
 
 use_is : (is_data constant : Bool) → is_data ≡ false → constant ≡ false → (if is_data then Data else if constant then Constant else Code) ≡ Code
-use_is false false data_is constant_is = refl
-use_is true constant data_is constant_is = cc
-use_is false true data_is constant_is = cc
+use_is is_data constant data_is constant_is = cc
 
 asking_defined : (machine : MachineType) (dll : NamesOfDll) (b : Bases) (symbol : List ℕ) (ask : Ask) →
     Among (ASymbol (record { name = symbol; value = 0; section = 1; kind = 0; class = class_external })) (placed_asking machine dll b symbol ask Code).object.entries
@@ -135,10 +132,6 @@ asking_found : (machine : MachineType) (dll : NamesOfDll) (linked : List Placed)
     option_and_then (symbol_address linked (placed_asking machine dll b symbol ask use_kind)) (slice_get (placed_asking machine dll b symbol ask use_kind).object.entries 2) ≡ Some entry
 unfolding import_object
 asking_found machine dll linked b symbol ask use_kind entry same = grind arith
-
-exporting_found : (machine : MachineType) (dll : NamesOfDll) (linked : List Placed) (b : Bases) (e : ExportView) (entry : ℕ) → e.is_data ≡ false → b.addresses ≡ entry →
-    option_and_then (symbol_address linked (placed_export machine dll b e)) (slice_get (placed_export machine dll b e).object.entries 2) ≡ Some entry
-exporting_found machine dll linked b e entry is same = grind (arith, address_found machine dll linked b e is)
 
 -- what a jump needs, in either flavour
 pub record CodeOf (machine : MachineType) (linked : List Placed) (symbol : List ℕ) (own : Placed) (entry : ℕ) : Type 0 where
@@ -164,7 +157,7 @@ code_in machine Gnu dll linked b e entry is same = record {
   defined = code_defined machine dll b e is;
   here = grind (arith, code_here machine dll b e, code_bytes machine e is, code_relocations machine e is);
   target = target_is machine dll linked b e entry is same;
-  found = exporting_found machine dll linked b e entry is same;
+  found = (grind (arith, address_found machine dll linked b e is));
 }
 
 -- the name of code is one that its member is listed for
@@ -172,12 +165,10 @@ listed_in : (machine : MachineType) (flavor : Flavor) (dll : NamesOfDll) (es : L
     Among (symbol_in flavor e) (symbols_of machine flavor dll es)
 unfolding Among
 listed_in machine Msvc dll es j e at is =
-    let code : e.is_data ≡ false = is.0 in
-    let own : Among (short_import_symbol e) (short_import_symbols e) = rw code (inr (inl refl)) in
+    let own : Among (short_import_symbol e) (short_import_symbols e) = rw is.0 (inr (inl refl)) in
     among_later _ _ _ (among_front (short_import_symbol e) (flat_map short_import_symbols es) _ (among_flat short_import_symbols e es (short_import_symbol e) (among_at e es j at) own))
 listed_in machine Gnu dll es j e at is =
-    let own : Among e.name (archive_symbols e) = rw is (inl refl) in
-    among_later _ _ _ (among_front e.name (flat_map archive_symbols es) _ (among_flat archive_symbols e es e.name (among_at e es j at) own))
+    among_later _ _ _ (among_front e.name (flat_map archive_symbols es) _ (among_flat archive_symbols e es e.name (among_at e es j at) (rw is (inl refl))))
 
 name_listed : (machine : MachineType) (inputs : List FlavorInput) (i j : ℕ) (p : FlavorInput) (e : ExportView) → AllByRecursion (IsMadeFor machine) inputs →
     slice_get inputs i ≡ Some p → slice_get (exports_chosen p) j ≡ Some e → IsCode p.flavor e → Among (symbol_in p.flavor e) (symbols_listed (all_members machine inputs))
@@ -204,10 +195,8 @@ stub_at machine ending bases inputs objects i j p e d t made program input chose
     let own : Placed = placed_in machine p.flavor (dll_names_in p) found.0 e in
     let own_symbol : ObjectSymbol = record { name = symbol; value = 0; section = 1; kind = 0; class = class_external } in
     let own_held : Among own linked = among_filter (λ (q : Placed). has_tables q.object) own linked (placed_among machine ending bases inputs objects made program own found.1.0) in
-    let entry_is : found.0.addresses ≡ entry = found.1.1 ∙ ap (λ n. bases.addresses + thunk_width machine * n + thunk_width machine * j) (thunks_are i inputs) in
-    let code = code_in machine p.flavor (dll_names_in p) linked found.0 e entry is entry_is in
-    let once = name_once machine ending bases inputs objects i j p e made program input chosen is in
-    let most : length (definitions_of symbol linked) ≤ 1 = rw once.1 (omega arith) in
+    let code = code_in machine p.flavor (dll_names_in p) linked found.0 e entry is (found.1.1 ∙ ap (λ n. bases.addresses + thunk_width machine * n + thunk_width machine * j) (thunks_are i inputs)) in
+    let most : length (definitions_of symbol linked) ≤ 1 = rw (name_once machine ending bases inputs objects i j p e made program input chosen is).1 (omega arith) in
     let d_linked : Among d.from linked = contains_among d.from linked d_from in
     let one = one_definer symbol linked d.from own t own_symbol most d_linked (contains_among (ASymbol t) d.from.object.entries defines.held) defines.external named own_held code.defined refl refl in
     let t_is : t ≡ own_symbol = symbol_of_entry t own_symbol one.1 in

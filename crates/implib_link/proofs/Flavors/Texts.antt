@@ -36,8 +36,7 @@ AsksInFlavor flavor machine s = ask_in flavor machine s.export ≡ ask_stated s
 each_asks : (flavor : Flavor) (machine : MachineType) (exports : List ExportView) (statements : List Export) → EachAsksForItsWord machine exports statements →
     AllByRecursion (AsksInFlavor flavor machine) (stated exports statements)
 unfolding AsksInFlavor
-each_asks flavor machine [] [] each = tt
-each_asks flavor machine [] (s ∷ statements) each = absurd each
+each_asks flavor machine [] statements each = grind arith
 each_asks flavor machine (e ∷ exports) [] each = absurd each
 each_asks flavor machine (e ∷ exports) (s ∷ statements) each = grind (arith, each_asks flavor machine exports statements each.1)
 
@@ -50,20 +49,15 @@ same_asks flavor machine (x ∷ xs) all = grind (arith, same_asks flavor machine
 asks_are : (flavor : Flavor) (machine : MachineType) (d : DefinitionView) (statements : List Export) → EachAsksForItsWord machine (renamed d).exports statements → (chosen : List ℕ) →
     map (ask_in flavor machine) (chosen_exports d chosen) ≡ map ask_stated (chosen_stated d statements chosen)
 asks_are flavor machine d statements each chosen =
-    let all : List Stated = filter (λ s. not s.export.private) (stated (renamed d).exports statements) in
     ap (map (ask_in flavor machine)) (sym (statements_are machine d statements each chosen))
     ∙ same_asks flavor machine (chosen_stated d statements chosen)
-    (all_chosen (AsksInFlavor flavor machine) all chosen
+    (all_chosen (AsksInFlavor flavor machine) (filter (λ s. not s.export.private) (stated (renamed d).exports statements)) chosen
     (all_filter (AsksInFlavor flavor machine) (λ s. not s.export.private) (stated (renamed d).exports statements) (each_asks flavor machine (renamed d).exports statements each)))
 
 -- Exports without symbol names are linked by their names.
 
-empty_is : (text : List ℕ) → is_empty_text text ≡ true → text ≡ []
-empty_is [] is = refl
-empty_is (b ∷ text) is = cc
-
 all_empty : (exports : List ExportView) → list_all (λ e. is_empty_text e.symbol_name) exports ≡ true → AllByRecursion (λ e. e.symbol_name ≡ []) exports
-all_empty exports all = all_from (λ (e : ExportView). e.symbol_name ≡ []) exports (λ e held. empty_is e.symbol_name (each_of (λ (x : ExportView). is_empty_text x.symbol_name) e exports all held))
+all_empty exports all = all_from (λ (e : ExportView). e.symbol_name ≡ []) exports (λ e held. (grind (arith, each_of (λ (x : ExportView). is_empty_text x.symbol_name) e exports all held)))
 
 plain_names : (exports : List ExportView) → AllByRecursion (λ e. e.symbol_name ≡ []) exports → map short_import_symbol exports ≡ map (λ e. e.name) exports
 plain_names [] all = refl
@@ -75,12 +69,9 @@ names_are Gnu exports all = refl
 
 -- A source's input is made.
 
-source_made : (machine : MachineType) (s : FlavorSource) → IsFlavorSource machine s → IsMadeFor machine (input_of s)
-source_made machine s is = grind arith
-
 sources_made : (machine : MachineType) (sources : List FlavorSource) → AllByRecursion (IsFlavorSource machine) sources → AllByRecursion (IsMadeFor machine) (map input_of sources)
 sources_made machine [] are = tt
-sources_made machine (s ∷ sources) are = (source_made machine s are.0, sources_made machine sources are.1)
+sources_made machine (s ∷ sources) are = ((grind (arith, are.0)), sources_made machine sources are.1)
 
 -- an input's imports, by its exports and its DLL's name
 record ImportsOf (machine : MachineType) (image : List Range) (linked : List Placed) (descriptor table : ℕ) (flavor : Flavor) (dll : NamesOfDll) (es : List ExportView) : Type 0 where
@@ -98,20 +89,14 @@ from_parts : (machine : MachineType) (image : List Range) (linked : List Placed)
     ImportsOf machine image linked descriptor table p.flavor (dll_names_in p) (exports_chosen p) → InputImports machine image linked descriptor table p
 from_parts machine image linked descriptor table p i = record { top = i.top; loads = i.loads; table_located = i.table_located; entries = i.entries; gets = i.gets }
 
--- the names of the DLL are those of the definition that is parsed
-names_of_renamed : (flavor : Flavor) (d : DefinitionView) → names_for flavor (renamed d) ≡ names_for flavor d
-names_of_renamed Msvc d = refl
-names_of_renamed Gnu d = refl
-
 same_imports : (machine : MachineType) (image : List Range) (linked : List Placed) (descriptor table : ℕ) (s : FlavorSource) (parsed : DefinitionView) →
     s.source.library ≡ record { definition = renamed parsed; machine = machine; flavor = s.flavor } →
     InputImports machine image linked descriptor table (input_of s) → InputImports machine image linked descriptor table (input_parsed parsed s)
 same_imports machine image linked descriptor table s parsed held imports =
     let exports_same : chosen_exports s.source.library.definition s.source.chosen ≡ chosen_exports parsed s.source.chosen = chosen_renamed s.source.library parsed machine s.flavor s.source.chosen held in
-    let names_same : names_for s.flavor s.source.library.definition ≡ names_for s.flavor parsed = grind (arith, names_of_renamed) in
     from_parts machine image linked descriptor table (input_parsed parsed s)
     (subst (λ (es : List ExportView). ImportsOf machine image linked descriptor table s.flavor (names_for s.flavor parsed) es) exports_same
-    (subst (λ (names : NamesOfDll). ImportsOf machine image linked descriptor table s.flavor names (chosen_exports s.source.library.definition s.source.chosen)) names_same
+    (subst (λ (names : NamesOfDll). ImportsOf machine image linked descriptor table s.flavor names (chosen_exports s.source.library.definition s.source.chosen)) (grind arith)
     (to_parts machine image linked descriptor table (input_of s) imports)))
 
 text_links : (machine : MachineType) (image : List Range) (linked : List Placed) (descriptor table : ℕ) (s : FlavorSource) → IsFlavorSource machine s →

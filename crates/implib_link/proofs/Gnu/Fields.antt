@@ -1,19 +1,18 @@
 -- Parts of instructions, and pages at two bases that differ by whole ones.
-use Rattle.std.proofs.Common.{rules, ◌≡◌, ℕ, suc, ◌+◌, ◌-◌, ◌/◌, ◌%◌, ◌^◌, List, [], ◌∷◌, ◌++◌, length, Some, refl, sym, subst, arith, ◌≤◌, ap, ◌∙◌, inr, zero, ◌<◌, Bool, true, false, take, drop, None, inl, ◌*◌, map, Option}
+use Rattle.std.proofs.Common.{◌≡◌, ℕ, suc, ◌+◌, ◌/◌, ◌%◌, ◌^◌, List, [], ◌∷◌, ◌++◌, length, Some, refl, sym, subst, arith, ◌≤◌, ap, ◌∙◌, inr, zero, ◌<◌, Bool, true, false, take, drop, None, inl, ◌*◌, map, Option}
 use Rattle.implib.specs.declared.machine.MachineType.TheVariants.{I386, ARMNT, AMD64, ARM64}
 use Rattle.implib.specs.Link.Image.{Range, byte_at}
 use Rattle.implib.specs.Link.Load.{BytesAt, number_in}
 use Rattle.implib_link.specs.Stub.{jump_reads, page, adrp_immediate, ldr_immediate, plus_signed, with_adrp, with_bits, word_at}
-use Rattle.std.specs.List.{AllByRecursion, Contains, flat_map, list_any, filter}
+use Rattle.std.specs.List.{AllByRecursion, list_any, filter}
 use Rattle.implib.specs.declared.coff.object.Relocation.{Relocation}
 use Rattle.implib.specs.declared.machine.MachineType.{MachineType}
 use Rattle.implib.specs.Link.Placement.{Placed}
-use Rattle.implib.proofs.Link.LinkedMembers.{among_contains}
-use Rattle.implib.proofs.Link.Ranges.{among_flat, Among}
+use Rattle.implib.proofs.Link.Ranges.{Among}
 use Rattle.implib_link.specs.Gnu.Fields.{LinkedCode, arm64_addr64, field_width, i386_rel32, FieldHolds, MeetsAlone, meets, HasInstructions, IsAside, moved_by, placed_code, Names, PairArrives, absolute_width, covers, moved_number, places_at}
-use Rattle.implib_link.specs.Gnu.Moves.{ArePaged, places_of_code}
-use Rattle.implib_link.proofs.Gnu.Places.{among_place, covered_bounds, narrow}
-use Rattle.implib_link.proofs.Search.Lists.{contains_among, passes as among_filter, among_filter as filter_among, any_of}
+use Rattle.implib_link.specs.Gnu.Moves.{ArePaged}
+use Rattle.implib_link.proofs.Gnu.Places.{covered_bounds, narrow}
+use Rattle.implib_link.proofs.Search.Lists.{passes as among_filter, among_filter as filter_among, any_of}
 use Rattle.std.specs.Prelude.{◌==◌, if◌then◌else◌, cond, slice_get}
 use Rattle.std.proofs.lemmas.Bool.{eqb-true}
 use Rattle.implib.specs.Formats.Constants.{amd64_rel32, i386_dir32, arm64_pagebase_rel21, arm64_pageoffset_12l}
@@ -26,8 +25,7 @@ pub joined : (memory : List Range) (xs ys : List ℕ) (a : ℕ) → BytesAt memo
 unfolding BytesAt
 joined memory [] ys a first second = let plain : a + 0 ≡ a = omega arith in subst (λ n. BytesAt memory n ys) plain second
 joined memory (x ∷ xs) ys a first second =
-    let further : a + suc (length xs) ≡ a + 1 + length xs = omega arith in
-    (first.0, joined memory xs ys (a + 1) first.1 (subst (λ n. BytesAt memory n ys) further second))
+    (first.0, joined memory xs ys (a + 1) first.1 (subst (λ n. BytesAt memory n ys) (omega arith) second))
 
 -- four bytes
 pub record Four (bytes : List ℕ) : Type 0 where
@@ -47,11 +45,6 @@ four_of (a ∷ b ∷ c ∷ d ∷ e ∷ rest) four = absurd (omega arith)
 
 pub jump_field : (address : ℕ) (field : List ℕ) → length field ≡ 4 → jump_reads I386 address (0xFF ∷ 0x25 ∷ (field ++ 0x90 ∷ 0x90 ∷ [])) ≡ Some (number_in field)
 jump_field address field four = let f = four_of field four in subst (λ xs. jump_reads I386 address (0xFF ∷ 0x25 ∷ (xs ++ 0x90 ∷ 0x90 ∷ [])) ≡ Some (number_in xs)) (sym f.is) refl
-
--- where its code stores an address whole, there is a place
-pub code_places : (machine : MachineType) (codes : List LinkedCode) (c : LinkedCode) (r : Relocation) (width : ℕ) → Contains codes c → Contains c.code.relocations r → absolute_width machine r.kind ≡ Some width →
-    Contains (flat_map (places_of_code machine) codes) (record { address = c.position + r.offset; width = width })
-code_places machine codes c r width held m is = search (rules, c, is, among_contains, among_flat, contains_among, among_place)
 
 -- Fields of relocations: which of them meet bytes, and what they hold at another base.
 
@@ -114,8 +107,7 @@ meets_from machine offset count r low high = grind arith
 pub alone_within : (machine : MachineType) (rs : List Relocation) (offset count inner size : ℕ) (r : Relocation) → MeetsAlone machine rs offset count r → offset ≤ inner → inner + size ≤ offset + count →
     meets machine inner size r ≡ true → MeetsAlone machine rs inner size r
 alone_within machine rs offset count inner size r alone from to here =
-    let wider : (s : Relocation) → meets machine inner size s ≡ true → meets machine offset count s ≡ true = grind (arith, meets_bounds, meets_from) in
-    filter_twice (meets machine offset count) (meets machine inner size) rs wider
+    filter_twice (meets machine offset count) (meets machine inner size) rs (grind (arith, meets_bounds, meets_from))
     ∙ ap (filter (meets machine inner size)) alone
     ∙ ap (λ b. cond b (r ∷ []) []) here
 
@@ -133,31 +125,17 @@ covering_one machine position k (s ∷ rs) is = grind (arith, covering_one machi
 -- Which types store addresses whole.
 
 one_absolute : (b : Bool) (type width : ℕ) → (type == i386_dir32) ≡ b → (if b then Some 4 else None) ≡ Some width → (type ≡ i386_dir32) × (width ≡ 4)
-one_absolute true type width here is = let same : 4 ≡ width = cc in (eqb-true type i386_dir32 here, sym same)
-one_absolute false type width here is = cc
+one_absolute b type width here is = grind (arith, eqb-true)
 
 -- the place of such a field is the field
 pub whole_width : (machine : MachineType) (type width : ℕ) → absolute_width machine type ≡ Some width → width ≡ field_width machine type
-whole_width I386 type width is = (one_absolute (type == i386_dir32) type width refl is).1
-whole_width ARMNT type width is = cc
-whole_width AMD64 type width is = grind arith
-whole_width ARM64 type width is = grind arith
+whole_width machine type width is = grind (arith, one_absolute)
 
 -- What fields hold at another base: a field that stores an address whole has the difference added, every other one is
 -- as it was.
 
-moved_by_32 : (old new from to target : ℕ) → new ≡ (old + (from + target)) % 2 ^ 32 → (new + to + (2 ^ 32 - from % 2 ^ 32)) % 2 ^ 32 ≡ (old + (to + target)) % 2 ^ 32
-moved_by_32 old new from to target is = omega arith
-
-moved_by_64 : (old new from to target : ℕ) → new ≡ (old + (from + target)) % 2 ^ 64 → (new + to + (2 ^ 64 - from % 2 ^ 64)) % 2 ^ 64 ≡ (old + (to + target)) % 2 ^ 64
-moved_by_64 old new from to target is = omega arith
-
 offset_moves : (from to target more : ℕ) → from % 4096 ≡ to % 4096 → (from + target + more) % 4096 / 8 ≡ (to + target + more) % 4096 / 8
 offset_moves from to target more paged = let same : (from + target + more) % 4096 ≡ (to + target + more) % 4096 = omega arith in ap (λ n. n / 8) same
-
-page_moves : (from to position target more : ℕ) → from % 4096 ≡ to % 4096 →
-    (page (from + target + more) + (2 ^ 21 - page (from + position) % 2 ^ 21)) % 2 ^ 21 ≡ (page (to + target + more) + (2 ^ 21 - page (to + position) % 2 ^ 21)) % 2 ^ 21
-page_moves from to position target more paged = grind arith
 
 not_i386 : (type width : ℕ) → absolute_width I386 type ≡ Some width → type ≡ i386_rel32 → ⊥
 not_i386 type width is other = let own : type ≡ i386_dir32 = (one_absolute (type == i386_dir32) type width refl is).0 in omega arith
@@ -170,10 +148,10 @@ not_arm64 type width other is same low high = grind arith
 
 pub holds_moved : (machine : MachineType) (type width from to position target : ℕ) (old new : ℕ → ℕ) → absolute_width machine type ≡ Some width → FieldHolds machine type from position target old new →
     FieldHolds machine type to position target old (λ w. moved_number w from to (new w))
-holds_moved I386 type width from to position target old new is holds = grind (arith, is, moved_by_32, not_i386)
+holds_moved I386 type width from to position target old new is holds = grind (arith, is, not_i386)
 holds_moved ARMNT type width from to position target old new is holds = tt
-holds_moved AMD64 type width from to position target old new is holds = grind (arith, is, moved_by_64, not_amd64)
-holds_moved ARM64 type width from to position target old new is holds = grind (arith, is, moved_by_64, not_arm64)
+holds_moved AMD64 type width from to position target old new is holds = grind (arith, is, not_amd64)
+holds_moved ARM64 type width from to position target old new is holds = grind (arith, is, not_arm64)
 
 stored : (machine : MachineType) (type own width : ℕ) → absolute_width machine own ≡ Some width → type ≡ own → absolute_width machine type ≡ None → ⊥
 stored machine type own width whole is none = let same : Some width ≡ None = sym whole ∙ subst (λ t. absolute_width machine t ≡ None) is none in cc
@@ -186,7 +164,7 @@ holds_steady AMD64 type from to position target old new none paged holds = grind
 holds_steady ARM64 type from to position target old new none paged holds = record {
   addr64 = λ addr. absurd (stored ARM64 type arm64_addr64 8 refl addr none);
   branch = holds.branch;
-  page_of = λ is. ((holds.page_of is).0, (holds.page_of is).1 ∙ page_moves from to position target (adrp_immediate (old 4)) paged);
+  page_of = λ is. ((holds.page_of is).0, (holds.page_of is).1 ∙ (grind arith));
   offset_of = λ is eight. ((holds.offset_of is eight).0, (holds.offset_of is eight).1 ∙ offset_moves from to target (ldr_immediate (old 4)) paged);
 }
 
@@ -277,14 +255,10 @@ pub pair_read : (reads : ℕ → List ℕ → Option ℕ) (page_code load_code :
 pair_read reads page_code load_code behind rule image_base linked memory address old_adrp old_load name bytes is_adrp is_load x there =
     let adrp : List ℕ = x.adrp_there.bytes in
     let load : List ℕ = x.load_there.bytes in
-    let first : length adrp ≡ 4 = x.adrp_there.count in
-    let second : length load ≡ 4 = x.load_there.count in
-    let load_place : address + 4 ≡ address + length adrp = omega arith in
-    let place : address + 8 ≡ address + length adrp + length load = omega arith in
     record {
       code = adrp ++ (load ++ behind);
       there = joined memory adrp (load ++ behind) address x.adrp_there.located
-          (joined memory load behind (address + length adrp) (subst (λ a. BytesAt memory a load) load_place x.load_there.located) (subst (λ a. BytesAt memory a behind) place there));
+          (joined memory load behind (address + length adrp) (subst (λ a. BytesAt memory a load) (omega arith) x.load_there.located) (subst (λ a. BytesAt memory a behind) (omega arith) there));
       whole = omega (arith, length-append adrp (load ++ behind), length-append load behind);
       entry = x.entry;
       leads = grind arith;

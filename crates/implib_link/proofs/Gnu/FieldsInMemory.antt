@@ -7,7 +7,6 @@ use Rattle.std.proofs.lemmas.List.{length-drop, length-take, length-take-le}
 use Rattle.std.proofs.lemmas.Option.{slice_get_within, none-some}
 use Rattle.implib.specs.declared.coff.object.Relocation.{Relocation}
 use Rattle.implib.specs.declared.machine.MachineType.{MachineType}
-use Rattle.implib.specs.declared.machine.MachineType.TheVariants.{I386, ARMNT, AMD64, ARM64}
 use Rattle.implib.specs.Formats.Object.{ASymbol, Entry, ObjectSymbol}
 use Rattle.implib.specs.Link.Image.{Range, byte_at, is_in}
 use Rattle.implib.specs.Link.Load.{BytesAt, NumberAt}
@@ -35,10 +34,7 @@ pub record Rests (machine : MachineType) (image_base : ℕ) (image : List Range)
       ((from ≡ image_base) × NumberAt memory width (c.position + r.offset) n) ⊎ NumberAt memory width (c.position + r.offset) (moved_number width from image_base n)
 
 pub same_pages : (machine : MachineType) (base : ℕ) → ArePaged machine base base
-same_pages I386 base = tt
-same_pages ARMNT base = tt
-same_pages AMD64 base = tt
-same_pages ARM64 base = refl
+same_pages machine base = grind arith
 
 module _ (machine : MachineType) (image_base : ℕ) (image : List Range) (linked : List Placed) (codes : List LinkedCode) (targets : LinkedCode → ℕ → ℕ) where
   linked_byte : (from : ℕ) → AreLinkedBeside machine from image linked codes targets → (c : LinkedCode) (k b : ℕ) → Among c codes → slice_get c.bytes k ≡ Some b →
@@ -63,11 +59,7 @@ module _ (machine : MachineType) (image_base : ℕ) (image : List Range) (linked
     range_covers : (a : ℕ) (d : LinkedCode) → Among d codes → list_any (covers a) (places_of_code machine d) ≡ true → is_in a (range_of_code d) ≡ true
     range_covers a d m covered =
         let inside = all_among (λ (x : LinkedCode). AllByRecursion (λ (p : Place). p.address + p.width ≤ x.position + length x.code.bytes) (places_of_code machine x)) d codes m moved.within in
-        let bounds = covering a d.position (d.position + length d.code.bytes) (places_of_code machine d) (places_from machine d.position d.code.relocations) inside covered in
-        let size : length d.bytes ≡ length d.code.bytes = code_size from moved.beside d m in
-        let above : d.position ≤ a = bounds.0 in
-        let under : a < d.position + length d.code.bytes = bounds.1 in
-        is_in_from a (range_of_code d) above (omega arith)
+        grind (arith, covering a d.position (d.position + length d.code.bytes) (places_of_code machine d) (places_from machine d.position d.code.relocations) inside covered, code_size, is_in_from)
 
     uncovered : (a b : ℕ) → byte_at (image ++ ranges_of_codes codes) a ≡ Some b → ((d : LinkedCode) → Among d codes → is_in a (range_of_code d) ≡ true → list_any (covers a) (places_of_code machine d) ≡ false) →
         list_any (covers a) places ≡ false
@@ -166,8 +158,7 @@ stored_rests machine image_base image linked codes targets memory (inr (from, (p
 -- so it is in memory
 pub stored_in_memory : (machine : MachineType) (image_base : ℕ) (image : List Range) (linked : List Placed) (codes : List LinkedCode) (targets : LinkedCode → ℕ → ℕ) (memory : List Range) →
     AreStoredInMemory machine image_base image linked codes targets memory → AreInMemory machine image_base image linked codes targets memory
-stored_in_memory machine image_base image linked codes targets memory (inl (beside, (further, is))) = inl (beside, is)
-stored_in_memory machine image_base image linked codes targets memory (inr (from, (places, (paged, (moved, (further, stores)))))) = inr (from, (places, (paged, moved)))
+stored_in_memory machine image_base image linked codes targets memory h7 = grind arith
 
 any_meets : (machine : MachineType) (k count : ℕ) (rs : List Relocation) (s : Relocation) → Among s rs → meets machine k count s ≡ true → list_any (meets machine k count) rs ≡ true
 unfolding Among
@@ -187,10 +178,8 @@ module _ (machine : MachineType) (image_base : ℕ) (image : List Range) (linked
   -- what a loader writes leaves code as it is
   unwritten : (k b : ℕ) → k < length c.code.bytes → byte_at memory (c.position + k) ≡ Some b → byte_at (written ++ memory) (c.position + k) ≡ Some b
   unwritten k b small is =
-      let size : length c.bytes ≡ length c.code.bytes = own.size in
-      let here : is_in (c.position + k) (range_of_code c) ≡ true = is_in_from (c.position + k) (range_of_code c) (omega arith) (omega arith) in
-      kept_outside written memory (c.position + k)
-      (code_untouched image (ranges_of_codes codes) written (range_of_code c) (c.position + k) covers_it at.beside.apart (among_map range_of_code c codes m) here) ∙ is
+      let here : is_in (c.position + k) (range_of_code c) ≡ true = is_in_from (c.position + k) (range_of_code c) (omega (arith, own.size)) (omega (arith, own.size)) in
+      cc (kept_outside written memory (c.position + k) (code_untouched image (ranges_of_codes codes) written (range_of_code c) (c.position + k) covers_it at.beside.apart (among_map range_of_code c codes m) here))
 
   pub number_unwritten : (offset width n : ℕ) → offset + width ≤ length c.code.bytes → NumberAt memory width (c.position + offset) n → NumberAt (written ++ memory) width (c.position + offset) n
   number_unwritten offset width n inside number =
@@ -214,10 +203,8 @@ module _ (machine : MachineType) (image_base : ℕ) (image : List Range) (linked
       located_from (written ++ memory) bytes (c.position + offset) (λ i b is.
       let both = each i b is in
       let small : offset + i < length c.code.bytes = slice_get_within c.code.bytes (offset + i) b both.0 in
-      let place : c.position + offset + i ≡ c.position + (offset + i) = omega arith in
-      let clear : list_any (covers (c.position + (offset + i))) (places_of_code machine c) ≡ false = grind (arith, false_from_ne_true, covering_one, any_meets) in
-      subst (λ a. byte_at (written ++ memory) a ≡ Some b) (sym place)
-      (unwritten (offset + i) b small (at.code_kept c (offset + i) b m (own.kept (offset + i) both.1 ∙ both.0) clear)))
+      subst (λ a. byte_at (written ++ memory) a ≡ Some b) (sym (omega arith))
+      (unwritten (offset + i) b small (at.code_kept c (offset + i) b m (own.kept (offset + i) both.1 ∙ both.0) (grind (arith, false_from_ne_true, covering_one, any_meets)))))
 
   -- bytes that no relocation meets are in memory as they were
   pub part_there : (offset count : ℕ) → list_any (meets machine offset count) c.code.relocations ≡ false → BytesAt (written ++ memory) (c.position + offset) (take count (drop offset c.code.bytes))
@@ -229,9 +216,8 @@ module _ (machine : MachineType) (image_base : ℕ) (image : List Range) (linked
         false_from_ne_true (list_any (meets machine (offset + i) 1) c.code.relocations) (λ met.
             let s = meeting machine (offset + i) c.code.relocations met in
             let bounds = meets_bounds machine (offset + i) 1 s.0 s.1.1 in
-            let low : s.0.offset < offset + i + 1 = bounds.0 in
             let high : offset + i < s.0.offset + field_width machine s.0.kind = bounds.1 in
-            true≢false (sym (any_meets machine offset count c.code.relocations s.0 s.1.0 (meets_from machine offset count s.0 (omega arith) (omega arith))) ∙ none)),
+            true≢false (sym (any_meets machine offset count c.code.relocations s.0 s.1.0 (meets_from machine offset count s.0 (omega (arith, bounds.0)) (omega (arith, bounds.0)))) ∙ none)),
       ))
 
   -- A field that no other relocation meets.
@@ -243,9 +229,6 @@ module _ (machine : MachineType) (image_base : ℕ) (image : List Range) (linked
     holds_linked : FieldHolds machine type at.from (c.position + offset) (targets c symbol) (field_at c.code.bytes offset) (field_at c.bytes offset)
     holds_linked = own.fields (record { offset = offset; symbol = symbol; kind = type }) alone inside
 
-    bytes_count : length (take (field_width machine type) (drop offset c.bytes)) ≡ field_width machine type
-    bytes_count = grind (arith, own, length-take-le, length-drop)
-
     field_byte : (i b : ℕ) → slice_get (take (field_width machine type) (drop offset c.bytes)) i ≡ Some b → (slice_get c.bytes (offset + i) ≡ Some b) × (i < field_width machine type)
     field_byte i b is = grind (arith, slice_get_within (take (field_width machine type) (drop offset c.bytes)) i b is, get_drop offset c.bytes i, get_take (field_width machine type) (drop offset c.bytes) i b is)
 
@@ -256,8 +239,6 @@ module _ (machine : MachineType) (image_base : ℕ) (image : List Range) (linked
           bytes = take (field_width machine type) (drop offset c.bytes);
           located = located_from memory (take (field_width machine type) (drop offset c.bytes)) (c.position + offset) (λ i b is.
               let found = field_byte i b is in
-              let small : i < field_width machine type = found.1 in
-              let place : c.position + offset + i ≡ c.position + (offset + i) = omega arith in
               let clear : list_any (covers (c.position + (offset + i))) (places_of_code machine c) ≡ false =
               false_from_ne_true (list_any (covers (c.position + (offset + i))) (places_of_code machine c)) (λ covered.
               let s = covering_one machine c.position (offset + i) c.code.relocations covered in
@@ -267,8 +248,8 @@ module _ (machine : MachineType) (image_base : ℕ) (image : List Range) (linked
               let same : s.0 ≡ r = alone_same machine c.code.relocations offset (field_width machine type) r alone s.0 s.1.0 (meets_from machine offset (field_width machine type) s.0 (omega arith) (omega arith)) in
               let other : absolute_width machine type ≡ Some s.1.1.1.0 = subst (λ (x : Relocation). absolute_width machine x.kind ≡ Some s.1.1.1.0) same s.1.1.1.1 in
               none-some s.1.1.1.0 (sym none ∙ other)) in
-              subst (λ a. byte_at memory a ≡ Some b) (sym place) (at.code_kept c (offset + i) b m found.0 clear));
-          count = bytes_count;
+              subst (λ a. byte_at memory a ≡ Some b) (sym (omega (arith, found.1))) (at.code_kept c (offset + i) b m found.0 clear));
+          count = (grind (arith, own, length-take-le, length-drop));
           value = refl;
         })
 
@@ -287,10 +268,9 @@ module _ (machine : MachineType) (image_base : ℕ) (image : List Range) (linked
         let linked_number : NumberAt (image ++ ranges_of_codes codes) wide (c.position + offset) (field_at c.bytes offset wide) = record {
           bytes = take wide (drop offset c.bytes);
           located = located_from (image ++ ranges_of_codes codes) (take wide (drop offset c.bytes)) (c.position + offset) (λ i b got.
-              let place : c.position + offset + i ≡ c.position + (offset + i) = omega arith in
-              subst (λ a. byte_at (image ++ ranges_of_codes codes) a ≡ Some b) (sym place)
+              subst (λ a. byte_at (image ++ ranges_of_codes codes) a ≡ Some b) (sym (omega arith))
               (linked_byte machine image_base image linked codes targets at.from at.beside c (offset + i) b m (field_byte i b got).0));
-          count = bytes_count;
+          count = (grind (arith, own, length-take-le, length-drop));
           value = refl;
         } in
         elim (settles.whole r wide (field_at c.bytes offset wide) refl (alone_among machine c.code.relocations offset wide r alone) whole linked_number) [

@@ -68,11 +68,9 @@ all_filled width gives table (i ∷ imports) memory =
 
 ask_once : (image : List Range) (width thunk : ℕ) (first second : Ask) → ThunkAsksFor image width thunk first → ThunkAsksFor image width thunk second → first ≡ second
 unfolding ThunkAsksFor
-ask_once image width thunk (Ordinal n) (Ordinal m) first second = ap Ordinal (sym first.1 ∙ second.1)
-ask_once image width thunk (Ordinal n) (Name text hint) first second = let high = first.0 in let low = second.0 in absurd (omega arith)
+ask_once image width thunk (Ordinal n) h4 first second = grind arith
 ask_once image width thunk (Name text hint) (Ordinal n) first second = let low = first.0 in let high = second.0 in absurd (omega arith)
-ask_once image width thunk (Name text hint) (Name other number) first second =
-    grind (arith, text_once image text other (thunk % 2 ^ 31 + 2) first.2.no_nul second.2.no_nul first.2.located second.2.located, number_once image 2 (thunk % 2 ^ 31) hint number first.1 second.1)
+ask_once image width thunk (Name text hint) (Name other number) first second = cc (text_once image text other (thunk % 2 ^ 31 + 2) first.2.no_nul second.2.no_nul first.2.located second.2.located, number_once image 2 (thunk % 2 ^ 31) hint number first.1 second.1)
 
 -- a thunk asks for one thing
 thunk_once : (image : List Range) (width a : ℕ) (first second : Ask) → ThunkAt image width a first → ThunkAt image width a second → first ≡ second
@@ -88,11 +86,7 @@ module _ (beside : List Range) (low high width : ℕ) (avoids : Avoids beside lo
   -- what is written between the two addresses leaves these ranges as they are
   keeps_behind : (memory : List Range) (r : Range) → Keeps beside memory → low ≤ r.start → range_end r ≤ high → Keeps beside (r ∷ memory)
   unfolding Keeps Avoids
-  keeps_behind memory r keeps from to a byte is =
-      elim (cases_Bool (is_in a r)) [
-        | inl within ↦ grind (arith, within_bounds, within)
-        | inr outside ↦ rw outside (keeps a byte is)
-      ]
+  keeps_behind memory r keeps from to a byte is = grind (arith, cases_Bool, within_bounds)
 
   module _ (gives : Ask → List ℕ) (wide : (ask : Ask) → length (gives ask) ≡ width) where
     table_keeps : (asks : List Ask) (entry : ℕ) (memory : List Range) → Keeps beside memory → low ≤ entry → entry + width * length asks ≤ high →
@@ -100,8 +94,6 @@ module _ (beside : List Range) (low high width : ℕ) (avoids : Avoids beside lo
     unfolding table_filled
     table_keeps [] entry memory keeps from to = keeps
     table_keeps (x ∷ asks) entry memory keeps from to =
-        let long : length (gives x) ≡ width = wide x in
-        let product : entry + width + width * length asks ≡ entry + width * length (x ∷ asks) = times_next entry width (length asks) in
         table_keeps asks (entry + width) (record { start = entry; bytes = gives x } ∷ memory)
         (keeps_behind memory (record { start = entry; bytes = gives x }) keeps from (omega arith)) (omega arith) (omega arith)
 
@@ -110,8 +102,7 @@ module _ (beside : List Range) (low high width : ℕ) (avoids : Avoids beside lo
         (found ≡ asks) × (after ≡ table_filled width entry gives asks memory)
     unfolding TableAt FillsTable table_filled
     fills_once [] [] thunk entry memory after keeps from to table fills = (refl, fills.1)
-    fills_once [] (y ∷ found) thunk entry memory after keeps from to table fills =
-        absurd (fills.0.not_zero (number_once memory width thunk fills.0.thunk 0 fills.0.located (number_kept beside memory keeps width thunk 0 table)))
+    fills_once [] (y ∷ found) thunk entry memory after keeps from to table fills = grind (arith, number_once memory width thunk fills.0.thunk 0 fills.0.located (number_kept beside memory keeps width thunk 0 table))
     fills_once (x ∷ asks) [] thunk entry memory after keeps from to table fills =
         let kept = thunk_kept beside memory keeps width thunk x table.0 in
         absurd (kept.not_zero (number_once memory width thunk kept.thunk 0 kept.located fills.0))
@@ -123,7 +114,6 @@ module _ (beside : List Range) (low high width : ℕ) (avoids : Avoids beside lo
     unfolding TableAt FillsTable table_filled
     can_fill [] thunk entry memory keeps from to table = (number_kept beside memory keeps width thunk 0 table, refl)
     can_fill (x ∷ asks) thunk entry memory keeps from to table =
-        let long : length (gives x) ≡ width = wide x in
         let product : entry + width + width * length asks ≡ entry + width * length (x ∷ asks) = times_next entry width (length asks) in (
           thunk_kept beside memory keeps width thunk x table.0,
           can_fill asks (thunk + width) (entry + width) (record { start = entry; bytes = gives x } ∷ memory)
@@ -142,8 +132,7 @@ module _ (beside : List Range) (low high width : ℕ) (avoids : Avoids beside lo
     unfolding DirectoryBeside WritesAsItGoes all_filled
     runs_once [] [] descriptor table memory after keeps from to directory runs = (refl, runs.1)
     runs_once [] (y ∷ found) descriptor table memory after keeps from to directory (between, (by, later)) =
-        let stops : StopsAt beside descriptor = null_stops descriptor directory in
-        elim stops [
+        elim (null_stops descriptor directory) [
           | inl none ↦ absurd (nonzero by.name by.name refl by.has_name (number_once memory 4 (descriptor + 12) by.name 0 by.name_field (number_kept beside memory keeps 4 (descriptor + 12) 0 none)))
           | inr none ↦ absurd (nonzero by.addresses by.addresses refl by.has_addresses (number_once memory 4 (descriptor + 16) by.addresses 0 by.addresses_field (number_kept beside memory keeps 4 (descriptor + 16) 0 none)))
         ]
@@ -156,14 +145,9 @@ module _ (beside : List Range) (low high width : ℕ) (avoids : Avoids beside lo
         let dll : y.dll ≡ i.dll =
         text_led_to memory (descriptor + 12) by.name own.name y.dll i.dll by.name_field (number_kept beside memory keeps 4 (descriptor + 12) own.name own.name_field) by.name_text
         (text_kept beside memory keeps own.name i.dll own.name_text) in
-        let begins : by.addresses ≡ table =
-        number_once memory 4 (descriptor + 16) by.addresses table by.addresses_field (number_kept beside memory keeps 4 (descriptor + 16) table own.addresses_field) in
-        let reads : by.lookups ≡ own.lookups =
-        number_once memory 4 descriptor by.lookups own.lookups by.lookups_field (number_kept beside memory keeps 4 descriptor own.lookups own.lookups_field) in
-        let fills : FillsTable width (gives i.dll) own.lookups table memory y.asks between = grind arith in
-        let next = table_next table width (length i.asks) (thunks_asked (length imports) imports) in
-        let before = before_next table width (length i.asks) in
-        let filled = fills_once (gives i.dll) (wide i.dll) i.asks y.asks own.lookups table memory between keeps from (omega arith) own.lookup_table fills in
+        let begins : by.addresses ≡ table = cc (number_once memory 4 (descriptor + 16) by.addresses table by.addresses_field (number_kept beside memory keeps 4 (descriptor + 16) table own.addresses_field)) in
+        let reads : by.lookups ≡ own.lookups = cc (number_once memory 4 descriptor by.lookups own.lookups by.lookups_field (number_kept beside memory keeps 4 descriptor own.lookups own.lookups_field)) in
+        let filled = fills_once (gives i.dll) (wide i.dll) i.asks y.asks own.lookups table memory between keeps from (omega arith) own.lookup_table (grind arith) in
         let rest = runs_once imports found (descriptor + 20) (table + width * (length i.asks + 1)) (table_filled width table (gives i.dll) i.asks memory) after
         (table_keeps (gives i.dll) (wide i.dll) i.asks table memory keeps from (omega arith)) (omega arith) (omega arith) others
         (subst (λ m. WritesAsItGoes width gives (descriptor + 20) m found after) filled.1 later) in
@@ -182,7 +166,6 @@ module _ (beside : List Range) (low high width : ℕ) (avoids : Avoids beside lo
           refl,
         )
     can_run (i ∷ imports) descriptor table memory keeps from to (own, others) =
-        let next = table_next table width (length i.asks) (thunks_asked (length imports) imports) in
         let before = before_next table width (length i.asks) in (
           table_filled width table (gives i.dll) i.asks memory,
           (
@@ -247,7 +230,6 @@ module _ (beside image : List Range) (keeps : Keeps beside image) (width : ℕ) 
       let same : begin ≡ table = number_once image 4 (descriptor + 16) begin table field (number_kept beside image keeps 4 (descriptor + 16) table own.addresses_field) in
       let next : ℕ = table + width * (length i.asks + 1) in
       let high : ℕ = table + width * (length i.asks + 1 + thunks_asked (length imports) imports) in
-      let before = before_next table width (length i.asks) in
       let sum : next + width * thunks_asked (length imports) imports ≡ high = table_next table width (length i.asks) (thunks_asked (length imports) imports) in
       let entries : List Range = entries_written width table (gives i.dll) i.asks in
       let rest = alike_by imports (descriptor + 20) next behind others later in
@@ -340,8 +322,7 @@ module _ (machine : MachineType) (b : Bases) (objects : List Object) (admissible
   unfolding Keeps beside_of
   keeps_beside a byte is =
       let found = holder (front ++ back) a byte is in
-      let none = none_between front (ranges Addresses) back found.0 a apart (among_either found.0 front back found.1.0) found.1.1 in
-      subst (λ rs. byte_at rs a ≡ Some byte) (sym image_is) (without front (ranges Addresses) back a none ∙ is)
+      grind (arith, none_between front (ranges Addresses) back found.0 a apart (among_either found.0 front back found.1.0) found.1.1)
 
   pub avoids_addresses : (high : ℕ) → high ≤ b.addresses + length (filled b.addresses (contributions machine (placed_from b objects) Addresses (placed_from b objects))) → Avoids beside_of b.addresses high
   unfolding Avoids beside_of
@@ -449,22 +430,18 @@ descriptor_beside machine beside starts ends descriptor lookups name table text 
     let third : List ℕ = u32_bytes ((0 + (table + 0)) % 2 ^ 32) in
     let parts = located_parts beside first (zeros 4 ++ (zeros 4 ++ (second ++ third))) descriptor whole in
     let time = located_parts beside (zeros 4) (zeros 4 ++ (second ++ third)) (descriptor + length first) parts.1 in
-    let forwarder = located_parts beside (zeros 4) (second ++ third) (descriptor + length first + 4) time.1 in
-    let last = located_parts beside second third (descriptor + length first + 4 + 4) forwarder.1 in
+    let last = located_parts beside second third (descriptor + length first + 4 + 4) (located_parts beside (zeros 4) (second ++ third) (descriptor + length first + 4) time.1).1 in
     let first_long : length first ≡ 4 = length-u32 ((0 + (lookups + 0)) % 2 ^ 32) in
-    let second_long : length second ≡ 4 = length-u32 ((0 + (name + 0)) % 2 ^ 32) in
-    let at_name : descriptor + length first + 4 + 4 ≡ descriptor + 12 = rw first_long (omega arith) in
-    let at_table : descriptor + length first + 4 + 4 + length second ≡ descriptor + 16 = rw (first_long, second_long) (omega arith) in
     let name_bounds = bounds_of beside starts ends (text ++ 0 ∷ []) name name_located (rw (length-append text (0 ∷ [])) (omega arith)) in
     record {
       lookups = lookups;
       lookups_field = field_at beside descriptor lookups (table_bounds machine beside starts ends asks lookups lookup_table).1 parts.0;
       lookup_table = lookup_table;
       name = name;
-      name_field = field_at beside (descriptor + 12) name name_bounds.1 (subst (λ n. BytesAt beside n second) at_name last.0);
+      name_field = field_at beside (descriptor + 12) name name_bounds.1 (subst (λ n. BytesAt beside n second) (rw first_long (omega arith)) last.0);
       has_name = name_bounds.0;
       name_text = record { no_nul = no_nul; located = name_located };
-      addresses_field = field_at beside (descriptor + 16) table below (subst (λ n. BytesAt beside n third) at_table last.1);
+      addresses_field = field_at beside (descriptor + 16) table below (subst (λ n. BytesAt beside n third) (rw (first_long, (length-u32 ((0 + (name + 0)) % 2 ^ 32))) (omega arith)) last.1);
       has_addresses = above;
     }
 
@@ -501,12 +478,11 @@ module _ (machine : MachineType) (dll : NamesOfDll) (linked : List Placed) where
       let later : Bases = ends_of_export machine dll b e in
       let others : List Contribution = contributions machine linked DllNames (placed_from later (after_head machine dll es rest)) in
       let bytes : List ℕ = relocated machine linked (placed_export machine dll b e) (relocation machine 0 0 ∷ []) (zeros 4) in
-      let four : length bytes ≡ 4 = rw (same_number machine) refl in
       let here : BytesAt image b.dll_names (filled b.dll_names (record { address = next_multiple 4 b.dll_names; bytes = bytes } ∷ others)) =
       subst (λ ps. BytesAt image b.dll_names (filled b.dll_names (contributions machine linked DllNames ps))) (placed-export machine dll b e (after_head machine dll es rest) even) located in
       let after = (contribution_located image b.dll_names (record { address = next_multiple 4 b.dll_names; bytes = bytes }) others (at_least 4 b.dll_names) here).1 in
       name_located image es later rest (aligned_after machine dll b e even)
-      (subst (λ n. BytesAt image (next_multiple 4 b.dll_names + n) (filled (next_multiple 4 b.dll_names + n) others)) four after)
+      (subst (λ n. BytesAt image (next_multiple 4 b.dll_names + n) (filled (next_multiple 4 b.dll_names + n) others)) (rw (same_number machine) refl) after)
 
   -- the name's definition is the last one
   name_defined : (es : List ExportView) (b : Bases) →
@@ -539,12 +515,11 @@ module _ (machine : MachineType) (dll : NamesOfDll) (es : List ExportView) (b : 
   lookups_parts =
       let others : List Contribution = contributions machine linked Lookups (placed_from later (after_head machine dll es rest)) in
       let after : List ℕ = filled last.lookups (contributions machine linked Lookups (placed_from last rest)) in
-      let plain : b.lookups + 0 ≡ b.lookups = omega arith in
       let parts = located_parts beside (thunk_bytes machine dll linked later es) after b.lookups
       (subst (BytesAt beside b.lookups)
       (ap (λ ps. filled b.lookups (contributions machine linked Lookups ps)) placed_is
       ∙ filled_first b.lookups 0 [] others refl
-      ∙ ap (λ n. filled n others) plain
+      ∙ ap (λ n. filled n others) (omega arith)
       ∙ lookups_filled machine dll linked later es rest later_even)
       located.lookups) in
       (parts.0, subst (λ n. BytesAt beside n after) (lookups_end machine dll linked later es) parts.1)

@@ -31,9 +31,7 @@ byte_within image [] a x located from below = absurd (omega arith)
 byte_within image (b ∷ bytes) a x located from below =
     elim (cases_Bool (nat_lt a x)) [
       | inl is ↦ let later = ltb-true a x is in byte_within image bytes (a + 1) x located.1 (omega arith) (omega arith)
-      | inr is ↦ let here = ltb-false a x is in
-          let same : a ≡ x = omega arith in
-          (b, subst (λ n. byte_at image n ≡ Some b) same located.0)
+      | inr is ↦ (b, subst (λ n. byte_at image n ≡ Some b) (omega (arith, ltb-false a x is)) located.0)
     ]
 
 pub byte_first : (image : List Range) (bytes : List ℕ) (a : ℕ) → BytesAt image a bytes → 0 < length bytes → (byte : ℕ) × (byte_at image a ≡ Some byte)
@@ -48,11 +46,7 @@ entries_cover image width gives wide [] a table = tt
 entries_cover image width gives wide (ask ∷ asks) a table = (
   λ x within.
       let bounds = within_bounds x (record { start = a; bytes = gives ask }) within in
-      let from : a ≤ x = bounds.0 in
-      let below : x < a + length (gives ask) = bounds.1 in
-      let long : length (gives ask) ≡ width = wide ask in
-      let count : length table.0.located.bytes ≡ width = table.0.located.count in
-      byte_within image table.0.located.bytes a x table.0.located.located from (omega arith),
+      byte_within image table.0.located.bytes a x table.0.located.located bounds.0 (omega (arith, bounds.1, wide ask, table.0.located.count)),
   entries_cover image width gives wide asks (a + width) table.1,
 )
 
@@ -98,9 +92,7 @@ byte_front (x ∷ xs) ys a b is = grind (arith, byte_front xs ys a b)
 -- the null descriptor stops a walk
 null_stops : (image : List Range) (address : ℕ) → BytesAt image address (zeros 20) → NumberAt image 4 (address + 12) 0
 null_stops image address null =
-    let front = located_parts image (zeros 12) (zeros 8) address null in
-    let name = located_parts image (zeros 4) (zeros 4) (address + 12) front.1 in
-    record { bytes = zeros 4; located = name.0; count = refl; value = refl }
+    record { bytes = zeros 4; located = (located_parts image (zeros 4) (zeros 4) (address + 12) (located_parts image (zeros 12) (zeros 8) address null).1).0; count = refl; value = refl }
 
 pub directory_walk : (image : List Range) (width address : ℕ) (imports : List Imported) → DirectoryAt image width address imports → WalkFinds image width address imports
 unfolding DirectoryAt WalkFinds
@@ -130,14 +122,11 @@ same_imports first second firsts seconds dll asks others = grind arith
 
 -- no walk goes on at the null descriptor, and none stops at another
 null_ends_once : (image : List Range) (width address : ℕ) (i : Imported) → BytesAt image address (zeros 20) → FindsBy image width address i → ⊥
-null_ends_once image width address i null step =
-    nonzero step.name 0 (number_once image 4 (address + 12) step.name 0 step.name_field (null_stops image address null)) step.has_name refl
+null_ends_once image width address i null step = grind (arith, nonzero step.name 0 (number_once image 4 (address + 12) step.name 0 step.name_field (null_stops image address null)) step.has_name refl)
 
 stops_once : (image : List Range) (width address : ℕ) (i : Imported) → LoadsStrictly image width address i.dll i.asks → StopsAt image address → ⊥
-stops_once image width address i loads (inl no_name) =
-    nonzero loads.plain.name 0 (number_once image 4 (address + 12) loads.plain.name 0 loads.plain.name_field no_name) loads.has_name refl
-stops_once image width address i loads (inr no_addresses) =
-    nonzero loads.plain.addresses 0 (number_once image 4 (address + 16) loads.plain.addresses 0 loads.plain.addresses_field no_addresses) loads.has_addresses refl
+stops_once image width address i loads (inl no_name) = grind (arith, nonzero loads.plain.name 0 (number_once image 4 (address + 12) loads.plain.name 0 loads.plain.name_field no_name) loads.has_name refl)
+stops_once image width address i loads (inr no_addresses) = grind (arith, nonzero loads.plain.addresses 0 (number_once image 4 (address + 16) loads.plain.addresses 0 loads.plain.addresses_field no_addresses) loads.has_addresses refl)
 
 -- both tables ask for the same
 same_asks : (image : List Range) (width address : ℕ) (i j : Imported) → LoadsStrictly image width address i.dll i.asks → FindsBy image width address j → i.asks ≡ j.asks
@@ -196,10 +185,9 @@ unfolding BytesAt
 front_from r rs [] front a is at = tt
 front_from r rs (b ∷ bytes) front a is at =
     let long : length r.bytes ≡ length front + (length bytes + 1) = ap length is ∙ length-append front (b ∷ bytes) ∙ omega arith in
-    let within : is_in a r ≡ true = is_in_from a r (omega arith) (omega arith) in
     let position : a - r.start ≡ length front = omega arith in
     let first : slice_index r.bytes (a - r.start) ≡ b = rw (position, is) (get_or_at front b bytes 0 (length front) refl) in (
-      rw within (ap Some first),
+      rw (is_in_from a r (omega arith) (omega arith)) (ap Some first),
       front_from r rs bytes (front ++ b ∷ []) (a + 1) (is ∙ sym (append_assoc front (b ∷ []) bytes)) (rw (length-append front (b ∷ [])) (omega arith)),
     )
 
@@ -244,16 +232,13 @@ module _ (width : ℕ) where
   unfolding entries_written
   entry_located gives wide [] a ranges j ask is = cc
   entry_located gives wide (x ∷ asks) a ranges zero ask is =
-      let same : x ≡ ask = cc in
       let r : Range = record { start = a; bytes = gives x } in
-      subst (λ (y : Ask). BytesAt (r ∷ (entries_written width (a + width) gives asks ++ ranges)) (a + width * 0) (gives y)) same
+      subst (λ (y : Ask). BytesAt (r ∷ (entries_written width (a + width) gives asks ++ ranges)) (a + width * 0) (gives y)) (cc)
       (subst (λ n. BytesAt (r ∷ (entries_written width (a + width) gives asks ++ ranges)) n (gives x)) (times_none a width) (front_located r (entries_written width (a + width) gives asks ++ ranges)))
   entry_located gives wide (x ∷ asks) a ranges (suc j) ask is =
       let r : Range = record { start = a; bytes = gives x } in
-      let long : length (gives x) ≡ width = wide x in
-      let past : range_end r ≤ a + width + width * j = omega arith in
       subst (λ n. BytesAt (r ∷ (entries_written width (a + width) gives asks ++ ranges)) n (gives ask)) (times_next a width j)
-      (behind_front r (entries_written width (a + width) gives asks ++ ranges) (gives ask) (a + width + width * j) past (entry_located gives wide asks (a + width) ranges j ask is))
+      (behind_front r (entries_written width (a + width) gives asks ++ ranges) (gives ask) (a + width + width * j) (omega arith) (entry_located gives wide asks (a + width) ranges j ask is))
 
   pub behind_entries : (gives : Ask → List ℕ) → ((ask : Ask) → length (gives ask) ≡ width) → (asks : List Ask) (a : ℕ) (ranges : List Range) (position : ℕ) (bytes : List ℕ) →
       a + width * length asks ≤ position → BytesAt ranges position bytes → BytesAt (entries_written width a gives asks ++ ranges) position bytes
@@ -261,10 +246,7 @@ module _ (width : ℕ) where
   behind_entries gives wide [] a ranges position bytes past located = located
   behind_entries gives wide (x ∷ asks) a ranges position bytes past located =
       let r : Range = record { start = a; bytes = gives x } in
-      let long : length (gives x) ≡ width = wide x in
-      let product : a + width + width * length asks ≡ a + width * length (x ∷ asks) = times_next a width (length asks) in
-      let end : range_end r ≤ position = omega arith in
-      behind_front r (entries_written width (a + width) gives asks ++ ranges) bytes position end
+      behind_front r (entries_written width (a + width) gives asks ++ ranges) bytes position (omega arith)
       (behind_entries gives wide asks (a + width) ranges position bytes (omega arith) located)
 
   pub entries_within : (gives : Ask → List ℕ) → ((ask : Ask) → length (gives ask) ≡ width) → (asks : List Ask) (a low high : ℕ) → low ≤ a → a + width * length asks ≤ high →
@@ -373,13 +355,11 @@ module _ (image memory : List Range) (keeps : Keeps image memory) where
   writes_once : (width : ℕ) (gives : List ℕ → Ask → List ℕ) (imports : List Imported) (a : ℕ) (first second : List Range) → Writes image width gives a imports first → Writes image width gives a imports second → first ≡ second
   unfolding Writes
   writes_once width gives [] a first second one two = one ∙ sym two
-  writes_once width gives (i ∷ imports) a first second (table, (field, (behind, (is, later)))) (other, (other_field, (other_behind, (other_is, other_later)))) =
-      grind (arith, writes_once width gives imports (a + 20) behind other_behind later other_later, number_once image 4 (a + 16) table other field other_field)
+  writes_once width gives (i ∷ imports) a first second (table, (field, (behind, (is, later)))) (other, (other_field, (other_behind, (other_is, other_later)))) = cc (writes_once width gives imports (a + 20) behind other_behind later other_later, number_once image 4 (a + 16) table other field other_field)
 
   -- a loader that is handed the imports writes what one does that reads them in memory
   pub memory_reads : (width : ℕ) (gives : List ℕ → Ask → List ℕ) (a : ℕ) (imports : List Imported) (written : List Range) → DirectoryAt image width a imports → Writes image width gives a imports written →
       ReadsAndWrites memory width gives (length imports) a written
   memory_reads width gives a imports written directory writes =
       let found = memory_can_be_read width gives a imports directory in
-      subst (ReadsAndWrites memory width gives (length imports) a)
-      (writes_once width gives imports a found.0 written (memory_read width gives (length imports) a imports found.0 directory found.1).1 writes) found.1
+      grind (arith, writes_once width gives imports a found.0 written (memory_read width gives (length imports) a imports found.0 directory found.1).1 writes)

@@ -17,7 +17,7 @@ use Rattle.implib.specs.Link.Resolution.{definitions_of}
 use Rattle.implib.specs.Members.ImportTables.{thunk_width}
 use Rattle.implib.proofs.Link.LinkedMembers.{among_contains}
 use Rattle.implib.proofs.Link.Ranges.{Among, all_among}
-use Rattle.implib_link.specs.Gnu.Fields.{CanBranch, amd64_addr64, field_width, DefinesIn, FieldHolds, LinkedCode, MeetsAlone, field_at, meets, AllLead, AllLeadTo, BranchArrives, HasBranch, HasInstruction, HasOffsetField, HasOperand, HasPageField, HasPointer, InstructionArrives, IsBranch, IsOperand, IsPointer, Names, OperandArrives, PairArrives, PointerArrives, branch_leads, operand_leads, BranchStays, branch_rest, StubAt, placed_code, DirectCallArrives, HasDirectCall, HasInstructions, arm64_branch26, direct_bytes, direct_leads, direct_relocations, i386_rel32, absolute_width, amd64_addr32, StubArrives}
+use Rattle.implib_link.specs.Gnu.Fields.{CanBranch, field_width, DefinesIn, FieldHolds, LinkedCode, MeetsAlone, field_at, meets, AllLead, AllLeadTo, BranchArrives, HasBranch, HasInstruction, HasOffsetField, HasOperand, HasPageField, HasPointer, InstructionArrives, IsBranch, IsOperand, IsPointer, Names, OperandArrives, PairArrives, PointerArrives, operand_leads, BranchStays, StubAt, placed_code, DirectCallArrives, HasDirectCall, HasInstructions, arm64_branch26, direct_bytes, direct_leads, direct_relocations, i386_rel32, absolute_width, amd64_addr32, StubArrives}
 use Rattle.implib_link.specs.Stub.{adrp_immediate, bits_of, ldr_immediate, page, plus_signed, with_bits, jump_reads, with_adrp, word_at}
 use Rattle.implib_link.proofs.Gnu.CallReads.{CanReach}
 use Rattle.implib_link.proofs.Gnu.Fields.{alone_same, alone_within, get_drop, get_front, meeting, meets_bounds, meets_from, page_and_offset, sum_of_eights, ReadsPair, pair_read, one_met, own_any, own_code, own_met, own_names, read_word, joined, four_of, jump_field, own_inside}
@@ -41,69 +41,26 @@ addr64_is n old base target is empty fits small = omega arith
 
 -- Types of relative fields.
 
-not_addr64 : (type further : ℕ) → type ≡ amd64_rel32 + further → (type == amd64_addr64) ≡ false
-not_addr64 type further is = ne_eqb type amd64_addr64 (λ same. omega arith)
-
 not_addr32 : (type further : ℕ) → type ≡ amd64_rel32 + further → (type == amd64_addr32) ≡ false
 not_addr32 type further is = ne_eqb type amd64_addr32 (λ same. omega arith)
 
 pub operand_width : (machine : MachineType) (type after number : ℕ) → IsOperand machine type after number → field_width machine type ≡ 4
-operand_width I386 type after number counts = refl
-operand_width ARMNT type after number counts = absurd counts
-operand_width AMD64 type after number counts = rw (not_addr64 type counts.0 counts.1.1.0) refl
-operand_width ARM64 type after number counts = absurd counts
+operand_width machine type after number counts = grind arith
 
 branch_width : (machine : MachineType) (type after number : ℕ) → IsBranch machine type after number → field_width machine type ≡ 4
-branch_width I386 type after number counts = refl
-branch_width ARMNT type after number counts = absurd counts
-branch_width AMD64 type after number counts = operand_width AMD64 type after number counts
-branch_width ARM64 type after number counts = subst (λ t. field_width ARM64 t ≡ 4) (sym counts.0) refl
+branch_width machine type after number counts = grind (arith, operand_width)
 
 branch_steady : (machine : MachineType) (type after number : ℕ) → IsBranch machine type after number → absolute_width machine type ≡ None
-branch_steady I386 type after number counts = subst (λ t. absolute_width I386 t ≡ None) (sym counts.0) refl
-branch_steady ARMNT type after number counts = absurd counts
-branch_steady AMD64 type after number counts = rw (not_addr64 type counts.0 counts.1.1.0, not_addr32 type counts.0 counts.1.1.0) refl
-branch_steady ARM64 type after number counts = subst (λ t. absolute_width ARM64 t ≡ None) (sym counts.0) refl
+branch_steady machine type after number counts = grind (arith, not_addr32)
 
 pub pointer_width : (machine : MachineType) (type : ℕ) → IsPointer machine type → field_width machine type ≡ thunk_width machine
-pointer_width I386 type stores = refl
-pointer_width ARMNT type stores = absurd stores
-pointer_width AMD64 type stores = subst (λ t. field_width AMD64 t ≡ 8) (sym stores) refl
-pointer_width ARM64 type stores = subst (λ t. field_width ARM64 t ≡ 8) (sym stores) refl
+pointer_width machine type stores = grind arith
 
 -- Where they lead, by the machines.
 
-pub words_lead : (address position target : ℕ) → position % 4 ≡ 0 → target % 4 ≡ 0 → position ≤ target + 2 ^ 27 → target < position + 2 ^ 27 → (n : ℕ) → n ≡ (target + (2 ^ 28 - position % 2 ^ 28)) / 4 % 2 ^ 26 →
-    plus_signed 26 4 n (address + position) ≡ address + target
-words_lead address position target first second far near n is = grind arith
-
 operand_by : (machine : MachineType) (type base position target after : ℕ) (old new : ℕ → ℕ) → IsOperand machine type after (old 4) → FieldHolds machine type base position target old new →
     CanReach machine base target → position + (4 + after) ≤ 2 ^ 31 → target < 2 ^ 31 → operand_leads machine (base + position) after (new 4) ≡ Some (base + target)
-operand_by I386 type base position target after old new counts holds can near small = ap Some (dir32_is (new 4) (old 4) base target (holds.dir32 counts.0) counts.1 can small)
-operand_by ARMNT type base position target after old new counts holds can near small = absurd counts
-operand_by AMD64 type base position target after old new (further, (few, (is, ends))) holds can near small = cc (rel32_leads (new 4) (old 4) base position target after further (holds.rel32 further few is) ends near small)
-operand_by ARM64 type base position target after old new counts holds can near small = absurd counts
-
-branch_by : (machine : MachineType) (type base position target after : ℕ) (old new : ℕ → ℕ) → IsBranch machine type after (old 4) → FieldHolds machine type base position target old new →
-    CanBranch machine position target → position + (4 + after) ≤ 2 ^ 31 → target < 2 ^ 31 → branch_leads machine (base + position) after (new 4) ≡ Some (base + target)
-branch_by I386 type base position target after old new counts holds can near small = grind arith
-branch_by ARMNT type base position target after old new counts holds can near small = absurd counts
-branch_by AMD64 type base position target after old new (further, (few, (is, ends))) holds can near small = grind (arith, rel32_leads (new 4) (old 4) base position target after further (holds.rel32 further few is) ends near small)
-branch_by ARM64 type base position target after old new counts holds can near small = grind arith
-
-branch_rest_by : (machine : MachineType) (type base position target after : ℕ) (old new : ℕ → ℕ) → IsBranch machine type after (old 4) → FieldHolds machine type base position target old new → CanBranch machine position target →
-    branch_rest machine (new 4) ≡ branch_rest machine (old 4)
-branch_rest_by I386 type base position target after old new counts holds can = refl
-branch_rest_by ARMNT type base position target after old new counts holds can = absurd counts
-branch_rest_by AMD64 type base position target after old new counts holds can = refl
-branch_rest_by ARM64 type base position target after old new counts holds can = (holds.branch counts.0 counts.1 can.2 can.3).0
-
-pointer_by : (machine : MachineType) (type base position target : ℕ) (old new : ℕ → ℕ) → IsPointer machine type → old (thunk_width machine) ≡ 0 → FieldHolds machine type base position target old new →
-    CanReach machine base target → base + 2 ^ 31 ≤ 2 ^ 64 → target < 2 ^ 31 → new (thunk_width machine) ≡ base + target
-pointer_by I386 type base position target old new stores empty holds can fits small = dir32_is (new 4) (old 4) base target (holds.dir32 stores) empty can small
-pointer_by ARMNT type base position target old new stores empty holds can fits small = absurd stores
-pointer_by AMD64 type base position target old new stores empty holds can fits small = addr64_is (new 8) (old 8) base target (holds.addr64 stores) empty fits small
-pointer_by ARM64 type base position target old new stores empty holds can fits small = addr64_is (new 8) (old 8) base target (holds.addr64 stores) empty fits small
+operand_by machine type base position target after old new counts holds can near small = grind (arith, dir32_is, rel32_leads)
 
 -- ARM64's page and offset.
 
@@ -143,15 +100,12 @@ module _ (machine : MachineType) (image_base : ℕ) (image : List Range) (linked
       address < 2 ^ 31 → CanBranch machine (c.position + offset) address → BranchArrives machine image_base (written ++ memory) (c.position + offset) after address
   branch_reaches c offset after address name held has taken small can =
       let m : Among c codes = contains_among c codes held in
-      let wide : field_width machine has.type ≡ 4 = branch_width machine has.type after (field_at c.code.bytes offset 4) has.counts in
       let found = steady_there machine image_base image linked codes targets memory at written covers_it c m offset has.type has.field.symbol has.field.alone has.field.inside
       (branch_steady machine has.type after (field_at c.code.bytes offset 4) has.counts) in
-      let end : c.position + length c.code.bytes + 16 ≤ 2 ^ 31 = own_end machine image_base image linked codes targets memory at written covers_it c m in
-      let within : offset + (4 + after) ≤ length c.code.bytes = has.within in
       record {
         number = found.0 4;
-        there = subst (λ w. NumberAt (written ++ memory) w (c.position + offset) (found.0 w)) wide found.1.0;
-        leads = grind (arith, branch_by);
+        there = subst (λ w. NumberAt (written ++ memory) w (c.position + offset) (found.0 w)) (branch_width machine has.type after (field_at c.code.bytes offset 4) has.counts) found.1.0;
+        leads = grind (arith, own_end machine image_base image linked codes targets memory at written covers_it c m);
       }
 
   -- and is, but for its distance, as it was
@@ -159,13 +113,12 @@ module _ (machine : MachineType) (image_base : ℕ) (image : List Range) (linked
       CanBranch machine (c.position + offset) (d.position + t.value) → BranchStays machine (written ++ memory) (c.position + offset) (field_at c.code.bytes offset 4)
   branch_stays c d offset after name t held has d_held defines named can =
       let m : Among c codes = contains_among c codes held in
-      let target : targets c has.field.symbol ≡ d.position + t.value = where_defined c d name t held d_held defines named has.field.symbol has.field.names in
       let found = steady_there machine image_base image linked codes targets memory at written covers_it c m offset has.type has.field.symbol has.field.alone has.field.inside
       (branch_steady machine has.type after (field_at c.code.bytes offset 4) has.counts) in
       record {
         number = found.0 4;
         there = subst (λ w. NumberAt (written ++ memory) w (c.position + offset) (found.0 w)) (branch_width machine has.type after (field_at c.code.bytes offset 4) has.counts) found.1.0;
-        same = grind (arith, branch_rest_by);
+        same = grind (arith, where_defined c d name t held d_held defines named has.field.symbol has.field.names);
       }
 
   -- what leads to the only definition of a name, where these bytes are
@@ -207,30 +160,20 @@ module _ (machine : MachineType) (image_base : ℕ) (image : List Range) (linked
         let r : Relocation = record { offset = inner; symbol = symbol; kind = type } in
         let wide : field_width machine type ≡ 4 = operand_width machine type (length tail) (number_in field) counts in
         let parts : Parts c offset head field tail = parts_of c offset count head field tail code in
-        let size : length c.code.bytes - offset ≡ length head + (length field + (length tail + length parts.back)) =
-        sym (length-drop offset c.code.bytes) ∙ ap length parts.whole
-        ∙ (let sum : length (head ++ (field ++ (tail ++ parts.back))) ≡ length head + (length field + (length tail + length parts.back)) =
-        omega (arith, length-append head (field ++ (tail ++ parts.back)), length-append field (tail ++ parts.back), length-append tail parts.back) in sum) in
-        let within : offset + count ≤ length c.code.bytes = omega arith in
-        let inside : inner + field_width machine type ≤ length c.code.bytes = omega arith in
+        let size : length c.code.bytes - offset ≡ length head + (length field + (length tail + length parts.back)) = cc (length-drop offset c.code.bytes, length-append head (field ++ (tail ++ parts.back)), length-append field (tail ++ parts.back), length-append tail parts.back) in
         let alone : MeetsAlone machine c.code.relocations inner (field_width machine type) r =
         alone_within machine c.code.relocations offset count inner (field_width machine type) r alone_in (omega arith) (omega arith) (meets_from machine inner (field_width machine type) r (omega arith) (omega arith)) in
-        let found : Found c inner type = found_at c inner type symbol held alone inside settles in
-        let end : c.position + length c.code.bytes + 16 ≤ 2 ^ 31 = end_of c held in
-        let at_field : drop inner c.code.bytes ≡ field ++ (tail ++ parts.back) =
-        sym (drop-drop (length head) offset c.code.bytes) ∙ ap (drop (length head)) parts.whole ∙ drop_at head (field ++ (tail ++ parts.back)) (length head) refl in
+        let found : Found c inner type = found_at c inner type symbol held alone (omega arith) settles in
+        let at_field : drop inner c.code.bytes ≡ field ++ (tail ++ parts.back) = cc (drop-drop (length head) offset c.code.bytes, drop_at head (field ++ (tail ++ parts.back)) (length head) refl) in
         let at_tail : drop last c.code.bytes ≡ tail ++ parts.back = sym (drop-drop 4 inner c.code.bytes) ∙ ap (drop 4) at_field ∙ drop_at field (tail ++ parts.back) 4 four in
         let old : field_at c.code.bytes inner 4 ≡ number_in field = ap (λ xs. number_in (take 4 xs)) at_field ∙ ap number_in (take_at field (tail ++ parts.back) 4 four) in
         let clear : (k : ℕ) → offset ≤ k → k < offset + count → (k < inner) ⊎ (last ≤ k) → list_any (meets machine k 1) c.code.relocations ≡ false = λ k low high beside.
         false_from_ne_true (list_any (meets machine k 1) c.code.relocations) (λ met.
         let s = meeting machine k c.code.relocations met in
         let bounds = meets_bounds machine k 1 s.0 s.1.1 in
-        let from : s.0.offset < k + 1 = bounds.0 in
-        let to : k < s.0.offset + field_width machine s.0.kind = bounds.1 in
         let same : s.0 ≡ r = alone_same machine c.code.relocations offset count r alone_in s.0 s.1.0 (meets_from machine offset count s.0 (omega arith) (omega arith)) in
-        let place : s.0.offset ≡ inner = ap (λ (x : Relocation). x.offset) same in
         let kind : field_width machine s.0.kind ≡ 4 = ap (λ (x : Relocation). field_width machine x.kind) same ∙ wide in
-        elim beside [ inl before ↦ omega arith | inr after ↦ omega arith ]) in
+        elim beside [ inl before ↦ omega (arith, bounds.0, bounds.1, ap (λ (x : Relocation). x.offset) same) | inr after ↦ omega (arith, bounds.0, bounds.1, ap (λ (x : Relocation). x.offset) same) ]) in
         let number : NumberAt (written ++ memory) 4 (c.position + inner) (found.0 4) = subst (λ w. NumberAt (written ++ memory) w (c.position + inner) (found.0 w)) wide found.1.0 in
         let head_there : BytesAt (written ++ memory) (c.position + offset) head =
         bytes_there machine image_base image linked codes targets memory at written covers_it c m offset head (λ i b is.
@@ -244,21 +187,16 @@ module _ (machine : MachineType) (image_base : ℕ) (image : List Range) (linked
           sym (get_drop last c.code.bytes i) ∙ ap (λ xs. slice_get xs i) at_tail ∙ get_front tail parts.back i b is,
           clear (last + i) (omega arith) (omega arith) (inr (omega arith)),
         )) in
-        let counted : length number.bytes ≡ 4 = number.count in
         let field_place : c.position + inner ≡ c.position + offset + length head = omega arith in
-        let tail_place : c.position + last ≡ c.position + inner + length number.bytes = omega arith in
         record {
           field = number.bytes;
           four = number.count;
           there = joined (written ++ memory) head (number.bytes ++ tail) (c.position + offset) head_there
               (subst (λ n. BytesAt (written ++ memory) n (number.bytes ++ tail)) field_place
-              (joined (written ++ memory) number.bytes tail (c.position + inner) number.located (subst (λ n. BytesAt (written ++ memory) n tail) tail_place tail_there)));
+              (joined (written ++ memory) number.bytes tail (c.position + inner) number.located (subst (λ n. BytesAt (written ++ memory) n tail) (omega (arith, end_of c held)) tail_there)));
           entry = entry;
           own = once;
-          leads = ap (λ n. operand_leads machine (image_base + n) (length tail) (number_in number.bytes)) (sym field_place)
-              ∙ ap (operand_leads machine (image_base + (c.position + inner)) (length tail)) number.value
-              ∙ operand_by machine type image_base (c.position + inner) entry (length tail) (field_at c.code.bytes inner) found.0
-              (subst (IsOperand machine type (length tail)) (sym old) counts) found.1.1 can (omega arith) small;
+          leads = grind (arith, operand_by, end_of);
           located = located;
         }
 
@@ -266,28 +204,22 @@ module _ (machine : MachineType) (image_base : ℕ) (image : List Range) (linked
     module _ (called : List ℕ) (settled : (c : LinkedCode) (symbol : ℕ) → Contains codes c → Names c.from symbol called → Settles machine image_base image linked codes targets memory at c symbol entry) where
       operand_arrives : (c : LinkedCode) (offset after : ℕ) → Contains codes c → HasOperand machine c offset after called → OperandArrives machine image_base linked (written ++ memory) (c.position + offset) after name bytes
       operand_arrives c offset after held has =
-          let wide : field_width machine has.type ≡ 4 = operand_width machine has.type after (field_at c.code.bytes offset 4) has.counts in
           let found : Found c offset has.type = found_at c offset has.type has.field.symbol held has.field.alone has.field.inside (settled c has.field.symbol held has.field.names) in
-          let end : c.position + length c.code.bytes + 16 ≤ 2 ^ 31 = end_of c held in
-          let within : offset + (4 + after) ≤ length c.code.bytes = has.within in
           record {
             number = found.0 4;
-            there = subst (λ w. NumberAt (written ++ memory) w (c.position + offset) (found.0 w)) wide found.1.0;
+            there = subst (λ w. NumberAt (written ++ memory) w (c.position + offset) (found.0 w)) (operand_width machine has.type after (field_at c.code.bytes offset 4) has.counts) found.1.0;
             entry = entry;
             own = once;
-            leads = operand_by machine has.type image_base (c.position + offset) entry after (field_at c.code.bytes offset) found.0 has.counts found.1.1 can (omega arith) small;
+            leads = operand_by machine has.type image_base (c.position + offset) entry after (field_at c.code.bytes offset) found.0 has.counts found.1.1 can (omega (arith, end_of c held)) small;
             located = located;
           }
 
       pointer_arrives : (c : LinkedCode) (offset : ℕ) → image_base + 2 ^ 31 ≤ 2 ^ 64 → Contains codes c → HasPointer machine c offset called → PointerArrives machine image_base linked (written ++ memory) (c.position + offset) name bytes
       pointer_arrives c offset fits held has =
-          let found : Found c offset has.type = found_at c offset has.type has.field.symbol held has.field.alone has.field.inside (settled c has.field.symbol held has.field.names) in
           record {
             entry = entry;
             own = once;
-            there = subst (λ n. NumberAt (written ++ memory) (thunk_width machine) (c.position + offset) n)
-                (pointer_by machine has.type image_base (c.position + offset) entry (field_at c.code.bytes offset) found.0 has.stores has.empty found.1.1 can fits small)
-                (subst (λ w. NumberAt (written ++ memory) w (c.position + offset) (found.0 w)) (pointer_width machine has.type has.stores) found.1.0);
+            there = grind (arith, found_at c offset has.type has.field.symbol held has.field.alone has.field.inside (settled c has.field.symbol held has.field.names), pointer_width);
             located = located;
           }
 
@@ -310,20 +242,17 @@ pair_at image_base image linked codes targets memory at written covers_it name b
     let paged = found_at ARM64 image_base image linked codes targets memory at written covers_it name bytes entry once small can located c first arm64_pagebase_rel21 page_symbol c_held page_alone page_inside page_settles in
     let placed = found_at ARM64 image_base image linked codes targets memory at written covers_it name bytes entry once small can located d second arm64_pageoffset_12l offset_symbol d_held offset_alone offset_inside offset_settles in
     let end : c.position + length c.code.bytes + 16 ≤ 2 ^ 31 = end_of ARM64 image_base image linked codes targets memory at written covers_it name bytes entry once small can located c c_held in
-    let page_holds = paged.1.1.page_of refl in
     let offset_holds = placed.1.1.offset_of refl eight in
     record {
       adrp = paged.0 4;
       adrp_there = paged.1.0;
-      is_adrp = page_holds.0;
+      is_adrp = (paged.1.1.page_of refl).0;
       load = placed.0 4;
       load_there = placed.1.0;
       is_load = offset_holds.0;
       entry = entry;
       own = once;
-      leads = pair_leads (paged.0 4) (placed.0 4) (plus_signed 21 4096 (adrp_immediate (paged.0 4)) (page (image_base + (c.position + first)) * 4096)) (ldr_immediate (placed.0 4)) (image_base + entry)
-          (page_leads (paged.0 4) (field_at c.code.bytes first 4) image_base (c.position + first) entry page_holds.1 page_empty (omega arith) small)
-          (offset_leads (placed.0 4) (field_at d.code.bytes second 4) image_base entry offset_holds.0 eight offset_holds.1 offset_empty (sum_of_eights image_base entry can.0 can.1));
+      leads = grind (arith, offset_leads (placed.0 4) (field_at d.code.bytes second 4) image_base entry offset_holds.0 eight offset_holds.1 offset_empty (sum_of_eights image_base entry can.0 can.1));
       located = located;
     }
 
@@ -367,10 +296,7 @@ amd64_jump : (address : ℕ) (field : List ℕ) → length field ≡ 4 → jump_
 amd64_jump address field four = grind (arith, four_of field four)
 
 pub arm64_jump : ReadsPair (jump_reads ARM64) 0x9000_0010 0xF940_0210 (0 ∷ 2 ∷ 0x1F ∷ 0xD6 ∷ [])
-arm64_jump address adrp load four also is_adrp is_load =
-    let f = four_of adrp four in
-    let g = four_of load also in
-    rw (f.is, g.is) (rw (ap (λ xs. with_adrp 0 (number_in xs)) (sym f.is) ∙ is_adrp, ap (λ xs. with_bits 10 12 0 (number_in xs)) (sym g.is) ∙ is_load) refl)
+arm64_jump address adrp load four also is_adrp is_load = grind (arith, four_of adrp four, four_of load also)
 
 -- bytes of a stub that its relocations leave
 stub_part : (machine : MachineType) (image_base : ℕ) (image : List Range) (linked : List Placed) (codes : List LinkedCode) (targets : LinkedCode → ℕ → ℕ) (memory : List Range)
@@ -386,16 +312,11 @@ x86_jumps : (memory : List Range) (position : ℕ) (name bytes : List ℕ) (mach
     (x : InstructionArrives machine image_base linked memory (position + 0) (0xFF ∷ 0x25 ∷ []) [] name bytes) → BytesAt memory (position + 6) (0x90 ∷ 0x90 ∷ []) →
     jump_reads machine (image_base + position) (0xFF ∷ 0x25 ∷ (x.field ++ 0x90 ∷ 0x90 ∷ [])) ≡ Some (image_base + x.entry) → StubArrives machine image_base memory position bytes
 x86_jumps memory position name bytes machine image_base linked size x tail reads =
-    let four : length x.field ≡ 4 = x.four in
-    let plain : position + 0 ≡ position = omega arith in
     let long : length (0xFF ∷ 0x25 ∷ (x.field ++ [])) ≡ 6 = omega (arith, length-append x.field []) in
-    let place : position + 6 ≡ position + length (0xFF ∷ 0x25 ∷ (x.field ++ [])) = omega arith in
     let whole : length (0xFF ∷ 0x25 ∷ (x.field ++ 0x90 ∷ 0x90 ∷ [])) ≡ 8 = omega (arith, length-append x.field (0x90 ∷ 0x90 ∷ [])) in
-    let f = four_of x.field x.four in
-    let same : (0xFF ∷ 0x25 ∷ (x.field ++ [])) ++ 0x90 ∷ 0x90 ∷ [] ≡ 0xFF ∷ 0x25 ∷ (x.field ++ 0x90 ∷ 0x90 ∷ []) = grind arith in
     record {
       code = 0xFF ∷ 0x25 ∷ (x.field ++ 0x90 ∷ 0x90 ∷ []);
-      there = grind (arith, joined);
+      there = grind (arith, four_of x.field x.four, joined);
       whole = whole ∙ sym size;
       entry = x.entry;
       reads = reads;
@@ -418,10 +339,9 @@ stub_arrives AMD64 image_base image linked codes targets memory at written cover
     let x = instruction_at AMD64 image_base image linked codes targets memory at written covers_it name bytes entry once small can located d 0 (0xFF ∷ 0x25 ∷ []) (0 ∷ 0 ∷ 0 ∷ 0 ∷ []) [] amd64_rel32 2 held
     (subst (λ rs. MeetsAlone AMD64 rs 0 6 (record { offset = 2; symbol = 2; kind = amd64_rel32 })) (sym stub.relocations) refl) refl
     (subst (λ xs. take 6 (drop 0 xs) ≡ 0xFF ∷ 0x25 ∷ 0 ∷ 0 ∷ 0 ∷ 0 ∷ []) (sym stub.bytes) refl) (0, (omega arith, (refl, refl))) (settled_in_tables AMD64 image_base image linked codes targets memory at d 2 entry stub.symbol held stub.held stub.placed) in
-    let place : image_base + d.position + 6 ≡ image_base + (d.position + 0 + 2) + 4 + 0 = omega arith in
     x86_jumps (written ++ memory) d.position name bytes AMD64 image_base linked refl x
     (stub_part AMD64 image_base image linked codes targets memory at written covers_it d held (stub_relocations AMD64 2) 6 2 (0x90 ∷ 0x90 ∷ []) (subst (λ xs. take 2 (drop 6 xs) ≡ 0x90 ∷ 0x90 ∷ []) (sym stub.bytes) refl) stub.relocations refl)
-    (amd64_jump (image_base + d.position) x.field x.four ∙ ap (λ a. Some (plus_signed 32 1 (number_in x.field) a)) place ∙ x.leads)
+    (amd64_jump (image_base + d.position) x.field x.four ∙ ap (λ a. Some (plus_signed 32 1 (number_in x.field) a)) (omega arith) ∙ x.leads)
 stub_arrives ARM64 image_base image linked codes targets memory at written covers_it name bytes entry once small can located d t held stub =
     let size : length d.code.bytes ≡ 12 = ap length stub.bytes in
     let page_code : field_at d.code.bytes 0 4 ≡ 0x9000_0010 = ap (λ xs. field_at xs 0 4) stub.bytes in
@@ -457,24 +377,18 @@ module _ (machine : MachineType) (c : LinkedCode) (offset type : ℕ) (name : Li
   abbrev code : List ℕ
   code = 0xE8 ∷ 0 ∷ 0 ∷ 0 ∷ 0 ∷ []
 
-  call_field : field_at c.code.bytes (offset + 1) 4 ≡ 0
-  call_field = ap (λ xs. number_in (take 4 xs)) (sym (drop-drop 1 offset c.code.bytes) ∙ ap (drop 1) (own_code machine c offset name code rs has))
-
   call_alone : MeetsAlone machine c.code.relocations (offset + 1) (field_width machine type) (record { offset = offset + 1; symbol = has.index; kind = type })
   call_alone =
-      let four : field_width machine type ≡ 4 = wide in
       let r : Relocation = record { offset = offset + 1; symbol = has.index; kind = type } in
       own_met machine c offset name code rs has (offset + 1) (field_width machine type) (omega arith) (omega arith) ∙ one_met machine (offset + 1) (field_width machine type) r (omega arith) (omega arith)
 
   call_branch : IsBranch machine type 0 0 → HasBranch machine c (offset + 1) 0 name
   call_branch counts =
-      let end : offset + 5 ≤ length c.code.bytes = own_inside machine c offset name code rs has in
-      let four : field_width machine type ≡ 4 = wide in
       record {
         type = type;
-        field = record { symbol = has.index; alone = call_alone; inside = omega arith; names = own_names machine c offset name code rs has };
-        counts = subst (IsBranch machine type 0) (sym call_field) counts;
-        within = omega arith;
+        field = record { symbol = has.index; alone = call_alone; inside = omega (arith, own_inside machine c offset name code rs has); names = own_names machine c offset name code rs has };
+        counts = subst (IsBranch machine type 0) (sym (ap (λ xs. number_in (take 4 xs)) (sym (drop-drop 1 offset c.code.bytes) ∙ ap (drop 1) (own_code machine c offset name code rs has)))) counts;
+        within = omega (arith, own_inside machine c offset name code rs has);
       }
 
   call_head : take 1 (drop offset c.code.bytes) ≡ 0xE8 ∷ []
@@ -504,13 +418,11 @@ x86_by_name : (machine : MachineType) (image_base : ℕ) (memory : List Range) (
     DirectCallArrives machine image_base memory (position + offset) bytes
 x86_by_name machine image_base memory position offset stub bytes size reads head x leads arrives =
     let field : List ℕ = x.there.bytes in
-    let four : length x.there.bytes ≡ 4 = x.there.count in
     let field_place : position + (offset + 1) ≡ position + offset + 1 = omega arith in
-    let end : image_base + (position + offset) + 5 ≡ image_base + (position + (offset + 1)) + 4 + 0 = omega arith in
     let long : length (0xE8 ∷ x.there.bytes) ≡ 5 = omega arith in
     by_stub machine image_base memory (position + offset) stub (0xE8 ∷ field) bytes (joined memory (0xE8 ∷ []) field (position + offset) head (subst (λ a. BytesAt memory a field) field_place x.there.located)) (long ∙ sym size)
-    (reads (image_base + (position + offset)) field four ∙ ap (λ n. Some (plus_signed 32 1 n (image_base + (position + offset) + 5))) x.there.value
-    ∙ ap (λ a. Some (plus_signed 32 1 x.number a)) end ∙ leads) arrives
+    (reads (image_base + (position + offset)) field x.there.count ∙ ap (λ n. Some (plus_signed 32 1 n (image_base + (position + offset) + 5))) x.there.value
+    ∙ ap (λ a. Some (plus_signed 32 1 x.number a)) (omega arith) ∙ leads) arrives
 
 pub direct_arrives : (machine : MachineType) (image_base : ℕ) (image : List Range) (linked : List Placed) (codes : List LinkedCode) (targets : LinkedCode → ℕ → ℕ) (memory : List Range)
     (at : Rests machine image_base image linked codes targets memory) (written : List Range) (covers_it : AllByRecursion (Covers image) written) (c : LinkedCode) (offset stub : ℕ) (name bytes : List ℕ) →
@@ -533,15 +445,13 @@ direct_arrives ARM64 image_base image linked codes targets memory at written cov
     let own : ℕ → List Relocation = direct_relocations ARM64 in
     let code : List ℕ = direct_bytes ARM64 in
     let r : Relocation = record { offset = offset + 0; symbol = has.index; kind = arm64_branch26 } in
-    let here : offset + 0 ≡ offset = omega arith in
     let alone : MeetsAlone ARM64 c.code.relocations offset 4 (record { offset = offset; symbol = has.index; kind = arm64_branch26 }) = grind (arith, own_met ARM64 c offset name code own has offset 4 (omega arith) (omega arith), one_met ARM64 offset 4 r (omega arith) (omega arith)) in
     let end : offset + 4 ≤ length c.code.bytes = own_inside ARM64 c offset name code own has in
     let old : field_at c.code.bytes offset 4 ≡ 0x9400_0000 = ap (λ xs. number_in (take 4 xs)) (own_code ARM64 c offset name code own has) in
     let found = steady_there ARM64 image_base image linked codes targets memory at written covers_it c (contains_among c codes held) offset arm64_branch26 has.index alone (omega arith) refl in
-    let target : targets c has.index ≡ stub = taken has.index (own_names ARM64 c offset name code own has) in
     let holds : FieldHolds ARM64 arm64_branch26 image_base (c.position + offset) stub (field_at c.code.bytes offset) found.0 = grind arith in
     let both = holds.branch refl (ap (bits_of 0 26) old) can.2 can.3 in
     let word : word_at found.1.0.bytes 0 ≡ found.0 4 = read_word found.1.0.bytes found.1.0.count ∙ found.1.0.value in
     by_stub ARM64 image_base (written ++ memory) (c.position + offset) stub found.1.0.bytes bytes found.1.0.located found.1.0.count
     (arm64_leads (image_base + (c.position + offset)) found.1.0.bytes (found.0 4) word (still_branch (found.0 4) (both.0 ∙ ap (with_bits 0 26 0) old))
-    ∙ ap Some (words_lead image_base (c.position + offset) stub can.0 can.1 can.2 can.3 (bits_of 0 26 (found.0 4)) both.1)) arrives
+    ∙ ap Some (grind (arith, can.0, can.1, can.2, can.3, both.1))) arrives

@@ -5,7 +5,6 @@ use Rattle.std.proofs.lemmas.Bool.{cases_Bool}
 use Rattle.std.proofs.lemmas.List.{length-append, length-drop, length-take-le, append_assoc, length-replicate}
 use Rattle.implib.specs.declared.coff.object.Relocation.{Relocation}
 use Rattle.implib.specs.declared.machine.MachineType.{MachineType}
-use Rattle.implib.specs.declared.machine.MachineType.TheVariants.{I386, ARMNT, AMD64, ARM64}
 use Rattle.implib.specs.Formats.Bytes.{u32_bytes}
 use Rattle.implib.specs.Definition.{ExportView}
 use Rattle.implib.specs.Members.Gnu.{export_object, head_object, relocations_of_stub, relocations_of_thunk, stub, tail_object, thunk}
@@ -56,10 +55,7 @@ thunk_within machine e = grind (arith, length-thunk, thunk_size, hint_within)
 
 stub_within : (machine : MachineType) (e : ExportView) → AreWithin (length (stub machine e)) (relocations_of_stub machine e)
 unfolding relocations_of_stub stub
-stub_within I386 e = elim (cases_Bool e.is_data) [ inl is ↦ rw is tt | inr is ↦ rw is (omega arith, tt) ]
-stub_within ARMNT e = elim (cases_Bool e.is_data) [ inl is ↦ rw is tt | inr is ↦ rw is (omega arith, tt) ]
-stub_within AMD64 e = elim (cases_Bool e.is_data) [ inl is ↦ rw is tt | inr is ↦ rw is (omega arith, tt) ]
-stub_within ARM64 e = elim (cases_Bool e.is_data) [ inl is ↦ rw is tt | inr is ↦ rw is (omega arith, (omega arith, tt)) ]
+stub_within machine e = grind (arith, cases_Bool)
 
 pub head_sized : (machine : MachineType) (dll : NamesOfDll) → IsSized (head machine dll)
 unfolding head_object
@@ -82,19 +78,12 @@ exports_sized machine dll (e ∷ es) rest all = (export_sized machine dll e, exp
 -- Groups do not touch one another.
 
 pub same_base : (group other : Group) (b : Bases) → same_group group other ≡ true → base_of other b ≡ base_of group b
-same_base Descriptors Descriptors b is = refl
-same_base DirectoryEnds DirectoryEnds b is = refl
-same_base Lookups Lookups b is = refl
-same_base Addresses Addresses b is = refl
-same_base HintNames HintNames b is = refl
-same_base DllNames DllNames b is = refl
-same_base group other b is = cc
+same_base group other b is = grind arith
 
 -- the end of a group after a section
 pub end_of_section : (group : Group) (b : Bases) (s : ObjectSection) (named : Option Group) →
     base_of group (end_after b (address_after b s.flags named) (length s.bytes)) ≡ end_with group (base_of group b) s named
-end_of_section group b s None = refl
-end_of_section group b s (Some other) = grind arith
+end_of_section group b s named = grind arith
 
 pub end_of_sections : (group : Group) (b : Bases) (sections : List ObjectSection) → base_of group (ends_after b sections) ≡ sections_end group (base_of group b) sections
 unfolding sections_end
@@ -120,27 +109,17 @@ fills_one : (base end : ℕ) (c : Contribution) → base ≤ c.address → c.add
 unfolding span
 fills_one base end c low is =
     let padding : List ℕ = zeros (c.address - base) in
-    let padded : length padding ≡ c.address - base = length-replicate {A = ℕ} (c.address - base) 0 in
-    let all : length (padding ++ (c.bytes ++ [])) ≡ length padding + length (c.bytes ++ []) = length-append padding (c.bytes ++ []) in
-    let own : length (c.bytes ++ []) ≡ length c.bytes + 0 = length-append c.bytes [] in
     record {
-      ends = omega arith;
-      behind = λ rest. grind (arith, append_assoc);
+      ends = omega (arith, length-replicate {A = ℕ} (c.address - base) 0, length-append padding (c.bytes ++ []), length-append c.bytes []);
+      behind = λ rest. grind (arith, length-replicate {A = ℕ} (c.address - base) 0, length-append padding (c.bytes ++ []), length-append c.bytes [], append_assoc);
     }
 
 fills_both : (base middle end : ℕ) (front back : List Contribution) → Fills base front middle → Fills middle back end → Fills base (front ++ back) end
 unfolding span
 fills_both base middle end front back one two =
-    let sum : length (filled base front ++ filled middle back) ≡ length (filled base front) + length (filled middle back) = length-append (filled base front) (filled middle back) in
-    let first : base + length (filled base front) ≡ middle = one.ends in
-    let second : middle + length (filled middle back) ≡ end = two.ends in
     record {
-      ends = ap (λ bytes. base + length bytes) (one.behind back) ∙ omega arith;
-      behind = λ rest. ap (filled base) (append_assoc front back rest)
-          ∙ one.behind (back ++ rest)
-          ∙ ap (λ bytes. filled base front ++ bytes) (two.behind rest)
-          ∙ sym (append_assoc (filled base front) (filled middle back) (filled end rest))
-          ∙ ap (λ bytes. bytes ++ filled end rest) (sym (one.behind back));
+      ends = ap (λ bytes. base + length bytes) (one.behind back) ∙ omega (arith, length-append (filled base front) (filled middle back));
+      behind = grind (arith, length-append (filled base front) (filled middle back), append_assoc);
     }
 
 module _ (machine : MachineType) (linked : List Placed) (group : Group) where
@@ -193,15 +172,10 @@ unfolding group_end has_tables
 end_kept group n [] = refl
 end_kept group n (o ∷ objects) = grind (arith, end_kept group (sections_end group n o.sections) objects, end_kept group n objects, end_without)
 
--- ends do not fall
-end_of_one : (group : Group) (n : ℕ) (s : ObjectSection) (named : Option Group) → n ≤ end_with group n s named
-end_of_one group n s None = omega arith
-end_of_one group n s (Some other) = grind (arith, at_least)
-
 sections_rise : (group : Group) (n : ℕ) (sections : List ObjectSection) → n ≤ sections_end group n sections
 unfolding sections_end
 sections_rise group n [] = omega arith
-sections_rise group n (s ∷ sections) = grind (arith, sections_rise group (end_with group n s (group_named s.name)) sections, end_of_one)
+sections_rise group n (s ∷ sections) = grind (arith, sections_rise group (end_with group n s (group_named s.name)) sections, at_least)
 
 ends_rise : (group : Group) (n : ℕ) (objects : List Object) → n ≤ group_end group n objects
 unfolding group_end
@@ -227,11 +201,6 @@ rising_ends : (low high : ℕ) (rs : List Range) → Rising low high rs → high
 unfolding Rising
 rising_ends low high [] rise below = tt
 rising_ends low high (r ∷ rs) rise below = grind (arith, rising_ends (range_end r) high rs rise.1 below, rising_reaches)
-
-rising_within : (low high : ℕ) (rs : List Range) → Rising low high rs → AllByRecursion (λ r. (low ≤ r.start) × (range_end r ≤ high)) rs
-unfolding Rising
-rising_within low high [] rise = tt
-rising_within low high (r ∷ rs) rise = grind (arith, rising_within low high rs (rising_from_below low (range_end r) high rs (omega arith) rise.1), rising_reaches, rising_from_below)
 
 apart_from : (first : Range) (low high : ℕ) (rs : List Range) → range_end first ≤ low → Rising low high rs → AllByRecursion (AreApart first) rs
 unfolding Rising
@@ -286,27 +255,24 @@ module _ (machine : MachineType) (first : ℕ) (objects : List Object) (sized : 
   all_rise : Rising (packed_descriptors first) (packed_end first objects) (image_of machine (packed first objects) (placed_from (packed first objects) objects))
   all_rise = rising_next 4 Descriptors _ (rising_next 8 DirectoryEnds _ (rising_next 8 Lookups _ (rising_next 8 Addresses _ (rising_next 8 HintNames _ last_rises))))
 
-  pub lies_within : AllByRecursion (λ r. (packed_descriptors first ≤ r.start) × (range_end r ≤ packed_end first objects)) (image_of machine (packed first objects) (placed_from (packed first objects) objects))
-  lies_within = rising_within (packed_descriptors first) (packed_end first objects) (image_of machine (packed first objects) (placed_from (packed first objects) objects)) all_rise
-
   descriptors_base : IsBase (packed_descriptors first)
   descriptors_base = aligned_base first above
 
   directory_ends_base : IsBase (packed_directory_ends first objects)
-  directory_ends_base = grind (arith, descriptors_base, ends_rise, aligned_end)
+  directory_ends_base = grind (arith, aligned_base, ends_rise, aligned_end)
 
   lookups_base : IsBase (packed_lookups first objects)
-  lookups_base = above_zero DirectoryEnds (packed_directory_ends first objects) objects directory_ends_base
+  lookups_base = above_zero DirectoryEnds (packed_directory_ends first objects) objects (grind (arith, descriptors_base, ends_rise, aligned_end))
 
   addresses_base : IsBase (packed_addresses first objects)
-  addresses_base = above_zero Lookups (packed_lookups first objects) objects lookups_base
+  addresses_base = above_zero Lookups (packed_lookups first objects) objects (above_zero DirectoryEnds (packed_directory_ends first objects) objects directory_ends_base)
 
   hint_names_base : IsBase (packed_hint_names first objects)
-  hint_names_base = above_zero Addresses (packed_addresses first objects) objects addresses_base
+  hint_names_base = above_zero Addresses (packed_addresses first objects) objects (above_zero Lookups (packed_lookups first objects) objects lookups_base)
 
   pub admissible : IsAdmissible machine (packed first objects) objects
   admissible = record {
-    descriptors = descriptors_base;
+    descriptors = (aligned_base first above);
     directory_ends = directory_ends_base;
     lookups = lookups_base;
     addresses = addresses_base;
@@ -353,14 +319,9 @@ module _ (machine : MachineType) (linked : List Placed) (image : List Range) (b 
   parts group located =
       let base : ℕ = base_of group b in
       let fills : Fills base (own group) (group_end group base front) = fills_objects machine linked group b front sized in
-      let split : filled base (contributions machine linked group (placed_from b (front ++ rest))) ≡ filled base (own group) ++ filled (base_of group (ends_behind b front)) (later group) =
-      ap (λ ps. filled base (contributions machine linked group ps)) (placed_parts b front rest)
-      ∙ ap (filled base) (flat_map-append (contributions_of machine linked group) (placed_from b front) (placed_from (ends_behind b front) rest))
-      ∙ fills.behind (later group)
-      ∙ ap (λ n. filled base (own group) ++ filled n (later group)) (sym (end_behind group b front)) in
+      let split : filled base (contributions machine linked group (placed_from b (front ++ rest))) ≡ filled base (own group) ++ filled (base_of group (ends_behind b front)) (later group) = grind (arith, placed_parts, flat_map-append, end_behind) in
       let found = located_parts image (filled base (own group)) (filled (base_of group (ends_behind b front)) (later group)) base (subst (BytesAt image base) split located) in
-      let end : base + length (filled base (own group)) ≡ base_of group (ends_behind b front) = fills.ends ∙ sym (end_behind group b front) in
-      (found.0, subst (λ n. BytesAt image n (filled (base_of group (ends_behind b front)) (later group))) end found.1)
+      (found.0, subst (λ n. BytesAt image n (filled (base_of group (ends_behind b front)) (later group))) (fills.ends ∙ sym (end_behind group b front)) found.1)
 
   pub located_behind : LocatedFrom machine linked image b (front ++ rest) → LocatedFrom machine linked image (ends_behind b front) rest
   located_behind located = grind (arith, parts Descriptors located.descriptors, parts Lookups located.lookups, parts Addresses located.addresses, parts HintNames located.hint_names, parts DllNames located.dll_names)

@@ -1,16 +1,14 @@
 -- Code at another base: a base relocation changes its own field, and nothing else.
-use Rattle.std.proofs.Common.{◌≡◌, ℕ, ◌+◌, ◌<◌, ◌≤◌, Bool, true, false, List, [], ◌∷◌, ◌++◌, map, None, Some, refl, sym, ◌∙◌, inl, inr, arith}
-use Rattle.std.specs.Prelude.{◌==◌, if◌then◌else◌}
+use Rattle.std.proofs.Common.{◌≡◌, ℕ, ◌+◌, ◌<◌, ◌≤◌, Bool, true, false, List, [], ◌∷◌, ◌++◌, map, None, Some, refl, inl, inr, arith}
+use Rattle.std.specs.Prelude.{if◌then◌else◌}
 use Rattle.std.specs.List.{AllByRecursion, flat_map, list_any}
 use Rattle.std.proofs.lemmas.List.Folds.{list_any-append}
 use Rattle.implib.specs.declared.coff.object.Relocation.{Relocation}
 use Rattle.implib.specs.declared.machine.MachineType.{MachineType}
-use Rattle.implib.specs.declared.machine.MachineType.TheVariants.{I386, ARMNT, AMD64, ARM64}
-use Rattle.implib.specs.Formats.Constants.{i386_dir32}
 use Rattle.implib.specs.Link.Image.{AllApart, Range, is_in}
 use Rattle.implib.proofs.Link.LinkedMembers.{among_map}
 use Rattle.implib.proofs.Link.Ranges.{Among, all_among}
-use Rattle.implib_link.specs.Gnu.Fields.{amd64_addr64, arm64_addr64, field_width, Place, absolute_width, amd64_addr32, arm64_addr32, covers, places_at}
+use Rattle.implib_link.specs.Gnu.Fields.{field_width, Place, absolute_width, covers, places_at}
 
 pub places_from : (machine : MachineType) (position : ℕ) (rs : List Relocation) → AllByRecursion (λ (p : Place). position ≤ p.address) (places_at machine position rs)
 places_from machine position [] = tt
@@ -32,21 +30,12 @@ none_covers f a (d ∷ xs) each = grind (arith, none_covers f a xs, list_any-app
 none_narrow : (width most : ℕ) → None ≡ Some width → width ≤ most
 none_narrow width most is = cc
 
-choice_narrow : (b whole : Bool) (width : ℕ) → (if b then Some 8 else if whole then Some 4 else None) ≡ Some width → width ≤ (if b then 8 else 4)
-choice_narrow true whole width is = let same : 8 ≡ width = cc in omega arith
-choice_narrow false true width is = let same : 4 ≡ width = cc in omega arith
-choice_narrow false false width is = none_narrow width 4 is
-
 i386_narrow : (b : Bool) (width : ℕ) → (if b then Some 4 else None) ≡ Some width → width ≤ 4
-i386_narrow true width is = let same : 4 ≡ width = cc in omega arith
-i386_narrow false width is = none_narrow width 4 is
+i386_narrow b width is = grind (arith, none_narrow)
 
 -- what a base relocation changes is in the field
 pub narrow : (machine : MachineType) (type width : ℕ) → absolute_width machine type ≡ Some width → width ≤ field_width machine type
-narrow I386 type width is = i386_narrow (type == i386_dir32) width is
-narrow ARMNT type width is = none_narrow width 8 is
-narrow AMD64 type width is = choice_narrow (type == amd64_addr64) (type == amd64_addr32) width is
-narrow ARM64 type width is = choice_narrow (type == arm64_addr64) (type == arm64_addr32) width is
+narrow machine type width is = grind (arith, i386_narrow, none_narrow)
 
 -- a relocation that stores an address whole has its place
 pub among_place : (machine : MachineType) (position : ℕ) (r : Relocation) (width : ℕ) (rs : List Relocation) → absolute_width machine r.kind ≡ Some width → Among r rs →
@@ -63,7 +52,6 @@ apart_back (x ∷ xs) ys apart = apart_back xs ys apart.1
 pub one_code : {X : Type 0} (f : X → Range) (a : ℕ) (c d : X) (xs : List X) → AllApart (map f xs) → Among c xs → Among d xs → is_in a (f c) ≡ true → is_in a (f d) ≡ true → c ≡ d
 unfolding Among
 one_code f a c d [] apart m n first second = absurd m
-one_code f a c d (x ∷ xs) apart (inl same) (inl other) first second = same ∙ sym other
-one_code f a c d (x ∷ xs) apart (inl same) (inr n) first second = grind (arith, all_among, among_map)
+one_code f a c d (x ∷ xs) apart (inl same) h7 first second = grind (arith, all_among, among_map)
 one_code f a c d (x ∷ xs) apart (inr m) (inl other) first second = grind (arith, all_among, among_map)
 one_code f a c d (x ∷ xs) apart (inr m) (inr n) first second = one_code f a c d xs apart.1 m n first second

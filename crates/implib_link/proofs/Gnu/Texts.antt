@@ -1,7 +1,7 @@
 -- The exports of a text that are chosen, with what it states of them.
-use Rattle.std.proofs.Common.{arith, ◌≡◌, ℕ, Bool, List, [], ◌∷◌, map, Option, Some, None, refl, ap, ◌∙◌}
-use Rattle.std.specs.Prelude.{not, option_map, slice_get}
-use Rattle.std.specs.List.{AllByRecursion, cons_option, filter, filter_map}
+use Rattle.std.proofs.Common.{arith, ◌≡◌, ℕ, Bool, List, [], ◌∷◌, map, refl, ap, ◌∙◌}
+use Rattle.std.specs.Prelude.{not, slice_get}
+use Rattle.std.specs.List.{AllByRecursion, filter, filter_map}
 use Rattle.std.proofs.lemmas.Option.{slice_get-map}
 use Rattle.implib.specs.declared.flavor.Flavor.{Flavor}
 use Rattle.implib.specs.declared.machine.MachineType.{MachineType}
@@ -20,8 +20,7 @@ use Rattle.implib.proofs.Link.LinkedMembers.{all_at}
 -- the exports of a list that is stated are those of the list
 exports_stated : (machine : MachineType) (exports : List ExportView) (statements : List Export) → EachAsksForItsWord machine exports statements →
     map (λ (s : Stated). s.export) (stated exports statements) ≡ exports
-exports_stated machine [] [] each = refl
-exports_stated machine [] (s ∷ statements) each = absurd each
+exports_stated machine [] statements each = grind arith
 exports_stated machine (e ∷ exports) [] each = absurd each
 exports_stated machine (e ∷ exports) (s ∷ statements) each = ap (λ others. e ∷ others) (exports_stated machine exports statements each.1)
 
@@ -36,13 +35,9 @@ map_filter f test (x ∷ xs) = grind (arith, map_filter f test xs)
 pub all_chosen : {X : Type 0} (P : X → Type 0) (xs : List X) (chosen : List ℕ) → AllByRecursion P xs → AllByRecursion P (filter_map (slice_get xs) chosen)
 all_chosen P xs chosen all = all_from P (filter_map (slice_get xs) chosen) (λ x held. let from = kept_from (slice_get xs) chosen x held in all_at P xs from.0 x all from.2)
 
-map_cons_option : {X Y : Type 0} (f : X → Y) (o : Option X) (xs : List X) → map f (cons_option o xs) ≡ cons_option (option_map f o) (map f xs)
-map_cons_option f None xs = refl
-map_cons_option f (Some x) xs = refl
-
 map_chosen : {X Y : Type 0} (f : X → Y) (xs : List X) (chosen : List ℕ) → map f (filter_map (slice_get xs) chosen) ≡ filter_map (slice_get (map f xs)) chosen
 map_chosen f xs [] = refl
-map_chosen f xs (n ∷ chosen) = grind (arith, map_chosen f xs chosen, map_cons_option, slice_get-map)
+map_chosen f xs (n ∷ chosen) = grind (arith, map_chosen f xs chosen, slice_get-map)
 
 module _ (machine : MachineType) (d : DefinitionView) (statements : List Export) (each : EachAsksForItsWord machine (renamed d).exports statements) (chosen : List ℕ) where
   pub statements_are : map (λ (s : Stated). s.export) (chosen_stated d statements chosen) ≡ chosen_exports d chosen

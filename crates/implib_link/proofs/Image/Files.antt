@@ -17,7 +17,7 @@ use Rattle.implib.proofs.Link.Ranges.{all_among, among_back}
 use Rattle.implib_link.specs.Image.Files.{DataDirectory, LoadsFile, MappedFile, WritesFrom}
 use Rattle.implib_link.specs.Image.Laws.{HasTable, IsFileOf, IsInDirectory, thunks_with_nulls}
 use Rattle.implib_link.specs.Gnu.Fields.{AreLinkedBeside, DefinesIn, LinkedCode, range_of_code, ranges_of_codes, AllLead, AreKept}
-use Rattle.implib_link.specs.Gnu.Writing.{Writes, ReadsAndWrites}
+use Rattle.implib_link.specs.Gnu.Writing.{Writes}
 use Rattle.implib_link.specs.Gnu.Stored.{AreFurtherHeld, HoldAddress}
 use Rattle.implib_link.specs.Tables.{AreSteady, AreTables, AreTablesLoaded, Block, CanReadFrom, IsInTable, Table, TableEntry, Tables, imported_by_table, packed_tables}
 use Rattle.implib_link.proofs.Gnu.Fields.{located_each}
@@ -42,11 +42,7 @@ holds_keep memory [] all a b is = cc
 holds_keep memory (r ∷ ranges) all a b is =
     elim (cases_Bool (is_in a r)) [
       | inl within ↦ let bounds = within_bounds a r within in
-          let from : r.start ≤ a = bounds.0 in
-          let to : a < r.start + length r.bytes = bounds.1 in
-          let value : Some (slice_index r.bytes (a - r.start)) ≡ Some b = rw within at is in
-          let place : r.start + (a - r.start) ≡ a = omega arith in
-          subst (λ n. byte_at memory n ≡ Some (slice_index r.bytes (a - r.start))) place (index_located memory r.bytes r.start (a - r.start) all.0 (omega arith)) ∙ value
+          subst (λ n. byte_at memory n ≡ Some (slice_index r.bytes (a - r.start))) (omega arith) (index_located memory r.bytes r.start (a - r.start) all.0 (omega arith)) ∙ (rw within at is)
       | inr outside ↦ holds_keep memory ranges all.1 a b (rw outside at is)
     ]
 
@@ -54,12 +50,7 @@ holds_keep memory (r ∷ ranges) all a b is =
 pub packed_inside : (width address : ℕ) (blocks : List Block) (d : DataDirectory) → d.address ≤ address → address + width * thunks_with_nulls blocks ≤ d.address + d.size →
     AllByRecursion (HasTable width d) (packed_tables width address blocks)
 packed_inside width address [] d from to = tt
-packed_inside width address (b ∷ blocks) d from to =
-    let own : ℕ = length b.entries in
-    let rest : ℕ = thunks_with_nulls blocks in
-    let whole : width * (own + 1 + rest) ≡ width * (own + 1) + width * rest = mul-add width (own + 1) rest in
-    let null : width * (own + 1) ≡ width * own + width * 1 = mul-add width own 1 in
-    ((from, omega arith), packed_inside width (address + width * (own + 1)) blocks d (omega arith) (omega arith))
+packed_inside width address (b ∷ blocks) d from to = grind (arith, mul-add, packed_inside width (address + width * ((length b.entries) + 1)) blocks d (omega arith) (omega arith))
 
 -- The file of import tables.
 module _ (machine : MachineType) (t : Tables) (bytes : List ℕ) (file : MappedFile) (gives : List ℕ → Ask → List ℕ) (tables : AreTables machine t) (own : IsFileOf machine t.directory t.image bytes file)
@@ -67,11 +58,8 @@ module _ (machine : MachineType) (t : Tables) (bytes : List ℕ) (file : MappedF
   kept : Keeps t.image file.image
   kept = holds_keep file.image t.image own.holds
 
-  reads_of : (n : ℕ) (written : List Range) → LoadsFile file gives n written → ReadsAndWrites file.image (thunk_width machine) gives n t.directory written
-  reads_of n written loads = grind arith
-
   pub read : (n : ℕ) (written : List Range) → LoadsFile file gives n written → (n ≡ length (map imported_by_table t.tables)) × Writes t.image (thunk_width machine) gives t.directory (map imported_by_table t.tables) written
-  read n written loads = memory_read t.image file.image kept (thunk_width machine) gives n t.directory (map imported_by_table t.tables) written tables.directory (reads_of n written loads)
+  read n written loads = memory_read t.image file.image kept (thunk_width machine) gives n t.directory (map imported_by_table t.tables) written tables.directory (grind arith)
 
   pub file_loads : (n : ℕ) (written : List Range) → LoadsFile file gives n written →
       (n ≡ length t.tables) × (AreTablesLoaded machine t gives written × Writes t.image (thunk_width machine) gives t.directory (map imported_by_table t.tables) written)
@@ -80,8 +68,7 @@ module _ (machine : MachineType) (t : Tables) (bytes : List ℕ) (file : MappedF
   pub file_ends : (written : List Range) × LoadsFile file gives (length t.tables) written
   file_ends =
       let found = memory_can_be_read t.image file.image kept (thunk_width machine) gives t.directory (map imported_by_table t.tables) tables.directory in
-      let reads : ReadsAndWrites file.image file.width gives (length t.tables) t.directory found.0 = grind (arith, length-map) in
-      (found.0, subst (λ o. WritesFrom file gives o (length t.tables) found.0) (sym own.directory) reads)
+      (found.0, subst (λ o. WritesFrom file gives o (length t.tables) found.0) (sym own.directory) (grind (arith, length-map)))
 
   -- what is in tables that are in a directory
   all_in : (d : DataDirectory) → AllByRecursion (HasTable (thunk_width machine) d) t.tables → (written : List Range) →

@@ -1,6 +1,7 @@
 -- What the objects of a part give in an image: a descriptor that a strict loader takes, and its tables.
-use Rattle.std.proofs.Common.{◌≡◌, ℕ, zero, suc, ◌+◌, ◌*◌, ◌%◌, ◌^◌, ◌<◌, true, false, List, [], ◌∷◌, ◌++◌, length, map, Option, Some, None, refl, ap, sym, ◌∙◌, subst, inl, inr, arith, ◌⊎◌, if◌then◌else◌}
-use Rattle.std.specs.Prelude.{◌&&◌, ◌||◌, ◌==◌, bytes_eq, not, slice_get}
+use Rattle.std.proofs.Common.{◌≡◌, ℕ, zero, suc, ◌+◌, ◌*◌, ◌%◌, ◌^◌, ◌<◌, true, List, [], ◌∷◌, ◌++◌, length, map, Option, Some, None, refl, ap, sym, ◌∙◌, subst, inl, inr, arith, if◌then◌else◌}
+use Rattle.std.proofs.lemmas.Grind.{common_steps}
+use Rattle.std.specs.Prelude.{◌&&◌, ◌==◌, bytes_eq, slice_get}
 use Rattle.std.specs.List.{AllByRecursion, filter_map, list_any}
 use Rattle.std.specs.Option.{option_and_then}
 use Rattle.std.proofs.lemmas.Bool.{and_parts, cases_Bool, eqb-true}
@@ -23,7 +24,7 @@ use Rattle.implib.proofs.Link.Placement.{AreAligned, aligned_thunk}
 use Rattle.implib.proofs.Link.Ranges.{Among, among_back, among_first, among_front, among_later, located_parts}
 use Rattle.implib.proofs.Link.Thunks.{StrictTableAt}
 use Rattle.implib_link.specs.Flavors.Program.{sections_end}
-use Rattle.implib_link.specs.Parts.{AreEntries, IsHead, Row, ask_of, begins, dll_text, entry_name, has_none, is_empty, is_field, is_in_group, leads_to, named_bytes, names_entry, only_section, row_in, row_of, sections_of}
+use Rattle.implib_link.specs.Parts.{AreEntries, IsHead, Row, ask_of, begins, dll_text, entry_name, is_field, is_in_group, named_bytes, names_entry, only_section, row_in, row_of, sections_of}
 use Rattle.implib_link.specs.Tables.{TableEntry}
 use Rattle.implib_link.proofs.Gnu.Packed.{end_of_sections, ends_behind, located_behind, IsSized}
 use Rattle.implib_link.proofs.Parts.Texts.{none_ends, one_address, one_ends, one_is, ended_is, named_located, null_located, only_located, thunk_located, field_is}
@@ -35,12 +36,10 @@ use Rattle.implib_link.proofs.Gnu.Filling.{zero_table, table_with}
 module _ (group : Group) (o : Object) (b : Bases) (s : ObjectSection) (is : only_section group o ≡ Some s) (even : base_of group b % 4 ≡ 0) where
   in_section : (k value : ℕ) (found : Option ObjectSection) → slice_get o.sections k ≡ found → is_in_group group found ≡ true →
       address_in (section_addresses_of b o.sections) (suc k) value ≡ Some (base_of group b + value)
-  in_section k value None at own = cc
-  in_section k value (Some x) at own = grind (arith, one_is, one_address)
+  in_section k value found at own = grind (arith, one_is, one_address)
 
   pub group_address : (number value : ℕ) → is_in_group group (section_numbered o.sections number) ≡ true → address_in (section_addresses_of b o.sections) number value ≡ Some (base_of group b + value)
-  group_address zero value own = cc
-  group_address (suc k) value own = in_section k value (slice_get o.sections k) refl own
+  group_address number value own = grind (arith, in_section)
 
 -- an entry's symbol is defined there
 entry_defined : (o : Object) (b : Bases) (s : ObjectSection) → only_section Addresses o ≡ Some s → b.addresses % 4 ≡ 0 → (name : List ℕ) (entries : List Entry) → list_any (bytes_eq name) (filter_map (entry_name o.sections) entries) ≡ true →
@@ -48,22 +47,14 @@ entry_defined : (o : Object) (b : Bases) (s : ObjectSection) → only_section Ad
 entry_defined o b s is even name [] held = cc
 entry_defined o b s is even name (Auxiliary bytes ∷ entries) held = entry_defined o b s is even name entries held
 entry_defined o b s is even name (ASymbol x ∷ entries) held =
-    let addresses = section_addresses_of b o.sections in
-    let names : List (List ℕ) = filter_map (entry_name o.sections) entries in
     elim (cases_Bool (is_defined_external x && ((x.value == 0) && is_in_group Addresses (section_numbered o.sections x.section)))) [
       | inl all ↦
           let parts = and_parts (is_defined_external x) ((x.value == 0) && is_in_group Addresses (section_numbered o.sections x.section)) all in
           let at = and_parts (x.value == 0) (is_in_group Addresses (section_numbered o.sections x.section)) parts.1 in
-          let found : (bytes_eq name x.name || list_any (bytes_eq name) names) ≡ true = rw all at held in
-          let place : address_in addresses x.section x.value ≡ Some b.addresses =
-          group_address Addresses o b s is even x.section x.value at.1 ∙ ap (λ n. Some (b.addresses + n)) (eqb-true x.value 0 at.0) ∙ ap Some (plus_none b.addresses) in
+          let place : address_in (section_addresses_of b o.sections) x.section x.value ≡ Some b.addresses = grind (arith, group_address, eqb-true, plus_none) in
           elim (cases_Bool (bytes_eq name x.name)) [
-            | inl same ↦
-                let definition : record { name = x.name; address = address_in addresses x.section x.value } ≡ record { name = name; address = Some b.addresses } =
-                ap (λ n. record { name = n; address = address_in addresses x.section x.value }) (sym ((bytes_eq-Decides name x.name).0 same)) ∙ ap (λ (a : Option ℕ). record { name = name; address = a }) place in
-                let here : Among (record { name = x.name; address = address_in addresses x.section x.value }) (filter_map (defined_by_entry addresses) (ASymbol x ∷ entries)) = rw parts.0 (among_first _ _) in
-                subst (λ (d : SymbolDefinition). Among d (filter_map (defined_by_entry addresses) (ASymbol x ∷ entries))) definition here
-            | inr other ↦ rw parts.0 (among_later _ _ _ (entry_defined o b s is even name entries (rw other at found)))
+            | inl same ↦ grind (arith, bytes_eq-Decides, among_first)
+            | inr other ↦ rw parts.0 (among_later _ _ _ (entry_defined o b s is even name entries (rw other at (rw all at held))))
           ]
       | inr other ↦ grind (arith, entry_defined o b s is even name entries (rw other at held), held, among_later)
     ]
@@ -75,9 +66,6 @@ has_section machine o ask (Some s) is = (s, refl)
 
 next_table : (a w n : ℕ) → a + w + w * (n + 1) ≡ a + w * (suc n + 1)
 next_table a w n = let count : suc (n + 1) ≡ suc n + 1 = omega arith in times_next a w (n + 1) ∙ ap (λ k. a + w * k) count
-
-one_null : (a w : ℕ) → a + w ≡ a + w * (0 + 1)
-one_null a w = omega arith
 
 module _ (machine : MachineType) (linked : List Placed) (image : List Range) (starts : AllByRecursion (λ r. 0 < r.start) image) (ends : AllByRecursion (λ r. range_end r < 2 ^ 31) image) where
   located_next : (o : Object) (b : Bases) (rest : List Object) → IsSized o → LocatedFrom machine linked image b (o ∷ rest) → LocatedFrom machine linked image (ends_after b o.sections) rest
@@ -132,16 +120,15 @@ module _ (machine : MachineType) (linked : List Placed) (image : List Range) (st
         at = λ j q e is asked. cc;
         aligned = aligned_one o b even are.descriptors lookup.1 address.1;
         descriptors_end = end_of_sections Descriptors b o.sections ∙ none_ends Descriptors o.sections b.descriptors are.descriptors;
-        addresses_end = end_of_sections Addresses b o.sections ∙ address.1 ∙ one_null b.addresses (thunk_width machine);
+        addresses_end = end_of_sections Addresses b o.sections ∙ address.1 ∙ (omega arith);
       }
   tables_from (o ∷ objects) later (e ∷ entries) b even sized located (entry, others) =
       let lookup = thunk_located machine linked image starts ends o b (objects ++ later) sized.0 located Lookups e.ask tt even.lookups entry.lookup in
       let address = thunk_located machine linked image starts ends o b (objects ++ later) sized.0 located Addresses e.ask tt even.addresses entry.address in
       let next : Bases = ends_after b o.sections in
-      let lookups_are : next.lookups ≡ b.lookups + thunk_width machine = end_of_sections Lookups b o.sections ∙ lookup.1 in
       let addresses_are : next.addresses ≡ b.addresses + thunk_width machine = end_of_sections Addresses b o.sections ∙ address.1 in
       let rest = tables_from objects later entries next (aligned_one o b even entry.descriptors lookup.1 address.1) sized.1 (located_next o b (objects ++ later) sized.0 located) others in
-      let lookups = subst (λ n. StrictTableAt image (thunk_width machine) n (map (λ (e : TableEntry). e.ask) entries)) lookups_are rest.lookups in
+      let lookups = subst (λ n. StrictTableAt image (thunk_width machine) n (map (λ (e : TableEntry). e.ask) entries)) (end_of_sections Lookups b o.sections ∙ lookup.1) rest.lookups in
       let addresses = subst (λ n. StrictTableAt image (thunk_width machine) n (map (λ (e : TableEntry). e.ask) entries)) addresses_are rest.addresses in
       record {
         lookups = table_with image (thunk_width machine) b.lookups e.ask (map (λ (e : TableEntry). e.ask) entries) lookup.0 lookups;
@@ -173,26 +160,9 @@ module _ (machine : MachineType) (linked : List Placed) (image : List Range) (st
           IsEntryPlaced (ends_after b o.sections) (objects ++ later) q ((ends_after b o.sections).addresses + thunk_width machine * j)) →
           (j : ℕ) (q : Object) (x : TableEntry) → slice_get (o ∷ objects) j ≡ Some q → slice_get (e ∷ entries) j ≡ Some x → IsEntryPlaced b (o ∷ (objects ++ later)) q (b.addresses + thunk_width machine * j)
       at same rest zero q x is asked =
-          let own : o ≡ q = cc in
-          let section = has_section machine o e.ask (only_section Addresses o) entry.address in
-          subst (λ (p : Object). IsEntryPlaced b (o ∷ (objects ++ later)) p (b.addresses + thunk_width machine * 0)) own (record {
-            bases = b;
-            held = among_first _ _;
-            aligned = even;
-            addresses = times_none b.addresses (thunk_width machine);
-            section = section.0;
-            only = section.1;
-          })
+          grind (arith, has_section machine o e.ask (only_section Addresses o) entry.address, among_first, times_none)
       at same rest (suc j) q x is asked =
-          let found = rest j q x is asked in
-          record {
-            bases = found.bases;
-            held = among_later _ _ _ found.held;
-            aligned = found.aligned;
-            addresses = found.addresses ∙ ap (λ n. n + thunk_width machine * j) same ∙ times_next b.addresses (thunk_width machine) j;
-            section = found.section;
-            only = found.only;
-          }
+          grind (arith, rest j q x is asked, among_later, times_next)
 
   -- The head.
   module _ (o : Object) (b : Bases) (rest : List Object) (sized : IsSized o) (even : AreAligned b) (located : LocatedFrom machine linked image b (o ∷ rest)) where
@@ -230,23 +200,7 @@ module _ (machine : MachineType) (linked : List Placed) (image : List Range) (st
     row_filled [] row is = cc
     row_filled (r ∷ []) row is = cc
     row_filled (r ∷ q ∷ []) row is = cc
-    row_filled (r ∷ q ∷ n ∷ []) row is =
-        elim (cases_Bool (is_field machine 0 r && (is_field machine 12 q && is_field machine 16 n))) [
-          | inl are ↦
-              let found : Some (record { lookups = r.symbol; name = q.symbol; addresses = n.symbol }) ≡ Some row = rw are at is in
-              let same : record { lookups = r.symbol; name = q.symbol; addresses = n.symbol } ≡ row = cc in
-              in_order r q n are ∙ ap (λ (w : Row). filled_row (target_address linked p w.lookups) (target_address linked p w.name) (target_address linked p w.addresses)) same
-          | inr other ↦ second other (cases_Bool (is_field machine 0 r && (is_field machine 16 q && is_field machine 12 n)))
-        ]
-      where
-        second : (is_field machine 0 r && (is_field machine 12 q && is_field machine 16 n)) ≡ false →
-            ((is_field machine 0 r && (is_field machine 16 q && is_field machine 12 n)) ≡ true) ⊎ ((is_field machine 0 r && (is_field machine 16 q && is_field machine 12 n)) ≡ false) →
-            relocated machine linked p (r ∷ q ∷ n ∷ []) (zeros 20) ≡ filled_row (target_address linked p row.lookups) (target_address linked p row.name) (target_address linked p row.addresses)
-        second other (inl are) =
-            let found : Some (record { lookups = r.symbol; name = n.symbol; addresses = q.symbol }) ≡ Some row = rw (other, are) at is in
-            let same : record { lookups = r.symbol; name = n.symbol; addresses = q.symbol } ≡ row = cc in
-            name_last r q n are ∙ ap (λ (w : Row). filled_row (target_address linked p w.lookups) (target_address linked p w.name) (target_address linked p w.addresses)) same
-        second other (inr none) = let nothing : None ≡ Some row = rw (other, none) at is in cc
+    row_filled (r ∷ q ∷ n ∷ []) row is = grind (arith, common_steps, cases_Bool, in_order, name_last)
     row_filled (r ∷ q ∷ n ∷ m ∷ relocations) row is = cc
 
     -- the descriptor
@@ -260,41 +214,14 @@ module _ (machine : MachineType) (linked : List Placed) (image : List Range) (st
             × (sections_end Descriptors b.descriptors o.sections ≡ b.descriptors + 20)
         go None at is = cc
         go (Some s) at is =
-            let only = only_located machine linked image starts ends o b rest sized located Descriptors s tt at even.descriptors in
             elim (cases_Bool (bytes_eq s.bytes (zeros 20))) [
-              | inl blank ↦ grind (arith, bytes_eq-Decides, row_filled, only)
+              | inl blank ↦ grind (arith, bytes_eq-Decides, row_filled, (only_located machine linked image starts ends o b rest sized located Descriptors s tt at even.descriptors))
               | inr other ↦ let none : None ≡ Some row = rw other at is in cc
             ]
 
     -- where a table begins
     pub begin_of : (group : Group) (index : ℕ) → base_of group b % 4 ≡ 0 → begins group o index ≡ true → (target_address linked p index ≡ base_of group b) × (sections_end group (base_of group b) o.sections ≡ base_of group b)
-    begin_of group index level is =
-        let parts = and_parts (is_empty (only_section group o)) (leads_to group o (slice_get o.entries index)) is in
-        go (only_section group o) refl parts.0 parts.1
-      where
-        leads : (s : ObjectSection) → only_section group o ≡ Some s → (found : Option Entry) → leads_to group o found ≡ true → address_or_zero (option_and_then (symbol_address linked p) found) ≡ base_of group b
-        leads s at None led = cc
-        leads s at (Some (Auxiliary bytes)) led = cc
-        leads s at (Some (ASymbol x)) led =
-            let first = and_parts (not (is_undefined_external x)) ((x.value == 0) && is_in_group group (section_numbered o.sections x.section)) led in
-            let second = and_parts (x.value == 0) (is_in_group group (section_numbered o.sections x.section)) first.1 in
-            let place : address_in (section_addresses_of b o.sections) x.section x.value ≡ Some (base_of group b) =
-            group_address group o b s at level x.section x.value second.1 ∙ ap (λ n. Some (base_of group b + n)) (eqb-true x.value 0 second.0) ∙ ap Some (plus_none (base_of group b)) in
-            elim (cases_Bool (is_undefined_external x)) [
-              | inl left ↦ let none : false ≡ true = rw left at first.0 in cc
-              | inr own ↦ rw own (ap address_or_zero place)
-            ]
-
-        go : (found : Option ObjectSection) → only_section group o ≡ found → is_empty found ≡ true → leads_to group o (slice_get o.entries index) ≡ true →
-            (target_address linked p index ≡ base_of group b) × (sections_end group (base_of group b) o.sections ≡ base_of group b)
-        go None at empty led = cc
-        go (Some s) at empty led =
-            let parts = and_parts (bytes_eq s.bytes []) (has_none s.relocations) empty in
-            let same : s.bytes ≡ [] = (bytes_eq-Decides s.bytes []).0 parts.0 in
-            let one = one_is (sections_of group o.sections) s at in (
-              leads s at (slice_get o.entries index) led,
-              one_ends group o.sections (base_of group b) s one.0 one.1 level ∙ ap (λ n. base_of group b + n) (ap length same) ∙ plus_none (base_of group b),
-            )
+    begin_of group index level is = grind (arith, common_steps, and_parts, group_address, eqb-true, plus_none, cases_Bool, bytes_eq-Decides, one_is, one_ends)
 
     name_found : (dll : List ℕ) (others later : List Object) (found : Option Entry) → AllByRecursion IsSized others → LocatedFrom machine linked image (ends_after b o.sections) (others ++ later) →
         ((d : SymbolDefinition) → Among d (definitions (placed_from (ends_after b o.sections) (others ++ later))) → definitions_of d.name linked ≡ d ∷ []) → dll_text others found ≡ Some dll →
@@ -342,10 +269,9 @@ module _ (machine : MachineType) (linked : List Placed) (image : List Range) (st
       let descriptors_are : next.descriptors ≡ b.descriptors + 20 = end_of_sections Descriptors b head.sections ∙ row.1 in
       let lookups_are : next.lookups ≡ b.lookups = end_of_sections Lookups b head.sections ∙ lookups.1 in
       let addresses_are : next.addresses ≡ b.addresses = end_of_sections Addresses b head.sections ∙ addresses.1 in
-      let later_even : AreAligned next = grind (arith, later_even, lookups, addresses) in
       let next_located : LocatedFrom machine linked image next rest = located_next head b rest sized.0 located in
       let name = name_found head b rest sized.0 even located dll others later (slice_get head.entries begin.row.name) sized.1 next_located (λ d m. only d (among_back d own behind m)) begin.name in
-      let tables = tables_from others later entries next later_even sized.1 next_located are in
+      let tables = tables_from others later entries next (grind (arith, later_even, lookups, addresses)) sized.1 next_located are in
       let asks : List Ask = map (λ (e : TableEntry). e.ask) entries in
       let bytes = subst (λ x. BytesAt image b.descriptors (filled_row head b rest sized.0 even located x (target_address linked (p head b rest sized.0 even located) begin.row.name) (target_address linked (p head b rest sized.0 even located) begin.row.addresses)))
       (lookups.0 ∙ sym (plus_none b.lookups)) row.0 in

@@ -1,13 +1,12 @@
 -- What is linked of a definition for GNU's linker is a part, and parts that store no address whole are steady.
 use Rattle.std.proofs.Common.{rules, ◌≡◌, ℕ, ◌+◌, ◌*◌, ◌-◌, ◌%◌, ◌/◌, ◌^◌, ◌<◌, true, false, List, [], ◌∷◌, ◌++◌, codes, map, Option, Some, None, refl, ap, sym, ◌∙◌, subst, inl, inr, arith, ◌≤◌, zero, suc, length}
-use Rattle.std.specs.Prelude.{◌||◌, Bool, bytes_eq, not, slice_get, take, if◌then◌else◌, ◌&&◌, ◌==◌}
+use Rattle.std.specs.Prelude.{Bool, bytes_eq, not, slice_get, take, if◌then◌else◌, ◌&&◌, ◌==◌}
 use Rattle.std.specs.List.{AllByRecursion, filter_map, list_all, list_any, Contains, cons_option}
 use Rattle.std.proofs.lemmas.List.{append_assoc}
 use Rattle.std.proofs.lemmas.Bool.{and_from, cases_Bool, lt-ltb, ltb-true, and_parts, eqb-true}
 use Rattle.implib.specs.declared.coff.object.Place.TheVariants.{Section, Undefined}
 use Rattle.implib.specs.declared.coff.object.Relocation.{Relocation}
 use Rattle.implib.specs.declared.machine.MachineType.{MachineType}
-use Rattle.implib.specs.declared.machine.MachineType.TheVariants.{I386, ARMNT, AMD64, ARM64}
 use Rattle.implib.specs.Definition.{ExportView}
 use Rattle.implib.specs.Formats.Bytes.{u16_bytes}
 use Rattle.implib.specs.Formats.Constants.{class_external, class_static, image_relative, align_4bytes, cnt_code, mem_execute_read}
@@ -29,12 +28,12 @@ use Rattle.implib.proofs.Link.Linked.{all_append}
 use Rattle.implib.proofs.Link.LinkedMembers.{dll_free, exports_fit, objects_are, all_at, among_contains, among_map, among_reverse}
 use Rattle.implib.proofs.Link.Placement.{after_head, head, tail}
 use Rattle.implib.proofs.Link.Tables.{CanBeAsked}
-use Rattle.implib_link.specs.Flavors.Program.{is_table, null_descriptor}
+use Rattle.implib_link.specs.Flavors.Program.{null_descriptor}
 use Rattle.implib_link.specs.Gnu.Fields.{absolute_width, Defines, PlacedCode, StubAt}
 use Rattle.implib_link.specs.Parts.{AreEntries, BeginWithHead, HoldsFields, IsEntry, IsPart, IsProgramOfParts, IsTail, Part, ask_of, begins, dll_text, entry_name, hint_and_name, is_field, is_whole, named_bytes, names_entry, objects_of_parts, ordinal_with, own_bytes, part_of, row_in, stores_none, older_linked, older_numbered, older_part_of, is_in_group, leads_to}
 use Rattle.implib_link.specs.Tables.{AreSteady, TableEntry, Table, tables_at}
 use Rattle.implib_link.proofs.Gnu.Others.{no_group, one_definer}
-use Rattle.implib_link.proofs.Flavors.Steady.{AllSteady, IsSteady, NoneAbsolute, all_steady, tables_none, relative_steady}
+use Rattle.implib_link.proofs.Flavors.Steady.{AllSteady, NoneAbsolute, all_steady, tables_none, relative_steady}
 use Rattle.implib_link.proofs.Gnu.Packed.{export_sized, head_sized, tail_sized}
 use Rattle.implib_link.proofs.Search.Lists.{all_from, each_of, none_among, contains_among}
 use Rattle.std.specs.Option.{option_map}
@@ -53,7 +52,7 @@ use Rattle.implib.specs.Formats.File.{is_defined_external}
 use Rattle.implib.specs.Link.Resolution.{SymbolDefinition, address_in, defined_by_entry, definitions_of, is_undefined_external, symbol_address}
 use Rattle.implib_link.proofs.Flavors.LldImports.{get_map}
 use Rattle.implib_link.proofs.Flavors.Stubs.{symbol_of_entry}
-use Rattle.implib_link.proofs.Tables.{entries_until, packed_at}
+use Rattle.implib_link.proofs.Tables.{packed_at}
 use Rattle.implib_link.proofs.Parts.Heads.{group_address}
 use Rattle.implib_link.proofs.Parts.Programs.{defined_once, entry_placed, kept_is_linked}
 use Rattle.implib_link.proofs.Gnu.Loaded.{plus_none}
@@ -72,10 +71,7 @@ after_by machine dll more es = map (λ e. exported machine dll (more e) e) es ++
 
 head_row : (machine : MachineType) (dll : NamesOfDll) → row_in machine (head machine dll) ≡ Some (record { lookups = 3; name = 5; addresses = 2 })
 unfolding head_object
-head_row I386 dll = refl
-head_row ARMNT dll = refl
-head_row AMD64 dll = refl
-head_row ARM64 dll = refl
+head_row machine dll = grind arith
 
 head_lookups : (machine : MachineType) (dll : NamesOfDll) → begins Lookups (head machine dll) 3 ≡ true
 unfolding head_object
@@ -106,14 +102,10 @@ names_at machine dll more e entries = filter_map (entry_name (exported machine d
 
 names_by : (machine : MachineType) (dll : NamesOfDll) (more : List AddedSymbol) (e : ExportView) (is_data : Bool) →
     (let x : ExportView = record e { is_data = is_data } in names_at machine dll more x (exported machine dll more x).entries ≡ imp_symbol e.name ∷ names_at machine dll more x (all_entries more))
-names_by machine dll more e true = refl
-names_by machine dll more e false = refl
+names_by machine dll more e is_data = grind arith
 
 pub names_are : (machine : MachineType) (dll : NamesOfDll) (more : List AddedSymbol) (e : ExportView) → names_at machine dll more e (exported machine dll more e).entries ≡ imp_symbol e.name ∷ names_at machine dll more e (all_entries more)
 names_are machine dll more e = names_by machine dll more e e.is_data
-
-low_byte : (n : ℕ) → n % 256 < 256
-low_byte n = omega arith
 
 high_byte : (n : ℕ) → n / 256 % 256 < 256
 high_byte n = omega arith
@@ -123,7 +115,7 @@ hint_is n small = omega arith
 
 hint_read : (n : ℕ) (text : List ℕ) → n < 2 ^ 16 → HasNoNul text → hint_and_name (u16_bytes n ++ (text ++ 0 ∷ [])) ≡ Some (Name text n)
 unfolding u16_bytes
-hint_read n text small free = grind (arith, lt-ltb, low_byte, high_byte, before_nul-ended, free, hint_is)
+hint_read n text small free = grind (arith, lt-ltb, high_byte, before_nul-ended, free, hint_is)
 
 number_read : (n : ℕ) (rest : List ℕ) → n < 2 ^ 16 → number_in (take 2 (u16_bytes n ++ rest)) ≡ n
 unfolding u16_bytes
@@ -136,14 +128,7 @@ same_zeros : (machine : MachineType) → bytes_eq (zeros (thunk_width machine)) 
 same_zeros machine = same_text (zeros (thunk_width machine))
 
 same_kind : (machine : MachineType) → is_field machine 0 (relocation machine 0 0) ≡ true
-same_kind I386 = refl
-same_kind ARMNT = refl
-same_kind AMD64 = refl
-same_kind ARM64 = refl
-
-asks_name : (machine : MachineType) (o : Object) (index : ℕ) (bytes : List ℕ) → own_bytes o (slice_get o.entries index) ≡ Some bytes →
-    ask_of machine o (zeros (thunk_width machine)) (relocation machine 0 index ∷ []) ≡ hint_and_name bytes
-asks_name machine o index bytes is = rw (same_kind machine, same_zeros machine, is) refl
+same_kind machine = grind arith
 
 module _ (machine : MachineType) (dll : NamesOfDll) (more : List AddedSymbol) (e : ExportView) (fits : CanBeAsked machine e) where
   own_hint : e.no_name ≡ false → own_bytes (exported machine dll more e) (slice_get (exported machine dll more e).entries (hint_name_symbol e)) ≡ Some (u16_bytes e.ordinal ++ (name_asked machine e ++ 0 ∷ []))
@@ -173,7 +158,7 @@ module _ (machine : MachineType) (dll : NamesOfDll) (more : List AddedSymbol) (e
   by_ordinal is = rw is refl
 
   asks : ask_of machine (exported machine dll more e) (thunk machine e) (relocations_of_thunk machine e) ≡ Some (expected_ask machine e)
-  asks = grind (arith, no_field, ordinal_thunk_is, number_read, ordinal_read, by_ordinal, named_field, named_thunk, asks_name, own_hint, hint_read, by_name)
+  asks = grind (arith, no_field, ordinal_thunk_is, number_read, ordinal_read, by_ordinal, named_field, named_thunk, own_hint, hint_read, by_name)
 
   export_entry : (name : List ℕ) → names_entry (exported machine dll more e) (Some name) ≡ true → IsEntry machine (exported machine dll more e) (record { ask = expected_ask machine e; symbol = Some name })
   export_entry name named = record { descriptors = refl; lookup = asks; address = asks; symbol = named }
@@ -232,27 +217,16 @@ members_objects machine p made = grind (arith, objects_are p.definition machine 
 pub members_are_part : (machine : MachineType) (p : LinkInput) → IsMade machine p → IsPart machine (part_of machine p)
 members_are_part machine p made =
     let dll : NamesOfDll = names_for Gnu p.definition in
-    let es : List ExportView = chosen_exports p.definition p.chosen in
-    part_is machine dll (λ e. []) (λ e. imp_symbol e.name) (today_named machine dll) (part_of machine p).objects es
+    part_is machine dll (λ e. []) (λ e. imp_symbol e.name) (today_named machine dll) (part_of machine p).objects (chosen_exports p.definition p.chosen)
     (members_objects machine p made) (dll_free p.definition machine p.members p.chosen made) (exports_fit p.definition machine p.members p.chosen made)
 
 -- Parts that store no address whole.
 
-none_whole : (width : Option ℕ) → not (is_whole width) ≡ true → width ≡ None
-none_whole None is = refl
-none_whole (Some n) is = cc
-
 fields_none : (machine : MachineType) (relocations : List Relocation) → list_all (λ r. not (is_whole (absolute_width machine r.kind))) relocations ≡ true → NoneAbsolute machine relocations
-fields_none machine relocations all =
-    all_from (λ (r : Relocation). absolute_width machine r.kind ≡ None) relocations (λ r held.
-    none_whole (absolute_width machine r.kind) (each_of (λ (x : Relocation). not (is_whole (absolute_width machine x.kind))) r relocations all held))
-
-sections_steady : (machine : MachineType) (sections : List ObjectSection) →
-    list_all (λ s. not (is_table s) || list_all (λ r. not (is_whole (absolute_width machine r.kind))) s.relocations) sections ≡ true → AllByRecursion (IsSteady machine) sections
-sections_steady machine sections all = grind (arith, all_from, each_of, fields_none, no_group)
+fields_none machine relocations all = grind (arith, all_from, each_of)
 
 objects_steady : (machine : MachineType) (objects : List Object) → list_all (stores_none machine) objects ≡ true → AllByRecursion (AllSteady machine) objects
-objects_steady machine objects all = all_from (AllSteady machine) objects (λ o held. sections_steady machine o.sections (each_of (stores_none machine) o objects all held))
+objects_steady machine objects all = all_from (AllSteady machine) objects (λ o held. (grind (arith, all_from, each_of, fields_none, no_group, each_of (stores_none machine) o objects all held)))
 
 each_steady : (machine : MachineType) (parts : List Part) → AllByRecursion (λ (p : Part). list_all (stores_none machine) p.objects ≡ true) parts → AllByRecursion (AllSteady machine) (objects_of_parts parts ++ null_descriptor ∷ [])
 each_steady machine [] all = ((inr tt, tt), tt)
@@ -301,9 +275,8 @@ numbered_among : (machine : MachineType) (dll : List ℕ) (exports : List Export
 numbered_among machine dll [] start n e is = cc
 numbered_among machine dll (x ∷ exports) start zero e is = grind (arith, among_front, among_back, among_first)
 numbered_among machine dll (x ∷ exports) start (suc n) e is =
-    let position : start + 1 + n ≡ start + suc n = omega arith in
     among_back _ (older_specs_of machine dll start x) (numbered_older_specs machine dll (start + 1) exports)
-    (subst (λ n. Among (older_spec machine dll n e) (numbered_older_specs machine dll (start + 1) exports)) position (numbered_among machine dll exports (start + 1) n e is))
+    (subst (λ n. Among (older_spec machine dll n e) (numbered_older_specs machine dll (start + 1) exports)) (omega arith) (numbered_among machine dll exports (start + 1) n e is))
 
 -- the further symbol of each export
 abbrev pub further : ExportView → List AddedSymbol
@@ -437,11 +410,9 @@ entry_found linked o b place None led = cc
 entry_found linked o b place (Some (Auxiliary bytes)) led = cc
 entry_found linked o b place (Some (ASymbol x)) led =
     let first = and_parts (not (is_undefined_external x)) ((x.value == 0) && is_in_group Addresses (section_numbered o.sections x.section)) led in
-    let second = and_parts (x.value == 0) (is_in_group Addresses (section_numbered o.sections x.section)) first.1 in
-    let here : address_in (section_addresses_of b o.sections) x.section x.value ≡ Some b.addresses = grind (arith, eqb-true, plus_none) in
     elim (cases_Bool (is_undefined_external x)) [
       | inl left ↦ let none : false ≡ true = rw left at first.0 in cc
-      | inr own ↦ (ASymbol x, (refl, rw own here))
+      | inr own ↦ (ASymbol x, (refl, rw own (grind (arith, and_parts (x.value == 0) (is_in_group Addresses (section_numbered o.sections x.section)) first.1, eqb-true, plus_none))))
     ]
 
 module _ (machine : MachineType) (bases : Bases) (parts : List Part) (objects : List Object) (are : AllByRecursion (IsPart machine) parts) (program : IsProgramOfParts machine bases parts objects) where
@@ -453,7 +424,6 @@ module _ (machine : MachineType) (bases : Bases) (parts : List Part) (objects : 
       Contains linked d.from → section_numbered d.from.object.sections d.number ≡ Some d.code → Defines d t → t.name ≡ name → StubAt machine linked d t (x.address + thunk_width machine * j)
   stub_of_part i j x p o e name d t own_part own_object own_entry stub own_table d_from d_section defines named =
       let packed = packed_at (thunk_width machine) (map (λ (q : Part). q.table) parts) bases.addresses i x own_table in
-      let table_is : bases.addresses + thunk_width machine * entries_until i (map (λ (q : Part). q.table) parts) ≡ x.address = ap (λ (y : Table). y.address) packed.1.1 in
       let place = entry_placed machine bases parts objects are program i j p o e own_part own_object own_entry in
       let own : Placed = record { object = o; section_addresses = section_addresses_of place.bases o.sections } in
       let symbol : ObjectSymbol = named_code name in
@@ -465,10 +435,9 @@ module _ (machine : MachineType) (bases : Bases) (parts : List Part) (objects : 
       let t_is : t ≡ symbol = symbol_of_entry t symbol one.1 in
       let first : d.number ≡ 1 = sym defines.here ∙ ap (λ (y : ObjectSymbol). y.section) t_is in
       let numbered : section_numbered o.sections 1 ≡ Some d.code = subst (λ n. section_numbered o.sections n ≡ Some d.code) first (subst (λ (y : Placed). section_numbered y.object.sections d.number ≡ Some d.code) one.0 d_section) in
-      let both : Some d.code ≡ Some (stub_section machine) = sym numbered ∙ stub.code in
       let code_is : d.code ≡ stub_section machine = cc in
       let at = entry_found linked o place.bases (group_address Addresses o place.bases place.section place.only place.aligned.addresses) (slice_get o.entries 2) stub.entry in
-      let entry_is : place.bases.addresses ≡ x.address + thunk_width machine * j = place.addresses ∙ ap (λ n. n + thunk_width machine * j) table_is in
+      let entry_is : place.bases.addresses ≡ x.address + thunk_width machine * j = place.addresses ∙ ap (λ n. n + thunk_width machine * j) (ap (λ (y : Table). y.address) packed.1.1) in
       record {
         bytes = ap (λ (y : ObjectSection). y.bytes) code_is;
         relocations = ap (λ (y : ObjectSection). y.relocations) code_is;

@@ -159,11 +159,9 @@ module _ (machine : MachineType) (linked : List Placed) (image : List Range) (lo
       let all_located : LocatedFrom machine linked image b (p.objects ++ rest) = subst (LocatedFrom machine linked image b) joined located in
       let all_only = subst (λ os. (d : SymbolDefinition) → Among d (definitions (placed_from b os)) → definitions_of d.name linked ≡ d ∷ []) joined only in
       let one = one_part p.objects p.table b rest is.objects is.sized level all_located all_only in
-      let front : List SymbolDefinition = definitions (placed_from b p.objects) in
       let behind : List SymbolDefinition = definitions (placed_from next rest) in
-      let split : definitions (placed_from b (p.objects ++ rest)) ≡ front ++ behind = grind (arith, placed_parts, flat_map-append) in
       let others = parts_link parts next later are one.aligned (located_behind machine linked image b p.objects rest is.sized all_located)
-      (λ d m. all_only d (subst (Among d) (sym split) (among_back d front behind m))) in
+      (λ d m. all_only d (subst (Among d) (sym (grind (arith, placed_parts, flat_map-append))) (among_back d (definitions (placed_from b p.objects)) behind m))) in
       record {
         behind = others.behind;
         aligned = others.aligned;
@@ -179,57 +177,27 @@ module _ (machine : MachineType) (linked : List Placed) (image : List Range) (lo
           IsEntryPlaced machine linked image low high (ends_behind b p.objects) (objects_of_parts parts ++ later) o ((ends_behind b p.objects).addresses + thunk_width machine * entries_until i (blocks_of parts) + thunk_width machine * j)) →
           (i j : ℕ) (x : Part) (o : Object) (e : TableEntry) → slice_get (p ∷ parts) i ≡ Some x → slice_get x.objects (suc j) ≡ Some o → slice_get x.table.entries j ≡ Some e →
           IsEntryPlaced machine linked image low high b ((p.objects ++ objects_of_parts parts) ++ later) o (b.addresses + thunk_width machine * entries_until i (p.table ∷ blocks_of parts) + thunk_width machine * j)
-      places one rest zero j x o e is held asked =
-          let same : p ≡ x = cc in
-          let found = one.at j o e (subst (λ (y : Part). slice_get y.objects (suc j) ≡ Some o) (sym same) held) (subst (λ (y : Part). slice_get y.table.entries j ≡ Some e) (sym same) asked) in
-          record {
-            bases = found.bases;
-            held = subst (λ os. Among (record { object = o; section_addresses = section_addresses_of found.bases o.sections }) (placed_from b os)) (sym (append_assoc p.objects (objects_of_parts parts) later)) found.held;
-            aligned = found.aligned;
-            addresses = found.addresses ∙ ap (λ n. n + thunk_width machine * j) (plus_zero b.addresses (thunk_width machine));
-            section = found.section;
-            only = found.only;
-          }
-      places one rest (suc i) j x o e is held asked =
-          let found = rest i j x o e is held asked in
-          let own : Placed = record { object = o; section_addresses = section_addresses_of found.bases o.sections } in
-          record {
-            bases = found.bases;
-            held = grind (arith, append_assoc, placed_parts, among_back, ends_behind);
-            aligned = found.aligned;
-            addresses = grind (arith, entries_until, table_sum);
-            section = found.section;
-            only = found.only;
-          }
+      places one rest zero j x o e is held asked = grind (arith, append_assoc p.objects (objects_of_parts parts) later, plus_zero b.addresses (thunk_width machine), only)
+      places one rest (suc i) j x o e is held asked = grind (arith, append_assoc, placed_parts, among_back, ends_behind, entries_until, table_sum, only, rest i j x o e is held asked)
 
       fields : PartLinks machine linked image low high b p.objects (objects_of_parts parts ++ later) p.table.dll p.table.entries →
           ((i : ℕ) (x : Block) → slice_get (blocks_of parts) i ≡ Some x →
           NumberAt image 4 ((ends_behind b p.objects).descriptors + 20 * i + 16) ((ends_behind b p.objects).addresses + thunk_width machine * entries_until i (blocks_of parts))) →
           (i : ℕ) (x : Block) → slice_get (p.table ∷ blocks_of parts) i ≡ Some x → NumberAt image 4 (b.descriptors + 20 * i + 16) (b.addresses + thunk_width machine * entries_until i (p.table ∷ blocks_of parts))
       fields one rest zero x is =
-          let first : b.descriptors + 16 ≡ b.descriptors + 20 * 0 + 16 = omega arith in
-          subst (λ n. NumberAt image 4 n (b.addresses + thunk_width machine * 0)) first
+          subst (λ n. NumberAt image 4 n (b.addresses + thunk_width machine * 0)) (omega arith)
           (subst (NumberAt image 4 (b.descriptors + 16)) (one.loads.table_located ∙ plus_zero b.addresses (thunk_width machine)) one.loads.loads.plain.addresses_field)
       fields one rest (suc i) x is =
-          let row : (ends_behind b p.objects).descriptors + 20 * i + 16 ≡ b.descriptors + 20 * suc i + 16 = grind (arith, plus_sum) in
-          let table : (ends_behind b p.objects).addresses + thunk_width machine * entries_until i (blocks_of parts) ≡ b.addresses + thunk_width machine * (length p.table.entries + 1 + entries_until i (blocks_of parts)) = grind (arith, entries_until, table_sum) in
-          subst (λ n. NumberAt image 4 n (b.addresses + thunk_width machine * (length p.table.entries + 1 + entries_until i (blocks_of parts)))) row
-          (subst (NumberAt image 4 ((ends_behind b p.objects).descriptors + 20 * i + 16)) table (rest i x is))
+          subst (λ n. NumberAt image 4 n (b.addresses + thunk_width machine * (length p.table.entries + 1 + entries_until i (blocks_of parts)))) (grind (arith, plus_sum))
+          (subst (NumberAt image 4 ((ends_behind b p.objects).descriptors + 20 * i + 16)) (grind (arith, entries_until, table_sum)) (rest i x is))
 
       symbols : PartLinks machine linked image low high b p.objects (objects_of_parts parts ++ later) p.table.dll p.table.entries →
           ((i j : ℕ) (x : Block) (e : TableEntry) (name : List ℕ) → slice_get (blocks_of parts) i ≡ Some x → slice_get x.entries j ≡ Some e → e.symbol ≡ Some name →
           definitions_of name linked ≡ record { name = name; address = Some ((ends_behind b p.objects).addresses + thunk_width machine * entries_until i (blocks_of parts) + thunk_width machine * j) } ∷ []) →
           (i j : ℕ) (x : Block) (e : TableEntry) (name : List ℕ) → slice_get (p.table ∷ blocks_of parts) i ≡ Some x → slice_get x.entries j ≡ Some e → e.symbol ≡ Some name →
           definitions_of name linked ≡ record { name = name; address = Some (b.addresses + thunk_width machine * entries_until i (p.table ∷ blocks_of parts) + thunk_width machine * j) } ∷ []
-      symbols one rest zero j x e name is asked named =
-          let same : p.table ≡ x = cc in
-          one.symbols j e name (subst (λ (y : Block). slice_get y.entries j ≡ Some e) (sym same) asked) named
-          ∙ ap (λ n. record { name = name; address = Some (n + thunk_width machine * j) } ∷ []) (plus_zero b.addresses (thunk_width machine))
-      symbols one rest (suc i) j x e name is asked named =
-          rest i j x e name is asked named
-          ∙ ap (λ n. record { name = name; address = Some (n + thunk_width machine * j) } ∷ [])
-          (ap (λ n. n + thunk_width machine * entries_until i (blocks_of parts)) one.addresses_end
-          ∙ table_sum b.addresses (thunk_width machine) (length p.table.entries + 1) (entries_until i (blocks_of parts)))
+      symbols one rest zero j x e name is asked named = grind (arith, plus_zero)
+      symbols one rest (suc i) j x e name is asked named = rw (rest i j x e name is asked named, one.addresses_end, table_sum b.addresses (thunk_width machine) (length p.table.entries + 1) (entries_until i (blocks_of parts)))
 
 -- The law.
 

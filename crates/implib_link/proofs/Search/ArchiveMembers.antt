@@ -1,5 +1,5 @@
 -- What a linker takes of the members for GNU's linker.
-use Rattle.std.proofs.Common.{rules, ◌≡◌, ℕ, zero, suc, ◌+◌, Bool, length, true, List, [], ◌∷◌, ◌++◌, Option, Some, None, refl, ap, sym, ◌∙◌, subst, inl, inr, ◌⊎◌, arith, map, ◌≤◌, false, if◌then◌else◌}
+use Rattle.std.proofs.Common.{◌≡◌, ℕ, zero, suc, ◌+◌, Bool, length, true, List, [], ◌∷◌, ◌++◌, Option, Some, None, refl, ap, sym, ◌∙◌, subst, inl, inr, ◌⊎◌, arith, map, ◌≤◌, false, if◌then◌else◌}
 use Rattle.std.specs.Prelude.{bytes_eq, slice_get, reverse, IsPermutation}
 use Rattle.std.specs.List.{filter, filter_map, list_any, AllByRecursion, IsDistinct, flat_map, sum_by}
 use Rattle.std.proofs.lemmas.Bool.{cases_Bool, false_from_ne_true}
@@ -14,7 +14,7 @@ use Rattle.implib.specs.Members.MemberSpec.{MemberSpec, member_of, MemberView}
 use Rattle.implib.specs.Members.GnuMembers.{export_spec, head_spec, numbered_specs, numbered_specs_of, tail_spec, alias_specs, gnu_specs}
 use Rattle.implib.proofs.Link.Placement.{export, head, tail}
 use Rattle.implib.proofs.Link.Ranges.{Among, among_back, among_first, among_front, among_later, among_flat}
-use Rattle.implib_link.specs.Search.Search.{is_wanted, undefined_in, numbers_passing, Library, symbols_of_export, first_listed, is_listed_for, IsLibrary, exports_of, is_weak_entry, symbols_of_library, exports_wanted}
+use Rattle.implib_link.specs.Search.Search.{is_wanted, undefined_in, numbers_passing, Library, symbols_of_export, first_listed, IsLibrary, exports_of, is_weak_entry, symbols_of_library, exports_wanted}
 use Rattle.implib_link.proofs.Search.Lists.{among_any, among_either, any_among, any_from, any_of, kept_into, kept_from, distinct_apart, distinct_later, listed_is, none_among, contains_among}
 use Rattle.implib.specs.LibraryName.{NamesOfDll, linked_name, names_for}
 use Rattle.std.proofs.lemmas.Option.{same_Some}
@@ -41,9 +41,8 @@ pub numbered_in : (machine : MachineType) (dll : List ℕ) (exports : List Expor
 numbered_in machine dll [] start n e p is held = cc
 numbered_in machine dll (x ∷ exports) start zero e p is held = grind (arith, among_front)
 numbered_in machine dll (x ∷ exports) start (suc n) e p is held =
-    let position : start + suc n ≡ start + 1 + n = omega arith in
     among_back p (numbered_specs_of machine dll start x) (numbered_specs machine dll (start + 1) exports)
-    (numbered_in machine dll exports (start + 1) n e p is (subst (λ n. Among p (numbered_specs_of machine dll n e)) position held))
+    (numbered_in machine dll exports (start + 1) n e p is (subst (λ n. Among p (numbered_specs_of machine dll n e)) (omega arith) held))
 
 -- The numbers of wanted exports.
 
@@ -61,8 +60,7 @@ wanted_number wanted [] start k held = absurd held
 wanted_number wanted (x ∷ exports) start k held =
     elim (cases_Bool (is_wanted wanted x)) [
       | inl here ↦
-          let either : Among k (start ∷ numbers_passing (is_wanted wanted) (start + 1) exports) = rw here at held in
-          elim either [
+          elim (rw here at held) [
             | inl is ↦ let position : start ≡ start + 0 = omega arith in (0, x, is ∙ position, refl, here)
             | inr behind ↦ next (wanted_number wanted exports (start + 1) k behind)
           ]
@@ -135,8 +133,7 @@ address_listed e = elim (cases_Bool e.is_data) [ inl is ↦ rw is (inl refl) | i
 
 pub only_one : {X : Type 0} (x y : X) → Among x (y ∷ []) → x ≡ y
 unfolding Among
-only_one x y (inl e) = e
-only_one x y (inr nothing) = absurd nothing
+only_one x y h2 = grind arith
 
 pub in_nothing : {X : Type 0} (x : X) → Among x [] → ⊥
 unfolding Among
@@ -207,9 +204,7 @@ first_in_group name [] g m within distinct held is found = absurd held
 first_in_group name (x ∷ groups) g m within distinct (inl e) is found = grind (arith, inl, first_here)
 first_in_group name (x ∷ groups) g m within distinct (inr held) is found =
     elim (found_or_not name x.members) [
-      | inl none ↦
-          first_behind name x.members (members_of_groups groups) none
-          ∙ first_in_group name groups g m within.1 (distinct_later x.symbols (symbols_of_groups groups) distinct) held is found
+      | inl none ↦ grind (arith, first_behind, distinct_later, first_in_group name groups g m within.1 (distinct_later x.symbols (symbols_of_groups groups) distinct) held is found)
       | inr here ↦
           let there = listed_is x.members name here.0 here.1 in
           absurd (distinct_apart x.symbols (symbols_of_groups groups) name distinct (within.0 here.0 name there.0 there.1) (among_flat (λ (y : Group). y.symbols) g groups name held is))
@@ -222,12 +217,8 @@ unfolding Among
 group_of_first name [] m found = cc
 group_of_first name (x ∷ groups) m found =
     elim (found_or_not name x.members) [
-      | inl none ↦
-          let later = group_of_first name groups m (sym (first_behind name x.members (members_of_groups groups) none) ∙ found) in
-          (later.0, inr later.1, later.2)
-      | inr here ↦
-          let same : here.0 ≡ m = (let e : Some here.0 ≡ Some m = sym (first_here name x.members (members_of_groups groups) here.0 here.1) ∙ found in cc) in
-          (x, inl refl, here.1 ∙ ap Some same)
+      | inl none ↦ grind (arith, first_behind, group_of_first name groups m (sym (first_behind name x.members (members_of_groups groups) none) ∙ found))
+      | inr here ↦ grind (arith, first_here)
     ]
 
 -- The groups of libraries.
@@ -263,25 +254,13 @@ module _ (machine : MachineType) where
       map member_of (reverse (numbered_specs machine (linked_name l.definition) start exports)) ≡ members_of_groups (export_groups l start exports)
   unfolding export_groups
   members_of_exports l start [] = refl
-  members_of_exports l start (e ∷ exports) =
-      let dll : NamesOfDll = names_for Gnu l.definition in
-      let own : List MemberSpec = numbered_specs_of machine dll.linked start e in
-      let later : List MemberSpec = numbered_specs machine dll.linked (start + 1) exports in
-      ap (map member_of) (reverse-append own later)
-      ∙ map-append member_of (reverse later) (reverse own)
-      ∙ ap (λ ms. ms ++ map member_of (reverse own)) (members_of_exports l (start + 1) exports)
-      ∙ ap (λ ms. members_of_groups (export_groups l (start + 1) exports) ++ ms) (sym (append-nil (map member_of (reverse own))))
-      ∙ sym (flat_map-append (λ (g : Group). g.members) (export_groups l (start + 1) exports) (export_group l start e ∷ []))
+  members_of_exports l start (e ∷ exports) = grind (arith, reverse-append, map-append, append-nil, flat_map-append, members_of_exports l (start + 1) exports)
 
   pub symbols_of_exports : (l : Library) (start : ℕ) (exports : List ExportView) →
       symbols_of_groups (export_groups l start exports) ≡ flat_map symbols_of_export (reverse exports)
   unfolding export_groups
   symbols_of_exports l start [] = refl
-  symbols_of_exports l start (e ∷ exports) =
-      flat_map-append (λ (g : Group). g.symbols) (export_groups l (start + 1) exports) (export_group l start e ∷ [])
-      ∙ ap (λ names. names ++ (symbols_of_export e ++ [])) (symbols_of_exports l (start + 1) exports)
-      ∙ sym (flat_map-append symbols_of_export (reverse exports) (e ∷ []))
-      ∙ ap (flat_map symbols_of_export) (sym (reverse-append (e ∷ []) exports))
+  symbols_of_exports l start (e ∷ exports) = grind (arith, common_steps, flat_map-append, reverse-append, symbols_of_exports l (start + 1) exports)
 
   pub export_group_is : (l : Library) (exports : List ExportView) (start : ℕ) (g : Group) → Among g (export_groups l start exports) →
       (n : ℕ) × (e : ExportView) × (slice_get exports n ≡ Some e) × (g ≡ export_group l (start + n) e)
@@ -291,8 +270,7 @@ module _ (machine : MachineType) where
       elim (among_either g (export_groups l (start + 1) exports) (export_group l start x ∷ []) held) [
         | inl behind ↦
             let later = export_group_is l exports (start + 1) g behind in
-            let position : start + 1 + later.0 ≡ start + suc later.0 = omega arith in
-            (suc later.0, later.1, later.2, later.3 ∙ ap (λ n. export_group l n later.1) position)
+            (suc later.0, later.1, later.2, later.3 ∙ ap (λ n. export_group l n later.1) (omega arith))
         | inr last ↦ elim last [
           | inl e ↦ (let position : start ≡ start + 0 = omega arith in (0, x, refl, e ∙ ap (λ n. export_group l n x) position))
           | inr nothing ↦ absurd nothing
@@ -331,7 +309,6 @@ unfolding Among
 code_listed e is = rw is (inl refl)
 
 data_not_listed : (e : ExportView) → e.is_data ≡ true → Among e.name (archive_symbols e) → ⊥
-unfolding Among
 data_not_listed e is held = grind (arith, no_address, only_one)
 
 module _ (machine : MachineType) where
@@ -367,22 +344,13 @@ module _ (machine : MachineType) where
 
   -- a name that an export's own member is listed for finds that member
   pub own_first : (l : Library) (n : ℕ) (e : ExportView) (name : List ℕ) → Among name (archive_symbols e) → first_listed (export_group machine l n e).members name ≡ Some (export_of machine l n e)
-  own_first l n e name listed =
-      let is : is_listed_for name (export_of machine l n e) ≡ true = among_any name (export_of machine l n e).symbols (subst (Among name) (sym (listed_export machine (linked_name l.definition) n e)) listed) in
-      elim (cases_Bool (is_alias e.alias_target e.name)) [
-        | inl alias ↦ rw (alias_members l n e alias, is) refl
-        | inr none ↦ rw (plain_members l n e none, is) refl
-      ]
+  own_first l n e name listed = grind (arith, among_any, listed_export, cases_Bool, alias_members, plain_members)
 
   -- and the bare name of data with an alias finds its weak external
   pub weak_first : (l : Library) (n : ℕ) (e : ExportView) → is_alias e.alias_target e.name ≡ true → e.is_data ≡ true →
       first_listed (export_group machine l n e).members e.name ≡ Some (weak_of machine l n e)
   unfolding Among
-  weak_first l n e alias is_data =
-      let own : is_listed_for e.name (export_of machine l n e) ≡ false = grind (arith, false, false_from_ne_true, data_not_listed, listed_export, any_among) in
-      let address : is_listed_for e.name (weak_address_of machine l n e) ≡ false = search (rules, false, false_from_ne_true, no_address, only_one, any_among) in
-      let weak : is_listed_for e.name (weak_of machine l n e) ≡ true = among_any e.name (weak_of machine l n e).symbols (inl refl) in
-      rw (alias_members l n e alias, own, address, weak) refl
+  weak_first l n e alias is_data = grind (arith, false_from_ne_true, data_not_listed, listed_export, any_among, no_address, only_one, alias_members l n e alias, among_any e.name (weak_of machine l n e).symbols (inl refl))
 
   -- what a name finds in an export's group
   pub data InExport (l : Library) (n : ℕ) (e : ExportView) (name : List ℕ) (m : MemberView) : Type 0 where
@@ -418,19 +386,13 @@ module _ (machine : MachineType) where
   -- The objects of a library's members.
   module _ (l : Library) (made : IsLibrary machine l) where
     pub tail_object_is : object_in (tail_of machine l).bytes ≡ Some (tail machine (names_for Gnu l.definition))
-    tail_object_is =
-        tail_reads machine (names_for Gnu l.definition) (exports_of l) (linked_free l.definition machine l.members [] made) (sound l.definition machine l.members [] made)
-        (not_long l.definition machine l.members [] made)
+    tail_object_is = cc (tail_reads machine (names_for Gnu l.definition) (exports_of l) (linked_free l.definition machine l.members [] made) (sound l.definition machine l.members [] made) (not_long l.definition machine l.members [] made))
 
     pub head_object_is : object_in (head_of machine l).bytes ≡ Some (head machine (names_for Gnu l.definition))
-    head_object_is =
-        head_reads machine (names_for Gnu l.definition) (exports_of l) (linked_free l.definition machine l.members [] made) (sound l.definition machine l.members [] made)
-        (not_long l.definition machine l.members [] made)
+    head_object_is = cc (head_reads machine (names_for Gnu l.definition) (exports_of l) (linked_free l.definition machine l.members [] made) (sound l.definition machine l.members [] made) (not_long l.definition machine l.members [] made))
 
     pub export_object_is : (n : ℕ) (e : ExportView) → slice_get (exports_of l) n ≡ Some e → object_in (export_of machine l n e).bytes ≡ Some (export machine (names_for Gnu l.definition) e)
-    export_object_is n e is =
-        export_reads machine (names_for Gnu l.definition) (exports_of l) (linked_free l.definition machine l.members [] made) (sound l.definition machine l.members [] made)
-        (not_long l.definition machine l.members [] made) n e is
+    export_object_is n e is = cc (export_reads machine (names_for Gnu l.definition) (exports_of l) (linked_free l.definition machine l.members [] made) (sound l.definition machine l.members [] made) (not_long l.definition machine l.members [] made) n e is)
 
     pub weak_there : (n : ℕ) (e : ExportView) → is_alias e.alias_target e.name ≡ true →
         Among (weak_spec machine (weak_name (linked_name l.definition) n) e.name e.alias_target) (numbered_specs_of machine (linked_name l.definition) n e)
@@ -445,8 +407,7 @@ module _ (machine : MachineType) where
         let good : Sound e = all_at Sound (exports_of l) n e (sound l.definition machine l.members [] made) is in
         let position : 0 + n ≡ n = omega arith in
         let there : Among p (gnu_specs machine dll (exports_of l)) = grind (arith, weak_there n e alias, among_later, among_reverse, numbered_in) in
-        let short : encoded_size (weak_object machine e.name e.alias_target) ≤ 0xFFFF_FFFF =
-        short_enough p (none_among is_too_long p (gnu_specs machine dll (exports_of l)) there (not_long l.definition machine l.members [] made)) in
+        let short : encoded_size (weak_object machine e.name e.alias_target) ≤ 0xFFFF_FFFF = grind (arith, short_enough p (none_among is_too_long p (gnu_specs machine dll (exports_of l)) there (not_long l.definition machine l.members [] made))) in
         object_in-encoded (weak_object machine e.name e.alias_target) (Fits-weak_object machine e.name e.alias_target good.name good.alias_target) (omega arith)
 
   pub export_entries : (dll : NamesOfDll) (e : ExportView) → list_any is_weak_entry (export machine dll e).entries ≡ false

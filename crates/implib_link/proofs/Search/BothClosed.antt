@@ -7,10 +7,10 @@ use Rattle.std.proofs.lemmas.List.Sorted.{IsPermutation-sym}
 use Rattle.implib.specs.declared.flavor.Flavor.{Flavor}
 use Rattle.implib.specs.declared.flavor.Flavor.TheVariants.{Gnu, Msvc}
 use Rattle.implib.specs.declared.machine.MachineType.{MachineType}
-use Rattle.implib.specs.Definition.{DefinitionView, ExportView}
+use Rattle.implib.specs.Definition.{ExportView}
 use Rattle.implib.specs.Formats.Object.{Object, object_in}
 use Rattle.implib.specs.Import.{imp_symbol}
-use Rattle.implib.specs.LibraryName.{linked_dll, names_for}
+use Rattle.implib.specs.LibraryName.{names_for}
 use Rattle.implib.specs.Link.Linked.{IsDefinedOnce}
 use Rattle.implib.specs.Link.LinkedMembers.{objects_in}
 use Rattle.implib.specs.Link.Placement.{Bases, placed_from}
@@ -21,7 +21,7 @@ use Rattle.implib.specs.Members.MsvcObjects.{null_descriptor_symbol}
 use Rattle.implib.proofs.Link.LinkedMembers.{among_contains}
 use Rattle.implib.proofs.Link.Ranges.{Among, all_among, among_back, among_first, among_flat, among_front, among_later}
 use Rattle.implib_link.specs.Flavors.Expansion.{expanded_in}
-use Rattle.implib_link.specs.Flavors.Program.{AreEnded, AreEndedByLinker, AreEndedByMember, AreProgramObjects, Ending, FlavorInput, IsMadeFor, IsProgramOf, OfLinker, OfMember, ProgramLinks, all_members, null_member, objects_taken, exports_chosen, symbol_in, symbols_listed, thunks_of, ClaimsNone, HaveSame, has_tables, null_descriptor, packed, packed_end}
+use Rattle.implib_link.specs.Flavors.Program.{AreEnded, AreEndedByLinker, AreEndedByMember, AreProgramObjects, Ending, FlavorInput, IsMadeFor, IsProgramOf, OfLinker, OfMember, ProgramLinks, all_members, objects_taken, exports_chosen, symbol_in, symbols_listed, thunks_of, ClaimsNone, HaveSame, has_tables, null_descriptor, packed, packed_end}
 use Rattle.implib_link.specs.Search.Search.{Library, TakesIntoAs, listed_in, unresolved, first_listed, left_as, objects_as}
 use Rattle.implib_link.specs.Search.Libraries.{AreClosed, FlavorLibrary, IsClosed, IsFlavorArchive, IsImported, IsUsedIn, LinksClosed, NamesNoMembers, archive_of_both, flavor_inputs, inputs_in, msvc_among, symbols_in, first_null, is_weak_in, wanted_for}
 use Rattle.implib_link.proofs.Tables.{entry_of}
@@ -306,10 +306,7 @@ module _ (machine : MachineType) (libraries : List FlavorLibrary) (archive : IsF
     linked = e.before ++ (null ++ e.behind)
 
     tables : filter has_tables objects ≡ objects_taken machine (e.before ++ (first_null machine (msvc_among libraries) ++ e.behind))
-    tables =
-        e.tables
-        ∙ ap (λ (d : DefinitionView). objects_taken machine (e.before ++ null_member machine (linked_dll d) ∷ e.behind)) null_library.3
-        ∙ sym (null_tables machine (msvc_among libraries) archive.msvc e.before e.behind (names_for Msvc x.definition) x there (null_is machine x (made_of machine libraries archive Msvc x null_library.1)))
+    tables = grind (arith, null_tables machine (msvc_among libraries) archive.msvc e.before e.behind (names_for Msvc x.definition) x there (null_is machine x (made_of machine libraries archive Msvc x null_library.1)))
 
     null_there : (m : MemberView) → Among m null → Among m (filter (λ y. not (weak y)) taken)
     null_there = null_other machine libraries archive reads weak (expands machine libraries archive) own taken arranged objects closed_as x null_library.1 null_library.2
@@ -360,8 +357,7 @@ module _ (machine : MachineType) (libraries : List FlavorLibrary) (archive : IsF
     }
 
   is_ended : (ending : Ending) → AreEnded ending machine (inputs_in machine arranged own taken) objects → IsEnded machine ending own taken arranged objects
-  is_ended OfLinker e = by_linker e
-  is_ended OfMember e = by_member e
+  is_ended ending e = grind (arith, by_linker, by_member)
 
 module _ (machine : MachineType) (ending : Ending) (libraries : List FlavorLibrary) (archive : IsFlavorArchive machine libraries) (own : List Object) (taken : List MemberView) (arranged : List FlavorLibrary)
     (objects : List Object) (is : AreClosed machine ending libraries own taken arranged objects) where

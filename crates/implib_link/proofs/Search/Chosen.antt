@@ -1,5 +1,5 @@
 -- What is linked of libraries in either flavour, for names that want their exports.
-use Rattle.std.proofs.Common.{rules, ◌≡◌, ℕ, ◌<◌, Bool, length, arith, true, List, [], ◌∷◌, map, Option, Some, None, refl, ap, sym, ◌∙◌, subst, inl, inr, ◌⊎◌, ◌+◌, ◌≤◌, ◌++◌}
+use Rattle.std.proofs.Common.{rules, ◌≡◌, ℕ, Bool, arith, true, List, [], ◌∷◌, map, Option, Some, None, refl, ap, sym, ◌∙◌, subst, inl, inr, ◌⊎◌, ◌+◌, ◌≤◌, ◌++◌}
 use Rattle.std.specs.Prelude.{slice_get, IsPermutation, bytes_eq}
 use Rattle.std.specs.List.{cons_option, filter, filter_map, AllByRecursion, IsDistinct, flat_map}
 use Rattle.implib.specs.declared.flavor.Flavor.{Flavor}
@@ -19,9 +19,9 @@ use Rattle.implib_link.specs.Flavors.Program.{FlavorInput, all_members, gnu_inpu
 use Rattle.implib_link.specs.Search.Search.{Library, exports_of, inputs_wanted, exports_wanted, is_wanted}
 use Rattle.implib_link.specs.Search.Libraries.{FlavorLibrary, flavor_input, flavor_inputs, symbols_in, imports_wanted, is_import_wanted, short_input_if_any, short_inputs, IsFlavorArchive, msvc_among}
 use Rattle.implib_link.proofs.Flavors.Program.{gnu_members}
-use Rattle.implib_link.proofs.Search.ArchiveMembers.{chosen_are as gnu_chosen_are, among_moved, library_fewer as gnu_fewer, distinct_from, times, times_both, times_moved, Chosen, in_nothing, member_spec_chosen, member_spec_linked, numbers_are_wanted, only_one, some_export, wanted_name, wants}
+use Rattle.implib_link.proofs.Search.ArchiveMembers.{chosen_are as gnu_chosen_are, among_moved, library_fewer as gnu_fewer, distinct_from, times, times_both, times_moved, Chosen, member_spec_chosen, member_spec_linked, numbers_are_wanted, only_one, some_export, wanted_name, wants}
 use Rattle.implib_link.proofs.Search.Lists.{among_at, among_either, among_flat_map, among_mapped, passes, passing, at_index, kept_from, kept_into, all_from as all_each, distinct_later}
-use Rattle.implib_link.proofs.Search.MsvcMembers.{both_parts, first_one, import_parts, imports_are, library_fewer as short_fewer}
+use Rattle.implib_link.proofs.Search.MsvcMembers.{both_parts, import_parts, imports_are, library_fewer as short_fewer}
 use Rattle.implib_link.proofs.Search.Roles.{IsOwn, Last, Own, Top, in_flavor, member}
 use Rattle.std.proofs.lemmas.Option.{same_Some}
 use Rattle.std.proofs.lemmas.List.Sorted.{IsPermutation-sym}
@@ -36,16 +36,14 @@ is_chosen Msvc names e = is_import_wanted names e
 is_chosen Gnu names e = is_wanted names e
 
 pub own_chosen : (flavor : Flavor) (names : List (List ℕ)) (e : ExportView) → is_chosen flavor names e ≡ true → IsOwn flavor e
-own_chosen Msvc names e want = (import_parts names e want).1
-own_chosen Gnu names e want = tt
+own_chosen flavor names e want = grind (arith, import_parts)
 
 pub chosen_name : (flavor : Flavor) (names : List (List ℕ)) (e : ExportView) → is_chosen flavor names e ≡ true → (name : List ℕ) × Among name (symbols_in flavor e) × Among name names
 chosen_name Msvc names e want = wanted_name names (short_import_symbols e) (import_parts names e want).0
 chosen_name Gnu names e want = wanted_name names (archive_symbols e) want
 
 pub chosen_by : (flavor : Flavor) (names : List (List ℕ)) (e : ExportView) (name : List ℕ) → IsOwn flavor e → Among name (symbols_in flavor e) → Among name names → is_chosen flavor names e ≡ true
-chosen_by Msvc names e name own listed want = both_parts names e (wants names (short_import_symbols e) name listed want) own
-chosen_by Gnu names e name own listed want = wants names (archive_symbols e) name listed want
+chosen_by flavor names e name own listed want = grind (arith, both_parts, wants)
 
 -- names that want an export want it with more names
 pub chosen_too : (flavor : Flavor) (names more : List (List ℕ)) (e : ExportView) → ((name : List ℕ) → Among name names → Among name more) → is_chosen flavor names e ≡ true →
@@ -84,8 +82,7 @@ if_any flavor l [] = None
 if_any flavor l (n ∷ chosen) = Some (input_with flavor l (n ∷ chosen))
 
 pub input_if : (flavor : Flavor) (names : List (List ℕ)) (l : Library) → flavor_input names flavor l ≡ if_any flavor l (numbers_in flavor names l)
-input_if Msvc names l = grind arith
-input_if Gnu names l = grind arith
+input_if flavor names l = grind arith
 
 some_input : (names : List (List ℕ)) (l : FlavorLibrary) → AnyOf names l → flavor_input names l.flavor l.library ≡ Some (input_in names l)
 unfolding Among
@@ -163,8 +160,7 @@ module _ (machine : MachineType) (names : List (List ℕ)) where
       by (inr (inl is)) = TheLast (same ∙ ap member_of is)
       by (inr (inr c)) =
           let found = (numbers_are_wanted (exports_of l) names).only c.0 c.2 in
-          let own : found.0 ≡ c.1 = sym (same_Some c.1 found.0 (sym c.3 ∙ found.1)) in
-          AnOwn c.0 c.1 c.3 (same ∙ ap member_of c.4) (subst (λ e. is_wanted names e ≡ true) own found.2)
+          AnOwn c.0 c.1 c.3 (same ∙ ap member_of c.4) (subst (λ e. is_wanted names e ≡ true) (sym (same_Some c.1 found.0 (sym c.3 ∙ found.1))) found.2)
 
   -- what is linked of libraries is linked of one of which some export is chosen
   pub linked_from : (libraries : List FlavorLibrary) (m : MemberView) → Among m (all_members machine (flavor_inputs libraries names)) →
@@ -193,19 +189,6 @@ pub linked_are : (machine : MachineType) (libraries : List Library) (names : Lis
     all_members machine (flavor_inputs (map (in_flavor Gnu) libraries) names) ≡ all_linked machine (inputs_wanted libraries names)
 linked_are machine libraries names = ap (all_members machine) (exports_are libraries names) ∙ gnu_members machine (inputs_wanted libraries names)
 
--- some export of them is chosen exactly where some input is linked
-pub some_short : (libraries : List Library) (names : List (List ℕ)) → 0 < length (short_inputs libraries names) → (x : Library) × Among x libraries × AnyOf names (in_flavor Msvc x)
-some_short libraries names some = grind (arith, first_one (short_inputs libraries names) some, in_flavor Msvc, shorts_are libraries names, input_is, among_mapped)
-
-pub short_some : (libraries : List Library) (names : List (List ℕ)) (x : Library) → Among x libraries → AnyOf names (in_flavor Msvc x) → 0 < length (short_inputs libraries names)
-short_some libraries names x held any =
-    by (short_inputs libraries names) (subst (Among (input_in names (in_flavor Msvc x))) (shorts_are libraries names)
-    (input_held names (map (in_flavor Msvc) libraries) (in_flavor Msvc x) (among_map (in_flavor Msvc) x libraries held) any))
-  where
-    by : (inputs : List FlavorInput) → Among (input_in names (in_flavor Msvc x)) inputs → 0 < length inputs
-    by [] none = absurd (in_nothing (input_in names (in_flavor Msvc x)) none)
-    by (p ∷ inputs) some = omega arith
-
 -- What is linked of an archive of both flavours, where the libraries may be in another order: its symbols differ, since those do
 -- that the archive lists.
 
@@ -225,7 +208,6 @@ module _ (machine : MachineType) where
   one_more name names flavor l others = grind (arith, of_library machine flavor l, input_if flavor names l, library_fewer name names flavor l, times, few, times_both, symbols_of)
 
   inputs_fewer : (name : List ℕ) (libraries : List FlavorLibrary) (names : List (List ℕ)) → times name (of_inputs (flavor_inputs libraries names)) ≤ times name (of_libraries machine libraries)
-  unfolding times
   inputs_fewer name [] names = omega arith
   inputs_fewer name (l ∷ rest) names = grind (arith, inputs_fewer name rest names, times, of_library, one_more, of_libraries, times_both)
 
@@ -249,16 +231,10 @@ module _ (machine : MachineType) where
 
       few_linked : (name : List ℕ) → times name (null_of shorts ++ of_inputs (flavor_inputs arranged names)) ≤ 1
       few_linked name =
-          let most : times name (null_of shorts) + times name (of_libraries machine libraries) ≤ 1 = few machine libraries archive name in
-          let turned : times name (of_libraries machine arranged) ≡ times name (of_libraries machine libraries) = times_moved (λ (l : FlavorLibrary). of_library machine l.flavor l.library) name libraries arranged moved in
-          let less : times name (of_inputs (flavor_inputs arranged names)) ≤ times name (of_libraries machine arranged) = inputs_fewer name arranged names in
-          let some : times name (null_of shorts ++ of_inputs (flavor_inputs arranged names)) ≡ times name (null_of shorts) + times name (of_inputs (flavor_inputs arranged names)) = grind (arith, times, null_of, times_both) in
-          omega arith
+          grind (arith, few machine libraries archive name, of_libraries, times, times_moved, of_library, inputs_fewer, null_of, times_both)
 
       with_null_distinct : IsDistinct bytes_eq (null_of shorts ++ symbols_listed (all_members machine (flavor_inputs arranged names)))
-      with_null_distinct =
-          subst (λ listed. IsDistinct bytes_eq (null_of shorts ++ listed)) (sym (inputs_symbols machine (flavor_inputs arranged names) both_made))
-          (distinct_from (null_of shorts ++ of_inputs (flavor_inputs arranged names)) few_linked)
+      with_null_distinct = grind (arith, null_of shorts, inputs_symbols machine (flavor_inputs arranged names) both_made, distinct_from (null_of shorts ++ of_inputs (flavor_inputs arranged names)) few_linked)
 
       pub both_distinct : (l : Library) → Among l (msvc_among libraries) → IsDistinct bytes_eq (null_descriptor_symbol ∷ symbols_listed (all_members machine (flavor_inputs arranged names)))
       unfolding Among

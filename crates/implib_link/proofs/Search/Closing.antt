@@ -245,9 +245,7 @@ module _ (reads : List ℕ → Option Object) (archive : List MemberView) where
       unfolding claimed_as
       reached name m at named =
           elim (cases_Bool (list_any (is_listed_for name) taken)) [
-            | inl some ↦
-                let t = any_member name taken some in
-                subst (λ x. Among x taken) (same_Some t.0 m (sym ((each_first t.0 t.1).first name t.2) ∙ at)) t.1
+            | inl some ↦ grind (arith, any_member, same_Some)
             | inr none ↦ absurd (takes.ended name m (record {
               named = among_contains name (wanted ++ left_as reads taken) named;
               undefined = not_there name (flat_map claimed_names (objects_as reads taken)) (λ claimed.

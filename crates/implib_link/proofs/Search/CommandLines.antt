@@ -80,30 +80,18 @@ module _ (reads : List ℕ → Option Object) (members : List MemberView) where
   archives_keep : (own : List Object) (archives : List (List ℕ)) (before after : List ℕ) → AreSwept reads members own archives before after → Keeps (numbers_of (Archives archives)) before after
   unfolding AreSwept
   archives_keep own [] before after is = keeps_same [] before after is
-  archives_keep own (archive ∷ archives) before after (between, first, later) =
-      keeps_on archive (numbers_of (Archives archives)) before between after (archive_keeps own archive before between first) (archives_keep own archives between after later)
+  archives_keep own (archive ∷ archives) before after (between, first, later) = grind (arith, keeps_on archive (numbers_of (Archives archives)) before between after (archive_keeps own archive before between first) (archives_keep own archives between after later))
 
   rounds_keep : (own : List Object) (archives : List (List ℕ)) (count : ℕ) (before after : List ℕ) → AreRounds reads members own archives count before after → Keeps (numbers_of (Archives archives)) before after
   unfolding AreRounds
   rounds_keep own archives zero before after is = keeps_same (numbers_of (Archives archives)) before after is
-  rounds_keep own archives (suc count) before after (between, first, later) =
-      twice (keeps_on (numbers_of (Archives archives)) (numbers_of (Archives archives)) before between after (archives_keep own archives before between first) (rounds_keep own archives count between after later))
-    where
-      twice : Keeps (numbers_of (Archives archives) ++ numbers_of (Archives archives)) before after → Keeps (numbers_of (Archives archives)) before after
-      twice two n = (
-        (two n).0,
-        λ held. elim ((two n).1 held) [
-          | inl old ↦ inl old
-          | inr new ↦ elim (among_either n (numbers_of (Archives archives)) (numbers_of (Archives archives)) new) [ inl one ↦ inr one | inr other ↦ inr other ]
-        ],
-      )
+  rounds_keep own archives (suc count) before after (between, first, later) = grind (arith, keeps_on (numbers_of (Archives archives)) (numbers_of (Archives archives)) before between after (archives_keep own archives before between first) (rounds_keep own archives count between after later), among_either)
 
   pub searches_keep : (own : List Object) (inputs : List Input) (before after : List ℕ) → SearchesFrom reads members own inputs before after → Keeps (numbers_in inputs) before after
   unfolding SearchesFrom
   searches_keep own [] before after is = keeps_same [] before after is
   searches_keep own (AnObject o ∷ inputs) before after is = searches_keep (own ++ o ∷ []) inputs before after is
-  searches_keep own (Archives archives ∷ inputs) before after (between, group, later) =
-      keeps_on (numbers_of (Archives archives)) (numbers_in inputs) before between after (rounds_keep own archives group.rounds before between group.taken) (searches_keep own inputs between after later)
+  searches_keep own (Archives archives ∷ inputs) before after (between, group, later) = grind (arith, keeps_on (numbers_of (Archives archives)) (numbers_in inputs) before between after (rounds_keep own archives group.rounds before between group.taken) (searches_keep own inputs between after later))
 
   -- What is taken is taken in turn, for all objects of the command line.
 
@@ -291,10 +279,9 @@ module _ (reads : List ℕ → Option Object) (members : List MemberView) where
           | inl again ↦ none_lost own inputs between after ordered.1 later (number_among n (numbers_in inputs) again) left
           | inr last ↦
               let free : Among n (numbers_in inputs) → ⊥ = λ behind. true≢false (sym (among_number n (numbers_in inputs) behind) ∙ last) in
-              let here : Among n (numbers_of (Archives archives)) = elim (among_either n (numbers_of (Archives archives)) (numbers_in inputs) held) [ inl one ↦ one | inr behind ↦ absurd (free behind) ] in
               let parts = unresolved_parts ((own ++ objects_given inputs) ++ objects_as reads (members_at members after)) name left in
               (searches_keep own inputs between after later n).0
-              (group_has own archives between group.ended here
+              (group_has own archives between group.ended (elim (among_either n (numbers_of (Archives archives)) (numbers_in inputs) held) [ inl one ↦ one | inr behind ↦ absurd (free behind) ])
               (unresolved_from (own ++ objects_as reads (members_at members between)) name
               (left_before own inputs between after ordered.1 later free parts.0)
               (λ claimed. parts.1 (claimed_on own inputs between after later claimed))))
@@ -370,8 +357,7 @@ module _ (reads : List ℕ → Option Object) (members : List MemberView) where
         elim (cases_Bool (list_any (bytes_eq name) (flat_map claimed_names (objects_as reads other)))) [
           | inl claimed ↦
               let by = claimer other name others (any_among name (flat_map claimed_names (objects_as reads other)) claimed) in
-              let one : by.0 ≡ m = same_Some by.0 m (sym (first name by.0 in_other (among_contains by.0 other by.1) (among_contains name by.0.symbols by.2)) ∙ pulls.listed) in
-              subst (λ y. Among y other) one by.1
+              subst (λ y. Among y other) (same_Some by.0 m (sym (first name by.0 in_other (among_contains by.0 other by.1) (among_contains name by.0.symbols by.2)) ∙ pulls.listed)) by.1
           | inr free ↦
               let none : Among name (flat_map claimed_names (objects_as reads other)) → ⊥ = λ claimed. true≢false (sym (among_any name (flat_map claimed_names (objects_as reads other)) claimed) ∙ free) in
               absurd (takes.ended name m (record {
@@ -411,14 +397,8 @@ module _ (reads : List ℕ → Option Object) (members : List MemberView) where
       first_kept [] name m other is = absurd (cc)
       first_kept (x ∷ some) name m other is =
           elim (cases_Bool (is_listed_for name x)) [
-            | inl here ↦
-                let same : x ≡ m = same_Some x m (rw here at is) in
-                let kept : is_given x ≡ false = ap is_given same ∙ other in
-                rw (kept, here) (ap Some same)
-            | inr none ↦ elim (cases_Bool (is_given x)) [
-              | inl given ↦ rw given (first_kept some name m other (rw none at is))
-              | inr kept ↦ rw (kept, none) (first_kept some name m other (rw none at is))
-            ]
+            | inl here ↦ grind (arith, same_Some)
+            | inr none ↦ grind (arith, cases_Bool, first_kept some name m other (rw none at is))
           ]
 
       -- a member is among those that are given or among the others
@@ -473,14 +453,13 @@ module _ (reads : List ℕ → Option Object) (members : List MemberView) where
             elim (cases_Bool (is_given m)) [
               | inl given ↦ rw given (others_in_turn taken (λ x held. are x (inr held)) is.1)
               | inr other ↦
-                  let from = listed_is members is.0.0 m is.0.1.listed in
                   let left = contains_among is.0.0 (unresolved (own ++ objects_as reads taken)) is.0.1.named in
                   rw other (
                     (
                       is.0.0,
                       record {
                         named = among_contains is.0.0 (unresolved (given_too ++ objects_as reads (others_of is_given taken)))
-                            (other_left taken is.0.0 m (λ x held. are x (inr held)) other (are m (inl refl)) from.1 left);
+                            (other_left taken is.0.0 m (λ x held. are x (inr held)) other (are m (inl refl)) (listed_is members is.0.0 m is.0.1.listed).1 left);
                         listed = first_kept members is.0.0 m other is.0.1.listed;
                         new = λ held. is.0.1.new (among_contains m taken (passing (λ y. not (is_given y)) m taken (contains_among m (others_of is_given taken) held)).0);
                       },
@@ -514,11 +493,10 @@ module _ (reads : List ℕ → Option Object) (members : List MemberView) where
         in_turn = others_in_turn taken (taken_are taken takes.in_turn) first taken (λ x held. held) takes.in_turn;
         ended = λ name m pulls.
             let from = listed_is (others_of is_given members) name m pulls.listed in
-            let kept = passing (λ y. not (is_given y)) m members from.0 in
             let left = left_again taken (taken_are taken takes.in_turn) first name
             (contains_among name (unresolved (given_too taken (taken_are taken takes.in_turn) first ++ objects_as reads (others_of is_given taken))) pulls.named) in
             elim (found_or_not name members) [
-              | inl none ↦ none_first name members m none kept.0 from.1
+              | inl none ↦ none_first name members m none (passing (λ y. not (is_given y)) m members from.0).0 from.1
               | inr found ↦
                   let there = listed_is members name found.0 found.1 in
                   takes.ended name found.0 (record {

@@ -1,5 +1,5 @@
 -- A search of any archive ends: each member that is taken was not taken before, and an archive has so many.
-use Rattle.std.proofs.Common.{◌≡◌, ℕ, zero, suc, ◌+◌, ◌<◌, ◌≤◌, Bool, true, false, List, [], ◌∷◌, ◌++◌, length, Some, None, refl, ap, sym, ◌∙◌, subst, inl, inr, ◌⊎◌, arith, if◌then◌else◌, Option}
+use Rattle.std.proofs.Common.{◌≡◌, ℕ, zero, suc, ◌+◌, ◌<◌, ◌≤◌, Bool, true, false, List, [], ◌∷◌, ◌++◌, length, Some, None, refl, sym, ◌∙◌, subst, inl, inr, ◌⊎◌, arith, if◌then◌else◌, Option}
 use Rattle.std.specs.Prelude.{◌&&◌, ◌||◌, bytes_eq}
 use Rattle.std.specs.List.{Contains}
 use Rattle.std.proofs.lemmas.Bool.{and_parts, cases_Bool, false_from_ne_true, true≢false}
@@ -24,8 +24,7 @@ same_names (x ∷ xs) (y ∷ ys) = bytes_eq x y && same_names xs ys
 
 names_same : (xs ys : List (List ℕ)) → same_names xs ys ≡ true → xs ≡ ys
 unfolding same_names
-names_same [] [] is = refl
-names_same [] (y ∷ ys) is = absurd (true≢false (sym is))
+names_same [] ys is = grind (arith, true≢false)
 names_same (x ∷ xs) [] is = absurd (true≢false (sym is))
 names_same (x ∷ xs) (y ∷ ys) is = grind (arith, names_same xs ys, and_parts, same_names, bytes_eq-Decides)
 
@@ -41,15 +40,7 @@ member_same : (m n : MemberView) → is_same m n ≡ true → m ≡ n
 member_same m n is =
     let first = and_parts (bytes_eq m.name n.name) (bytes_eq m.bytes n.bytes && same_names m.symbols n.symbols) is in
     let second = and_parts (bytes_eq m.bytes n.bytes) (same_names m.symbols n.symbols) first.1 in
-    let name : m.name ≡ n.name = (bytes_eq-Decides m.name n.name).0 first.0 in
-    let bytes : m.bytes ≡ n.bytes = (bytes_eq-Decides m.bytes n.bytes).0 second.0 in
-    let symbols : m.symbols ≡ n.symbols = names_same m.symbols n.symbols second.1 in
-    ap (λ t. record { name = t; bytes = m.bytes; symbols = m.symbols }) name
-    ∙ ap (λ t. record { name = n.name; bytes = t; symbols = m.symbols }) bytes
-    ∙ ap (λ t. record { name = n.name; bytes = n.bytes; symbols = t }) symbols
-
-own_member : (m : MemberView) → is_same m m ≡ true
-own_member m = rw (same_text m.name, same_text m.bytes, own_names m.symbols) refl
+    rw ((bytes_eq-Decides m.name n.name).0 first.0, (bytes_eq-Decides m.bytes n.bytes).0 second.0, names_same m.symbols n.symbols second.1)
 
 -- Whether a member is taken.
 
@@ -65,7 +56,7 @@ taken_among (t ∷ taken) m is = grind (arith, taken_among taken m, member_same)
 pub among_taken : (taken : List MemberView) (m : MemberView) → Among m taken → is_taken taken m ≡ true
 unfolding is_taken Among
 among_taken [] m held = absurd held
-among_taken (t ∷ taken) m (inl e) = rw (subst (λ y. is_same m y ≡ true) e (own_member m)) refl
+among_taken (t ∷ taken) m (inl e) = rw (subst (λ y. is_same m y ≡ true) e (rw (same_text m.name, same_text m.bytes, own_names m.symbols) refl)) refl
 among_taken (t ∷ taken) m (inr held) = grind (arith, among_taken taken m held)
 
 -- How many of an archive's members are not taken.
@@ -82,7 +73,7 @@ not_more (m ∷ archive) taken t = grind (arith, not_more archive taken t)
 pub fewer : (archive taken : List MemberView) (t : MemberView) → Among t archive → is_taken taken t ≡ false → not_taken archive (t ∷ taken) < not_taken archive taken
 unfolding not_taken is_taken Among
 fewer [] taken t held new = absurd held
-fewer (m ∷ archive) taken t (inl e) new = grind (arith, not_taken, not_more, own_member, is_taken)
+fewer (m ∷ archive) taken t (inl e) new = grind (arith, not_taken, not_more, same_text, own_names, is_taken)
 fewer (m ∷ archive) taken t (inr held) new = grind (arith, fewer archive taken t held new)
 
 -- whether a name finds a member that is not taken
@@ -155,8 +146,7 @@ module _ (reads : List ℕ → Option Object) (archive : List MemberView) (own :
   ends_from (suc most) taken few turn =
       elim (pulls_or_not taken (left_by taken) (λ name held. held)) [
         | inr none ↦ finished taken turn none
-        | inl found ↦
-            ends_from most (found.1 ∷ taken) (less_left (not_taken archive (found.1 ∷ taken)) (not_taken archive taken) most (fewer_left taken found.0 found.1 found.3) few) ((found.0, found.3), turn)
+        | inl found ↦ grind (arith, less_left, fewer_left, ends_from most (found.1 ∷ taken) (less_left (not_taken archive (found.1 ∷ taken)) (not_taken archive taken) most (fewer_left taken found.0 found.1 found.3) few) ((found.0, found.3), turn))
       ]
 
   pub into_ends : (taken : List MemberView) × TakesIntoAs reads archive own taken

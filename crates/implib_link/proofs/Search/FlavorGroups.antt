@@ -1,43 +1,39 @@
 -- Libraries for GNU's linker that are named apart are an archive.
 use Rattle.std.proofs.Common.{rules, ◌≡◌, ℕ, ◌+◌, ◌≤◌, ◌⊎◌, true, false, List, [], ◌∷◌, ◌++◌, map, refl, ap, sym, ◌∙◌, subst, inl, inr, arith, codes, Some, Bool, Option}
-use Rattle.std.specs.Prelude.{bytes_eq, not, reverse, ◌==◌, ◌&&◌, slice_get}
+use Rattle.std.specs.Prelude.{bytes_eq, reverse, slice_get}
 use Rattle.std.specs.List.{AllByRecursion, IsDistinct, flat_map, list_any, cons_option}
 use Rattle.std.proofs.lemmas.Bool.{cases_Bool, false_from_ne_true, true≢false}
 use Rattle.std.proofs.lemmas.List.{append_cancel_left, append_cancel_right, map-append}
 use Rattle.std.proofs.lemmas.List.Sorted.{IsPermutation-reverse}
 use Rattle.std.proofs.lemmas.Slice.Eq.{bytes_eq-Decides}
 use Rattle.implib.specs.declared.machine.MachineType.{MachineType}
-use Rattle.implib.specs.declared.machine.MachineType.TheVariants.{I386, ARMNT, AMD64, ARM64}
 use Rattle.implib.specs.Definition.{ExportView}
-use Rattle.implib.specs.Import.{imp_symbol, is_alias, underscore}
+use Rattle.implib.specs.Import.{imp_symbol}
 use Rattle.implib.specs.Members.Gnu.{head_symbol, iname_symbol, mangled_name}
 use Rattle.implib.proofs.Link.Ranges.{Among, all_among, among_back, among_front, among_first, among_flat, among_later}
 use Rattle.implib_link.specs.Search.Search.{IsArchive, IsLibrary, Library, exports_of, symbols_of_export, symbols_of_library, archive_of, first_listed, is_listed_for, has_weak, undefined_in}
 use Rattle.implib_link.specs.Search.Libraries.{heads_of, tails_of, FlavorLibrary, IsFlavorArchive, archive_of_both, gnu_among, msvc_among, IsMsvcArchive, symbols_of_all_shorts, if_gnu, if_msvc, symbols_of_shorts, is_weak_in}
 use Rattle.implib_link.specs.Search.NamedApart.{AreNamedApart, begins_plain, names_in, stem}
-use Rattle.implib_link.proofs.Search.Closing.{there_not, IsFirstAs, is_first, names_read, tables_read}
+use Rattle.implib_link.proofs.Search.Closing.{there_not, IsFirstAs, is_first, names_read}
 use Rattle.implib_link.proofs.Search.ArchiveMembers.{distinct_from, few_from, times, times_both, times_moved, Group, IsWithin, export_group, export_group_is, export_groups, first_behind, first_in_group, found_or_not, group_is_export, group_of_first, head_of, members_of_exports, members_of_groups, symbols_of_exports, symbols_of_groups, tail_of, within_export as within_gnu, FindsOwn, FindsWeak, InExport as GnuExport, alias_symbols, in_export as in_gnu, own_first, own_symbols, weak_first, in_nothing, only_one, none_times}
 use Rattle.implib_link.proofs.Search.Lists.{among_either, among_mapped, distinct_join, all_from, among_at, among_flat_map, among_any, any_among, distinct_apart, distinct_later, listed_is, at_index, kept_from, kept_into}
-use Rattle.implib.specs.LibraryName.{linked_name, names_for, NamesOfDll, linked_dll}
+use Rattle.implib.specs.LibraryName.{linked_name, names_for, linked_dll}
 use Rattle.implib.specs.declared.flavor.Flavor.TheVariants.{Gnu, Msvc}
 use Rattle.implib.specs.declared.flavor.Flavor.{Flavor}
-use Rattle.implib_link.proofs.Search.Roles.{in_flavor, Last, Null, Own, Role, Top, Weak, listed_as, member, symbols, IsRole, claims_as, is_weak_role, left, left_as_role, object, pair, tables_as, taken_as, weak_as, weak_symbol, weak_target}
+use Rattle.implib_link.proofs.Search.Roles.{in_flavor, Last, Null, Own, Role, Top, Weak, listed_as, member, symbols, IsRole, claims_as, is_weak_role, left, left_as_role, object, pair, taken_as, weak_as, weak_symbol, weak_target}
 use Rattle.std.proofs.lemmas.Grind.{flat_map-append}
 use Rattle.implib.specs.Members.Members.{AreMembersOf}
 use Rattle.implib.specs.Members.MemberSpec.{MemberView}
 use Rattle.implib.specs.Members.MsvcMembers.{descriptor_spec, null_descriptor_spec}
-use Rattle.implib.specs.Members.MsvcObjects.{descriptor_symbol, null_descriptor_symbol, null_thunk_symbol}
+use Rattle.implib.specs.Members.MsvcObjects.{descriptor_symbol, null_descriptor_symbol}
 use Rattle.implib.proofs.Link.LinkedMembers.{among_map}
 use Rattle.implib_link.proofs.Search.MsvcMembers.{descriptor_of, members_are, null_of as null_member_of, short_group, symbols_of_groups_of, thunk_of, within_export as within_short, FindsShort, FindsWeak as FindsShortWeak, InExport as ShortExport, in_export as in_short, pair_first, pair_symbol, short_first, short_symbol, weak_of as short_weak_of}
 use Rattle.implib.specs.Formats.Object.{Object}
 use Rattle.implib.specs.Members.Msvc.{short_import_symbol}
 use Rattle.implib_link.specs.Flavors.Expansion.{expanded_in}
-use Rattle.implib_link.specs.Flavors.Program.{IsFoundByName, has_tables}
+use Rattle.implib_link.specs.Flavors.Program.{IsFoundByName}
 
 -- Symbols that differ by their first bytes.
-
-no_underscore : (byte : ℕ) → byte ≡ underscore → not (byte == underscore) ≡ true → ⊥
-no_underscore byte is plain = true≢false (sym plain ∙ subst (λ n. not (n == underscore) ≡ false) (sym is) refl)
 
 first_byte : (x y : ℕ) (xs ys : List ℕ) → x ∷ xs ≡ y ∷ ys → x ≡ y
 first_byte x y xs ys same = cc
@@ -45,38 +41,23 @@ first_byte x y xs ys same = cc
 later_bytes : (x y : ℕ) (xs ys : List ℕ) → x ∷ xs ≡ y ∷ ys → xs ≡ ys
 later_bytes x y xs ys same = cc
 
--- a text that begins so is none that begins with an underscore
-plain_apart : (text more rest : List ℕ) → begins_plain text ≡ true → text ++ more ≡ underscore ∷ rest → ⊥
-plain_apart [] more rest plain same = true≢false (sym plain)
-plain_apart (byte ∷ text) more rest plain same = no_underscore byte (first_byte byte underscore (text ++ more) rest same) plain
-
 two_numbers : (x y n m : ℕ) → x ≡ y → x ≡ n → y ≡ m → n + 1 ≤ m ⊎ m + 1 ≤ n → ⊥
-two_numbers x y n m same is other (inl less) = omega arith
-two_numbers x y n m same is other (inr more) = omega arith
-
-h_is_no_underscore : (xs ys : List ℕ) → 0x68 ∷ xs ≡ 0x5F ∷ ys → ⊥
-h_is_no_underscore xs ys same = two_numbers 0x68 0x5F 0x68 0x5F (first_byte 0x68 0x5F xs ys same) refl refl (inr (omega arith))
+two_numbers x y n m same is other h7 = grind arith
 
 h_is_no_i : (xs ys : List ℕ) → 0x68 ∷ xs ≡ 0x69 ∷ ys → ⊥
 h_is_no_i xs ys same = two_numbers 0x68 0x69 0x68 0x69 (first_byte 0x68 0x69 xs ys same) refl refl (inl (omega arith))
 
 tail_no_head : (machine : MachineType) (dll other : List ℕ) → begins_plain (mangled_name dll) ≡ true → iname_symbol machine dll ≡ head_symbol machine other → ⊥
 unfolding iname_symbol head_symbol
-tail_no_head machine dll other plain same = grind (arith, same, plain_apart, codes, append_cancel_left)
+tail_no_head machine dll other plain same = grind (arith, same, codes, append_cancel_left)
 
 tail_no_imp : (machine : MachineType) (dll name : List ℕ) → begins_plain (mangled_name dll) ≡ true → iname_symbol machine dll ≡ imp_symbol name → ⊥
 unfolding iname_symbol
-tail_no_imp I386 dll name plain same = grind (arith, same, plain_apart, codes, later_bytes)
-tail_no_imp ARMNT dll name plain same = plain_apart (mangled_name dll) (codes "_iname") (codes "_imp_" ++ name) plain same
-tail_no_imp AMD64 dll name plain same = plain_apart (mangled_name dll) (codes "_iname") (codes "_imp_" ++ name) plain same
-tail_no_imp ARM64 dll name plain same = plain_apart (mangled_name dll) (codes "_iname") (codes "_imp_" ++ name) plain same
+tail_no_imp machine dll name plain same = grind (arith, later_bytes)
 
 head_no_imp : (machine : MachineType) (dll name : List ℕ) → head_symbol machine dll ≡ imp_symbol name → ⊥
 unfolding head_symbol
-head_no_imp I386 dll name same = grind (arith, same, h_is_no_i, codes, later_bytes)
-head_no_imp ARMNT dll name same = grind (arith, same, h_is_no_underscore, codes, later_bytes)
-head_no_imp AMD64 dll name same = grind (arith, same, h_is_no_underscore, codes, later_bytes)
-head_no_imp ARM64 dll name same = grind (arith, same, h_is_no_underscore, codes, later_bytes)
+head_no_imp machine dll name same = grind (arith, h_is_no_i, later_bytes)
 
 -- Texts that differ where others do.
 
@@ -87,11 +68,7 @@ distinct_mapped {X = X} g h back (x ∷ xs) distinct = (others xs distinct.0, di
   where
     others : (ys : List X) → AllByRecursion (λ other. bytes_eq (g x) other ≡ false) (map g ys) → AllByRecursion (λ other. bytes_eq (h x) other ≡ false) (map h ys)
     others [] all = tt
-    others (y ∷ ys) all = (
-      false_from_ne_true (bytes_eq (h x) (h y)) (λ same.
-          true≢false (sym ((bytes_eq-Decides (g x) (g y)).1 (back x y ((bytes_eq-Decides (h x) (h y)).0 same))) ∙ all.0)),
-      others ys all.1,
-    )
+    others (y ∷ ys) all = grind (arith, false_from_ne_true, true≢false, bytes_eq-Decides, others ys all.1)
 
 stem_of_tail : (machine : MachineType) (l k : Library) → iname_symbol machine (linked_name l.definition) ≡ iname_symbol machine (linked_name k.definition) → stem l ≡ stem k
 unfolding iname_symbol
@@ -111,13 +88,7 @@ exports_count : (name : List ℕ) (es : List ExportView) →
     times name (flat_map symbols_of_export es) ≤ times name (map (λ (e : ExportView). e.name) es) + times name (map imp_symbol (map (λ (e : ExportView). e.name) es))
 unfolding times
 exports_count name [] = omega arith
-exports_count name (e ∷ es) =
-    let behind = exports_count name es in
-    let all : times name (symbols_of_export e ++ flat_map symbols_of_export es) ≡ times name (symbols_of_export e) + times name (flat_map symbols_of_export es) = grind (arith, times_both) in
-    elim (cases_Bool (e.is_data && not (is_alias e.alias_target e.name))) [
-      | inl alone ↦ grind (arith, times)
-      | inr both ↦ grind (arith, times)
-    ]
+exports_count name (e ∷ es) = grind (arith, times, times_both, cases_Bool, exports_count name es)
 
 module _ (machine : MachineType) where
   library_count : (name : List ℕ) (libraries : List Library) →
@@ -126,17 +97,10 @@ module _ (machine : MachineType) where
   unfolding times symbols_of_library
   library_count name [] = omega arith
   library_count name (l ∷ libraries) =
-      let dll : NamesOfDll = names_for Gnu l.definition in
-      let own : List (List ℕ) = map (λ (e : ExportView). e.name) (exports_of l) in
       let behind = library_count name libraries in
       let turned : times name (flat_map symbols_of_export (reverse (exports_of l))) ≡ times name (flat_map symbols_of_export (exports_of l)) = grind (arith, times_moved symbols_of_export name (exports_of l) (reverse (exports_of l)) (IsPermutation-reverse (exports_of l))) in
       let few = exports_count name (exports_of l) in
-      let split : times name (flat_map symbols_of_export (reverse (exports_of l)) ++ flat_map (symbols_of_library machine) libraries)
-      ≡ times name (flat_map symbols_of_export (reverse (exports_of l))) + times name (flat_map (symbols_of_library machine) libraries) = grind (arith, times_both) in
-      let names : times name (map (λ (e : ExportView). e.name) (exports_of l) ++ names_in libraries) ≡ times name (map (λ (e : ExportView). e.name) (exports_of l)) + times name (names_in libraries) = grind (arith, times_both) in
-      let imps : times name (map imp_symbol (map (λ (e : ExportView). e.name) (exports_of l) ++ names_in libraries))
-      ≡ times name (map imp_symbol (map (λ (e : ExportView). e.name) (exports_of l))) + times name (map imp_symbol (names_in libraries)) = grind (arith, times, map-append, times_both) in
-      omega arith
+      grind (arith, times, times_both, map-append)
 
   module _ (libraries : List Library) (apart : AreNamedApart machine libraries) where
     abbrev tails : List (List ℕ)
@@ -191,11 +155,7 @@ module _ (machine : MachineType) where
     listed_few : (name : List ℕ) → times name (flat_map (symbols_of_library machine) libraries) ≤ 1
     listed_few name =
         let most = few_from (tails ++ (heads ++ (names ++ imps))) all_differ name in
-        let first : times name (tails ++ (heads ++ (names ++ imps))) ≡ times name tails + times name (heads ++ (names ++ imps)) = times_both name tails (heads ++ (names ++ imps)) in
-        let second : times name (heads ++ (names ++ imps)) ≡ times name heads + times name (names ++ imps) = times_both name heads (names ++ imps) in
-        let third : times name (names ++ imps) ≡ times name names + times name imps = times_both name names imps in
-        let few = library_count name libraries in
-        omega arith
+        omega (arith, times_both name tails (heads ++ (names ++ imps)), times_both name heads (names ++ imps), times_both name names imps, library_count name libraries)
 
 pub named_apart : (machine : MachineType) (libraries : List Library) → AllByRecursion (IsLibrary machine) libraries → AreNamedApart machine libraries → IsArchive machine libraries
 named_apart machine libraries made apart = grind (arith, distinct_from, listed_few)
@@ -233,14 +193,6 @@ shorts_archive machine libraries archive = grind (arith, no_gnu, shorts_alone, f
 
 -- A library of a flavour is among all.
 
-gnu_is : (flavor : Flavor) (l x : Library) → if_gnu flavor l ≡ Some x → in_flavor Gnu x ≡ in_flavor flavor l
-gnu_is Gnu l x is = (let same : l ≡ x = cc in ap (in_flavor Gnu) (sym same))
-gnu_is Msvc l x is = cc
-
-msvc_is : (flavor : Flavor) (l x : Library) → if_msvc flavor l ≡ Some x → in_flavor Msvc x ≡ in_flavor flavor l
-msvc_is Msvc l x is = (let same : l ≡ x = cc in ap (in_flavor Msvc) (sym same))
-msvc_is Gnu l x is = cc
-
 module _ (libraries : List FlavorLibrary) where
   pub gnu_there : (l : Library) → Among (in_flavor Gnu l) libraries → Among l (gnu_among libraries)
   gnu_there l held = kept_into (λ (x : FlavorLibrary). if_gnu x.flavor x.library) libraries l (in_flavor Gnu l) held refl
@@ -249,10 +201,10 @@ module _ (libraries : List FlavorLibrary) where
   msvc_there l held = kept_into (λ (x : FlavorLibrary). if_msvc x.flavor x.library) libraries l (in_flavor Msvc l) held refl
 
   pub there_gnu : (l : Library) → Among l (gnu_among libraries) → Among (in_flavor Gnu l) libraries
-  there_gnu l held = grind (arith, held, kept_from, gnu_is)
+  there_gnu l held = grind (arith, held, kept_from)
 
   pub there_msvc : (l : Library) → Among l (msvc_among libraries) → Among (in_flavor Msvc l) libraries
-  there_msvc l held = grind (arith, held, kept_from, msvc_is)
+  there_msvc l held = grind (arith, held, kept_from)
 
   pub first_held : (l : Library) (rest : List Library) → msvc_among libraries ≡ l ∷ rest → Among l (msvc_among libraries)
   first_held l rest is = subst (Among l) (sym is) (among_first l rest)
@@ -288,15 +240,11 @@ module _ (machine : MachineType) where
 
   symbols_in_groups : (flavor : Flavor) (l : Library) → symbols_of_groups (groups_in flavor l) ≡ of_library flavor l
   unfolding symbols_of_shorts symbols_of_library
-  symbols_in_groups Msvc l = ap (λ names. descriptor_symbol (linked_dll l.definition) ∷ null_thunk_symbol (linked_dll l.definition) ∷ names) (symbols_of_groups_of machine l (exports_of l))
-  symbols_in_groups Gnu l = ap (λ names. iname_symbol machine (linked_name l.definition) ∷ head_symbol machine (linked_name l.definition) ∷ names) (symbols_of_exports machine l 0 (exports_of l))
+  symbols_in_groups flavor l = grind (arith, symbols_of_groups_of, symbols_of_exports)
 
   symbols_groups : (libraries : List FlavorLibrary) → symbols_of_groups (all_groups libraries) ≡ of_libraries libraries
   symbols_groups [] = refl
-  symbols_groups (l ∷ libraries) =
-      flat_map-append (λ (g : Group). g.symbols) (groups_in l.flavor l.library) (all_groups libraries)
-      ∙ ap (λ names. names ++ symbols_of_groups (all_groups libraries)) (symbols_in_groups l.flavor l.library)
-      ∙ ap (λ names. of_library l.flavor l.library ++ names) (symbols_groups libraries)
+  symbols_groups (l ∷ libraries) = grind (arith, flat_map-append, symbols_of_groups, symbols_in_groups, symbols_groups libraries)
 
   abbrev pub IsEnd : Role → Type 0
   IsEnd Top = Unit {0}
@@ -322,8 +270,7 @@ module _ (machine : MachineType) where
   group_is Gnu l g (inr (inl is)) = OfRole Top tt is
   group_is Gnu l g (inr (inr behind)) =
       let own = export_group_is machine l (exports_of l) 0 g behind in
-      let position : 0 + own.0 ≡ own.0 = omega arith in
-      OfExport own.0 own.1 own.2 (own.3 ∙ ap (λ n. export_group machine l n own.1) position)
+      OfExport own.0 own.1 own.2 (own.3 ∙ ap (λ n. export_group machine l n own.1) (omega arith))
 
   role_there : (flavor : Flavor) (l : Library) (r : Role) → IsEnd r → Among (role_group flavor l r) (groups_in flavor l)
   role_there Msvc l Top end = among_first _ _
@@ -341,10 +288,7 @@ module _ (machine : MachineType) where
       among_later _ _ _ (among_later _ _ _ (subst (λ k. Among (export_group machine l k e) (export_groups machine l 0 (exports_of l))) position (group_is_export machine l (exports_of l) 0 n e is)))
 
   within : (flavor : Flavor) (l : Library) (g : Group) → IsGroup flavor l g → IsWithin g
-  within flavor l g (OfRole r end is) = subst IsWithin (sym is) (λ m name held listed.
-      subst (Among name) (listed_as machine flavor l r) (subst (λ (y : MemberView). Among name y.symbols) (only_one m (member machine flavor l r) held) listed))
-  within Msvc l g (OfExport n e at is) = subst IsWithin (sym is) (within_short machine l e)
-  within Gnu l g (OfExport n e at is) = subst IsWithin (sym is) (within_gnu machine l n e)
+  within flavor l g h3 = grind (arith, listed_as, only_one, member, within_short, within_gnu)
 
   all_within : (libraries : List FlavorLibrary) → AllByRecursion IsWithin (all_groups libraries)
   all_within libraries = all_from IsWithin (all_groups libraries) (λ g held.
@@ -359,8 +303,7 @@ module _ (machine : MachineType) where
 
   same_behind : (name : List ℕ) (front rest other : List MemberView) → first_listed rest name ≡ first_listed other name → first_listed (front ++ rest) name ≡ first_listed (front ++ other) name
   same_behind name [] rest other same = same
-  same_behind name (m ∷ front) rest other same =
-      elim (cases_Bool (is_listed_for name m)) [ inl is ↦ rw is refl | inr none ↦ rw none (same_behind name front rest other same) ]
+  same_behind name (m ∷ front) rest other same = grind (arith, cases_Bool, same_behind name front rest other same)
 
   without_null : (name : List ℕ) (l : Library) (d t : MemberView) (rest : List MemberView) → bytes_eq name null_descriptor_symbol ≡ false →
       first_listed (d ∷ null_member_of machine l ∷ t ∷ rest) name ≡ first_listed (d ∷ t ∷ rest) name
@@ -372,9 +315,7 @@ module _ (machine : MachineType) where
 
   library_groups : (name : List ℕ) (flavor : Flavor) (l : Library) (rest : List MemberView) → AreMembersOf l.definition machine flavor l.members → NotNull name flavor →
       first_listed (l.members ++ rest) name ≡ first_listed (members_of_groups (groups_in flavor l) ++ rest) name
-  library_groups name Msvc l rest made none =
-      ap (λ ms. first_listed (ms ++ rest) name) (members_are machine l made)
-      ∙ without_null name l (descriptor_of machine l) (thunk_of machine l) (members_of_groups (map (short_group machine l) (exports_of l)) ++ rest) none
+  library_groups name Msvc l rest made none = cc (members_are machine l made, without_null name l (descriptor_of machine l) (thunk_of machine l) (members_of_groups (map (short_group machine l) (exports_of l)) ++ rest) none)
   library_groups name Gnu l rest made none = ap (λ ms. first_listed (ms ++ rest) name) (gnu_members_are l made)
 
   abbrev AreMade : List FlavorLibrary → Type 0
@@ -397,8 +338,7 @@ module _ (machine : MachineType) where
   null_found name l rest named none =
       let other : is_listed_for name (descriptor_of machine l) ≡ false =
       false_from_ne_true (is_listed_for name (descriptor_of machine l)) (λ is. none (inl (only_one name (descriptor_symbol (linked_dll l.definition)) (any_among name (descriptor_of machine l).symbols is)))) in
-      let own : is_listed_for name (null_member_of machine l) ≡ true = among_any name (null_member_of machine l).symbols (inl named) in
-      rw (other, own) refl
+      cc (among_any name (null_member_of machine l).symbols (inl named))
 
   listed_in_library : (name : List ℕ) (l : Library) (m : MemberView) → AreMembersOf l.definition machine Gnu l.members → first_listed l.members name ≡ Some m → Among name (of_library Gnu l)
   listed_in_library name l m made found =
@@ -421,24 +361,13 @@ module _ (machine : MachineType) where
             | inl nothing ↦ first_behind name y.members (archive_of_both libraries) nothing ∙ later first
             | inr some ↦ absurd (none (listed_in_library name y some.0 own some.1))
           ]
-      by Msvc y own none first later =
-          let same : y ≡ x = cc in
-          let behind : List MemberView = thunk_of machine y ∷ members_of_groups (map (short_group machine y) (exports_of y)) in
-          ap (λ ms. first_listed (ms ++ archive_of_both libraries) name) (members_are machine y own) ∙ null_found name y (behind ++ archive_of_both libraries) named none
-          ∙ ap (λ z. Some (null_member_of machine z)) same
-
-  sums_first : (name : List ℕ) (flavor : Flavor) (l : Library) (rest : List FlavorLibrary) →
-      times name (of_libraries rest) ≡ times name (flat_map (symbols_of_library machine) (gnu_among rest)) + times name (flat_map symbols_of_shorts (msvc_among rest)) →
-      times name (of_library flavor l) + times name (of_libraries rest)
-      ≡ times name (flat_map (symbols_of_library machine) (cons_option (if_gnu flavor l) (gnu_among rest))) + times name (flat_map symbols_of_shorts (cons_option (if_msvc flavor l) (msvc_among rest)))
-  sums_first name Msvc l rest later = grind (arith, times_both)
-  sums_first name Gnu l rest later = grind (arith, times_both)
+      by Msvc y own none first later = cc (members_are machine y own, null_found name y ((thunk_of machine y ∷ members_of_groups (map (short_group machine y) (exports_of y))) ++ archive_of_both libraries) named none)
 
   sums : (name : List ℕ) (libraries : List FlavorLibrary) →
       times name (of_libraries libraries) ≡ times name (flat_map (symbols_of_library machine) (gnu_among libraries)) + times name (flat_map symbols_of_shorts (msvc_among libraries))
   unfolding times
   sums name [] = refl
-  sums name (l ∷ rest) = times_both name (of_library l.flavor l.library) (of_libraries rest) ∙ sums_first name l.flavor l.library rest (sums name rest)
+  sums name (l ∷ rest) = times_both name (of_library l.flavor l.library) (of_libraries rest) ∙ (grind (arith, times_both, sums name rest))
 
 module _ (machine : MachineType) (libraries : List FlavorLibrary) (archive : IsFlavorArchive machine libraries) where
   abbrev shorts : List Library
@@ -446,30 +375,25 @@ module _ (machine : MachineType) (libraries : List FlavorLibrary) (archive : IsF
 
   shorts_differ : (ls : List Library) → IsDistinct bytes_eq (null_descriptor_symbol ∷ flat_map symbols_of_shorts ls) → IsDistinct bytes_eq (symbols_of_all_shorts ls)
   unfolding IsDistinct
-  shorts_differ [] distinct = tt
-  shorts_differ (l ∷ ls) distinct = distinct
+  shorts_differ ls distinct = grind arith
 
   with_null : (name : List ℕ) (ls : List Library) → times name (symbols_of_all_shorts ls) ≡ times name (null_of ls) + times name (flat_map symbols_of_shorts ls)
   unfolding times
-  with_null name [] = refl
-  with_null name (l ∷ ls) = times_both name (null_descriptor_symbol ∷ []) (flat_map symbols_of_shorts (l ∷ ls))
+  with_null name ls = grind (arith, times_both)
 
   -- the symbols of all libraries and the null descriptor's
   pub few : (name : List ℕ) → times name (null_of shorts) + times name (of_libraries machine libraries) ≤ 1
   few name =
       let gnu : List (List ℕ) = flat_map (symbols_of_library machine) (gnu_among libraries) in
-      let total : times name (of_libraries machine libraries) ≡ times name gnu + times name (flat_map symbols_of_shorts (msvc_among libraries)) = sums machine name libraries in
-      let split : times name (symbols_of_all_shorts (msvc_among libraries)) ≡ times name (null_of shorts) + times name (flat_map symbols_of_shorts (msvc_among libraries)) = with_null name shorts in
       let gnu_once : times name gnu ≤ 1 = few_from gnu archive.gnu.distinct name in
       let short_once : times name (symbols_of_all_shorts (msvc_among libraries)) ≤ 1 = few_from (symbols_of_all_shorts shorts) (shorts_differ shorts archive.msvc.distinct) name in
       elim (cases_Bool (list_any (bytes_eq name) gnu)) [
-        | inl there ↦ grind (arith, times name (symbols_of_all_shorts (msvc_among libraries)), any_among name gnu there, none_times, all_among)
-        | inr none_there ↦ (let none : times name gnu ≡ 0 = none_times name gnu none_there in omega arith)
+        | inl there ↦ grind (arith, with_null name shorts, sums machine name libraries, times name (symbols_of_all_shorts (msvc_among libraries)), any_among name gnu there, none_times, all_among)
+        | inr none_there ↦ (let none : times name gnu ≡ 0 = none_times name gnu none_there in omega (arith, with_null name shorts, sums machine name libraries))
       ]
 
   symbols_differ : IsDistinct bytes_eq (null_of (msvc_among libraries) ++ of_libraries machine libraries)
-  symbols_differ = distinct_from (null_of shorts ++ of_libraries machine libraries) (λ name.
-      (let both = times_both name (null_of shorts) (of_libraries machine libraries) in let most : times name (null_of shorts) + times name (of_libraries machine libraries) ≤ 1 = few name in omega arith))
+  symbols_differ = grind (arith, distinct_from, times_both, times, few)
 
   pub made_of : (flavor : Flavor) (l : Library) → Among (in_flavor flavor l) libraries → AreMembersOf l.definition machine flavor l.members
   made_of Gnu l held = all_among (λ (x : Library). AreMembersOf x.definition machine Gnu x.members) l (gnu_among libraries) (gnu_there libraries l held) archive.gnu.made
@@ -573,13 +497,6 @@ module _ (machine : MachineType) (libraries : List FlavorLibrary) (archive : IsF
   one : (name own : List ℕ) → name ≡ own → Among name (own ∷ [])
   one name own is = subst (λ n. Among n (own ∷ [])) (sym is) (among_first own [])
 
-  of_end : (flavor : Flavor) (l : Library) (r : Role) → IsEnd machine r → IsRole libraries (in_flavor flavor l) r
-  of_end flavor l Top end = tt
-  of_end flavor l Last end = tt
-  of_end flavor l Null end = absurd end
-  of_end flavor l (Own n e) end = absurd end
-  of_end flavor l (Weak n e b) end = absurd end
-
   as_one : (name own : List ℕ) (m : MemberView) → Among name (own ∷ []) → first_listed (archive_of_both libraries) own ≡ Some m → first_listed (archive_of_both libraries) name ≡ Some m
   as_one name own m held is = ap (first_listed (archive_of_both libraries)) (only_one name own held) ∙ is
 
@@ -603,7 +520,7 @@ module _ (machine : MachineType) (libraries : List FlavorLibrary) (archive : IsF
       of_group flavor l g held (OfRole r end at) first =
           let there = listed_is (member machine flavor l r ∷ []) name m (subst (λ (y : Group). first_listed y.members name ≡ Some m) at first) in
           let same : m ≡ member machine flavor l r = only_one m (member machine flavor l r) there.0 in
-          find name m flavor l r held (of_end flavor l r end) same (subst (Among name) (listed_as machine flavor l r) (subst (λ (y : MemberView). Among name y.symbols) same there.1))
+          find name m flavor l r held (grind arith) same (subst (Among name) (listed_as machine flavor l r) (subst (λ (y : MemberView). Among name y.symbols) same there.1))
       of_group Gnu l g held (OfExport n e at own) first = of_gnu l n e held at (in_gnu machine l n e name m (subst (λ (y : Group). first_listed y.members name ≡ Some m) own first))
       of_group Msvc l g held (OfExport n e at own) first = of_short l n e held at (in_short machine l e name m (subst (λ (y : Group). first_listed y.members name ≡ Some m) own first))
 
@@ -616,8 +533,7 @@ module _ (machine : MachineType) (libraries : List FlavorLibrary) (archive : IsF
       Among name (symbols machine flavor l r) → first_listed (archive_of_both libraries) name ≡ Some (member machine flavor l r)
   finds flavor l Top name held is listed = role_finds machine libraries archive flavor l Top name held tt listed
   finds flavor l Last name held is listed = role_finds machine libraries archive flavor l Last name held tt listed
-  finds Gnu l Null name held is listed = absurd is
-  finds Msvc l Null name held is listed = null_finds machine libraries archive name (only_one name _ listed) l is.0 is.1
+  finds flavor l Null name held is listed = grind (arith, null_finds, only_one)
   finds Gnu l (Own n e) name held is listed = export_finds machine libraries archive Gnu l n e name _ held is.0 (own_symbols e name listed) (own_first machine l n e name listed)
   finds Msvc l (Own n e) name held is listed = export_finds machine libraries archive Msvc l n e name _ held is.0 (short_symbol e name is.1 listed) (short_first machine l e name is.1 listed)
   finds Gnu l (Weak n e true) name held is listed = absurd is.1
@@ -643,9 +559,6 @@ module _ (machine : MachineType) (libraries : List FlavorLibrary) (archive : IsF
 
     pub left_by_role : (o : Object) (name : List ℕ) → reads m.bytes ≡ Some o → Among name (undefined_in o) → Among name (left machine x.library.flavor x.library.library x.role)
     left_by_role o name read held = grind (arith, held, names_read, left, left_as_role, by_name)
-
-    pub tables_by_role : (o : Object) → reads m.bytes ≡ Some o → has_tables o ≡ not (is_weak_role x.role)
-    tables_by_role o read = grind (arith, tables_read, is_weak_role, tables_as)
 
     pub first_by_role : IsFirstAs reads (archive_of_both libraries) m
     first_by_role =

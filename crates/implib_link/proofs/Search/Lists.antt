@@ -212,8 +212,7 @@ passes test x (y ∷ xs) (inl e) is = rw (subst (λ z. test z ≡ true) e is) (i
 passes test x (y ∷ xs) (inr held) is = grind (arith, passes test x xs held is)
 
 pub from_not : (b : Bool) → not b ≡ true → b ≡ false
-from_not true is = absurd (true≢false (sym is))
-from_not false is = refl
+from_not b is = grind (arith, true≢false)
 
 pub among_filter : {X : Type 0} (test : X → Bool) (x : X) (xs : List X) → Among x (filter test xs) → Among x xs
 among_filter test x xs held = (passing test x xs held).0

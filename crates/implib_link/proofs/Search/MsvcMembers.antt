@@ -1,5 +1,5 @@
 -- The members of a library for Microsoft's linker: which of an export's a name finds, and what they are taken for.
-use Rattle.std.proofs.Common.{rules, ◌≡◌, ℕ, true, false, List, [], ◌∷◌, ◌++◌, map, Some, refl, ap, sym, ◌∙◌, subst, inl, inr, ◌⊎◌, ◌<◌, length, arith, ◌≤◌}
+use Rattle.std.proofs.Common.{rules, ◌≡◌, ℕ, true, false, List, [], ◌∷◌, ◌++◌, map, Some, refl, ap, sym, ◌∙◌, subst, inl, inr, ◌⊎◌, ◌<◌, arith, ◌≤◌}
 use Rattle.std.specs.List.{flat_map, filter}
 use Rattle.std.proofs.lemmas.Bool.{cases_Bool, false_from_ne_true}
 use Rattle.std.proofs.lemmas.List.{map-append}
@@ -7,13 +7,13 @@ use Rattle.implib.specs.declared.machine.MachineType.{MachineType}
 use Rattle.implib.specs.Definition.{ExportView}
 use Rattle.implib.specs.Formats.Layout.{entries_of, name_text, object_of}
 use Rattle.implib.specs.Formats.Object.{Object}
-use Rattle.implib.specs.Import.{imp_symbol, Ask, Name, Ordinal}
+use Rattle.implib.specs.Import.{imp_symbol, Ask}
 use Rattle.implib.specs.Members.MemberSpec.{MemberView, member_of}
 use Rattle.implib.specs.Members.Msvc.{short_import_symbol, short_import_symbols}
 use Rattle.implib.specs.Members.MsvcMembers.{descriptor_spec, export_specs, header_specs, null_descriptor_spec, null_thunk_spec, short_import_spec, weak_specs}
 use Rattle.implib.specs.Members.WeakExternal.{weak_object, weak_spec}
 use Rattle.implib.proofs.Link.Ranges.{Among, among_back, among_first, among_flat, among_front, all_among}
-use Rattle.implib_link.specs.Flavors.Expansion.{expanded_in, Code, Constant, Data, Use, import_object, descriptor_symbol_by_name, with_section_symbols}
+use Rattle.implib_link.specs.Flavors.Expansion.{expanded_in, Use, import_object, descriptor_symbol_by_name, with_section_symbols}
 use Rattle.implib_link.specs.Flavors.Program.{claimed_names, has_tables, null_member, objects_taken}
 use Rattle.implib_link.specs.Search.Search.{Library, exports_of, first_listed, is_listed_for, undefined_in, has_weak}
 use Rattle.implib_link.specs.Search.Libraries.{IsMsvcLibrary, is_short_alias, symbols_of_short, IsMsvcArchive, first_null, imports_wanted, is_import_wanted, with_first_null, symbols_of_shorts, is_short_wanted}
@@ -126,13 +126,11 @@ module _ (machine : MachineType) where
       let name : List ℕ = imp_symbol (short_import_symbol e) in
       let other : is_listed_for (imp_symbol (short_import_symbol e)) (weak_of machine l (short_import_symbol e) e.alias_target) ≡ false =
       false_from_ne_true _ (λ is. no_address (short_import_symbol e) (sym (only_one name (short_import_symbol e) (any_among name (short_import_symbol e ∷ []) is)))) in
-      let own : is_listed_for (imp_symbol (short_import_symbol e)) (weak_of machine l (imp_symbol (short_import_symbol e)) (imp_symbol e.alias_target)) ≡ true = among_any name (name ∷ []) (among_first _ _) in
-      rw (alias_members l e alias, other, own) refl
+      cc (alias_members l e alias, among_any name (name ∷ []) (among_first _ _))
 
   pub pair_first : (l : Library) (e : ExportView) (weak target : List ℕ) → is_short_alias e ≡ true → IsPair e weak target →
       first_listed (short_group l e).members weak ≡ Some (weak_of machine l weak target)
-  pair_first l e weak target alias (inl is) = grind (arith, symbol_first)
-  pair_first l e weak target alias (inr is) = grind (arith, address_first)
+  pair_first l e weak target alias h5 = grind (arith, symbol_first, address_first)
 
   -- what a name finds in an export's group
   pub data InExport (l : Library) (e : ExportView) (name : List ℕ) (m : MemberView) : Type 0 where
@@ -225,12 +223,7 @@ left_thunk machine dll = refl
 
 pub left_asking : (machine : MachineType) (dll : NamesOfDll) (symbol : List ℕ) (ask : Ask) (use_kind : Use) → undefined_in (import_object machine dll.text symbol ask use_kind) ≡ descriptor_symbol_by_name dll.text ∷ []
 unfolding undefined_in import_object
-left_asking machine dll symbol (Ordinal n) Code = refl
-left_asking machine dll symbol (Ordinal n) Data = refl
-left_asking machine dll symbol (Ordinal n) Constant = refl
-left_asking machine dll symbol (Name text hint) Code = refl
-left_asking machine dll symbol (Name text hint) Data = refl
-left_asking machine dll symbol (Name text hint) Constant = refl
+left_asking machine dll symbol ask use_kind = grind arith
 
 -- Which members are weak externals.
 
@@ -248,12 +241,7 @@ thunk_not_weak machine dll = refl
 
 pub asking_not_weak : (machine : MachineType) (dll : NamesOfDll) (symbol : List ℕ) (ask : Ask) (use_kind : Use) → has_weak (Some (import_object machine dll.text symbol ask use_kind)) ≡ false
 unfolding import_object
-asking_not_weak machine dll symbol (Ordinal n) Code = refl
-asking_not_weak machine dll symbol (Ordinal n) Data = refl
-asking_not_weak machine dll symbol (Ordinal n) Constant = refl
-asking_not_weak machine dll symbol (Name text hint) Code = refl
-asking_not_weak machine dll symbol (Name text hint) Data = refl
-asking_not_weak machine dll symbol (Name text hint) Constant = refl
+asking_not_weak machine dll symbol ask use_kind = grind arith
 
 pub weak_is_weak : (machine : MachineType) (weak target : List ℕ) → has_weak (Some (taken_weak machine weak target)) ≡ true
 unfolding with_section_symbols weak_object object_of entries_of name_text
@@ -261,26 +249,9 @@ weak_is_weak machine weak target = refl
 
 -- Which of them hold import tables.
 
-pub descriptor_has : (machine : MachineType) (dll : NamesOfDll) → has_tables (taken_descriptor machine dll) ≡ true
-unfolding has_tables with_section_symbols object_of descriptor entries_of name_text
-descriptor_has machine dll = refl
-
 pub null_has : (machine : MachineType) → has_tables (taken_null machine) ≡ true
 unfolding has_tables with_section_symbols object_of null_descriptor entries_of name_text
 null_has machine = refl
-
-pub thunk_has : (machine : MachineType) (dll : NamesOfDll) → has_tables (taken_null_thunk machine dll) ≡ true
-unfolding has_tables with_section_symbols object_of null_thunk entries_of name_text
-thunk_has machine dll = refl
-
-pub asking_has : (machine : MachineType) (dll : NamesOfDll) (symbol : List ℕ) (ask : Ask) (use_kind : Use) → has_tables (import_object machine dll.text symbol ask use_kind) ≡ true
-unfolding has_tables import_object
-asking_has machine dll symbol (Ordinal n) use_kind = refl
-asking_has machine dll symbol (Name text hint) use_kind = refl
-
-pub weak_has_none : (machine : MachineType) (weak target : List ℕ) → has_tables (taken_weak machine weak target) ≡ false
-unfolding has_tables with_section_symbols weak_object object_of entries_of name_text
-weak_has_none machine weak target = refl
 
 -- Archives of libraries for Microsoft's linker: which exports are wanted, what is linked of them, and the null descriptor that they share.
 
@@ -298,11 +269,6 @@ by_symbol e name (inr behind) = grind arith
 
 none_below : (n : ℕ) → n < 0 → ⊥
 none_below n less = omega arith
-
-pub first_one : {X : Type 0} (xs : List X) → 0 < length xs → (x : X) × Among x xs
-unfolding Among
-first_one [] some = absurd (none_below 0 some)
-first_one (x ∷ xs) some = (x, inl refl)
 
 -- What is linked of libraries.
 

@@ -1,12 +1,12 @@
 -- GNU `ld`'s search, which resolves nothing by weak externals, and one that does.
-use Rattle.std.proofs.Common.{rules, ◌≡◌, ℕ, ◌⊎◌, false, List, [], ◌∷◌, ◌++◌, Option, Some, None, map, refl, ap, sym, ◌∙◌, subst, inl, inr, arith}
+use Rattle.std.proofs.Common.{rules, ◌≡◌, ℕ, ◌⊎◌, false, List, [], ◌∷◌, ◌++◌, Option, Some, map, refl, ap, sym, ◌∙◌, subst, inl, inr, arith}
 use Rattle.std.specs.Prelude.{bytes_eq, not}
 use Rattle.std.specs.List.{Contains, cons_option, filter, flat_map, list_any}
 use Rattle.std.specs.Option.{option_map}
 use Rattle.std.proofs.lemmas.Bool.{cases_Bool, not_from_false, true≢false}
 use Rattle.std.proofs.lemmas.List.{map-append}
 use Rattle.implib.specs.declared.machine.MachineType.{MachineType}
-use Rattle.implib.specs.Formats.Object.{ASymbol, Auxiliary, Entry, Object}
+use Rattle.implib.specs.Formats.Object.{Entry, Object}
 use Rattle.implib.specs.Link.Linked.{undefined_name}
 use Rattle.implib.specs.Members.MemberSpec.{MemberView}
 use Rattle.implib.proofs.Link.LinkedMembers.{among_contains, among_map}
@@ -23,8 +23,7 @@ use Rattle.std.proofs.lemmas.Option.{same_Some}
 -- An object without its weak externals leaves the same names, and claims the others.
 
 not_weak : (e : Entry) (name : List ℕ) → undefined_name e ≡ Some name → is_weak_entry e ≡ false
-not_weak (Auxiliary bytes) name is = refl
-not_weak (ASymbol s) name is = grind arith
+not_weak e name is = grind arith
 
 pub left_plain : (o : Object) (name : List ℕ) → Among name (undefined_in o) → Among name (undefined_in (without_weak o))
 unfolding undefined_in without_weak
@@ -98,8 +97,7 @@ module _ (os : List Object) (name : List ℕ) where
       ∙ from_not (is_weak_entry kept.0) own.1))
 
 plain_one : (x : Option Object) (os plain : List Object) → plain ≡ map without_weak os → cons_option (option_map without_weak x) plain ≡ map without_weak (cons_option x os)
-plain_one None os plain same = same
-plain_one (Some o) os plain same = ap (λ others. without_weak o ∷ others) same
+plain_one x os plain same = grind arith
 
 -- each weak external of these members is the first that its name leads to
 abbrev AreFirst : (List ℕ → Option Object) → List MemberView → List MemberView → Type 0
@@ -124,10 +122,7 @@ module _ (reads : List ℕ → Option Object) where
     module _ (none : HaveNoWeak own) where
       own_none : (o : Object) (name : List ℕ) → Among o own → Among name (weak_names o) → ⊥
       unfolding weak_names
-      own_none o name held among =
-          let from = kept_from claimed_name (filter is_weak_entry o.entries) name among in
-          let weak = passing is_weak_entry from.0 o.entries from.1 in
-          true≢false (sym weak.1 ∙ none_among is_weak_entry from.0 o.entries weak.0 (all_among (λ (x : Object). list_any is_weak_entry x.entries ≡ false) o own held none))
+      own_none o name held among = grind (arith, kept_from, passing, true≢false, none_among, all_among)
 
       -- what is left without weak externals is left with them, or is the name of one of a member
       either : (taken : List MemberView) (name : List ℕ) → Contains (left_plainly reads own taken) name →
@@ -136,12 +131,7 @@ module _ (reads : List ℕ → Option Object) where
           elim (left_or_weak (own ++ objects_as reads taken) name
           (contains_among name (unresolved (map without_weak (own ++ objects_as reads taken))) (subst (λ os. Contains (unresolved os) name) (plain_objects taken) held))) [
             | inl held ↦ inl (among_contains name (unresolved (own ++ objects_as reads taken)) held)
-            | inr weak ↦ elim (among_either weak.0 own (objects_as reads taken) weak.1) [
-              | inl here ↦ absurd (own_none weak.0 name here weak.2)
-              | inr there ↦
-                  let from = kept_from (λ (m : MemberView). reads m.bytes) taken weak.0 there in
-                  inr (record { member = from.0; held = from.1; object = weak.0; taken = from.2; among = weak.2 })
-            ]
+            | inr weak ↦ grind (arith, among_either, own_none, kept_from)
           ]
 
       pub left : (taken : List MemberView) (name : List ℕ) → Contains (left_plainly reads own taken) name → (Contains (unresolved (own ++ objects_as reads taken)) name → ⊥) → IsWeakAmong reads taken name
@@ -182,26 +172,21 @@ module _ (reads : List ℕ → Option Object) where
 
 -- The laws.
 
-of_taken : (reads : List ℕ → Option Object) (archive taken : List MemberView) → WeakAreFirst reads archive taken → AreFirst reads archive taken
-of_taken reads archive taken first x o name held read among = first x o name (among_contains x taken held) read (among_contains name (weak_names o) among)
-
 pub plain : (reads : List ℕ → Option Object) (archive : List MemberView) (own : List Object) (taken : List MemberView) → WeakAreFirst reads archive taken → HaveNoWeak own →
     TakesIntoAs reads archive own taken → TakesPlainly reads archive own taken
-plain reads archive own taken first none = plain_takes reads own none archive taken (of_taken reads archive taken first)
+plain reads archive own taken first none = plain_takes reads own none archive taken (λ x o name held read among. first x o name (among_contains x taken held) read (among_contains name (weak_names o) among))
 
 pub weak : (reads : List ℕ → Option Object) (archive : List MemberView) (own : List Object) (taken : List MemberView) → WeakAreFirst reads archive taken → HaveNoWeak own →
     TakesPlainly reads archive own taken → TakesIntoAs reads archive own taken
-weak reads archive own taken first none = weak_takes reads own none archive taken (of_taken reads archive taken first)
+weak reads archive own taken first none = weak_takes reads own none archive taken (λ x o name held read among. first x o name (among_contains x taken held) read (among_contains name (weak_names o) among))
 
 module _ (machine : MachineType) (libraries : List FlavorLibrary) (archive : IsFlavorArchive machine libraries) where
   -- what is taken of libraries: each claims what it is listed for, and is the first
   are_first : (reads : List ℕ → Option Object) (own : List Object) (taken : List MemberView) → AreTakenIntoAs reads (archive_of_both libraries) own taken → AreFirst (expanded_in machine) (archive_of_both libraries) taken
   are_first reads own taken turn x o name held read among =
       let by = pulled reads (archive_of_both libraries) (unresolved own) taken (in_turn_for reads (archive_of_both libraries) own taken turn) x held in
-      let one : IsFirstAs (expanded_in machine) (archive_of_both libraries) x =
-      first_by_role machine libraries archive (expanded_in machine) (is_weak_in machine) (expands machine libraries archive) x (found machine libraries archive by.0 x by.1).has in
-      let same : o ≡ one.object = same_Some o one.object (sym read ∙ one.read) in
-      one.first name (subst (Among name) one.claims (subst (λ y. Among name (claimed_names y)) same (weak_claimed o name among)))
+      let one : IsFirstAs (expanded_in machine) (archive_of_both libraries) x = grind (arith, first_by_role machine libraries archive (expanded_in machine) (is_weak_in machine) (expands machine libraries archive) x (found machine libraries archive by.0 x by.1).has) in
+      one.first name (subst (Among name) one.claims (subst (λ y. Among name (claimed_names y)) (same_Some o one.object (sym read ∙ one.read)) (weak_claimed o name among)))
 
   pub libraries_plain : (own : List Object) (taken : List MemberView) → HaveNoWeak own → TakesIntoFor machine (archive_of_both libraries) own taken →
       TakesPlainly (expanded_in machine) (archive_of_both libraries) own taken

@@ -1,6 +1,6 @@
 -- The members of a library in either flavour, by their roles: what each is listed for, and what a linker takes it for.
-use Rattle.std.proofs.Common.{rules, arith, ◌≡◌, ℕ, Bool, true, false, List, [], ◌∷◌, Some, refl, ap, sym, ◌∙◌, inl, inr}
-use Rattle.std.specs.Prelude.{not, slice_get}
+use Rattle.std.proofs.Common.{rules, arith, ◌≡◌, ℕ, Bool, true, false, List, [], ◌∷◌, Some, refl}
+use Rattle.std.specs.Prelude.{slice_get}
 use Rattle.implib.specs.declared.flavor.Flavor.{Flavor}
 use Rattle.implib.specs.declared.flavor.Flavor.TheVariants.{Gnu, Msvc}
 use Rattle.implib.specs.declared.machine.MachineType.{MachineType}
@@ -19,16 +19,15 @@ use Rattle.implib.specs.Members.WeakExternal.{weak_object, weak_spec}
 use Rattle.implib.specs.Formats.Layout.{entries_of, name_text, object_of}
 use Rattle.implib.proofs.Link.Placement.{export, head, tail}
 use Rattle.implib_link.specs.Flavors.Expansion.{expanded_in, with_section_symbols}
-use Rattle.implib_link.specs.Flavors.Program.{IsFoundByName, ask_in, symbol_in, claimed_names, has_tables}
+use Rattle.implib_link.specs.Flavors.Program.{IsFoundByName, ask_in, symbol_in, claimed_names}
 use Rattle.implib_link.specs.Search.Search.{IsLibrary, Library, exports_of, has_weak, undefined_in}
 use Rattle.implib_link.specs.Search.Libraries.{FlavorLibrary, msvc_among, symbols_in, is_short_alias}
 use Rattle.implib_link.proofs.Flavors.Block.{asking, use_for, claimed_export, claimed_head, claimed_tail}
 use Rattle.implib_link.proofs.Flavors.Inputs.{claims_asking, claims_descriptor, claims_null, claims_thunk, head_taken, tail_taken, export_taken, spec_taken, spec_held}
 use Rattle.implib_link.proofs.Flavors.Expanded.{taken_descriptor, taken_null, taken_null_thunk}
-use Rattle.implib_link.proofs.Flavors.Program.{export_has, head_has, tail_has}
 use Rattle.implib_link.proofs.Search.ArchiveMembers.{export_of, head_of, tail_of, export_entries, export_object_is, head_object_is, tail_object_is, weak_object_is, weak_there, left_export, left_head, left_tail}
 use Rattle.implib_link.proofs.Search.Lists.{among_at}
-use Rattle.implib_link.proofs.Search.MsvcMembers.{asking_has, asking_not_weak, descriptor_has, descriptor_not_weak, left_asking, left_descriptor, left_null, left_thunk, null_has, null_not_weak, thunk_has, thunk_not_weak, weak_has_none, weak_is_weak, IsPair, claims_weak, descriptor_is, descriptor_of, left_weak, null_is, null_of, short_is, short_of, taken_weak, thunk_is, thunk_of, weak_is}
+use Rattle.implib_link.proofs.Search.MsvcMembers.{asking_not_weak, descriptor_not_weak, left_asking, left_descriptor, left_null, left_thunk, null_not_weak, thunk_not_weak, weak_is_weak, IsPair, claims_weak, descriptor_is, descriptor_of, left_weak, null_is, null_of, short_is, short_of, taken_weak, thunk_is, thunk_of, weak_is}
 
 -- a library in a flavour
 abbrev pub in_flavor : Flavor → Library → FlavorLibrary
@@ -158,15 +157,7 @@ IsRole libraries l (Weak n e b) = (slice_get (exports_of l.library) n ≡ Some e
 
 pub listed_as : (machine : MachineType) (flavor : Flavor) (l : Library) (r : Role) → (member machine flavor l r).symbols ≡ symbols machine flavor l r
 unfolding descriptor_spec null_descriptor_spec null_thunk_spec head_spec tail_spec export_spec
-listed_as machine Msvc l Top = refl
-listed_as machine Gnu l Top = refl
-listed_as machine Msvc l Last = refl
-listed_as machine Gnu l Last = refl
-listed_as machine flavor l Null = refl
-listed_as machine Msvc l (Own n e) = refl
-listed_as machine Gnu l (Own n e) = refl
-listed_as machine Msvc l (Weak n e b) = refl
-listed_as machine Gnu l (Weak n e b) = refl
+listed_as machine flavor l r = grind arith
 
 pub claims_as : (machine : MachineType) (flavor : Flavor) (l : Library) (r : Role) → claimed_names (object machine flavor l r) ≡ symbols machine flavor l r
 claims_as machine Msvc l Top = claims_descriptor machine (names_for Msvc l.definition)
@@ -191,24 +182,13 @@ left_as_role machine flavor l (Weak n e b) found = left_weak machine (weak_symbo
 
 pub weak_as : (machine : MachineType) (flavor : Flavor) (l : Library) (r : Role) → has_weak (Some (object machine flavor l r)) ≡ is_weak_role r
 unfolding head_object tail_object
-weak_as machine Msvc l Top = descriptor_not_weak machine (names_for Msvc l.definition)
-weak_as machine Gnu l Top = refl
+weak_as machine flavor l Top = grind (arith, descriptor_not_weak)
 weak_as machine Msvc l Last = thunk_not_weak machine (names_for Msvc l.definition)
 weak_as machine Gnu l Last = refl
 weak_as machine flavor l Null = null_not_weak machine
 weak_as machine Msvc l (Own n e) = asking_not_weak machine (names_for Msvc l.definition) (short_import_symbol e) (ask_in Msvc machine e) (use_for e)
 weak_as machine Gnu l (Own n e) = export_entries machine (names_for Gnu l.definition) e
 weak_as machine flavor l (Weak n e b) = weak_is_weak machine (weak_symbol flavor e b) (weak_target e b)
-
-pub tables_as : (machine : MachineType) (flavor : Flavor) (l : Library) (r : Role) → has_tables (object machine flavor l r) ≡ not (is_weak_role r)
-tables_as machine Msvc l Top = descriptor_has machine (names_for Msvc l.definition)
-tables_as machine Gnu l Top = head_has machine (names_for Gnu l.definition)
-tables_as machine Msvc l Last = thunk_has machine (names_for Msvc l.definition)
-tables_as machine Gnu l Last = tail_has machine (names_for Gnu l.definition)
-tables_as machine flavor l Null = null_has machine
-tables_as machine Msvc l (Own n e) = asking_has machine (names_for Msvc l.definition) (short_import_symbol e) (ask_in Msvc machine e) (use_for e)
-tables_as machine Gnu l (Own n e) = export_has machine (names_for Gnu l.definition) e
-tables_as machine flavor l (Weak n e b) = weak_has_none machine (weak_symbol flavor e b) (weak_target e b)
 
 -- What members for GNU's linker are read as: as objects, and so are they taken.
 module _ (machine : MachineType) (l : Library) (made : IsLibrary machine l) where
@@ -217,15 +197,9 @@ module _ (machine : MachineType) (l : Library) (made : IsLibrary machine l) wher
   weak_plain weak target = refl
 
   pub plain_as : (libraries : List FlavorLibrary) (r : Role) → IsRole libraries (in_flavor Gnu l) r → object_in (member machine Gnu l r).bytes ≡ Some (object machine Gnu l r)
-  plain_as libraries Top is = head_object_is machine l made
-  plain_as libraries Last is = tail_object_is machine l made
-  plain_as libraries Null is = absurd is
-  plain_as libraries (Own n e) is = export_object_is machine l made n e is.0
-  plain_as libraries (Weak n e true) is = absurd is.1
-  plain_as libraries (Weak n e false) is = weak_object_is machine l made n e is.0 is.1.0 ∙ ap Some (sym (weak_plain e.name e.alias_target))
+  plain_as libraries r is = grind (arith, head_object_is, tail_object_is, export_object_is, weak_object_is, weak_plain)
 
   gnu_taken : (libraries : List FlavorLibrary) (r : Role) → IsRole libraries (in_flavor Gnu l) r → expanded_in machine (member machine Gnu l r).bytes ≡ Some (object machine Gnu l r)
-  unfolding head_spec tail_spec export_spec
   gnu_taken libraries Top is = head_taken l.definition machine l.members made
   gnu_taken libraries Last is = tail_taken l.definition machine l.members made
   gnu_taken libraries Null is = absurd is
@@ -238,8 +212,7 @@ module _ (machine : MachineType) (l : Library) (made : IsLibrary machine l) wher
 -- What a linker for a machine takes members for.
 
 pub pair : (e : ExportView) (b : Bool) → IsPair e (weak_symbol Msvc e b) (weak_target e b)
-pair e false = inl (refl, refl)
-pair e true = inr (refl, refl)
+pair e b = grind arith
 
 pub taken_as : (machine : MachineType) (libraries : List FlavorLibrary) (flavor : Flavor) (l : Library) (r : Role) → AreMembersOf l.definition machine flavor l.members →
     IsRole libraries (in_flavor flavor l) r → expanded_in machine (member machine flavor l r).bytes ≡ Some (object machine flavor l r)

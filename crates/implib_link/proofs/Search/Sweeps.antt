@@ -47,13 +47,10 @@ first_at [] name n m first at listed = absurd (cc)
 first_at (y ∷ archive) name zero m first at listed = grind (arith, same_Some, among_any)
 first_at (y ∷ archive) name (suc n) m first at listed =
     elim (cases_Bool (is_listed_for name y)) [
-      | inl here ↦ absurd (below n (first 0 m y at listed refl (any_among name y.symbols here)))
+      | inl here ↦ absurd (omega (arith, ((first 0 m y at listed refl (any_among name y.symbols here))), first 0 m y at listed refl (any_among name y.symbols here)))
       | inr other ↦ rw other (first_at archive name n m (λ k a b is held again names. less n k (first (suc k) a b is held again names)) at listed)
     ]
   where
-    below : (i : ℕ) → suc i ≤ 0 → ⊥
-    below i is = omega (arith, is)
-
     less : (i k : ℕ) → suc i ≤ suc k → i ≤ k
     less i k is = omega (arith, is)
 
@@ -64,9 +61,6 @@ number_among n numbers is = let by = any_of (λ number. number == n) numbers is 
 
 pub among_number : (n : ℕ) (numbers : List ℕ) → Among n numbers → list_any (λ number. number == n) numbers ≡ true
 among_number n numbers held = any_from (λ number. number == n) n numbers held (eq-eqb n n refl)
-
-pub members_next : (archive : List MemberView) (n : ℕ) (m : MemberView) (numbers : List ℕ) → slice_get archive n ≡ Some m → members_at archive (n ∷ numbers) ≡ m ∷ members_at archive numbers
-members_next archive n m numbers at = ap (λ o. cons_option o (members_at archive numbers)) at
 
 pub taken_number : (archive : List MemberView) (numbers : List ℕ) (m : MemberView) → Among m (members_at archive numbers) → (n : ℕ) × Among n numbers × (slice_get archive n ≡ Some m)
 taken_number archive numbers m held = kept_from (slice_get archive) numbers m held
@@ -92,9 +86,7 @@ entry_at archive number (Some m) e is held =
 
 entry_number : (number : ℕ) (o : Option MemberView) (e : IndexEntry) → Among e (entries_at number o) → e.number ≡ number
 unfolding Among
-entry_number number None e held = absurd held
-entry_number number (Some m) e held =
-    let from = among_mapped (λ (name : List ℕ). record { name = name; number = number }) e m.symbols held in ap (λ (x : IndexEntry). x.number) from.2
+entry_number number o e held = grind (arith, among_mapped)
 
 -- an entry of an index is of a member of its numbers
 pub entries_of : (archive : List MemberView) (numbers : List ℕ) (e : IndexEntry) → Among e (index_at archive numbers) → IsEntry archive e × Among e.number numbers
@@ -169,11 +161,8 @@ module _ (reads : List ℕ → Option Object) (archive : List MemberView) (own :
         listed = first_at archive e.name e.number from.0 own_first from.1 from.2;
         new = λ held.
             let other = taken_number archive numbers from.0 (contains_among from.0 (members_at archive numbers) held) in
-            let up : e.number ≤ other.0 = own_first other.0 from.0 from.0 from.1 from.2 other.2 from.2 in
             let down : other.0 ≤ e.number = first other.0 (among_later other.0 e.number numbers other.1) e.number from.0 from.0 other.2 from.2 from.1 from.2 in
-            let one : other.0 ≡ e.number = omega arith in
-            let there : list_any (λ number. number == e.number) numbers ≡ true = among_number e.number numbers (subst (λ k. Among k numbers) one other.1) in
-            true≢false (sym parts.1 ∙ ap not there);
+            true≢false (sym parts.1 ∙ ap not (among_number e.number numbers (subst (λ k. Among k numbers) (omega (arith, own_first other.0 from.0 from.0 from.1 from.2 other.2 from.2)) other.1)));
       }
 
   -- What a sweep takes for these objects is taken for others (`whole`), for which each pull is one, too; where of what is taken
@@ -194,7 +183,7 @@ module _ (reads : List ℕ → Option Object) (archive : List MemberView) (own :
     one_more numbers e from within due before =
         let left = any_among e.name (unresolved (own ++ objects_as reads (members_at archive numbers))) (and_parts (is_left reads archive own numbers e.name) (not (list_any (λ number. number == e.number) numbers)) due).0 in
         let first = λ (n : ℕ) (held : Among n (e.number ∷ numbers)). sure numbers (λ k there. within k (among_later k e.number numbers there)) e.name left n (within n held) in
-        subst (AreTakenIntoAs reads archive whole) (sym (members_next archive e.number from.0.0 numbers from.0.1)) ((e.name, from.1 numbers (due_pulls numbers e from.0 first due)), before)
+        subst (AreTakenIntoAs reads archive whole) (sym (ap (λ o. cons_option o (members_at archive numbers)) from.0.1)) ((e.name, from.1 numbers (due_pulls numbers e from.0 first due)), before)
 
     pub swept_in_turn : (index : List IndexEntry) → ((e : IndexEntry) → Among e index → Lifts e) → (numbers : List ℕ) → Within (swept reads archive own index numbers) → AreTakenIntoAs reads archive whole (members_at archive numbers) →
         AreTakenIntoAs reads archive whole (members_at archive (swept reads archive own index numbers))

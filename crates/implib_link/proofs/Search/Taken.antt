@@ -1,5 +1,5 @@
 -- What a linker takes of an archive of libraries, however it reads members: what is wanted, and what that leaves.
-use Rattle.std.proofs.Common.{arith, rules, ◌≡◌, ℕ, ◌⊎◌, Bool, true, false, List, [], ◌∷◌, ◌++◌, map, Option, Some, refl, ap, sym, ◌∙◌, subst, inl, inr}
+use Rattle.std.proofs.Common.{arith, rules, ◌≡◌, ℕ, ◌⊎◌, Bool, true, false, List, [], ◌∷◌, ◌++◌, map, Option, Some, refl, sym, ◌∙◌, subst, inl, inr}
 use Rattle.std.specs.Prelude.{not, IsPermutation, bytes_eq, slice_get}
 use Rattle.std.specs.List.{AllByRecursion, filter, flat_map, list_any}
 use Rattle.std.proofs.lemmas.Bool.{cases_Bool, true≢false, not_from_false}
@@ -12,7 +12,6 @@ use Rattle.implib.specs.Import.{imp_symbol, is_alias}
 use Rattle.implib.specs.LibraryName.{linked_dll, linked_name}
 use Rattle.implib.specs.Link.LinkedMembers.{all_linked}
 use Rattle.implib.specs.Members.MemberSpec.{MemberView}
-use Rattle.implib.specs.Members.Msvc.{short_import_symbol}
 use Rattle.implib.proofs.Link.LinkedMembers.{among_contains, among_map}
 use Rattle.implib.proofs.Link.Ranges.{Among, all_among, among_back, among_first, among_front, among_later, among_flat}
 use Rattle.implib_link.specs.Flavors.Program.{all_members, HaveSame, AreEnded, Ending, objects_taken, ClaimsNone, has_tables}
@@ -269,35 +268,11 @@ module _ (machine : MachineType) (libraries : List FlavorLibrary) (archive : IsF
               among_contains m (filter (λ y. not (weak y)) taken) (passes (λ y. not (weak y)) m taken other.0 (not_from_false (weak m) other.1)),
         )
 
-        weak_in_role : (m : MemberView) (flavor : Flavor) (l : Library) (r : Role) → Among (in_flavor flavor l) libraries → IsRole libraries (in_flavor flavor l) r → Why all_wanted (in_flavor flavor l) r →
-            m ≡ member machine flavor l r → is_weak_role r ≡ true → IsWeakOfLibraries libraries all_wanted m
-        weak_in_role m Gnu l (Weak n e true) held is why same one = absurd is.1
-        weak_in_role m Gnu l (Weak n e false) held is why same one = grind (arith, gnu_there libraries l held, among_at e (exports_of l) n is.0, false, why, inr, among_contains)
-        weak_in_role m Msvc l (Weak n e b) held is why same one = inl (record {
-          library = l;
-          held = among_contains l (msvc_among libraries) (msvc_there libraries l held);
-          export = e;
-          among = among_contains e (exports_of l) (among_at e (exports_of l) n is.0);
-          alias = is.1;
-          name = weak_symbol Msvc e b;
-          is = of_two b;
-          named = among_contains (weak_symbol Msvc e b) all_wanted why;
-          listed = ap (λ (y : MemberView). y.symbols) same;
-        })
-          where
-            of_two : (b : Bool) → (weak_symbol Msvc e b ≡ short_import_symbol e) ⊎ (weak_symbol Msvc e b ≡ imp_symbol (short_import_symbol e))
-            of_two false = inl refl
-            of_two true = inr refl
-        weak_in_role m flavor l Top held is why same one = absurd (true≢false (sym one))
-        weak_in_role m flavor l Last held is why same one = absurd (true≢false (sym one))
-        weak_in_role m flavor l Null held is why same one = absurd (true≢false (sym one))
-        weak_in_role m flavor l (Own n e) held is why same one = absurd (true≢false (sym one))
-
         pub weak_are : AllByRecursion (IsWeakOfLibraries libraries all_wanted) (filter weak taken)
         weak_are = all_each (IsWeakOfLibraries libraries all_wanted) (filter weak taken) (λ m held.
             let kept = passing weak m taken held in
             let x = needed_all m kept.0 in
-            weak_in_role m x.has.library.flavor x.has.library.library x.has.role x.has.held x.has.is x.why x.has.same (sym (weak_by_role machine libraries archive reads weak reader m x.has) ∙ kept.1))
+            (grind (arith, gnu_there, among_at, among_contains, msvc_there, weak_symbol, true≢false, x.has.is, x.has.same, sym (weak_by_role machine libraries archive reads weak reader m x.has) ∙ kept.1)))
 
 -- of an archive of both flavours
 pub both_taken : (machine : MachineType) (libraries : List FlavorLibrary) → IsFlavorArchive machine libraries → (wanted : List (List ℕ)) (taken : List MemberView) →
@@ -313,9 +288,8 @@ both_taken machine libraries archive wanted taken plain takes = record {
 pub data_target : (libraries : List Library) (l : Library) (n : ℕ) (e : ExportView) → Among l libraries → slice_get (exports_of l) n ≡ Some e → is_alias e.alias_target e.name ≡ true → e.is_data ≡ true →
     Among e.alias_target (alias_targets libraries)
 data_target libraries l n e held at alias is_data =
-    let one : is_data_alias e ≡ true = rw (is_data, alias) refl in
     among_flat (λ (x : Library). map (λ (y : ExportView). y.alias_target) (filter is_data_alias (exports_of x))) l libraries e.alias_target held
-    (among_map (λ (x : ExportView). x.alias_target) e (filter is_data_alias (exports_of l)) (passes is_data_alias e (exports_of l) (among_at e (exports_of l) n at) one))
+    (among_map (λ (x : ExportView). x.alias_target) e (filter is_data_alias (exports_of l)) (passes is_data_alias e (exports_of l) (among_at e (exports_of l) n at) (rw (is_data, alias) refl)))
 
 module _ (machine : MachineType) (libraries : List FlavorLibrary) (archive : IsFlavorArchive machine libraries) (own : List Object) (given : AreGiven machine libraries own) where
   abbrev pub kept : List (List ℕ)

@@ -1,14 +1,14 @@
 -- A list of names is wanted as an object's, and adds nothing to what is linked.
-use Rattle.std.proofs.Common.{arith, ◌≡◌, ℕ, List, [], ◌∷◌, ◌++◌, refl, ap, sym, ◌∙◌, map}
-use Rattle.std.specs.List.{filter, filter_map, flat_map}
+use Rattle.std.proofs.Common.{arith, ◌≡◌, ℕ, List, [], ◌∷◌, ◌++◌, refl, ap, map}
+use Rattle.std.specs.List.{filter, filter_map}
 use Rattle.std.proofs.lemmas.List.Elements.{filter-append}
 use Rattle.implib.specs.declared.machine.MachineType.{MachineType}
 use Rattle.implib.specs.Formats.Object.{Object, ObjectSection}
-use Rattle.implib.specs.Link.Image.{IsAdmissible, Range, contributions, contributions_in, image_of}
+use Rattle.implib.specs.Link.Image.{contributions, contributions_in, image_of}
 use Rattle.implib.specs.Link.Linked.{undefined_name}
 use Rattle.implib.specs.Link.Placement.{Bases, Group, Placed, SectionAddress, placed_from}
 use Rattle.implib.specs.Link.Resolution.{defined_by_entry, definitions_of}
-use Rattle.implib_link.specs.Flavors.Program.{AreEnded, Ending, FlavorInput, IsProgramOf, OfLinker, OfMember, ClaimsNone, claimed_name, has_tables, group_end, sections_end}
+use Rattle.implib_link.specs.Flavors.Program.{AreEnded, Ending, FlavorInput, IsProgramOf, ClaimsNone, claimed_name, has_tables, group_end, sections_end}
 use Rattle.implib_link.specs.Search.Search.{claims_of, references_of, unresolved, undefined_in, unclaimed, undefined_symbol, wanting}
 
 -- The list: what it leaves to others, what it claims, what it defines.
@@ -40,10 +40,6 @@ module _ (machine : MachineType) (first second : List Placed) (same : (name : Li
   contributions_same group [] = refl
   contributions_same group (p ∷ objects) = grind (arith, contributions_same group objects, in_same)
 
-flat_same : (f g : Group → List Range) → ((group : Group) → f group ≡ g group) → (gs : List Group) → flat_map f gs ≡ flat_map g gs
-flat_same f g same [] = refl
-flat_same f g same (group ∷ gs) = ap (λ own. own ++ flat_map f gs) (same group) ∙ ap (λ others. g group ++ others) (flat_same f g same gs)
-
 module _ (names : List (List ℕ)) (machine : MachineType) (bases : Bases) (objects : List Object) where
   abbrev with_list : List Placed
   with_list = placed_from bases (wanting names ∷ objects)
@@ -52,23 +48,19 @@ module _ (names : List (List ℕ)) (machine : MachineType) (bases : Bases) (obje
   definitions_same name = rw (none_defined names) refl
 
   pub image_same : image_of machine bases with_list ≡ image_of machine bases (placed_from bases objects)
-  image_same = grind (arith, flat_same, contributions_same, definitions_same)
-
-  admissible_same : (xs ys : List Object) → image_of machine bases (placed_from bases xs) ≡ image_of machine bases (placed_from bases ys) → IsAdmissible machine bases xs → IsAdmissible machine bases ys
-  admissible_same xs ys same a = grind arith
+  image_same = grind (arith, contributions_same, definitions_same)
 
   claims_nothing : (texts : List (List ℕ)) → ClaimsNone texts (wanting names)
   claims_nothing [] = tt
   claims_nothing (text ∷ texts) = (rw (none_claimed names) refl, claims_nothing texts)
 
   ended_same : (ending : Ending) (inputs : List FlavorInput) (xs ys : List Object) → filter has_tables xs ≡ filter has_tables ys → AreEnded ending machine inputs xs → AreEnded ending machine inputs ys
-  ended_same OfLinker inputs xs ys same e = record { gnu = e.gnu; tables = sym same ∙ e.tables }
-  ended_same OfMember inputs xs ys same e = record { null_from = e.null_from; null_held = e.null_held; null_flavor = e.null_flavor; before = e.before; behind = e.behind; members = e.members; tables = sym same ∙ e.tables }
+  ended_same ending inputs xs ys same e = grind arith
 
   pub program_without : (ending : Ending) (inputs : List FlavorInput) → IsProgramOf machine ending bases inputs (wanting names ∷ objects) → IsProgramOf machine ending bases inputs objects
   unfolding has_tables group_end sections_end
-  program_without ending inputs program = grind (arith, ended_same, admissible_same, image_same)
+  program_without ending inputs program = grind (arith, ended_same, image_same)
 
   pub program_with : (ending : Ending) (inputs : List FlavorInput) → IsProgramOf machine ending bases inputs objects → IsProgramOf machine ending bases inputs (wanting names ∷ objects)
   unfolding has_tables group_end sections_end
-  program_with ending inputs program = grind (arith, ended_same, claims_nothing, admissible_same, image_same)
+  program_with ending inputs program = grind (arith, ended_same, claims_nothing, image_same)
