@@ -1,4 +1,4 @@
-//! Calls and stubs in linked programs, and the instructions of compilers.
+//! A loader of a program that was linked by hand.
 
 ghost use Rattle.implib_link_instances.specs.Worked.Operands.{WorkedReading};
 

@@ -1,4 +1,4 @@
-//! Fields of code against imports, stored addresses, and the bounds of tables.
+//! Fields of code against imports, and stored addresses.
 
 ghost use Rattle.implib_link_instances.specs.Worked.Operands.{PassingFields, WorkedOperands};
 ghost use Rattle.implib_link_instances.specs.Worked.Stored.{WorkedRegistering, WorkedHoldings};
