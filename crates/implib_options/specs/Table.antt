@@ -62,5 +62,8 @@ help_in rows of =
     flat_map (λ row.
     if sameb the_type row.0 of && not (length row.1 == 0) then row.1 ++ 10 ∷ [] else []) rows
 
+abbrev pub help_rows : List (Words × List ℕ)
+help_rows = map (λ row. (row.0, row.5.now)) OPTIONS
+
 unfoldable pub help_lines : Words → List ℕ
-help_lines of = help_in (map (λ row. (row.0, row.5.now)) OPTIONS) of
+help_lines of = help_in help_rows of

@@ -4,7 +4,7 @@ ghost use Rattle.implib_options.specs.Table.{help_in, help_lines};
 ghost use Rattle.std.specs.Prelude.{◌≡◌, ◌++◌, OnOk, map};
 ghost use Rattle.std.specs.String.{string_bytes};
 
-use crate::table::{Meaning, OPTIONS, Row, Words};
+use crate::table::{Meaning, Row, Words, rows};
 use std::alloc::AllocError;
 use std::fmt;
 
@@ -32,7 +32,7 @@ pub fn push_help(text: &mut String, of: Words) -> Result<(), AllocError>
     ensures { OnOk result
         (string_bytes text.new ≡ string_bytes text.old ++ help_lines of) }
 {
-    push_rows(text, &OPTIONS, of)
+    push_rows(text, rows(), of)
 }
 
 // The letter and the name of the first row in these words with this meaning.
@@ -52,7 +52,7 @@ pub struct OptionName(pub Words, pub Meaning);
 
 impl fmt::Display for OptionName {
     fn fmt<W: fmt::Write>(&self, f: &mut fmt::Formatter<W>) -> fmt::Result {
-        match first_of(&OPTIONS, self.0, self.1) {
+        match first_of(rows(), self.0, self.1) {
             Some((Some(letter), _)) => write!(f, "-{}", letter as char),
             Some((None, name)) => write!(f, "--{name}"),
             None => Ok(()),

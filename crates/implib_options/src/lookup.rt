@@ -5,7 +5,7 @@ ghost use Rattle.implib_options.specs.Table.{named_in};
 ghost use Rattle.std.specs.Option.{option_map};
 ghost use Rattle.std.specs.Prelude.{◌≡◌, ◌<◌, IsSome, map};
 
-use crate::table::{LIB_MACHINES, Meaning, OPTIONS, Row, Takes, Words};
+use crate::table::{LIB_MACHINES, Meaning, Row, Takes, Words, rows};
 
 // What the first row of a name takes and means, if there is one.
 fn named_in(mut rows: &[Row], of: Words, name: &str) -> Option<(Takes, Meaning)>
@@ -54,7 +54,7 @@ fn machine_in(mut rows: &[(&str, &'static str)], name: &str) -> Option<&'static 
 pub fn named(of: Words, name: &str) -> Option<(Takes, Meaning)>
     ensures { result ≡ named of name.now }
 {
-    named_in(&OPTIONS, of, name)
+    named_in(rows(), of, name)
 }
 
 /// What the option of a letter, which is ASCII, takes and means, if there is one.
@@ -66,7 +66,7 @@ pub fn lettered(of: Words, letter: u8) -> Option<(Takes, Meaning)>
     if letter >= 128 {
         return None;
     }
-    lettered_in(&OPTIONS, of, letter)
+    lettered_in(rows(), of, letter)
 }
 
 /// The name for `-m` of a machine of LIB's, if there is one; nothing where it is not supported.

@@ -1,6 +1,9 @@
 //! The options of the programs `implib_dlltool` and `implib_check`, each in one row: how it is
 //! spelled, what it takes, what it means, and its lines of `--help`.
 
+ghost use Rattle.implib_options.specs.Table.{help_rows, options};
+ghost use Rattle.std.specs.Prelude.{◌≡◌, map};
+
 /// Whose words an option is spelled in.
 #[derive(Clone, Copy, Debug, PartialEq, Eq)]
 pub enum Words {
@@ -272,6 +275,14 @@ pub const OPTIONS: [Row; 91] = [
     row!(Check "help" b'h' Nothing Help "  -h, --help"),
     row!(Check "version" b'V' Nothing Version "  -V, --version"),
 ];
+
+/// The options; what names `OPTIONS` itself has the whole table in its proof.
+pub fn rows() -> &'static [Row]
+    ensures spelled { map (λ row. (row.0, row.1.now, row.2, (row.3, row.4))) result.now ≡ options }
+    ensures help { map (λ row. (row.0, row.5.now)) result.now ≡ help_rows }
+{
+    &OPTIONS
+}
 
 /// The machines that LIB and llvm-lib name, in small letters, each by its name for `-m`; nothing
 /// for one that is not supported. ARM64X is ARM64EC, whose library it has.
