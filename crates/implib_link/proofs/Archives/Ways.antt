@@ -97,7 +97,9 @@ pub lines_lead_to_both : (machine : MachineType) (ending : Ending) (libraries : 
     AreGiven machine libraries (given_with (expanded_in machine) is_given (objects_given inputs) (members_at members taken)) →
     AreLinkedFor machine ending libraries (given_with (expanded_in machine) is_given (objects_given inputs) (members_at members taken)) (others_of is_given (members_at members taken)) arranged bases objects →
     CallsArrive machine ending libraries (given_with (expanded_in machine) is_given (objects_given inputs) (members_at members taken)) (others_of is_given (members_at members taken)) arranged bases objects
-lines_lead_to_both machine ending libraries members inputs is_given taken arranged bases objects searches archive given linked = search (rules, objects, both_arrive, takes_of_libraries)
+lines_lead_to_both machine ending libraries members inputs is_given taken arranged bases objects searches archive given linked =
+    both_arrive machine ending libraries (given_with (expanded_in machine) is_given (objects_given inputs) (members_at members taken)) (others_of is_given (members_at members taken)) arranged bases objects archive given
+    (takes_of_libraries (expanded_in machine) (archive_of_both libraries) members inputs is_given taken searches.takes) linked
 
 -- The way for lld, from the bytes of an archive to the DLL.
 

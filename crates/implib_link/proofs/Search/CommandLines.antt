@@ -292,15 +292,15 @@ module _ (reads : List ℕ → Option Object) (members : List MemberView) where
       SearchesCommandLine reads members inputs taken → TakesIntoAs reads members (objects_given inputs) (members_at members taken)
   unfolding AreTakenIntoAs Among
   gnu_searches inputs taken once none ordered is = record {
-    in_turn = searches_in_turn (objects_given inputs) taken once [] inputs [] [] taken refl none is (λ n held. held) tt;
+    in_turn = searches_in_turn (objects_given inputs) taken once [] inputs [] [] taken refl none is.searched (λ n held. held) tt;
     ended = λ name m pulls.
         let from = listed_is members name m pulls.listed in
         let at = at_index m members from.0 in
         let left = contains_among name (unresolved (objects_given inputs ++ objects_as reads (members_at members taken))) pulls.named in
         pulls.new (among_contains m (members_at members taken) (number_taken members taken at.0 m
         (elim (cases_Bool (list_any (λ other. other == at.0) (numbers_in inputs))) [
-          | inl searched ↦ none_lost at.0 m name at.1 from.1 [] inputs [] taken ordered is (number_among at.0 (numbers_in inputs) searched) left
-          | inr nowhere ↦ absurd (left_before at.0 m name at.1 from.1 [] inputs [] taken ordered is
+          | inl searched ↦ none_lost at.0 m name at.1 from.1 [] inputs [] taken ordered is.searched (number_among at.0 (numbers_in inputs) searched) left
+          | inr nowhere ↦ absurd (left_before at.0 m name at.1 from.1 [] inputs [] taken ordered is.searched
               (λ held. true≢false (sym (among_number at.0 (numbers_in inputs) held) ∙ nowhere))
               (unresolved_parts (objects_given inputs ++ objects_as reads (members_at members taken)) name left).0)
         ]) at.1));
@@ -311,7 +311,7 @@ module _ (reads : List ℕ → Option Object) (members : List MemberView) where
       NoneIsLost reads members (objects_given inputs) (members_at members taken) → SearchesCommandLine reads members inputs taken → TakesIntoAs reads members (objects_given inputs) (members_at members taken)
   unfolding AreTakenIntoAs
   gnu_completes inputs taken once none complete is = record {
-    in_turn = searches_in_turn (objects_given inputs) taken once [] inputs [] [] taken refl none is (λ n held. held) tt;
+    in_turn = searches_in_turn (objects_given inputs) taken once [] inputs [] [] taken refl none is.searched (λ n held. held) tt;
     ended = λ name m pulls. grind (arith, contains_among name (unresolved (objects_given inputs ++ objects_as reads (members_at members taken))) pulls.named, none-some, all_among);
   }
 

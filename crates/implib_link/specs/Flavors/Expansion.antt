@@ -4,6 +4,7 @@
 -- part of the group begins.
 use Rattle.std.specs.Prelude.{ℕ, ◌+◌, Bool, false, true, ◌&&◌, ◌==◌, List, [], ◌∷◌, ◌++◌, bytes_eq}
 use Rattle.std.specs.Prelude.{map, not, Option, Some, None, if◌then◌else◌, ◌-◌, nat_le, codes}
+use Rattle.std.specs.Prelude.{◌≡◌}
 use Rattle.std.specs.List.{list_any}
 use Rattle.implib.specs.Formats.Constants.{class_section, class_static, section_undefined}
 use Rattle.implib.specs.Formats.Constants.{align_2bytes, align_4bytes, class_external, cnt_code}
@@ -20,6 +21,7 @@ use Rattle.implib.specs.declared.machine.MachineType.{MachineType}
 use Rattle.implib.specs.Ascii.{full_stop, holds}
 use Rattle.implib.specs.Formats.Bytes.{u16_bytes}
 use Rattle.implib.specs.Formats.File.{File, ObjectFile, ShortImportFile, file_in}
+use Rattle.implib.specs.Formats.GnuReading.{ask_by_gnu}
 use Rattle.implib.specs.Import.{Ask, Name, Ordinal, imp_symbol}
 use Rattle.implib.specs.Machine.{machine_number}
 use Rattle.implib.specs.Formats.ShortImport.{ShortImport, ask_of_short_import, import_code}
@@ -205,3 +207,11 @@ expanded_as machine (ObjectFile o) = Some (with_section_symbols o)
 -- what it takes the file in these bytes for
 unfoldable pub expanded_in : MachineType → List ℕ → Option Object
 expanded_in machine bytes = option_and_then (expanded_as machine) (file_in bytes)
+
+-- Whether GNU `ld` takes a file for that, too. It asks by rules of its own (`ask_by_gnu`), and takes
+-- a constant for nothing (binutils, bfd/peicode.h, `pe_ILF_build_a_bfd`).
+abbrev pub IsReadByGnu : Option File → Type 0
+IsReadByGnu (Some (ShortImportFile r)) =
+    ((r.import_type == import_const) ≡ false) × (ask_by_gnu r ≡ ask_of_short_import r)
+IsReadByGnu (Some (ObjectFile o)) = Unit {0}
+IsReadByGnu None = Unit {0}

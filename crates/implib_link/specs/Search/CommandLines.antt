@@ -11,17 +11,19 @@
 -- them. So what it takes is one search of all members for all objects, in an order that such a
 -- search allows (`TakesIntoAs`).
 use Rattle.std.specs.Prelude.{◌≡◌, ℕ, zero, suc, Bool, false, ◌&&◌, ◌==◌, List, [], ◌∷◌, ◌++◌, ◌≤◌}
-use Rattle.std.specs.Prelude.{bytes_eq, length, not, slice_get, Option, None, Some, ◌⊎◌}
-use Rattle.std.specs.List.{AllByRecursion, Contains, filter, flat_map, list_any}
+use Rattle.std.specs.Prelude.{bytes_eq, length, map, not, slice_get, Option, None, Some, ◌⊎◌}
+use Rattle.std.specs.List.{AllByRecursion, Contains, IsDistinct, filter, flat_map, list_any}
+use Rattle.implib.specs.Formats.File.{file_in}
 use Rattle.implib.specs.Formats.Object.{Object}
 use Rattle.implib.specs.Import.{imp_symbol}
 use Rattle.implib.specs.declared.machine.MachineType.{MachineType}
 use Rattle.implib.specs.Members.MemberSpec.{MemberView}
 use Rattle.implib_link.specs.Flavors.Program.{ClaimsNone, HaveSame, claimed_names}
-use Rattle.implib_link.specs.Flavors.Expansion.{expanded_in}
+use Rattle.implib_link.specs.Flavors.Expansion.{IsReadByGnu, expanded_in}
 use Rattle.implib_link.specs.Search.Libraries.{FlavorLibrary, archive_of_both}
 use Rattle.implib_link.specs.Search.Search.{listed_in, references_of, unresolved, claimed_as}
-use Rattle.implib_link.specs.Search.Search.{first_listed, is_listed_for, objects_as, undefined_in}
+use Rattle.implib_link.specs.Search.Search.{first_listed, has_weak, is_listed_for, objects_as}
+use Rattle.implib_link.specs.Search.Search.{undefined_in}
 use Rattle.implib_link.specs.Search.Search.{index_at, members_at, numbers_from, sweeps, swept}
 
 -- an input: an object, or archives that are searched as a group; an archive by itself is a group of
@@ -91,10 +93,14 @@ SearchesFrom reads members own (Archives archives ∷ inputs) before after =
     (between : List ℕ) × IsGroupSearched reads members own archives before between
     × SearchesFrom reads members own inputs between after
 
--- what GNU `ld` takes for a command line: the numbers of the members, the last one first
-abbrev pub SearchesCommandLine : (List ℕ → Option Object) → List MemberView → List Input → List ℕ →
-    Type 0
-SearchesCommandLine reads members inputs taken = SearchesFrom reads members [] inputs [] taken
+-- What GNU `ld` takes for a command line: the numbers of the members, the last one first. A member
+-- with a weak external gives its name to nobody, and is taken anew where its archive stands again:
+-- there is none that does (`once`).
+pub record SearchesCommandLine (reads : List ℕ → Option Object) (members : List MemberView)
+    (inputs : List Input) (taken : List ℕ) : Type 0 where
+  pub once : IsDistinct bytes_eq
+      (map (λ m. m.bytes) (filter (λ m. has_weak (reads m.bytes)) members))
+  pub searched : SearchesFrom reads members [] inputs [] taken
 
 -- What is asked of command lines.
 
@@ -206,7 +212,10 @@ pub record SearchesFor (reads : List ℕ → Option Object) (of_libraries member
   pub searches : SearchesCommandLine reads members inputs taken
 
 -- of libraries of which some are for it and others for Microsoft's linker, whose short imports it
--- expands
-abbrev pub SearchesFlavors : MachineType → List FlavorLibrary → List MemberView → List Input →
-    (MemberView → Bool) → List ℕ → Type 0
-SearchesFlavors machine libraries = SearchesFor (expanded_in machine) (archive_of_both libraries)
+-- expands as other linkers do
+pub record SearchesFlavors (machine : MachineType) (libraries : List FlavorLibrary)
+    (members : List MemberView) (inputs : List Input) (is_given : MemberView → Bool)
+    (taken : List ℕ) : Type 0 where
+  pub read : AllByRecursion (λ m. IsReadByGnu (file_in m.bytes)) members
+  pub takes :
+      SearchesFor (expanded_in machine) (archive_of_both libraries) members inputs is_given taken

@@ -98,7 +98,8 @@ pub fn bytes_lead_to_calls()
 /// line: what it takes in their order of their members, which may be those that their files have
 /// (`members_in_files`), of libraries for either linker and of anything else, for the given
 /// objects, closes the program; and in the memory that a loader leaves each field against an
-/// import's `__imp_` symbol, as that of a call, leads to what its DLL gives.
+/// import's `__imp_` symbol, as that of a call, leads to what its DLL gives. No short import is a
+/// constant, or asks GNU `ld` for another name than lld.
 pub fn command_lines_lead_to_calls()
     ensures { (machine : MachineType) (ending : Ending) (libraries : List FlavorLibrary)
         (members : List MemberView) (inputs : List Input) (is_given : MemberView → Bool)

@@ -19,8 +19,9 @@ ghost use Rattle.std.specs.Prelude.{ℕ, [], Bool, List, Option};
 /// first that is; and no object claims a name that an archive in front of it lists.
 /// What is left unresolved is listed behind it, or in the same group (`gnu`); or nothing which an
 /// archive lists is left in the end, as in each link without an undefined reference (`complete`).
-/// An archive may stand on the command line more than once. The search is that without automatic
-/// imports (`ImportsByName`), however the linker reads members.
+/// An archive may stand on the command line more than once, where none of its members has a weak
+/// external. The search is that without automatic imports (`ImportsByName`), however the linker
+/// reads members.
 pub fn command_lines_are_searched()
     ensures gnu { (reads : List ℕ → Option Object) (members : List MemberView)
         (inputs : List Input) (taken : List ℕ) →

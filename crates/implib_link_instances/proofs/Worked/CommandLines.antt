@@ -1,7 +1,7 @@
 -- The command lines, by computing and by the laws.
 use Rattle.std.proofs.Common.{arith, ◌≡◌, ℕ, zero, suc, true, false, List, [], ◌∷◌, ◌++◌, map, Option, None, Some, refl, sym, ◌∙◌, subst, inl, inr, codes}
 use Rattle.std.specs.Prelude.{bytes_eq, if◌then◌else◌, is_none}
-use Rattle.std.specs.List.{AllByRecursion, Contains, IsDistinct, list_all, list_any}
+use Rattle.std.specs.List.{AllByRecursion, Contains, IsDistinct, filter, list_all, list_any}
 use Rattle.std.proofs.lemmas.Bool.{true≢false}
 use Rattle.implib.specs.declared.machine.MachineType.{MachineType}
 use Rattle.implib.specs.Machine.{is_32bit}
@@ -15,7 +15,7 @@ use Rattle.implib.proofs.Link.LinkedMembers.{among_contains, among_map}
 use Rattle.implib.proofs.Link.Ranges.{Among}
 use Rattle.implib_link.specs.Flavors.Program.{HaveSame}
 use Rattle.implib_link.specs.Flavors.Expansion.{expanded_in}
-use Rattle.implib_link.specs.Search.Search.{archive_of, is_weak, symbols_of_library, PullsIntoAs, claims_of, listed_in, references_of, unresolved, claimed_as, first_listed, objects_as, undefined_in, members_at, sweeps, swept}
+use Rattle.implib_link.specs.Search.Search.{archive_of, has_weak, is_weak, symbols_of_library, PullsIntoAs, claims_of, listed_in, references_of, unresolved, claimed_as, first_listed, objects_as, undefined_in, members_at, sweeps, swept}
 use Rattle.implib_link.specs.Search.CommandLines.{AreListedWhole, AreRounds, AreSwept, AreUnclaimedBehind, IsOrdered, SearchesCommandLine, SearchesFrom, names_left}
 use Rattle.implib_link.proofs.Search.CommandLines.{are_first_of_distinct, first_of_distinct, gnu_searches, taken_are, takes_alike}
 use Rattle.implib_link.proofs.Search.Lists.{among_any, any_among, contains_among}
@@ -93,11 +93,14 @@ worked machine _ = record {
     whole : AreListedWhole (expanded_in machine) (members machine)
     whole = whole_by (expanded_in machine) (members machine) (refl, (refl, (refl, (refl, tt))))
 
+    once : IsDistinct bytes_eq (map (λ m. m.bytes) (filter (λ m. has_weak (expanded_in machine m.bytes)) (members machine)))
+    once = distinct_by (map (λ m. m.bytes) (filter (λ m. has_weak (expanded_in machine m.bytes)) (members machine))) refl
+
     searched_last : SearchesCommandLine (expanded_in machine) (members machine) (library_last (own machine)) all_taken
-    searched_last = (of_quit, record { rounds = 1; taken = (of_quit, (of_quit, record { count = 1; taken = refl; ended = refl }, refl), refl); ended = (refl, tt) }, (all_taken, record { rounds = 1; taken = (all_taken, (all_taken, record { count = 3; taken = refl; ended = refl }, refl), refl); ended = (refl, tt) }, refl))
+    searched_last = record { once = once; searched = (of_quit, record { rounds = 1; taken = (of_quit, (of_quit, record { count = 1; taken = refl; ended = refl }, refl), refl); ended = (refl, tt) }, (all_taken, record { rounds = 1; taken = (all_taken, (all_taken, record { count = 3; taken = refl; ended = refl }, refl), refl); ended = (refl, tt) }, refl)) }
 
     searched_group : SearchesCommandLine (expanded_in machine) (members machine) (in_group (own machine)) all_taken
-    searched_group = (all_taken, record { rounds = 2; taken = (of_quit, ([], record { count = 0; taken = refl; ended = refl }, (of_quit, record { count = 1; taken = refl; ended = refl }, refl)), (all_taken, (all_taken, record { count = 3; taken = refl; ended = refl }, (all_taken, record { count = 0; taken = refl; ended = refl }, refl)), refl)); ended = (refl, (refl, tt)) }, refl)
+    searched_group = record { once = once; searched = (all_taken, record { rounds = 2; taken = (of_quit, ([], record { count = 0; taken = refl; ended = refl }, (of_quit, record { count = 1; taken = refl; ended = refl }, refl)), (all_taken, (all_taken, record { count = 3; taken = refl; ended = refl }, (all_taken, record { count = 0; taken = refl; ended = refl }, refl)), refl)); ended = (refl, (refl, tt)) }, refl) }
 
     ordered : IsOrdered (expanded_in machine) (members machine) (library_last (own machine))
     ordered = ((tt, tt), ((tt, tt), (((refl, tt), ((refl, tt), ((refl, tt), tt))), tt)))

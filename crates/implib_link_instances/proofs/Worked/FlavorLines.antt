@@ -1,15 +1,15 @@
 -- The command lines with a library for Microsoft's linker, by computing and by the laws.
-use Rattle.std.proofs.Common.{List, [], ◌∷◌, ◌⊎◌, refl, inl, inr, arith}
+use Rattle.std.proofs.Common.{List, [], ◌∷◌, ◌⊎◌, map, refl, inl, inr, arith}
 use Rattle.std.specs.Prelude.{bytes_eq, if◌then◌else◌}
-use Rattle.std.specs.List.{IsDistinct}
+use Rattle.std.specs.List.{IsDistinct, filter}
 use Rattle.implib.specs.declared.machine.MachineType.{MachineType}
 use Rattle.implib.specs.declared.machine.MachineType.TheVariants.{AMD64, ARM64, ARMNT, I386}
 use Rattle.implib.specs.Machine.{is_32bit}
 use Rattle.implib.specs.Members.MemberSpec.{MemberView}
 use Rattle.implib_link.specs.Flavors.Expansion.{expanded_in}
 use Rattle.implib_link.specs.Search.Libraries.{AreGiven, FlavorLibrary, archive_of_both}
-use Rattle.implib_link.specs.Search.Search.{listed_in, members_at, sweeps, swept}
-use Rattle.implib_link.specs.Search.CommandLines.{AreListedWhole, AreRounds, AreSwept, AreUnclaimedBehind, Input, IsOrdered, NoneIsLost, SearchesCommandLine, SearchesFlavors, SearchesFrom, names_left}
+use Rattle.implib_link.specs.Search.Search.{has_weak, listed_in, members_at, sweeps, swept}
+use Rattle.implib_link.specs.Search.CommandLines.{AreListedWhole, AreRounds, AreSwept, AreUnclaimedBehind, Input, IsOrdered, NoneIsLost, SearchesCommandLine, SearchesFor, SearchesFrom, names_left}
 use Rattle.implib_link.proofs.Search.CommandLines.{first_of_distinct, takes_of_libraries}
 use Rattle.implib_link_instances.specs.Worked.CommandLines.{is_quit, WorkedFlavorLine, WorkedFlavorLines, amd64_kernels, amd64_shorts, i386_kernels, i386_shorts, shorts_grouped, shorts_last, shorts_taken, with_quit}
 use Rattle.implib_link_instances.proofs.Worked.BothFlavors.{archive_by}
@@ -33,24 +33,30 @@ line machine = if is_32bit machine then shorts_grouped (own machine) else shorts
 
 searched_line : (machine : MachineType) → IsX86 machine → SearchesCommandLine (expanded_in machine) (shorts machine) (line machine) shorts_taken
 unfolding searched swept sweeps AreSwept AreRounds SearchesFrom
-searched_line I386 _ = (
-  shorts_taken,
-  record {
-    rounds = 2;
-    taken = (
-      4 ∷ [],
-      ([], record { count = 0; taken = refl; ended = refl }, (4 ∷ [], record { count = 1; taken = refl; ended = refl }, refl)),
-      (shorts_taken, (shorts_taken, record { count = 2; taken = refl; ended = refl }, (shorts_taken, record { count = 0; taken = refl; ended = refl }, refl)), refl),
-    );
-    ended = (refl, (refl, tt));
-  },
-  refl,
-)
-searched_line AMD64 _ = (
-  4 ∷ [],
-  record { rounds = 1; taken = (4 ∷ [], (4 ∷ [], record { count = 1; taken = refl; ended = refl }, refl), refl); ended = (refl, tt) },
-  (shorts_taken, record { rounds = 1; taken = (shorts_taken, (shorts_taken, record { count = 2; taken = refl; ended = refl }, refl), refl); ended = (refl, tt) }, refl),
-)
+searched_line I386 _ = record {
+  once = distinct_by (map (λ m. m.bytes) (filter (λ m. has_weak (expanded_in I386 m.bytes)) (shorts I386))) refl;
+  searched = (
+    shorts_taken,
+    record {
+      rounds = 2;
+      taken = (
+        4 ∷ [],
+        ([], record { count = 0; taken = refl; ended = refl }, (4 ∷ [], record { count = 1; taken = refl; ended = refl }, refl)),
+        (shorts_taken, (shorts_taken, record { count = 2; taken = refl; ended = refl }, (shorts_taken, record { count = 0; taken = refl; ended = refl }, refl)), refl),
+      );
+      ended = (refl, (refl, tt));
+    },
+    refl,
+  );
+}
+searched_line AMD64 _ = record {
+  once = distinct_by (map (λ m. m.bytes) (filter (λ m. has_weak (expanded_in AMD64 m.bytes)) (shorts AMD64))) refl;
+  searched = (
+    4 ∷ [],
+    record { rounds = 1; taken = (4 ∷ [], (4 ∷ [], record { count = 1; taken = refl; ended = refl }, refl), refl); ended = (refl, tt) },
+    (shorts_taken, record { rounds = 1; taken = (shorts_taken, (shorts_taken, record { count = 2; taken = refl; ended = refl }, refl), refl); ended = (refl, tt) }, refl),
+  );
+}
 searched_line _ none = absurd none
 
 in_order : (machine : MachineType) → IsX86 machine → AreUnclaimedBehind (shorts machine) [] (line machine) × (IsOrdered (expanded_in machine) (shorts machine) (line machine) ⊎ NoneIsLost (expanded_in machine) (shorts machine) (own machine) (members_at (shorts machine) shorts_taken))
@@ -66,7 +72,7 @@ worked ARM64 none = absurd none
 worked machine is = record {
   archive = archive_by tt (record { accepted = refl; made = refl; ordinals = refl }, tt) (refl, tt) refl refl refl;
   ready = record { accepted = refl; has = tt };
-  searches = searches;
+  searches = record { read = (tt, (tt, (tt, ((refl, refl), (tt, tt))))); takes = searches };
   given = given;
   some = omega arith;
   takes = takes_of_libraries (expanded_in machine) (archive_of_both (kernels machine)) (shorts machine) (line machine) is_quit shorts_taken searches;
@@ -78,7 +84,7 @@ worked machine is = record {
     whole : AreListedWhole (expanded_in machine) (shorts machine)
     whole = whole_by (expanded_in machine) (shorts machine) (refl, (refl, (refl, (refl, (refl, tt)))))
 
-    searches : SearchesFlavors machine (kernels machine) (shorts machine) (line machine) is_quit shorts_taken
+    searches : SearchesFor (expanded_in machine) (archive_of_both (kernels machine)) (shorts machine) (line machine) is_quit shorts_taken
     searches = record {
       libraries_are = refl;
       first = first_of_distinct (shorts machine) (names_left (expanded_in machine) (own machine) (members_at (shorts machine) shorts_taken)) shorts_taken distinct;
