@@ -1,7 +1,7 @@
 //! What is answered to a case: line by line.
 
 use super::files::{Files, answer_expand, files_of};
-use super::linking::{State, answer_linked, link};
+use super::linking::{State, answer_linked, bases_in, link};
 use crate::lines::{Case, Line};
 use std::alloc::Global;
 use std::test::Fail;
@@ -14,7 +14,7 @@ pub fn answered(alloc: Global, case: &Case) -> Result<String, Fail> {
     let mut state = State::new();
     for line in lines {
         if !is_of_case(line.word) {
-            answer(alloc, &mut text, case, &files, &mut state, line)?;
+            answer(alloc, &mut text, &files, &mut state, line)?;
         }
     }
     Ok(text)
@@ -23,7 +23,7 @@ pub fn answered(alloc: Global, case: &Case) -> Result<String, Fail> {
 /// Whether a line of this word says what a case is made of.
 fn is_of_case(word: &str) -> bool {
     match word {
-        "machine" | "library" | "text" | "numbered" | "bases" => true,
+        "machine" | "library" | "text" | "numbered" => true,
         _ => false,
     }
 }
@@ -32,15 +32,18 @@ fn is_of_case(word: &str) -> bool {
 fn answer<'a>(
     alloc: Global,
     text: &mut String,
-    case: &Case,
     files: &'a Files,
     state: &mut State<'a>,
     line: &Line,
 ) -> Result<(), Fail> {
     match line.word {
+        "bases" => {
+            state.bases = bases_in(alloc, line.rest)?;
+            Ok(())
+        }
         "expand" => answer_expand(alloc, text, files, line.rest),
-        "link" => link(alloc, text, case, files, state, line.rest, true),
-        "bare" => link(alloc, text, case, files, state, line.rest, false),
+        "link" => link(alloc, text, files, state, line.rest, true),
+        "bare" => link(alloc, text, files, state, line.rest, false),
         _ => answer_linked(alloc, text, state, line),
     }
 }

@@ -1,27 +1,30 @@
 //! Linking, and what a linked image has.
 //!
-//! `link` links the files that it names, in this order, at the `bases` of the case: those of
-//! `.idata$2`, `$4`, `$5`, `$6`, `$7` and `.text`. `bare` leaves out the null descriptor. Of the
-//! image ask `loaded`, what a loader finds; `image`, all bytes; `directory`, how many DLLs a strict
+//! `link` links the files that it names, in this order, at the last `bases`: those of `.idata$2`,
+//! `$4`, `$5`, `$6`, `$7` and `.text`. `bare` leaves out the null descriptor. Of the image ask `loaded`, what a loader finds; `image`, all bytes; `directory`, how many DLLs a strict
 //! loader finds; `entries`, the symbols of the address tables; `address SYMBOL`; `jump SYMBOL`,
 //! from where the stub reads where it jumps. `write` puts bytes at an address.
 
 use super::files::{Files, index_of};
-use crate::lines::{Case, Line, bytes_in, number_in, numbers_in};
+use crate::lines::{Line, bytes_in, number_in, numbers_in};
 use implib_test_linker::{Linked, object_of};
 use std::alloc::{AllocError, Global};
 use std::test::Fail;
 
-/// What is linked.
+/// What is linked, and the bases of what will be.
 #[derive(Drop)]
 pub struct State<'a> {
     pub linked: Option<Linked<'a>>,
+    pub bases: [usize; 6],
 }
 
 impl State<'_> {
     /// Nothing is linked.
     pub fn new() -> Self {
-        State { linked: None }
+        State {
+            linked: None,
+            bases: [0; 6],
+        }
     }
 }
 
@@ -29,7 +32,6 @@ impl State<'_> {
 pub fn link<'a>(
     alloc: Global,
     text: &mut String,
-    case: &Case,
     files: &'a Files,
     state: &mut State<'a>,
     words: &str,
@@ -42,8 +44,8 @@ pub fn link<'a>(
         let object = object_of(alloc, member.bytes.as_slice(), expansion)?;
         objects.push(object)?;
     }
-    let bases = bases_of(alloc, case)?;
-    match implib_test_linker::link(alloc, objects, bases, is_ended)? {
+    state.linked = None;
+    match implib_test_linker::link(alloc, objects, state.bases, is_ended)? {
         Ok(linked) => {
             state.linked = Some(linked);
             Ok(writeln!(text, "linked")?)
@@ -52,9 +54,9 @@ pub fn link<'a>(
     }
 }
 
-/// The bases of a case.
-fn bases_of(alloc: Global, case: &Case) -> Result<[usize; 6], Fail> {
-    let numbers = numbers_in(alloc, case.argument("bases")?)?;
+/// The bases that words say.
+pub fn bases_in(alloc: Global, words: &str) -> Result<[usize; 6], Fail> {
+    let numbers = numbers_in(alloc, words)?;
     let mut bases = [0; 6];
     if numbers.len() != bases.len() {
         return Err(Fail::new("there are not six bases"));
