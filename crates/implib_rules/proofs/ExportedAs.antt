@@ -14,7 +14,7 @@ use Rattle.implib.specs.Fault.{Cause, IfInvalid, MemberTooLong, OfCause}
 use Rattle.implib.specs.Import.{is_alias, is_empty_text, public_exports}
 use Rattle.implib.specs.Library.{LibraryView}
 use Rattle.implib.specs.LibraryName.{NamesOfDll, names_for}
-use Rattle.implib.specs.Members.MemberLists.{AreListsOf, ListsView, alias_specs, all_import_specs, has_code}
+use Rattle.implib.specs.Members.MemberLists.{AreListsOf, ListsView, alias_specs, all_import_specs}
 use Rattle.implib.specs.Members.Members.{is_too_long, member_specs, refusal}
 use Rattle.implib.specs.Members.MemberSpec.{MemberSpec, MemberView, member_of}
 use Rattle.implib.specs.Members.Msvc.{short_import_symbol}

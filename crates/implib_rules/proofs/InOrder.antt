@@ -12,7 +12,6 @@ use Rattle.implib.specs.Text.Token.{kind_of_word, lexeme_text, tokens_of, tokens
 use Rattle.implib.proofs.Text.HeardNames.{whole_of}
 use Rattle.implib_rules.specs.declared.places.Place.{Place}
 use Rattle.implib_rules.specs.declared.places.Site.{Site}
-use Rattle.implib_rules.specs.declared.places.Site.TheVariants as site
 use Rattle.implib_rules.specs.Places.{Walked, is_heading, placed, places_in, site_at, started, walked, walked_on}
 use Rattle.implib_rules.specs.Options.{LibraryOptionsView}
 use Rattle.implib_rules.specs.Warnings.{Ascends, NoticeView, WarningView, asked_warnings, index_after}

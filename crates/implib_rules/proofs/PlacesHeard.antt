@@ -15,7 +15,6 @@ use Rattle.implib.specs.Text.Position.{position_at}
 use Rattle.implib.specs.Text.Token.{TokenView}
 use Rattle.implib.proofs.Text.HeardNames.{names_are_words, names_of-append}
 use Rattle.implib_rules.specs.declared.places.Place.{Place}
-use Rattle.implib_rules.specs.declared.places.Site.TheVariants as site
 use Rattle.implib_rules.specs.Places.{ExportsStandAtWords, export_positions, is_heading, placed, site_at, started, walked, walked_on}
 use Rattle.implib_rules.specs.Heard.{IsOffsetOf}
 use Rattle.implib_rules.proofs.InOrder.{places_after, walked_places}

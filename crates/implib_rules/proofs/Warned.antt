@@ -6,7 +6,6 @@ use Rattle.implib.specs.declared.def.position.Position.{Position}
 use Rattle.implib.specs.Definition.{ExportView}
 use Rattle.implib_rules.specs.declared.places.Place.{Place}
 use Rattle.implib_rules.specs.declared.places.Site.{Site}
-use Rattle.implib_rules.specs.declared.places.Site.TheVariants as site
 use Rattle.implib_rules.specs.Options.{LibraryOptionsView}
 use Rattle.implib_rules.specs.Warnings.{NoticeView, WarningView, index_after, warned, warnings_at, warnings_from}
 
