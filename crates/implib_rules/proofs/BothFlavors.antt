@@ -1,35 +1,24 @@
 -- What aliases of Microsoft's flavour lead to.
-use Rattle.std.proofs.Common.{◌≡◌, ◌∙◌, ℕ, Bool, true, false, List, [], ◌∷◌, ◌++◌, Option, None, Some, ap, arith, bytes_eq, cond, ◌⊎◌, inl, inr, if◌then◌else◌, map, refl, sym, subst}
+use Rattle.std.proofs.Common.{◌≡◌, ◌∙◌, ℕ, Bool, true, false, List, [], ◌∷◌, ◌++◌, Option, None, Some, ap, arith, bytes_eq, ◌⊎◌, inl, inr, if◌then◌else◌, map, refl, sym, subst, drop}
 use Rattle.std.specs.Prelude.{not, ◌&&◌}
 use Rattle.std.specs.List.{Contains, find}
 use Rattle.std.specs.Option.{option_map}
-use Rattle.std.proofs.lemmas.Bool.{and_parts, cases_Bool, true≢false}
-use Rattle.std.proofs.lemmas.List.Elements.{Contains-append_cases, Contains-append_left, Contains-append_right, Contains-push_cases}
-use Rattle.std.proofs.lemmas.Option.{none-some, same_Some}
+use Rattle.std.proofs.lemmas.Bool.{and_parts, cases_Bool, true≢false, not-true}
+use Rattle.std.proofs.lemmas.List.Elements.{Contains-append_left, Contains-append_right}
+use Rattle.std.proofs.lemmas.Option.{none-some}
 use Rattle.std.proofs.lemmas.Slice.Eq.{bytes_eq-Decides}
 use Rattle.implib.specs.declared.flavor.Flavor.TheVariants.{Gnu, Msvc}
 use Rattle.implib.specs.declared.machine.MachineType.{MachineType}
 use Rattle.implib.specs.Definition.{ExportView}
-use Rattle.implib.specs.Import.{is_empty_text, name_asked}
+use Rattle.implib.specs.Import.{name_asked}
 use Rattle.implib_rules.specs.BothFlavors.{AsksAlike, LeadsAlike}
-use Rattle.implib_rules.specs.Linked.{NamingView, adds_target, alias_symbol, asks_for, export_asked, has_target, is_among, is_apart, is_declared, is_named_import, linked_export, linked_import, linked_to, makes, new_target, own_symbol, symbol_asking, symbol_linked, target_import, target_symbol, targets_beside, with_symbol, with_target, word_asked, word_of}
+use Rattle.implib_rules.specs.Linked.{NamingView, adds_target, alias_symbol, asks_for, export_asked, is_among, is_apart, is_declared, is_named_import, linked_export, linked_import, linked_to, new_target, own_symbol, symbol_asking, symbol_linked, target_import, target_symbol, targets_beside, with_symbol, with_target}
 use Rattle.implib_rules.proofs.Asked.{asks_as_linked}
 use Rattle.implib_rules.proofs.Targets.{neither}
 
-not_true : (b : Bool) → not b ≡ true → b ≡ false
-not_true false is = refl
-not_true true is = absurd (true≢false (sym is))
-
 -- an element of a list is its first one, or one of the rest
 in_cons : {X : Type 0} (x : X) (xs : List X) (y : X) → Contains (x ∷ xs) y → (x ≡ y) ⊎ Contains xs y
-in_cons x xs y within =
-    elim (Contains-append_cases (x ∷ []) xs y within) [
-      | inl first ↦ elim (Contains-push_cases [] x y first) [
-        | inl none ↦ absurd (omega (arith, none.1))
-        | inr is ↦ inl is
-      ]
-      | inr rest ↦ inr rest
-    ]
+in_cons x xs y within = grind arith
 
 first_in : {X : Type 0} (x : X) (xs : List X) → Contains (x ∷ xs) x
 first_in x xs = (0, omega arith, refl)
@@ -39,29 +28,12 @@ rest_in x xs y within = Contains-append_right (x ∷ []) xs y within
 
 in_map : {X Y : Type 0} (f : X → Y) (xs : List X) (x : X) → Contains xs x → Contains (map f xs) (f x)
 in_map f [] x within = absurd (omega (arith, within.1))
-in_map f (first ∷ xs) x within =
-    elim (in_cons first xs x within) [
-      | inl is ↦ subst (λ y. Contains (f first ∷ map f xs) (f y)) is (first_in (f first) (map f xs))
-      | inr rest ↦ rest_in (f first) (map f xs) (f x) (in_map f xs x rest)
-    ]
+in_map f (first ∷ xs) x within = grind (arith, in_cons first xs x within, first_in, rest_in, in_map f xs x)
 
 -- what is found is in the list, and passes
 found : {X : Type 0} (test : X → Bool) (xs : List X) (x : X) → find test xs ≡ Some x → Contains xs x × (test x ≡ true)
 found test [] x is = absurd (none-some x is)
-found test (first ∷ xs) x is =
-    elim (cases_Bool (test first)) [
-      | inl passes ↦
-          let same : Some first ≡ Some x = ap (λ b. cond b (Some first) (find test xs)) (sym passes) ∙ is in
-          let here : first ≡ x = same_Some first x same in
-          (subst (λ y. Contains (first ∷ xs) y) here (first_in first xs), ap test (sym here) ∙ passes)
-      | inr fails ↦
-          let later = found test xs x (ap (λ b. cond b (Some first) (find test xs)) (sym fails) ∙ is) in
-          (rest_in first xs x later.0, later.1)
-    ]
-
-abbrev behind_first : List ℕ → List ℕ
-behind_first [] = []
-behind_first (b ∷ text) = text
+found test (first ∷ xs) x is = grind (arith, first_in first xs, rest_in first xs x, found test xs x)
 
 module _ (machine : MachineType) (naming : NamingView) where
   -- an import that is added under the symbol of an alias's target, for that alias or for one before it
@@ -78,9 +50,7 @@ module _ (machine : MachineType) (naming : NamingView) where
 
   among_more : (symbols : List (List ℕ)) (more symbol : List ℕ) → is_among symbols symbol ≡ false → bytes_eq symbol more ≡ false → is_among (symbols ++ more ∷ []) symbol ≡ false
   among_more [] more symbol none other = rw other refl
-  among_more (first ∷ symbols) more symbol none other =
-      let parts = neither (bytes_eq symbol first) (is_among symbols symbol) none in
-      rw parts.0 (among_more symbols more symbol parts.1 other)
+  among_more (first ∷ symbols) more symbol none other = grind (arith, neither, among_more symbols more symbol (neither (bytes_eq symbol first) (is_among symbols symbol) none).1 other)
 
   -- an alias that wants a target gets one, unless its symbol is there
   added : (all : List ExportView) (symbols : List (List ℕ)) (rest : List ExportView) (e : ExportView) → Contains rest e
@@ -107,8 +77,7 @@ module _ (machine : MachineType) (naming : NamingView) where
                   ]
               | inr free ↦
                   let new : new_target machine naming all symbols first ≡ target_import first ∷ [] =
-                  ap (λ b. if b && not (is_among symbols other) then target_import first ∷ [] else []) wanted
-                  ∙ ap (λ b. if not b then target_import first ∷ [] else []) free in
+                  cc (wanted, free) in
                   elim (cases_Bool (bytes_eq symbol other)) [
                     | inl same ↦ (
                       first,
@@ -133,10 +102,7 @@ module _ (machine : MachineType) (naming : NamingView) (exports : List ExportVie
   module _ (e : ExportView) (apart : is_apart machine naming e ≡ true) where
     -- it has a word after `==`, and asks for that in GNU's flavour
     asks : name_asked machine (linked_import machine naming e) ≡ e.alias_target
-    asks =
-        let target : has_target e ≡ true = (and_parts (has_target e) (not e.private && (not e.no_name && not (makes machine (symbol_linked machine naming e) e.alias_target))) apart).0 in
-        asks_as_linked machine naming e
-        ∙ ap (λ b. if b then word_asked machine naming (word_of e) else e.alias_target) (not_true (is_empty_text e.alias_target) target)
+    asks = grind (arith, asks_as_linked machine naming e)
 
     by_target : alias_symbol machine naming Msvc exports e ≡ target_symbol machine naming exports e
     by_target = ap (λ b. if b then target_symbol machine naming exports e else None) apart
@@ -144,8 +110,7 @@ module _ (machine : MachineType) (naming : NamingView) (exports : List ExportVie
     -- where short imports have third texts
     module _ (third : naming.exports_as ≡ true) where
       by_asking : alias_symbol machine naming Msvc exports e ≡ symbol_asking machine naming exports e.alias_target
-      by_asking =
-          by_target ∙ ap (λ b. if b then symbol_asking machine naming exports e.alias_target else if is_declared exports (own_symbol e) then None else Some (own_symbol e)) third
+      by_asking = by_target ∙ rw third refl
 
       -- an import by name asks for the word
       asked : (x : ExportView) → find (asks_for machine naming e.alias_target) exports ≡ Some x → LeadsAlike machine naming exports e
@@ -155,14 +120,14 @@ module _ (machine : MachineType) (naming : NamingView) (exports : List ExportVie
           let public = and_parts (not x.private) (not x.no_name && not (is_apart machine naming x)) passes.0 in
           let named = and_parts (not x.no_name) (not (is_apart machine naming x)) public.1 in
           let own : alias_symbol machine naming Msvc exports x ≡ None =
-          ap (λ b. if b then target_symbol machine naming exports x else None) (not_true (is_apart machine naming x) named.1) in
+          ap (λ b. if b then target_symbol machine naming exports x else None) (not-true (is_apart machine naming x) named.1) in
           let linked : linked_export machine naming Msvc exports x ≡ linked_import machine naming x = ap (λ s. linked_to machine naming s x) own in
           let symbol : alias_symbol machine naming Msvc exports e ≡ Some (symbol_linked machine naming x) = by_asking ∙ ap (option_map (symbol_linked machine naming)) is in
           record {
             import = linked_import machine naming x;
             is_linked = Contains-append_left (map (linked_export machine naming Msvc exports) exports) _ (linked_import machine naming x)
                 (subst (Contains (map (linked_export machine naming Msvc exports) exports)) linked (in_map (linked_export machine naming Msvc exports) exports x there.0));
-            is_import = record { public = not_true x.private public.0; by_name = not_true x.no_name named.0; not_weak = refl };
+            is_import = record { public = not-true x.private public.0; by_name = not-true x.no_name named.0; not_weak = refl };
             leads = ap (λ s. (linked_to machine naming s e).alias_target) symbol;
             asks = asks_as_linked machine naming x ∙ sym ((bytes_eq-Decides e.alias_target (export_asked machine naming x)).0 passes.1) ∙ sym asks;
           }
@@ -175,14 +140,12 @@ module _ (machine : MachineType) (naming : NamingView) (exports : List ExportVie
     -- elsewhere it leads to an import of its own
     module _ (plain : naming.exports_as ≡ false) where
       by_own : alias_symbol machine naming Msvc exports e ≡ (if is_declared exports (own_symbol e) then None else Some (own_symbol e))
-      by_own =
-          by_target ∙ ap (λ b. if b then symbol_asking machine naming exports e.alias_target else if is_declared exports (own_symbol e) then None else Some (own_symbol e)) plain
+      by_own = by_target ∙ rw plain refl
 
       alone : is_declared exports (own_symbol e) ≡ false → Contains exports e → LeadsAlike machine naming exports e
       alone free within =
           let wanted : adds_target machine naming exports e ≡ true =
-          ap (λ b. b && (not naming.exports_as && not (is_declared exports (own_symbol e)))) apart
-          ∙ ap (λ b. not b && not (is_declared exports (own_symbol e))) plain ∙ ap not free in
+          cc (apart, plain, free) in
           let new = added machine naming exports [] exports e within wanted refl in
           let x = new.0 in
           record {
@@ -190,7 +153,7 @@ module _ (machine : MachineType) (naming : NamingView) (exports : List ExportVie
             is_linked = Contains-append_right (map (linked_export machine naming Msvc exports) exports) (targets_beside machine naming exports [] exports) (target_import x) new.1;
             is_import = record { public = refl; by_name = refl; not_weak = refl };
             leads = ap (λ s. (linked_to machine naming s e).alias_target) (by_own ∙ ap (λ b. if b then None else Some (own_symbol e)) free) ∙ sym new.2;
-            asks = ap behind_first new.2 ∙ sym asks;
+            asks = ap (drop 1) new.2 ∙ sym asks;
           }
 
   by_form : (e : ExportView) → is_apart machine naming e ≡ true → Contains exports e

@@ -1,57 +1,33 @@
 -- A short import with a third text is read as the import of its export.
-use Rattle.std.proofs.Common.{◌≡◌, ◌∙◌, ℕ, ◌+◌, ◌-◌, ◌*◌, ◌<◌, ◌≤◌, ◌^◌, Bool, true, false, List, [], ◌∷◌, ◌++◌, None, Some, ap, append_assoc, arith, drop, eq-eqb, if◌then◌else◌, length, nat_le, refl}
+use Rattle.std.proofs.Common.{◌≡◌, ◌∙◌, ℕ, ◌+◌, ◌*◌, ◌<◌, ◌≤◌, ◌^◌, Bool, true, List, [], ◌∷◌, ◌++◌, None, Some, ap, append_assoc, arith, drop, if◌then◌else◌, nat_le, refl}
 use Rattle.std.specs.Prelude.{◌==◌, ◌&&◌}
-use Rattle.std.proofs.lemmas.Bool.{le-leb}
-use Rattle.std.proofs.lemmas.Nat.{from_le_bytes-to_le_bytes_2, from_le_bytes-to_le_bytes_4}
+use Rattle.std.proofs.lemmas.Nat.{from_le_bytes-to_le_bytes_2}
 use Rattle.implib.specs.declared.machine.MachineType.{MachineType}
-use Rattle.implib.specs.declared.machine.MachineType.TheVariants.{AMD64, ARM64, ARMNT, I386}
 use Rattle.implib.specs.Definition.{ExportView}
 use Rattle.implib.specs.Formats.Bytes.{u16_bytes, u32_bytes}
 use Rattle.implib.specs.Formats.Object.{u16_at, u32_at}
 use Rattle.implib.specs.Formats.ShortImport.{ShortImport, import_data, is_short_import, short_import_header_size, text_in}
 use Rattle.implib.specs.Import.{Name, import_symbols}
 use Rattle.implib.specs.Machine.{machine_number}
-use Rattle.implib.specs.Members.Msvc.{import_type_of, short_import_bytes, short_import_data_size, short_import_size, short_import_symbol}
+use Rattle.implib.specs.Members.Msvc.{import_type_of, short_import_bytes, short_import_size, short_import_symbol}
 use Rattle.implib.proofs.Members.ShortImport.{length-short_import_bytes, text_in-append}
 use Rattle.implib_rules.specs.ExportAs.{ExportAsRead, export_as_after_dll, export_as_after_symbol, export_as_import, export_as_of}
 use Rattle.implib_rules.specs.WorkedExportAs.{ExportAsReads}
 
-size_read : (r : ShortImport) → short_import_size r ≤ 0xFFFF_FFFF → u32_at (short_import_bytes r) 12 ≡ short_import_data_size r
-unfolding u32_at u16_bytes u32_bytes
-size_read r fits = from_le_bytes-to_le_bytes_4 (short_import_data_size r) (omega arith)
-
 is_short : (r : ShortImport) → short_import_size r ≤ 0xFFFF_FFFF → is_short_import (short_import_bytes r) ≡ true
-unfolding u16_at u16_bytes u32_bytes
-is_short r fits =
-    let long : nat_le 20 (length (short_import_bytes r)) ≡ true = le-leb 20 (length (short_import_bytes r)) (omega (arith, length-short_import_bytes r)) in
-    let size : (u32_at (short_import_bytes r) 12 == length (short_import_bytes r) - short_import_header_size) ≡ true =
-    eq-eqb (u32_at (short_import_bytes r) 12) (length (short_import_bytes r) - short_import_header_size) (omega (arith, size_read r fits, length-short_import_bytes r)) in
-    rw (long, size) refl
+unfolding u16_at u16_bytes u32_bytes u32_at
+is_short r fits = grind (arith, length-short_import_bytes r)
 
 -- the types' number says what is data
 types_tell : (e : ExportView) (n : ℕ) → n ≡ import_type_of e + 4 * 4
     → ((n == 4 * 4 + import_data) ≡ e.is_data) × ((nat_le 16 n ≡ true) × (nat_le n 18 ≡ true))
-types_tell e n is = by e.is_data e.constant n is
-  where
-    by : (variable constant : Bool) (m : ℕ) → m ≡ (if variable then 1 else if constant then 2 else 0) + 4 * 4
-        → ((m == 4 * 4 + import_data) ≡ variable) × ((nat_le 16 m ≡ true) × (nat_le m 18 ≡ true))
-    by true constant m is = rw is (refl, (refl, refl))
-    by false true m is = rw is (refl, (refl, refl))
-    by false false m is = rw is (refl, (refl, refl))
+types_tell e n is = grind arith
 
 type_small : (e : ExportView) → import_type_of e + 4 * 4 < 2 ^ 16
-type_small e = by e.is_data e.constant
-  where
-    by : (variable constant : Bool) → (if variable then 1 else if constant then 2 else 0) + 4 * 4 < 2 ^ 16
-    by true constant = omega arith
-    by false true = omega arith
-    by false false = omega arith
+type_small e = grind arith
 
 machine_small : (machine : MachineType) → machine_number machine < 2 ^ 16
-machine_small I386 = omega arith
-machine_small ARMNT = omega arith
-machine_small AMD64 = omega arith
-machine_small ARM64 = omega arith
+machine_small machine = grind arith
 
 abbrev read_as : ℕ → ℕ → List ℕ → List ℕ → List ℕ → Bool → ExportAsRead
 read_as machine ordinal symbol dll name variable = record {

@@ -1,33 +1,29 @@
 -- The members for Microsoft's linker where an export may have a short import with a third text.
-use Rattle.std.proofs.Common.{◌≡◌, ◌∙◌, ℕ, Bool, true, false, List, [], ◌∷◌, ◌++◌, Option, None, Some, Result, Err, Ok, ap, bytes_eq, drop, if◌then◌else◌, inl, inr, map, refl, subst, sym}
-use Rattle.std.specs.Prelude.{◌&&◌, ◌||◌, IsErrAnd, not}
+use Rattle.std.proofs.Common.{arith, ◌≡◌, ◌∙◌, ℕ, Bool, true, false, List, [], ◌∷◌, ◌++◌, Option, None, Some, Result, ap, drop, if◌then◌else◌, map, refl, subst, sym}
+use Rattle.std.specs.Prelude.{IsErrAnd, not}
 use Rattle.std.specs.List.{filter, flat_map, list_any}
 use Rattle.std.proofs.lemmas.Bool.{cases_Bool, true≢false}
 use Rattle.std.proofs.lemmas.List.{map-append}
-use Rattle.std.proofs.lemmas.Option.{none-some, same_Some}
+use Rattle.std.proofs.lemmas.Option.{none-some}
 use Rattle.std.proofs.lemmas.Slice.Eq.{bytes_eq-Decides}
 use Rattle.implib.specs.declared.flavor.Flavor.TheVariants.{Msvc}
 use Rattle.implib.specs.declared.machine.MachineType.{MachineType}
 use Rattle.implib.specs.Definition.{DefinitionView, ExportView}
 use Rattle.implib.specs.declared.error.Error.{Error}
-use Rattle.implib.specs.declared.error.Error.TheVariants.{Invalid, OutOfMemory}
-use Rattle.implib.specs.Fault.{Cause, IfInvalid, MemberTooLong, OfCause, cause_of}
-use Rattle.implib.specs.Formats.ShortImport.{before_at_sign, without_prefix}
+use Rattle.implib.specs.Fault.{Cause, IfInvalid, MemberTooLong, OfCause}
 use Rattle.implib.specs.Import.{is_alias, is_empty_text, public_exports}
 use Rattle.implib.specs.Library.{LibraryView}
 use Rattle.implib.specs.LibraryName.{NamesOfDll, names_for}
-use Rattle.implib.specs.Machine.{has_leading_underscore}
-use Rattle.implib.specs.Members.MemberLists.{AreListsOf, ListsView, alias_specs, all_alias_specs, all_import_specs, has_code, is_weak}
-use Rattle.implib.specs.Members.Members.{is_too_long, length_refusal, member_specs, refusal}
+use Rattle.implib.specs.Members.MemberLists.{AreListsOf, ListsView, alias_specs, all_import_specs}
+use Rattle.implib.specs.Members.Members.{is_too_long, member_specs, refusal}
 use Rattle.implib.specs.Members.MemberSpec.{MemberSpec, MemberView, member_of}
 use Rattle.implib.specs.Members.Msvc.{short_import_symbol}
-use Rattle.implib.specs.Members.MsvcMembers.{header_specs, weak_address_spec, weak_specs, weak_symbol_spec}
-use Rattle.implib.specs.Members.NameRules.{first_of_both}
+use Rattle.implib.specs.Members.MsvcMembers.{header_specs, weak_specs}
 use Rattle.implib.specs.Renaming.{renamed, renamed_export}
 use Rattle.implib.proofs.Members.MemberMeanings.{reads_as_msvc}
 use Rattle.implib.proofs.Members.Renaming.{renamed_twice}
-use Rattle.implib_rules.specs.ExportAs.{IsExportAsLibrary, LaterView, all_export_as_specs, export_as_refusal, export_as_spec, export_as_specs, export_as_unless_private, exported_name, kept, kept_by, kept_definition, later_by, later_of, later_specs, later_specs_by, later_unless_private, name_apart, placed, symbol_made}
-use Rattle.implib_rules.specs.Linked.{has_target, makes}
+use Rattle.implib_rules.specs.ExportAs.{IsExportAsLibrary, LaterView, export_as_refusal, export_as_specs, export_as_unless_private, exported_name, kept, kept_by, kept_definition, later_by, later_of, later_specs, later_specs_by, later_unless_private, placed}
+use Rattle.implib_rules.specs.Linked.{makes}
 use Rattle.implib_rules.proofs.Made.{all_made, held_by}
 use Rattle.implib_rules.proofs.Targets.{neither}
 
@@ -35,13 +31,7 @@ use Rattle.implib_rules.proofs.Targets.{neither}
 each : {X : Type 0} (f : ExportView → List X) (exports : List ExportView)
     → flat_map (λ e. if e.private then [] else f (renamed_export e)) exports ≡ flat_map f (filter (λ e. not e.private) (map renamed_export exports))
 each f [] = refl
-each f (e ∷ exports) =
-    ap (λ l. (if e.private then [] else f (renamed_export e)) ++ l) (each f exports) ∙ here e.private
-  where
-    here : (b : Bool) → (if b then [] else f (renamed_export e)) ++ flat_map f (filter (λ x. not x.private) (map renamed_export exports))
-        ≡ flat_map f (if not b then renamed_export e ∷ filter (λ x. not x.private) (map renamed_export exports) else filter (λ x. not x.private) (map renamed_export exports))
-    here true = refl
-    here false = refl
+each f (e ∷ exports) = grind (arith, each f exports)
 
 pub laters_of_public : (machine : MachineType) (dll : NamesOfDll) (d : DefinitionView)
     → flat_map (later_unless_private machine dll) d.exports ≡ flat_map (later_of machine dll) (public_exports (renamed d))
@@ -53,86 +43,39 @@ export_as_of_public machine dll d = each (export_as_specs machine dll) d.exports
 
 -- an export is kept under its name to link by as it is under its own
 kept_renamed_by : (o : Option (List ℕ)) (e : ExportView) → renamed_export (kept_by o e) ≡ kept_by o (renamed_export e)
-kept_renamed_by None e = refl
-kept_renamed_by (Some name) e = refl
+kept_renamed_by o e = grind arith
 
 kept_renamed_all : (machine : MachineType) (exports : List ExportView) → map renamed_export (map (kept machine) exports) ≡ map (kept machine) (map renamed_export exports)
 kept_renamed_all machine [] = refl
-kept_renamed_all machine (e ∷ exports) =
-    ap (λ l. renamed_export (kept machine e) ∷ l) (kept_renamed_all machine exports)
-    ∙ ap (λ (x : ExportView). x ∷ map (kept machine) (map renamed_export exports)) (kept_renamed_by (exported_name machine e) e)
+kept_renamed_all machine (e ∷ exports) = simp (kept_renamed_by, kept_renamed_all machine exports)
 
 pub kept_renamed : (machine : MachineType) (d : DefinitionView) → renamed (kept_definition machine d) ≡ kept_definition machine (renamed d)
 kept_renamed machine d = ap (λ (exports : List ExportView). record d { exports = exports }) (kept_renamed_all machine d.exports)
 
--- a name that is exported is not empty, and no symbol
-name_of : (machine : MachineType) (symbol : List ℕ) (asked : Option (List ℕ)) (name : List ℕ) → name_apart machine symbol asked ≡ Some name
-    → (is_empty_text name ≡ false) × (makes machine symbol name ≡ false)
-name_of machine symbol None name is = absurd (none-some name is)
-name_of machine symbol (Some asked) name is =
-    elim (cases_Bool (is_empty_text asked || makes machine symbol asked)) [
-      | inl refused ↦ absurd (none-some name (ap (λ b. if b then None else Some asked) (sym refused) ∙ is))
-      | inr passed ↦
-          let same : asked ≡ name = same_Some asked name (ap (λ b. if b then None else Some asked) (sym passed) ∙ is) in
-          subst (λ n. (is_empty_text n ≡ false) × (makes machine symbol n ≡ false)) same (neither (is_empty_text asked) (makes machine symbol asked) passed)
-    ]
-
 -- so it is another symbol than the export's
 other_symbol : (machine : MachineType) (symbol name : List ℕ) → is_empty_text name ≡ false → makes machine symbol name ≡ false → is_alias name symbol ≡ true
-other_symbol machine symbol name full apart =
-    let parts = neither (bytes_eq symbol name) (has_leading_underscore machine && (bytes_eq (without_prefix symbol) name || bytes_eq (before_at_sign (without_prefix symbol)) name)) apart in
-    let differs : bytes_eq name symbol ≡ false =
-    elim (cases_Bool (bytes_eq name symbol)) [
-      | inl same ↦ absurd (true≢false (sym ((bytes_eq-Decides symbol name).1 (sym ((bytes_eq-Decides name symbol).0 same))) ∙ parts.0))
-      | inr differ ↦ differ
-    ] in
-    ap (λ b. not b && not (bytes_eq name symbol)) full ∙ ap not differs
+other_symbol machine symbol name full apart = grind (arith, neither, cases_Bool, true≢false, bytes_eq-Decides)
 
 exported_alias : (machine : MachineType) (e : ExportView) (name : List ℕ) → exported_name machine (renamed_export e) ≡ Some name → is_alias name (short_import_symbol (renamed_export e)) ≡ true
-exported_alias machine e name is =
-    elim (cases_Bool (e.private || (e.no_name || has_target e))) [
-      | inl none ↦ absurd (none-some name (ap (λ b. if b then None else name_apart machine (symbol_made (renamed_export e)) e.asked_name) (sym none) ∙ is))
-      | inr passed ↦
-          let apart : name_apart machine (symbol_made (renamed_export e)) e.asked_name ≡ Some name =
-          ap (λ b. if b then None else name_apart machine (symbol_made (renamed_export e)) e.asked_name) (sym passed) ∙ is in
-          let found = name_of machine (symbol_made (renamed_export e)) e.asked_name name apart in
-          other_symbol machine (symbol_made (renamed_export e)) name found.0 found.1
-    ]
+exported_alias machine e name is = grind (arith, cases_Bool, none-some, other_symbol)
 
 kept_private : (o : Option (List ℕ)) (e : ExportView) → (kept_by o e).private ≡ e.private
-kept_private None e = refl
-kept_private (Some name) e = refl
+kept_private o e = grind arith
 
 module _ (machine : MachineType) (dll : NamesOfDll) where
   module _ (e : ExportView) (laters : List LaterView) (rest : List MemberView) where
-    -- weak externals stay
-    weak_here : (a c : Bool) (first second : MemberSpec)
-        → placed ((if a then record { has_code = c; instead = None } ∷ [] else []) ++ laters)
-        (map member_of (if c then (if a then first ∷ second ∷ [] else []) else drop 1 (if a then first ∷ second ∷ [] else [])) ++ rest)
-        ≡ map member_of (if c then (if a then first ∷ second ∷ [] else []) else drop 1 (if a then first ∷ second ∷ [] else [])) ++ placed laters rest
-    weak_here true true first second = refl
-    weak_here true false first second = refl
-    weak_here false true first second = refl
-    weak_here false false first second = refl
-
     -- and a short import stands in their place
     short_here : (a c : Bool) (first second : MemberSpec) (member : MemberView) → a ≡ true
         → placed (record { has_code = c; instead = Some member } ∷ laters)
         (map member_of (if c then (if a then first ∷ second ∷ [] else []) else drop 1 (if a then first ∷ second ∷ [] else [])) ++ rest)
         ≡ member ∷ placed laters rest
-    short_here true true first second member is = refl
-    short_here true false first second member is = refl
-    short_here false c first second member is = absurd (true≢false (sym is))
+    short_here a c first second member is = grind (arith, true≢false)
 
     here : (o : Option (List ℕ)) → ((name : List ℕ) → o ≡ Some name → is_alias name (short_import_symbol e) ≡ true)
         → placed (later_by machine dll e o ++ laters) (map member_of (alias_specs machine dll.linked (kept_by o e)) ++ rest)
         ≡ map member_of (later_specs_by machine dll e o) ++ placed laters rest
     unfolding weak_specs
-    here None alias = weak_here (is_weak e) (has_code e) (weak_symbol_spec machine dll.linked e) (weak_address_spec machine dll.linked e)
-    here (Some name) alias =
-        let k = kept_by (Some name) e in
-        short_here (is_alias name (short_import_symbol e)) (has_code e) (weak_symbol_spec machine dll.linked k) (weak_address_spec machine dll.linked k)
-        (member_of (export_as_spec machine dll e name)) (alias name refl)
+    here o alias = grind (arith, short_here)
 
   abbrev Public : List ExportView → List ExportView
   Public exports = filter (λ e. not e.private) (map renamed_export exports)
@@ -171,9 +114,7 @@ module _ (machine : MachineType) (dll : NamesOfDll) where
 module _ (d : DefinitionView) (machine : MachineType) where
   same_specs : (names : NamesOfDll) (exports : List ExportView) → names ≡ names_for Msvc d → exports ≡ d.exports
       → list_any is_too_long (flat_map (export_as_unless_private machine names) exports) ≡ list_any is_too_long (flat_map (export_as_unless_private machine (names_for Msvc d)) d.exports)
-  same_specs names exports named exports_are =
-      ap (λ n. list_any is_too_long (flat_map (export_as_unless_private machine n) exports)) named
-      ∙ ap (λ l. list_any is_too_long (flat_map (export_as_unless_private machine (names_for Msvc d)) l)) exports_are
+  same_specs names exports named exports_are = rw (named, exports_are) refl
 
   -- lists of the definition with aliases, and what stands in their place
   pub is_export_as_library : (library : LibraryView) (lists : ListsView) (names : NamesOfDll) (exports : List ExportView) (laters : List LaterView) (members : List MemberView)
@@ -194,9 +135,7 @@ module _ (d : DefinitionView) (machine : MachineType) where
       let imports = all_import_specs machine k in
       let others = flat_map (later_specs machine dll) (public_exports e) in
       let last : placed laters lists.aliases ≡ map member_of others =
-      ap (λ l. placed l lists.aliases) (later ∙ ap (λ n. flat_map (later_unless_private machine n) exports) named ∙ ap (flat_map (later_unless_private machine dll)) exports_are ∙ laters_of_public machine dll d)
-      ∙ ap (placed (flat_map (later_of machine dll) (public_exports e))) (are.aliases ∙ ap (λ (x : DefinitionView). map member_of (all_alias_specs machine x)) once)
-      ∙ placed_all machine dll d.exports in
+      cc (later, named, exports_are, laters_of_public machine dll d, are.aliases, once, placed_all machine dll d.exports) in
       let all = map member_of (member_specs (renamed k) machine Msvc) in
       record {
         fit = ap (λ b. if b then Some MemberTooLong else None) (ap (list_any is_too_long) (sym (export_as_of_public machine dll d)) ∙ sym (same_specs names exports named exports_are) ∙ fits);
@@ -204,44 +143,24 @@ module _ (d : DefinitionView) (machine : MachineType) where
         made = all_made k machine lists are;
         reads = reads_as_msvc k machine all (all_made k machine lists are);
         is =
-            is
-            ∙ ap (λ l. l ++ (lists.imports ++ placed laters lists.aliases)) (are.header ∙ ap (λ (x : DefinitionView). map member_of (header_specs machine (names_for Msvc x))) once)
-            ∙ ap (λ l. map member_of header ++ (l ++ placed laters lists.aliases)) (are.imports ∙ ap (λ (x : DefinitionView). map member_of (all_import_specs machine x)) once)
-            ∙ ap (λ l. map member_of header ++ (map member_of imports ++ l)) last
-            ∙ ap (λ l. map member_of header ++ l) (sym (map-append member_of imports others))
-            ∙ sym (map-append member_of header (imports ++ others));
+            cc (is, are.header, once, are.imports, last, map-append member_of imports others, map-append member_of header (imports ++ others));
       }
 
   -- why the members of such a definition are refused
   pub names_refused : (library : LibraryView) (cause : Cause) → library ≡ held_by (kept_definition machine d) machine Msvc
       → refusal library.definition library.machine Msvc ≡ Some cause → export_as_refusal (renamed d) machine ≡ Some cause
-  names_refused library cause held refused =
-      let library_is : library ≡ record { definition = kept_definition machine (renamed d); machine = machine; flavor = Msvc } =
-      held ∙ ap (λ (x : DefinitionView). record { definition = x; machine = machine; flavor = Msvc }) (kept_renamed machine d) in
-      ap (λ o. first_of_both o (length_refusal (all_export_as_specs machine (renamed d))))
-      (sym (ap (λ (l : LibraryView). refusal l.definition l.machine Msvc) library_is) ∙ refused)
+  names_refused library cause held refused = grind (arith, kept_renamed)
 
   pub too_long_refused : (library : LibraryView) (lists : ListsView) (names : NamesOfDll) (exports : List ExportView) (cause : Cause) → names ≡ names_for Msvc d → exports ≡ d.exports → library ≡ held_by (kept_definition machine d) machine Msvc
       → AreListsOf library.definition library.machine lists → cause ≡ MemberTooLong
       → list_any is_too_long (flat_map (export_as_unless_private machine names) exports) ≡ true
       → export_as_refusal (renamed d) machine ≡ Some cause
-  too_long_refused library lists names exports cause named exports_are held lists_of is long =
-      let library_is : library ≡ record { definition = kept_definition machine (renamed d); machine = machine; flavor = Msvc } =
-      held ∙ ap (λ (x : DefinitionView). record { definition = x; machine = machine; flavor = Msvc }) (kept_renamed machine d) in
-      let are = subst (λ (l : LibraryView). AreListsOf l.definition l.machine lists) library_is lists_of in
-      ap (λ o. first_of_both o (length_refusal (all_export_as_specs machine (renamed d)))) are.accepted
-      ∙ ap (λ b. if b then Some MemberTooLong else None) (ap (list_any is_too_long) (sym (export_as_of_public machine (names_for Msvc d) d)) ∙ sym (same_specs names exports named exports_are) ∙ long)
-      ∙ ap Some (sym is)
-
-moved : (P Q : Cause → Type 0) (error : Error) → ((cause : Cause) → P cause → Q cause) → OfCause P error → OfCause Q error
-moved P Q (Invalid fault) so holds = so (cause_of fault) holds
-moved P Q (OutOfMemory refused) so holds = tt
+  too_long_refused library lists names exports cause named exports_are held lists_of is long = grind (arith, kept_renamed, export_as_of_public, same_specs)
 
 -- an error that is handed on is refused for what it was
 pub handed_on : {U : Type 0} (P Q : Cause → Type 0) (error : Error) (result : Result U Error) → IsErrAnd result (λ e. e ≡ error)
     → ((cause : Cause) → P cause → Q cause) → OfCause P error → IfInvalid result Q
-handed_on P Q error (Ok value) is so holds = absurd is
-handed_on P Q error (Err e) is so holds = subst (λ x. OfCause Q x) (sym is) (moved P Q error so holds)
+handed_on P Q error result is so holds = grind arith
 
 -- exports that are kept are those of the definition that is
 pub held_kept : (d : DefinitionView) (machine : MachineType) (library : LibraryView) (exports : List ExportView)

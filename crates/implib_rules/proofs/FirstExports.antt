@@ -1,5 +1,6 @@
 -- The first export of each word and of each ordinal.
-use Rattle.std.proofs.Common.{◌≡◌, ◌∙◌, ℕ, zero, suc, ◌+◌, ◌<◌, ◌==◌, Bool, true, false, not, ◌&&◌, List, [], ◌∷◌, ◌++◌, Option, None, Some, ◌||◌, ap, arith, bytes_eq, get_or, if◌then◌else◌, is_some, length, lt-ltb, ltb-true, map, nat_eq, nat_lt, refl, sym, take}
+use Rattle.std.proofs.lemmas.Bool.Decides.{nat_tests}
+use Rattle.std.proofs.Common.{◌≡◌, ◌∙◌, ℕ, zero, suc, ◌+◌, ◌<◌, ◌==◌, Bool, true, false, not, ◌&&◌, List, [], ◌∷◌, ◌++◌, Option, None, Some, ◌||◌, arith, bytes_eq, get_or, if◌then◌else◌, is_some, length, map, nat_eq, refl, take}
 use Rattle.std.specs.Option.{option_map, option_or}
 use Rattle.std.proofs.lemmas.Bool.{true≢false}
 use Rattle.std.proofs.lemmas.List.{length-map, length-take-le, map-append, take_more}
@@ -16,57 +17,35 @@ use Rattle.implib_rules.specs.Warnings.{earlier, ordinal_notice, repeat_notice}
 
 push_first : (is last : Bool) (found all : Option ℕ) (n : ℕ) → all ≡ option_or found (if last then Some n else None)
     → (if is then Some 0 else option_map suc all) ≡ option_or (if is then Some 0 else option_map suc found) (if last then Some (suc n) else None)
-push_first true last found all n same = refl
-push_first false last (Some first) all n same = ap (option_map suc) same
-push_first false true None all n same = ap (option_map suc) same
-push_first false false None all n same = ap (option_map suc) same
+push_first is last found all n same = grind arith
 
 -- one item more is the first where none before it passes
 pub first_where-push : {A : Type 0} (test : A → Bool) (items : List A) (item : A)
     → first_where test (items ++ item ∷ []) ≡ option_or (first_where test items) (if test item then Some (length items) else None)
 first_where-push test [] item = refl
-first_where-push test (first ∷ items) item =
-    push_first (test first) (test item) (first_where test items) (first_where test (items ++ item ∷ [])) (length items) (first_where-push test items item)
+first_where-push test (first ∷ items) item = cc (push_first (test first) (test item) (first_where test items) (first_where test (items ++ item ∷ [])) (length items) (first_where-push test items item))
 
 -- one export more, by a test
 pub where_more : (test : ExportView → Bool) (items : List ShortExport) (index : ℕ) (d : ShortExport) → index < length items
     → option_or (first_where test (map export_view (take index items))) (if test (export_view (get_or items index d)) then Some index else None)
     ≡ first_where test (map export_view (take (index + 1) items))
-where_more test items index d within =
-    let before = map export_view (take index items) in
-    let e = export_view (get_or items index d) in
-    let long : length before ≡ index = length-map (take index items) export_view ∙ length-take-le index items (omega (arith, within)) in
-    ap (λ (n : ℕ). option_or (first_where test before) (if test e then Some n else None)) (sym long)
-    ∙ sym (first_where-push test before e)
-    ∙ sym (ap (λ (t : List ShortExport). first_where test (map export_view t)) (take_more items index d within)
-    ∙ ap (first_where test) (map-append export_view (take index items) (get_or items index d ∷ [])))
+where_more test items index d within = grind (arith, take_more items index d within, map-append, first_where-push test (map export_view (take index items)), length-map, length-take-le index items)
 
 -- one export more that is not private, by its word
 pub declared_public : (word : List ℕ) (items : List ShortExport) (index : ℕ) (d : ShortExport) (at : List ℕ) → index < length items
     → (export_view (get_or items index d)).private ≡ false → at ≡ word_of (export_view (get_or items index d))
     → option_or (first_declared word (map export_view (take index items))) (if bytes_eq word at then Some index else None)
     ≡ first_declared word (map export_view (take (index + 1) items))
-declared_public word items index d at within public is =
-    let before = map export_view (take index items) in
-    let e = export_view (get_or items index d) in
-    ap (λ (a : List ℕ). option_or (first_declared word before) (if bytes_eq word a then Some index else None)) is
-    ∙ ap (λ (b : Bool). option_or (first_declared word before) (if not b && bytes_eq word (word_of e) then Some index else None)) (sym public)
-    ∙ where_more (λ x. declares x word) items index d within
+declared_public word items index d at within public is = cc (where_more (λ x. declares x word) items index d within)
 
 none_more : (o : Option ℕ) → o ≡ option_or o None
-none_more None = refl
-none_more (Some n) = refl
+none_more o = grind arith
 
 -- a private one declares nothing
 pub declared_private : (word : List ℕ) (items : List ShortExport) (index : ℕ) (d : ShortExport) → index < length items
     → (export_view (get_or items index d)).private ≡ true
     → first_declared word (map export_view (take index items)) ≡ first_declared word (map export_view (take (index + 1) items))
-declared_private word items index d within private =
-    let before = map export_view (take index items) in
-    let e = export_view (get_or items index d) in
-    none_more (first_declared word before)
-    ∙ ap (λ (b : Bool). option_or (first_declared word before) (if not b && bytes_eq word (word_of e) then Some index else None)) (sym private)
-    ∙ where_more (λ x. declares x word) items index d within
+declared_private word items index d within private = none_more _ ∙ rw private at (where_more (λ x. declares x word) items index d within)
 
 -- one import by name more, by what it asks for
 pub asking_named : (machine : MachineType) (naming : NamingView) (word : List ℕ) (items : List ShortExport) (index : ℕ) (d : ShortExport) (at : List ℕ) → index < length items
@@ -74,63 +53,31 @@ pub asking_named : (machine : MachineType) (naming : NamingView) (word : List �
     → at ≡ export_asked machine naming (export_view (get_or items index d))
     → option_or (first_asking machine naming word (map export_view (take index items))) (if bytes_eq word at then Some index else None)
     ≡ first_asking machine naming word (map export_view (take (index + 1) items))
-asking_named machine naming word items index d at within named is =
-    let before = map export_view (take index items) in
-    let e = export_view (get_or items index d) in
-    ap (λ (a : List ℕ). option_or (first_asking machine naming word before) (if bytes_eq word a then Some index else None)) is
-    ∙ ap (λ (b : Bool). option_or (first_asking machine naming word before) (if b && bytes_eq word (export_asked machine naming e) then Some index else None)) (sym named)
-    ∙ where_more (asks_for machine naming word) items index d within
+asking_named machine naming word items index d at within named is = rw is (rw named at (where_more (asks_for machine naming word) items index d within))
 
 -- another export asks for nothing by name
 pub asking_other : (machine : MachineType) (naming : NamingView) (word : List ℕ) (items : List ShortExport) (index : ℕ) (d : ShortExport) → index < length items
     → is_named_import machine naming (export_view (get_or items index d)) ≡ false
     → first_asking machine naming word (map export_view (take index items)) ≡ first_asking machine naming word (map export_view (take (index + 1) items))
-asking_other machine naming word items index d within other =
-    let before = map export_view (take index items) in
-    let e = export_view (get_or items index d) in
-    none_more (first_asking machine naming word before)
-    ∙ ap (λ (b : Bool). option_or (first_asking machine naming word before) (if b && bytes_eq word (export_asked machine naming e) then Some index else None)) (sym other)
-    ∙ where_more (asks_for machine naming word) items index d within
+asking_other machine naming word items index d within other = none_more _ ∙ rw other at (where_more (asks_for machine naming word) items index d within)
 
 -- one export more, by its word
 pub word_more : (word : List ℕ) (items : List ShortExport) (index : ℕ) (d : ShortExport) (at : List ℕ) → index < length items
     → at ≡ word_of (export_view (get_or items index d))
     → option_or (first_of_word word (map export_view (take index items))) (if bytes_eq word at then Some index else None)
     ≡ first_of_word word (map export_view (take (index + 1) items))
-word_more word items index d at within is =
-    let before = map export_view (take index items) in
-    let e = export_view (get_or items index d) in
-    let long : length before ≡ index = length-map (take index items) export_view ∙ length-take-le index items (omega (arith, within)) in
-    ap (λ (a : List ℕ). option_or (first_of_word word before) (if bytes_eq word a then Some index else None)) is
-    ∙ ap (λ (n : ℕ). option_or (first_of_word word before) (if bytes_eq word (word_of e) then Some n else None)) (sym long)
-    ∙ sym (first_where-push (λ x. bytes_eq word (word_of x)) before e)
-    ∙ sym (ap (λ (t : List ShortExport). first_of_word word (map export_view t)) (take_more items index d within)
-    ∙ ap (first_of_word word) (map-append export_view (take index items) (get_or items index d ∷ [])))
+word_more word items index d at within is = rw is (where_more (λ x. bytes_eq word (word_of x)) items index d within)
 
 -- one export more, by its ordinal
 pub ordinal_more : (ordinal : ℕ) (items : List ShortExport) (index : ℕ) (d : ShortExport) (at : ℕ) → index < length items
     → at ≡ (export_view (get_or items index d)).ordinal
     → option_or (first_of_ordinal ordinal (map export_view (take index items))) (if nat_eq ordinal at then Some index else None)
     ≡ first_of_ordinal ordinal (map export_view (take (index + 1) items))
-ordinal_more ordinal items index d at within is =
-    let before = map export_view (take index items) in
-    let e = export_view (get_or items index d) in
-    let long : length before ≡ index = length-map (take index items) export_view ∙ length-take-le index items (omega (arith, within)) in
-    ap (λ (a : ℕ). option_or (first_of_ordinal ordinal before) (if nat_eq ordinal a then Some index else None)) is
-    ∙ ap (λ (n : ℕ). option_or (first_of_ordinal ordinal before) (if nat_eq ordinal e.ordinal then Some n else None)) (sym long)
-    ∙ sym (first_where-push (λ x. nat_eq ordinal x.ordinal) before e)
-    ∙ sym (ap (λ (t : List ShortExport). first_of_ordinal ordinal (map export_view t)) (take_more items index d within)
-    ∙ ap (first_of_ordinal ordinal) (map-append export_view (take index items) (get_or items index d ∷ [])))
+ordinal_more ordinal items index d at within is = rw is (where_more (λ x. nat_eq ordinal x.ordinal) items index d within)
 
 noted_by : (word other : List ℕ) (index : ℕ) (old new : Option ℕ) (same back : Bool) → bytes_eq word other ≡ same → bytes_eq other word ≡ back
     → (other ≡ word → old ≡ None) → new ≡ (if same then Some index else old) → new ≡ option_or old (if back then Some index else None)
-noted_by word other index old new true true e f absent is = is ∙ sym (ap (λ (o : Option ℕ). option_or o (Some index)) (absent ((bytes_eq-Decides other word).0 f)))
-noted_by word other index None new false false e f absent is = is
-noted_by word other index (Some n) new false false e f absent is = is
-noted_by word other index old new true false e f absent is =
-    absurd (true≢false (sym ((bytes_eq-Decides other word).1 (sym ((bytes_eq-Decides word other).0 e))) ∙ f))
-noted_by word other index old new false true e f absent is =
-    absurd (true≢false (sym ((bytes_eq-Decides word other).1 (sym ((bytes_eq-Decides other word).0 f))) ∙ e))
+noted_by word other index old new same back e f absent is = grind (arith, bytes_eq-Decides, true≢false)
 
 -- what a word that was absent leaves at another word
 pub noted : (word other : List ℕ) (index : ℕ) (old new : Option ℕ) → (other ≡ word → old ≡ None)
@@ -139,59 +86,33 @@ noted word other index old new absent is = noted_by word other index old new (by
 
 -- an option that is not there
 pub none_of : {A : Type 0} (o : Option A) → is_some o ≡ false → o ≡ None
-none_of None e = refl
-none_of (Some x) e = absurd (true≢false e)
-
-same_where : (a b : Bool) → (a ≡ true → b ≡ true) → (b ≡ true → a ≡ true) → a ≡ b
-same_where true b there back = sym (there refl)
-same_where false true there back = back refl
-same_where false false there back = refl
-
-some_where : {A : Type 0} (is : Bool) (x : A) → is_some (if is then Some x else None) ≡ is
-some_where true x = refl
-some_where false x = refl
+none_of o e = grind (arith, true≢false)
 
 -- no index is before 0
 none_before : (found : Option ℕ) → is_some (earlier found zero) ≡ false
-none_before None = refl
-none_before (Some first) =
-    some_where (nat_lt first zero) first ∙ same_where (nat_lt first zero) false (λ e. absurd (omega (arith, ltb-true first zero e))) (λ e. absurd (true≢false (sym e)))
-
-one_on : (found : Option ℕ) (index : ℕ) → is_some (earlier (option_map suc found) (suc index)) ≡ is_some (earlier found index)
-one_on None index = refl
-one_on (Some first) index =
-    some_where (nat_lt (suc first) (suc index)) (suc first)
-    ∙ same_where (nat_lt (suc first) (suc index)) (nat_lt first index)
-    (λ e. lt-ltb first index (omega (arith, ltb-true (suc first) (suc index) e)))
-    (λ e. lt-ltb (suc first) (suc index) (omega (arith, ltb-true first index e)))
-    ∙ sym (some_where (nat_lt first index) first)
+none_before found = grind (arith, nat_tests)
 
 where_first : (is : Bool) (found : Option ℕ) (index : ℕ) (before : Bool) → is_some (earlier found index) ≡ before
     → is_some (earlier (if is then Some 0 else option_map suc found) (suc index)) ≡ (is || before)
-where_first true found index before same = some_where (nat_lt 0 (suc index)) 0 ∙ lt-ltb 0 (suc index) (omega arith)
-where_first false found index before same = one_on found index ∙ same
+where_first is found index before same = grind (arith, nat_tests)
 
 -- the first item that passes is before an index exactly where one of the items before the index passes
 pub where_before : {A : Type 0} (test : A → Bool) (items : List A) (index : ℕ) → is_some (earlier (first_where test items) index) ≡ list_any test (take index items)
-where_before test [] zero = refl
+where_before test items zero = none_before (first_where test items)
 where_before test [] (suc index) = refl
-where_before test (first ∷ items) zero = none_before (first_where test (first ∷ items))
 where_before test (first ∷ items) (suc index) =
     where_first (test first) (first_where test items) index (list_any test (take index items)) (where_before test items index)
 
 pub is_some-map : {A B : Type 0} (f : A → B) (o : Option A) → is_some (option_map f o) ≡ is_some o
-is_some-map f None = refl
-is_some-map f (Some x) = refl
+is_some-map f o = grind arith
 
 if_given : {A : Type 0} (none : Bool) (o : Option A) (before : Bool) → is_some o ≡ before → is_some (if none then None else o) ≡ (not none && before)
-if_given true o before same = refl
-if_given false o before same = same
+if_given none o before same = grind arith
 
 -- an export is said to repeat a word where it is left out
 pub word_repeated : (e : ExportView) (exports : List ExportView) (index : ℕ)
     → is_some (repeat_notice e (first_declared (word_of e) exports) index) ≡ repeats (take index exports) e
-word_repeated e exports index =
-    if_given e.private _ _ (is_some-map _ (earlier (first_declared (word_of e) exports) index) ∙ where_before (λ x. declares x (word_of e)) exports index)
+word_repeated e exports index = grind (arith, is_some-map, where_before (λ x. declares x (word_of e)) exports index)
 
 pub ordinal_repeated : (ordinal : ℕ) (exports : List ExportView) (index : ℕ)
     → is_some (ordinal_notice ordinal (first_of_ordinal ordinal exports) index)

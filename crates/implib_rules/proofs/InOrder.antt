@@ -1,8 +1,7 @@
 -- The warnings of a text are in the order of their offsets.
-use Rattle.std.proofs.Common.{◌≡◌, ◌∙◌, ℕ, suc, ◌+◌, ◌-◌, ◌==◌, ◌≤◌, Bool, true, false, List, [], ◌∷◌, ◌++◌, Option, None, Some, append_assoc, append-nil, arith, fold, length, map, subst, sym, ◌||◌}
-use Rattle.std.specs.Prelude.{is_some, slice_get, if◌then◌else◌}
+use Rattle.std.proofs.Common.{◌≡◌, ◌∙◌, ℕ, suc, ◌+◌, ◌≤◌, Bool, false, List, [], ◌∷◌, ◌++◌, Option, append_assoc, append-nil, arith, fold, length, map, subst, sym, ◌||◌}
 use Rattle.std.proofs.lemmas.List.{length-append}
-use Rattle.std.specs.Str.{IsUtf8, trim, trim_end, trim_start}
+use Rattle.std.specs.Str.{IsUtf8, trim, trim_end}
 use Rattle.implib.specs.declared.def.lexer.TokenKind.TheVariants as kind
 use Rattle.implib.specs.declared.def.position.Position.{Position}
 use Rattle.implib.specs.Definition.{ExportView}
@@ -13,14 +12,11 @@ use Rattle.implib.specs.Text.Token.{kind_of_word, lexeme_text, tokens_of, tokens
 use Rattle.implib.proofs.Text.HeardNames.{whole_of}
 use Rattle.implib_rules.specs.declared.places.Place.{Place}
 use Rattle.implib_rules.specs.declared.places.Site.{Site}
-use Rattle.implib_rules.specs.declared.places.Site.TheVariants as site
-use Rattle.implib_rules.specs.Linked.{word_of}
 use Rattle.implib_rules.specs.Places.{Walked, is_heading, placed, places_in, site_at, started, walked, walked_on}
 use Rattle.implib_rules.specs.Options.{LibraryOptionsView}
-use Rattle.implib_rules.specs.Firsts.{first_declared, first_of_ordinal, first_of_word}
-use Rattle.implib_rules.specs.Warnings.{Ascends, NoticeView, OpensLine, WarningView, asked_warnings, heading_notice, if_export, index_after}
-use Rattle.implib_rules.specs.Warnings.{lowered_notice, no_export_notice, ordinal_like_notice, ordinal_notice, other_kind_notice, repeat_notice, stdcall_notice}
-use Rattle.implib_rules.specs.Warnings.{target_notice, warned, weak_notice, warnings_at, warnings_at_site, warnings_from, warnings_of, whole, word_before}
+use Rattle.implib_rules.specs.Warnings.{Ascends, NoticeView, WarningView, asked_warnings, index_after}
+use Rattle.implib_rules.specs.Warnings.{no_export_notice, other_kind_notice}
+use Rattle.implib_rules.specs.Warnings.{warned, warnings_at, warnings_at_site, warnings_from, warnings_of, whole}
 
 -- each token is at this offset or after it, and none is before the one that it follows
 abbrev TokensFrom : ℕ → List TokenView → Type 0
@@ -36,15 +32,8 @@ one_token : (offset : ℕ) (token : TokenView) (more : ℕ) (tokens : List Token
     → TokensFrom (offset + more) tokens → TokensFrom offset (token ∷ tokens)
 one_token offset token more tokens below within rest = (below, tokens_from-less token.at (offset + more) tokens within rest)
 
-value_start-within : (inside : List ℕ) (empty : Bool) → (if empty then 0 else length inside - length (trim_start inside)) ≤ length inside
-value_start-within inside true = omega arith
-value_start-within inside false = omega arith
-
 quoted_within : (offset : ℕ) (inside : List ℕ) → offset + 1 + value_start inside ≤ offset + suc (length (inside ++ 34 ∷ []))
-quoted_within offset inside =
-    let start = value_start-within inside (length (trim inside) == 0) in
-    let long = length-append inside (34 ∷ []) in
-    omega (arith, start, long)
+quoted_within offset inside = grind (arith, length-append)
 
 -- the tokens of a lexeme, and then those of the lexemes after it
 by_lexeme : (offset : ℕ) (lexeme : Lexeme) (rest : List TokenView) → TokensFrom (offset + length (lexeme_text lexeme)) rest
@@ -59,7 +48,7 @@ by_lexeme offset (Quoted inside) rest from =
     one_token offset (record { kind = kind.Identifier; value = trim inside; at = offset + 1 + value_start inside })
     (suc (length (inside ++ 34 ∷ []))) rest (omega arith) (quoted_within offset inside) from
 by_lexeme offset (Unclosed inside) rest from =
-    one_token offset (record { kind = kind.Identifier; value = []; at = offset + 1 }) (suc (length inside)) rest (omega arith) (omega arith) from
+    grind (arith, one_token offset (record { kind = kind.Identifier; value = []; at = offset + 1 }) (suc (length inside)) rest (omega arith) (omega arith) from)
 by_lexeme offset (Word run) rest from =
     one_token offset (record { kind = kind_of_word (trim_end run); value = trim_end run; at = offset }) (length run) rest (omega arith) (omega arith) from
 
@@ -67,7 +56,7 @@ by_lexeme offset (Word run) rest from =
 tokens_ascend : (offset : ℕ) (lexemes : List Lexeme) → TokensFrom offset (tokens_of offset lexemes)
 tokens_ascend offset [] = (omega arith, tt)
 tokens_ascend offset (lexeme ∷ lexemes) =
-    by_lexeme offset lexeme (tokens_of (offset + length (lexeme_text lexeme)) lexemes) (tokens_ascend (offset + length (lexeme_text lexeme)) lexemes)
+    grind (arith, by_lexeme offset lexeme (tokens_of (offset + length (lexeme_text lexeme)) lexemes) (tokens_ascend (offset + length (lexeme_text lexeme)) lexemes))
 
 -- each place is at this offset or after it, and none is before the one that it follows
 abbrev PlacesFrom : ℕ → List Place → Type 0
@@ -88,22 +77,14 @@ places_after text is_headed line (h ∷ heard) =
 pub walked_places : (text : List ℕ) (before : Walked) (heard : List Heard)
     → (fold (walked_on text) before heard).places ≡ before.places ++ places_after text before.is_headed before.line heard
 walked_places text before [] = sym (append-nil before.places)
-walked_places text before (h ∷ heard) =
-    walked_places text (walked_on text before h) heard
-    ∙ append_assoc before.places (placed (site_at before.is_headed before.line (position_at text h.token.at).line h.role h.token.kind) (position_at text h.token.at)) _
-
-placed_first : (site : Option Site) (offset : ℕ) (position : Position) (rest : List Place) → offset ≤ position.offset
-    → PlacesFrom position.offset rest → PlacesFrom offset (placed site position ++ rest)
-placed_first None offset position rest order from = places_from-less offset position.offset rest order from
-placed_first (Some site) offset position rest order from = (order, from)
+walked_places text before (h ∷ heard) = simp (append_assoc, walked_places text (walked_on text before h) heard)
 
 -- the places of tokens that ascend do so
 places_ascend : (text : List ℕ) (is_headed : Bool) (line offset : ℕ) (heard : List Heard) (rest : List TokenView) → TokensFrom offset (map (λ (h : Heard). h.token) heard ++ rest)
     → PlacesFrom offset (places_after text is_headed line heard)
 places_ascend text is_headed line offset [] rest from = tt
 places_ascend text is_headed line offset (h ∷ heard) rest from =
-    placed_first (site_at is_headed line (position_at text h.token.at).line h.role h.token.kind) offset (position_at text h.token.at) _ from.0
-    (places_ascend text (is_headed || is_heading h.token.kind) (position_at text h.token.at).line h.token.at heard rest from.1)
+    grind (arith, places_ascend text (is_headed || is_heading h.token.kind) (position_at text h.token.at).line h.token.at heard rest from.1, places_from-less)
 
 ascends-less : (less offset : ℕ) (warnings : List WarningView) → less ≤ offset → Ascends offset warnings → Ascends less warnings
 ascends-less less offset [] order from = tt
@@ -112,8 +93,7 @@ ascends-less less offset (warning ∷ warnings) order from = (omega (arith, orde
 -- a warning at the offset that the others begin at
 warned_first : (notice : Option NoticeView) (position : Position) (rest : List WarningView) → Ascends position.offset rest
     → Ascends position.offset (warned notice position ++ rest)
-warned_first None position rest from = from
-warned_first (Some notice) position rest from = (omega arith, from)
+warned_first notice position rest from = grind arith
 
 -- warnings at this position go before those from there on
 abbrev GoBefore : Position → List WarningView → Type 0
@@ -129,37 +109,12 @@ both_before position first second one other =
 -- the warnings of what an export asks for
 asked_before : (options : LibraryOptionsView) (exports : List ExportView) (is_left_out : Bool) (position : Position) (e : ExportView)
     → GoBefore position (asked_warnings options exports is_left_out position e)
-asked_before options exports true position e = λ rest from. from
-asked_before options exports false position e =
-    both_before position _ _
-    (both_before position _ _
-    (one_before (stdcall_notice options.machine options.naming e) position)
-    (one_before (target_notice options.flavor e (first_of_word e.alias_target exports)) position))
-    (one_before (weak_notice options e) position)
-
--- the warnings of an export
-export_before : (options : LibraryOptionsView) (exports : List ExportView) (index : ℕ) (position : Position) (found : Option ExportView)
-    → GoBefore position (if_export options exports index position found)
-export_before options exports index position None = λ rest from. from
-export_before options exports index position (Some e) =
-    let repeated = repeat_notice e (first_declared (word_of e) exports) index in
-    both_before position _ _
-    (both_before position _ _
-    (both_before position _ _
-    (both_before position _ _
-    (one_before repeated position)
-    (one_before (ordinal_notice e.ordinal (first_of_ordinal e.ordinal exports) index) position))
-    (one_before (lowered_notice (word_of e)) position))
-    (one_before (ordinal_like_notice (word_of e)) position))
-    (asked_before options exports (is_some repeated) position e)
+asked_before options exports is_left_out position e = grind (arith, both_before, one_before)
 
 -- the warnings at what stands there, and others from there on
 site_first : (options : LibraryOptionsView) (exports : List ExportView) (index : ℕ) (at : Site) (position : Position) (rest : List WarningView)
     → Ascends position.offset rest → Ascends position.offset (warnings_at_site options exports index at position ++ rest)
-site_first options exports index site.Export position rest from = export_before options exports index position (slice_get exports index) rest from
-site_first options exports index (site.Attribute attribute) position rest from =
-    warned_first (Some (OpensLine attribute (word_before exports index))) position rest from
-site_first options exports index site.Heading position rest from = warned_first (heading_notice options.dll) position rest from
+site_first options exports index at position rest from = grind (arith, warned_first, both_before, one_before, asked_before)
 
 -- the warnings at places that ascend do so
 warnings_ascend : (options : LibraryOptionsView) (exports : List ExportView) (index offset : ℕ) (places : List Place) → PlacesFrom offset places

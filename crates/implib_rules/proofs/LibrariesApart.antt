@@ -1,8 +1,6 @@
 -- Libraries of one DLL for GNU's linker are kept apart by their digits, and GNU `ld` finds those for Microsoft's.
-use Rattle.std.proofs.Common.{◌≡◌, ◌≢◌, ◌∙◌, ℕ, zero, suc, ◌*◌, ◌/◌, ◌%◌, ◌==◌, Bool, true, false, not, List, [], ◌∷◌, ◌++◌, Option, None, Some, ap, append_assoc, arith, codes, get_or, if◌then◌else◌, length, map, refl, sym, take}
-use Rattle.std.specs.Prelude.{slice_index, unwrap_or}
+use Rattle.std.proofs.Common.{◌≡◌, ◌≢◌, ◌∙◌, ℕ, zero, suc, ◌/◌, ◌%◌, ◌==◌, Bool, true, false, not, List, [], ◌∷◌, ◌++◌, None, Some, ap, append_assoc, arith, codes, get_or, if◌then◌else◌, length, map, refl, sym, take, drop}
 use Rattle.std.specs.List.{list_all}
-use Rattle.std.specs.Option.{option_map}
 use Rattle.std.proofs.lemmas.Bool.{and_parts, true≢false}
 use Rattle.std.proofs.lemmas.List.{append_cancel_left, length-take-le, map-append}
 use Rattle.std.proofs.Math.Seq.{take-append_seam}
@@ -20,48 +18,27 @@ use Rattle.implib.specs.Link.LinkedMembers.{IsPrefixOf, member_prefix}
 use Rattle.implib.specs.Members.Gnu.{mangled_name, without_full_stop}
 use Rattle.implib.specs.Members.MsvcObjects.{descriptor_symbol}
 use Rattle.implib.proofs.LibraryNames.{base_of_named}
-use Rattle.implib_rules.specs.Additions.{extended}
 use Rattle.implib_rules.specs.Library.{DefinitionFor}
 use Rattle.implib_rules.specs.LibraryLaws.{IsFoundByGnu}
-use Rattle.implib_rules.specs.LibraryName.{exports_taken, gnu_library_name, has_gnu_linker, if_filled, library_name_for, msvc_library_name, with_library_name, without_ending}
-use Rattle.implib_rules.specs.Linked.{linked}
-use Rattle.implib_rules.specs.Nameless.{with_ordinals}
-use Rattle.implib_rules.specs.Names.{dll_name, is_program, own_name}
-use Rattle.implib_rules.specs.Repeats.{without_repeats}
+use Rattle.implib_rules.specs.LibraryName.{exports_taken, gnu_library_name, has_gnu_linker, if_filled, with_library_name, without_ending}
 use Rattle.implib_rules.specs.Options.{LibraryOptionsView}
 
 filled : (text : List ℕ) → is_empty_text text ≡ false → if_filled text ≡ Some text
 filled text is = ap (λ b. if b then None else Some text) is
 
-found_named : (d : DefinitionView) (name : List ℕ) → d.library_name ≡ Some name → name ≡ without_ending d.import_name → IsFoundByGnu d
-unfolding descriptor_symbol
-found_named d name named is = record {
-  members = ap (λ (given : Option (List ℕ)). unwrap_or (option_map (λ text. text ++ codes ".dll") given) d.import_name) named ∙ ap (λ text. text ++ codes ".dll") is;
-  descriptor = ap (λ text. codes "__IMPORT_DESCRIPTOR_" ++ text) (base_of_named d name named ∙ is);
-}
-
 -- a definition with the name of its library
 named_of : (machine : MachineType) (flavor : Flavor) (d whole : DefinitionView) → flavor ≡ Msvc → has_gnu_linker machine ≡ true → whole ≡ with_library_name machine flavor d → is_empty_text (without_ending whole.import_name) ≡ false
     → whole.library_name ≡ Some (without_ending whole.import_name)
-named_of machine flavor d whole msvc links is text =
-    let same : whole.import_name ≡ d.import_name = ap (λ (x : DefinitionView). x.import_name) is in
-    ap (λ (x : DefinitionView). x.library_name) is
-    ∙ ap (λ f. library_name_for machine f d) msvc
-    ∙ ap (λ b. if b then msvc_library_name d else None) links
-    ∙ ap (λ name. if_filled (without_ending name)) (sym same)
-    ∙ filled (without_ending whole.import_name) text
+named_of machine flavor d whole msvc links is text = grind (arith, filled)
 
 -- GNU `ld` finds the library of a text
 pub found_of_text : (text : List ℕ) (options : LibraryOptionsView) (d : DefinitionView) → DefinitionFor text options d → options.flavor ≡ Msvc
     → has_gnu_linker options.machine ≡ true → is_empty_text (without_ending d.import_name) ≡ false → IsFoundByGnu d
-found_of_text text options d meant msvc links filled =
-    let plain = record (with_ordinals meant.parsed) { import_name = dll_name options.dll (own_name meant.heard) (is_program meant.heard) } in
-    let before = linked options.machine options.naming options.flavor (without_repeats (extended options.machine options.naming options.additions plain)) in
-    found_named d (without_ending d.import_name) (named_of options.machine options.flavor before d msvc links meant.is filled) refl
+unfolding descriptor_symbol
+found_of_text text options d meant msvc links filled = grind (arith, filled, named_of, base_of_named)
 
 other : (b : Bool) (d : ℕ) → not b ≡ true → (if b then underscore else d) ≡ d
-other false d is = refl
-other true d is = absurd (true≢false (sym is))
+other b d is = grind (arith, true≢false)
 
 -- digits have no full stop
 no_stop : (digits : List ℕ) (index : ℕ) → list_all (λ d. not (d == 0x2E)) digits ≡ true → without_full_stop (get_or digits index 0) ≡ get_or digits index 0
@@ -78,31 +55,19 @@ digits_kept (b ∷ bytes) =
     let high = no_stop lower_digits (b / 16) refl in
     let low = no_stop lower_digits (b % 16) refl in
     let rest = map without_full_stop (encode_lower bytes) in
-    ap (λ d. d ∷ without_full_stop (slice_index lower_digits (b % 16)) ∷ rest) high
-    ∙ ap (λ d. slice_index lower_digits (b / 16) ∷ d ∷ rest) low
-    ∙ ap (λ t. slice_index lower_digits (b / 16) ∷ slice_index lower_digits (b % 16) ∷ t) (digits_kept bytes)
+    cc (high, low, digits_kept bytes)
 
 -- the digits of a library
 abbrev digits_of : DefinitionView → List ℕ
 digits_of d = encode_lower (take 8 (md5 (exports_taken d.exports)))
 
 sixteen : (d : DefinitionView) → length (digits_of d) ≡ 16
-sixteen d =
-    let message = exports_taken d.exports in
-    let eight : length (take 8 (md5 message)) ≡ 8 = length-take-le 8 (md5 message) (omega (arith, length-md5 message)) in
-    length-encode_with lower_digits (take 8 (md5 message)) ∙ ap (λ n. 2 * n) eight
+sixteen d = grind (arith, length-take-le, length-md5, length-encode_with)
 
 -- what the names of its members begin with: the DLL's name, and then the digits
 prefix_of : (machine : MachineType) (d : DefinitionView) → member_prefix (with_library_name machine Gnu d) ≡ mangled_name d.import_name ++ (0x5F ∷ (digits_of d ++ codes "_a_"))
 unfolding mangled_name gnu_library_name
-prefix_of machine d =
-    let dll = map without_full_stop d.import_name in
-    ap (λ t. t ++ codes "_a_") (map-append without_full_stop d.import_name (0x5F ∷ digits_of d) ∙ ap (λ t. dll ++ (0x5F ∷ t)) (digits_kept (take 8 (md5 (exports_taken d.exports)))))
-    ∙ append_assoc dll (0x5F ∷ digits_of d) (codes "_a_")
-
-abbrev after_first_of : List ℕ → List ℕ
-after_first_of [] = []
-after_first_of (b ∷ rest) = rest
+prefix_of machine d = grind (arith, map-append, digits_kept, append_assoc)
 
 -- the first sixteen bytes of digits and more
 first_sixteen : (d : DefinitionView) (more : List ℕ) → take 16 (digits_of d ++ more) ≡ digits_of d
@@ -122,7 +87,7 @@ apart machine first second dll other begins =
     let joined : front ++ two ≡ front ++ (one ++ begins.0) =
     ap (λ n. mangled_name n ++ two) dll ∙ sym (prefix_of machine second) ∙ begins.1 ∙ ap (λ p. p ++ begins.0) (prefix_of machine first) ∙ append_assoc front one begins.0 in
     let digits : digits_of second ++ codes "_a_" ≡ digits_of first ++ (codes "_a_" ++ begins.0) =
-    ap after_first_of (append_cancel_left front two (one ++ begins.0) joined) ∙ append_assoc (digits_of first) (codes "_a_") begins.0 in
+    ap (drop 1) (append_cancel_left front two (one ++ begins.0) joined) ∙ append_assoc (digits_of first) (codes "_a_") begins.0 in
     let same : digits_of first ≡ digits_of second =
     sym (first_sixteen first (codes "_a_" ++ begins.0)) ∙ ap (take 16) (sym digits) ∙ first_sixteen second (codes "_a_") in
     other (named_by first ∙ ap (λ n. n ++ (0x5F ∷ digits_of first)) dll ∙ ap (λ t. second.import_name ++ (0x5F ∷ t)) same ∙ sym (named_by second))

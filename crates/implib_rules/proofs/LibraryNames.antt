@@ -1,16 +1,11 @@
 -- The name of a library.
-use Rattle.std.proofs.Common.{◌≡◌, ◌≢◌, ◌∙◌, ℕ, ◌+◌, ◌-◌, ◌<◌, Bool, true, false, not, List, [], ◌∷◌, ◌++◌, ap, append-nil, ◌==◌, arith, get_or, if◌then◌else◌, length, map, refl, sym, take}
-use Rattle.std.specs.List.{before_last, filter, flat_map, list_any, suffix_len}
+use Rattle.std.proofs.Common.{◌≡◌, ◌≢◌, ◌∙◌, ℕ, ◌+◌, ◌-◌, ◌<◌, Bool, true, false, not, List, [], ap, ◌==◌, arith, get_or, if◌then◌else◌, length, refl, sym, take}
+use Rattle.std.specs.List.{before_last, list_any, suffix_len}
 use Rattle.std.proofs.lemmas.Bool.{eqb-true, false_from_ne_true}
-use Rattle.std.proofs.lemmas.List.Elements.{filter-append}
 use Rattle.std.proofs.lemmas.List.{get_or_default}
 use Rattle.std.proofs.lemmas.List.Folds.{Any-from_list_any, list_any_at}
-use Rattle.std.proofs.lemmas.Grind.{flat_map-append}
 use Rattle.std.proofs.lemmas.List.Sums.{suffix_len_is}
-use Rattle.implib.specs.declared.def.definition.ShortExport.{ShortExport}
-use Rattle.implib.specs.Definition.{export_view}
-use Rattle.implib_rules.proofs.LeftOut.{one_more}
-use Rattle.implib_rules.specs.LibraryName.{export_taken, exports_taken, is_full_stop, without_ending}
+use Rattle.implib_rules.specs.LibraryName.{is_full_stop, without_ending}
 
 -- a text is cut before its last byte of a kind
 pub cut_before : (c : ℕ) → (c == c) ≡ true → (name : List ℕ) (at : ℕ) → at < length name → get_or name at 0 ≡ c
@@ -50,13 +45,3 @@ ending_kept name free =
     let found = Any-from_list_any is_full_stop name some in
     free found.0 found.2 (get_or_default name found.0 0 found.1 found.2 ∙ found.3 ∙ eqb-true found.1 0x2E found.4)) in
     sym (ap (λ b. if b then before_last is_full_stop name else name) none)
-
-one_taken : (items : List ShortExport) (index : ℕ) (d : ShortExport) → index < length items
-    → exports_taken (map export_view (take (index + 1) items))
-    ≡ exports_taken (map export_view (take index items)) ++ flat_map export_taken (if not (export_view (get_or items index d)).private then export_view (get_or items index d) ∷ [] else [])
-one_taken items index d within =
-    let old = map export_view (take index items) in
-    let e = export_view (get_or items index d) in
-    ap exports_taken (one_more items index d within)
-    ∙ ap (flat_map export_taken) (filter-append (λ x. not x.private) old (e ∷ []))
-    ∙ flat_map-append export_taken (filter (λ x. not x.private) old) (filter (λ x. not x.private) (e ∷ []))

@@ -1,5 +1,5 @@
 -- From the definition of bytes to its members and its library.
-use Rattle.std.proofs.Common.{◌≡◌, ◌++◌, ◌∙◌, ℕ, Bool, Err, List, [], Ok, Result, Some, false, true, if◌then◌else◌, ap, map, refl, subst, sym}
+use Rattle.std.proofs.Common.{arith, ◌≡◌, ◌++◌, ◌∙◌, ℕ, Bool, List, [], Result, Some, false, true, ap, map, refl, subst, sym}
 use Rattle.std.specs.Prelude.{IfOk}
 use Rattle.std.proofs.lemmas.List.{map-append}
 use Rattle.std.specs.List.{AllByRecursion}
@@ -16,18 +16,17 @@ use Rattle.implib.specs.declared.error.Error.{Error}
 use Rattle.implib.specs.Members.MemberLists.{AreListsOf, ListsView, all_alias_specs, all_import_specs}
 use Rattle.implib.specs.Members.MsvcMembers.{header_specs}
 use Rattle.implib.proofs.Members.MemberMeanings.{reads_as_msvc}
-use Rattle.implib.specs.Members.Members.{AreMembersOf, length_refusal, member_specs, refusal}
+use Rattle.implib.specs.Members.Members.{AreMembersOf, member_specs}
 use Rattle.implib.specs.Members.MemberSpec.{MemberView, member_of}
-use Rattle.implib.specs.Members.NameRules.{first_of_both}
 use Rattle.implib.specs.Members.ReadBack.{ReadBack}
 use Rattle.implib.specs.Renaming.{renamed}
 use Rattle.implib.proofs.Members.Renaming.{renamed_twice}
 use Rattle.implib_rules.specs.Exports.{DefinitionOfExports, MembersOfExports, of_exports}
 use Rattle.implib_rules.specs.Library.{DefinitionFor, MembersFor, RefusesMembers, definition_text}
 use Rattle.implib_rules.specs.Older.{AreMadeWith, MembersWith, RefusesWith, refusal_with}
-use Rattle.implib_rules.specs.ExportAs.{AreMadeFor, IsExportAsLibrary, all_export_as_specs, definition_made, export_as_library, export_as_refusal, kept_definition, refusal_made, specs_made}
+use Rattle.implib_rules.specs.ExportAs.{AreMadeFor, definition_made, refusal_made, specs_made}
 use Rattle.implib_rules.specs.Linked.{NamingView}
-use Rattle.implib_rules.specs.Order.{AreInOrder, LibraryReads, library_specs, msvc_specs}
+use Rattle.implib_rules.specs.Order.{AreInOrder, LibraryReads, library_specs}
 use Rattle.implib_rules.specs.Options.{LibraryOptionsView}
 use Rattle.implib_rules.proofs.OrderedReadings.{reads_in_order}
 use Rattle.implib_rules.proofs.PlainNames.{IsPlain, plain_for, plain_of}
@@ -51,22 +50,8 @@ module _ (d : DefinitionView) (machine : MachineType) where
         made = all_made lists are;
         reads = reads_as_msvc d machine (map member_of (member_specs (renamed d) machine Msvc)) (all_made lists are);
         is =
-            is
-            ∙ (ap (λ t. t ++ (lists.imports ++ lists.aliases)) are.header
-            ∙ (ap (λ t. map member_of header ++ t) tail
-            ∙ (sym (map-append member_of header (imports ++ aliases))
-            ∙ ap (λ (x : DefinitionView). map member_of (msvc_specs machine x)) once)));
+            cc (is, are.header, tail, map-append member_of header (imports ++ aliases), once);
       }
-
-  -- the members for GNU's linker are in order
-  in_order_for_gnu : (members : List MemberView) → renamed d ≡ d → AreMembersOf d machine Gnu members → ReadBack d machine Gnu members
-      → AreInOrder d machine Gnu members
-  in_order_for_gnu members once made reads = record {
-    all = members;
-    made = made;
-    reads = reads;
-    is = made.made ∙ ap (λ (x : DefinitionView). map member_of (member_specs x machine Gnu)) once;
-  }
 
 -- what a library of one flavour holds
 abbrev pub held_by : DefinitionView → MachineType → Flavor → LibraryView
@@ -86,40 +71,28 @@ pub in_order_of_gnu : {T : Type 0} (shown : T → List MemberView) (d : Definiti
     → IfOk result (λ members. AreMembersOf library.definition library.machine Gnu (shown members))
     → IfOk result (λ members. ReadBack library.definition library.machine Gnu (shown members))
     → IfOk result (λ members. AreInOrder (renamed d) machine Gnu (shown members))
-in_order_of_gnu shown d machine library (Err error) held made reads = tt
-in_order_of_gnu shown d machine library (Ok members) held made reads =
-    in_order_for_gnu (renamed d) machine (shown members) (renamed_twice d)
-    (subst (λ (l : LibraryView). AreMembersOf l.definition l.machine Gnu (shown members)) held made)
-    (subst (λ (l : LibraryView). ReadBack l.definition l.machine Gnu (shown members)) held reads)
+in_order_of_gnu shown d machine library result held made reads = grind (arith, renamed_twice)
 
 read_in : (d : DefinitionView) (machine : MachineType) (flavor : Flavor) (all members : List MemberView)
     → AreMembersOf (renamed d) machine flavor all → ReadBack (renamed d) machine flavor all
     → AllByRecursion IsPlain (public_exports (renamed d))
     → members ≡ map member_of (library_specs (renamed d) machine flavor) → LibraryReads (renamed d) machine flavor members
-read_in d machine Msvc all members made reads plain is =
-    reads_in_order (renamed d) machine all members made reads.files (renamed_twice d) plain is
+read_in d machine Msvc all members made reads plain is = grind (arith, reads_in_order (renamed d) machine all members made reads.files (renamed_twice d) plain is)
 read_in d machine Gnu all members made reads plain is = tt
 
 -- without third texts the definition that is made is the one that is meant
 pub made_is : (naming : NamingView) (machine : MachineType) (flavor : Flavor) (d : DefinitionView) → naming.exports_as ≡ false → definition_made naming machine flavor d ≡ d
-made_is naming machine Msvc d off = ap (λ b. if b then kept_definition machine d else d) off
-made_is naming machine Gnu d off = refl
+made_is naming machine flavor d off = grind arith
 
 -- and so are the members of its library
 pub specs_are : (naming : NamingView) (machine : MachineType) (flavor : Flavor) (d : DefinitionView) → naming.exports_as ≡ false
     → specs_made naming machine flavor d ≡ library_specs d machine flavor
-specs_are naming machine Msvc d off = ap (λ b. if b then export_as_library machine d else library_specs d machine Msvc) off
-specs_are naming machine Gnu d off = refl
+specs_are naming machine flavor d off = grind arith
 
 read_for : (naming : NamingView) (d : DefinitionView) (machine : MachineType) (flavor : Flavor) (members : List MemberView)
     → AreMadeFor naming (renamed d) machine flavor members → naming.exports_as ≡ false
     → AllByRecursion IsPlain (public_exports (renamed d)) → LibraryReads (renamed d) machine flavor members
-read_for naming d machine flavor members made off plain =
-    let is = made_is naming machine flavor (renamed d) off in
-    read_in d machine flavor made.all members
-    (subst (λ (x : DefinitionView). AreMembersOf x machine flavor made.all) is made.made)
-    (subst (λ (x : DefinitionView). ReadBack x machine flavor made.all) is made.reads)
-    plain (made.is ∙ ap (map member_of) (specs_are naming machine flavor (renamed d) off))
+read_for naming d machine flavor members made off plain = grind (arith, made_is, read_in, specs_are)
 
 -- the members of the library, in order, are those for the options
 pub members_made : (bytes text : List ℕ) (options : LibraryOptionsView) (d : DefinitionView) (members : List MemberView)
@@ -137,12 +110,7 @@ members_made bytes text options d members found meant made = record {
 pub members_refused : (bytes text : List ℕ) (options : LibraryOptionsView) (d : DefinitionView) (cause : Cause)
     → (text ≡ definition_text bytes) × IsUtf8 (definition_text bytes) → DefinitionFor text options d
     → refusal_made options.naming options.machine options.flavor (renamed d) ≡ Some cause → RefusesMembers bytes options cause
-members_refused bytes text options d cause found meant refused = record {
-  utf8 = found.1;
-  definition = d;
-  of_text = subst (λ (t : List ℕ). DefinitionFor t options d) found.0 meant;
-  refused = refused;
-}
+members_refused bytes text options d cause found meant refused = grind arith
 
 -- with older symbols or without, the members of the definition are those for the options
 pub members_asked : (older : Bool) (bytes text : List ℕ) (options : LibraryOptionsView) (d : DefinitionView) (members : List MemberView)
@@ -160,13 +128,7 @@ members_asked false bytes text options d members found meant made = members_made
 pub refused_asked : (older : Bool) (bytes text : List ℕ) (options : LibraryOptionsView) (d : DefinitionView) (cause : Cause)
     → (text ≡ definition_text bytes) × IsUtf8 (definition_text bytes) → DefinitionFor text options d
     → refusal_with older options (renamed d) ≡ Some cause → RefusesWith older bytes options cause
-refused_asked true bytes text options d cause found meant refused = record {
-  utf8 = found.1;
-  definition = d;
-  of_text = subst (λ (t : List ℕ). DefinitionFor t options d) found.0 meant;
-  refused = refused;
-}
-refused_asked false bytes text options d cause found meant refused = members_refused bytes text options d cause found meant refused
+refused_asked older bytes text options d cause found meant refused = grind (arith, members_refused)
 
 -- the members of exports, in order
 pub members_of_exports : (exports : List ExportView) (options : LibraryOptionsView) (d : DefinitionView) (members : List MemberView)

@@ -1,17 +1,15 @@
 -- The library of a text is that of its exports.
-use Rattle.std.proofs.Common.{◌≡◌, ◌∙◌, ℕ, Bool, false, List, [], Option, None, Some, ap, map, refl, sym}
+use Rattle.std.proofs.Common.{arith, ◌≡◌, ℕ, Bool, false, List, [], Option}
 use Rattle.implib.specs.declared.flavor.Flavor.{Flavor}
-use Rattle.implib.specs.declared.flavor.Flavor.TheVariants.{Gnu, Msvc}
 use Rattle.implib.specs.declared.machine.MachineType.{MachineType}
 use Rattle.implib.specs.declared.machine.MachineType.TheVariants.{AMD64}
 use Rattle.implib.specs.Definition.{DefinitionView}
-use Rattle.implib.specs.Members.MemberSpec.{MemberSpec, MemberView, member_of}
+use Rattle.implib.specs.Members.MemberSpec.{MemberSpec, MemberView}
 use Rattle.implib.specs.Renaming.{renamed}
 use Rattle.implib.specs.Text.Parses.{Parses}
 use Rattle.implib.proofs.Text.OneReading.{one_definition}
-use Rattle.implib_archive.specs.Archive.{archive_of}
 use Rattle.implib_rules.specs.Exports.{MembersOfExports, of_exports}
-use Rattle.implib_rules.specs.Library.{MembersFor, definition_for, kind_of, definition_text}
+use Rattle.implib_rules.specs.Library.{MembersFor, definition_text}
 use Rattle.implib_rules.specs.LibraryLaws.{LibrariesAreOfExports}
 use Rattle.implib_rules.specs.LibraryName.{gnu_library_name, with_library_name}
 use Rattle.implib_rules.specs.Linked.{NamingView, linked}
@@ -32,14 +30,12 @@ specs_named machine naming additions flavor d name =
 of_their_exports : (machine : MachineType) (naming : NamingView) (additions : AdditionsView) (flavor : Flavor) (d : DefinitionView) (name : List ℕ)
     → specs_named machine naming additions flavor d name ≡ specs_named machine naming additions flavor (of_exports d.exports) name
 unfolding gnu_library_name
-of_their_exports machine naming additions Msvc d name = refl
-of_their_exports machine naming additions Gnu d name = refl
+of_their_exports machine naming additions flavor d name = grind arith
 
 -- a name that is given is the DLL's, whatever the text's own
 given_name_is : (dll : Option (List ℕ)) (own : List ℕ) (program : Bool) → lacks_name dll [] ≡ false → dll_name dll own program ≡ dll_name dll [] false
 unfolding part_after_last
-given_name_is (Some name) own program named = refl
-given_name_is None own program named = cc
+given_name_is dll own program named = grind arith
 
 same_members : (text : List ℕ) (options : LibraryOptionsView) (parsed : DefinitionView) (members others : List MemberView) → Parses (definition_text text) AMD64 parsed
     → MembersFor text options members → MembersOfExports (with_ordinals parsed).exports options others → members ≡ others
@@ -49,14 +45,7 @@ same_members text options parsed members others parses first second =
     let program = is_program meant.heard in
     let specs = specs_named options.machine options.naming options.additions options.flavor in
     let once = one_definition (definition_text text) first.utf8 AMD64 meant.parsed parsed meant.parses parses in
-    first.made_for.is
-    ∙ ap (λ (d : DefinitionView). map member_of (specs_made options.naming options.machine options.flavor (renamed d))) (meant.is ∙ ap (λ (d : DefinitionView). definition_for options (with_ordinals d) own program) once)
-    ∙ ap (λ name. map member_of (specs (with_ordinals parsed) name)) (given_name_is options.dll own program second.of_exports.named)
-    ∙ ap (map member_of) (of_their_exports options.machine options.naming options.additions options.flavor (with_ordinals parsed) (dll_name options.dll [] false))
-    ∙ sym (second.made_for.is ∙ ap (λ (d : DefinitionView). map member_of (specs_made options.naming options.machine options.flavor (renamed d))) second.of_exports.is)
+    cc (first.made_for.is, meant.is, once, given_name_is options.dll own program second.of_exports.named, of_their_exports options.machine options.naming options.additions options.flavor (with_ordinals parsed) (dll_name options.dll [] false), second.made_for.is, second.of_exports.is)
 
 pub libraries_are_of_exports : LibrariesAreOfExports
-libraries_are_of_exports text options parsed file other parses first second =
-    first.is
-    ∙ ap (λ members. archive_of (kind_of options.flavor members) members) (same_members text options parsed first.members second.members parses first.members_for second.members_are)
-    ∙ sym second.is
+libraries_are_of_exports text options parsed file other parses first second = cc (same_members text options parsed first.members second.members parses first.members_for second.members_are)

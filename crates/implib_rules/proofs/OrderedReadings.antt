@@ -1,37 +1,31 @@
 -- What members in order are read as.
-use Rattle.std.proofs.Common.{◌≡◌, ℕ, Bool, true, false, List, [], ◌∷◌, ◌++◌, Some, arith, drop, if◌then◌else◌, length, map, refl, sym, ap, ◌∙◌, subst}
+use Rattle.std.proofs.Common.{◌≡◌, Bool, true, false, List, [], ◌∷◌, ◌++◌, Some, arith, drop, if◌then◌else◌, length, map, refl, ap, ◌∙◌, subst}
 use Rattle.std.specs.Prelude.{not, slice_get}
 use Rattle.std.specs.List.{AllByRecursion, filter, flat_map}
-use Rattle.std.specs.Option.{option_and_then, option_map}
+use Rattle.std.specs.Option.{option_map}
 use Rattle.std.proofs.lemmas.List.{drop-map, length-append, map-append}
 use Rattle.implib.specs.declared.flavor.Flavor.TheVariants.{Msvc}
 use Rattle.implib.specs.declared.machine.MachineType.{MachineType}
 use Rattle.implib.specs.Definition.{DefinitionView, ExportView}
-use Rattle.implib.specs.Formats.File.{AnAlias, AnImport, Meaning, declared_by, dll_in, file_in, meaning_in}
-use Rattle.implib.specs.Import.{Alias, aliases_for, expected_import, imp_symbol, public_exports}
+use Rattle.implib.specs.Formats.File.{AnAlias, AnImport, Meaning, declared_by, file_in, meaning_in}
+use Rattle.implib.specs.Import.{aliases_for, expected_import, public_exports}
 use Rattle.implib.specs.LibraryName.{NamesOfDll, names_for}
 use Rattle.implib.specs.Members.Members.{AreMembersOf, member_specs}
 use Rattle.implib.specs.Members.MemberSpec.{MemberSpec, MemberView, member_of}
-use Rattle.implib.specs.Members.Msvc.{short_import_symbol, symbol_or_name}
-use Rattle.implib.specs.Members.MsvcMembers.{descriptor_spec, export_specs, header_specs, short_import_spec, weak_address_spec, weak_specs, weak_symbol_spec}
+use Rattle.implib.specs.Members.Msvc.{short_import_symbol}
+use Rattle.implib.specs.Members.MsvcMembers.{descriptor_spec, export_specs, header_specs, short_import_spec, weak_specs}
 use Rattle.implib.specs.Members.ReadBack.{MsvcReadBack, import_written, meanings_written}
 use Rattle.implib.specs.Renaming.{renamed}
 use Rattle.implib.proofs.Members.Import.{import_written-expected}
 use Rattle.implib.proofs.Members.MemberReadings.{map_after}
 use Rattle.implib.proofs.Members.NotRefused.{AsksNoOther, exports_ask}
 use Rattle.implib.specs.Members.MemberLists.{alias_specs, has_code, import_specs, is_weak, kept_of_alias}
-use Rattle.implib_rules.specs.Order.{ReadsInOrder, msvc_specs, own_imports}
+use Rattle.implib_rules.specs.Order.{ReadsInOrder, msvc_specs}
 
 module _ (machine : MachineType) (dll : NamesOfDll) (e : ExportView) where
-  weak_specs-none : is_weak e ≡ false → weak_specs machine dll.linked e ≡ []
-  unfolding weak_specs
-  weak_specs-none none =
-      ap (λ b. if b then weak_symbol_spec machine dll.linked e ∷ weak_address_spec machine dll.linked e ∷ [] else []) none
-
   length-weak_specs : is_weak e ≡ true → length (weak_specs machine dll.linked e) ≡ 2
   unfolding weak_specs
-  length-weak_specs weak =
-      ap (λ b. length (if b then weak_symbol_spec machine dll.linked e ∷ weak_address_spec machine dll.linked e ∷ [] else [])) weak
+  length-weak_specs weak = rw weak refl
 
 -- lists that show the same, cut in two and joined
 module _ {A M Y : Type 0} (F : A → Y) (G : M → Y) where
@@ -40,39 +34,26 @@ module _ {A M Y : Type 0} (F : A → Y) (G : M → Y) where
   cut [] more [] others long same = (refl, same)
   cut [] more (u ∷ us) others long same = absurd (omega (arith, long))
   cut (x ∷ xs) more [] others long same = absurd (omega (arith, long))
-  cut (x ∷ xs) more (u ∷ us) others long same =
-      let whole : F x ∷ map F (xs ++ more) ≡ G u ∷ map G (us ++ others) = same in
-      let rest : map F (xs ++ more) ≡ map G (us ++ others) = cc in
-      let parts = cut xs more us others (omega (arith, long)) rest in
-      let behind : map F xs ≡ map G us = parts.0 in
-      (cc, parts.1)
+  cut (x ∷ xs) more (u ∷ us) others long same = grind (arith, cut xs more us others)
 
   join : (xs more : List A) (us others : List M) → map F xs ≡ map G us → map F more ≡ map G others
       → map F (xs ++ more) ≡ map G (us ++ others)
-  join xs more us others first second =
-      map-append F xs more
-      ∙ (ap (λ t. t ++ map F more) first
-      ∙ (ap (λ t. map G us ++ t) second
-      ∙ sym (map-append G us others)))
+  join xs more us others first second = cc (map-append F xs more, map-append G us others)
 
 -- what exports show, by their weak externals and their short imports, in order
 module _ {M Y : Type 0} (F : MemberSpec → Y) (G : M → Y) (machine : MachineType) (dll : NamesOfDll) (aliases imports : ExportView → List M)
     (long : (e : ExportView) → length (weak_specs machine dll.linked e) ≡ length (aliases e)) (one : (e : ExportView) → length (imports e) ≡ 1) where
   import_shown : (b : Bool) (e : ExportView) → map F (short_import_spec machine dll e ∷ []) ≡ map G (imports e)
       → map F (if b then [] else short_import_spec machine dll e ∷ []) ≡ map G (if b then [] else imports e)
-  import_shown true e same = refl
-  import_shown false e same = same
+  import_shown b e same = grind arith
 
   kept_shown : (code : Bool) (e : ExportView) → map F (weak_specs machine dll.linked e) ≡ map G (aliases e)
       → map F (if code then weak_specs machine dll.linked e else drop 1 (weak_specs machine dll.linked e)) ≡ map G (if code then aliases e else drop 1 (aliases e))
   kept_shown true e same = same
-  kept_shown false e same =
-      sym (drop-map F 1 (weak_specs machine dll.linked e)) ∙ (ap (drop 1) same ∙ drop-map G 1 (aliases e))
+  kept_shown false e same = cc (drop-map F 1 (weak_specs machine dll.linked e), drop-map G 1 (aliases e))
 
   long_both : (e : ExportView) → length (export_specs machine dll e) ≡ length (aliases e ++ imports e)
-  long_both e =
-      length-append (weak_specs machine dll.linked e) (short_import_spec machine dll e ∷ [])
-      ∙ (let same = long e in let last = one e in let both = length-append (aliases e) (imports e) in omega (arith, same, last, both))
+  long_both e = grind (arith, length-append)
 
   pub shown_in_order : (exports : List ExportView)
       → map F (flat_map (export_specs machine dll) exports) ≡ map G (flat_map (λ e. aliases e ++ imports e) exports)
@@ -98,42 +79,24 @@ module _ (machine : MachineType) (dll : NamesOfDll) where
   import_meant e = AnImport (import_written machine dll.text e) ∷ []
 
   two_each : (b : Bool) (e : ExportView) → is_weak e ≡ b → length (weak_specs machine dll.linked e) ≡ length (aliases_meant e)
-  two_each true e weak =
-      length-weak_specs machine dll e weak
-      ∙ sym (ap (λ b. length (map AnAlias (if b then record { weak = short_import_symbol e; target = e.alias_target } ∷ record { weak = imp_symbol (short_import_symbol e); target = imp_symbol e.alias_target } ∷ [] else []))) weak)
-  two_each false e none =
-      ap length (weak_specs-none machine dll e none)
-      ∙ sym (ap (λ b. length (map AnAlias (if b then record { weak = short_import_symbol e; target = e.alias_target } ∷ record { weak = imp_symbol (short_import_symbol e); target = imp_symbol e.alias_target } ∷ [] else []))) none)
+  unfolding weak_specs
+  two_each b e weak = grind (arith, length-weak_specs)
 
   import_expected : (b : Bool) (e : ExportView) (exports : List ExportView) → import_written machine dll.text e ≡ expected_import machine dll.text e
       → flat_map (λ x. if is_weak x then [] else import_meant x) exports ≡ map AnImport (map (expected_import machine dll.text) (filter (λ x. not (is_weak x)) exports))
       → (if b then [] else import_meant e) ++ flat_map (λ x. if is_weak x then [] else import_meant x) exports
       ≡ map AnImport (map (expected_import machine dll.text) (if not b then e ∷ filter (λ x. not (is_weak x)) exports else filter (λ x. not (is_weak x)) exports))
-  import_expected true e exports same rest = rest
-  import_expected false e exports same rest =
-      ap (λ i. AnImport i ∷ flat_map (λ x. if is_weak x then [] else import_meant x) exports) same
-      ∙ ap (λ t. AnImport (expected_import machine dll.text e) ∷ t) rest
+  import_expected b e exports same rest = grind arith
 
   imports_expected : (exports : List ExportView) → AllByRecursion (λ e. e.symbol_name ≡ []) exports → AllByRecursion (AsksNoOther Msvc machine) exports
       → flat_map (λ e. if is_weak e then [] else import_meant e) exports ≡ map AnImport (map (expected_import machine dll.text) (filter (λ e. not (is_weak e)) exports))
   imports_expected [] plain ask = refl
-  imports_expected (e ∷ exports) plain ask =
-      import_expected (is_weak e) e exports (import_written-expected machine dll.text e plain.0 ask.0) (imports_expected exports plain.1 ask.1)
-
-  kept_meant : (code : Bool) (these : List Alias)
-      → (if code then map AnAlias these else drop 1 (map AnAlias these)) ≡ map AnAlias (if code then these else drop 1 these)
-  kept_meant true these = refl
-  kept_meant false these = drop-map AnAlias 1 these
+  imports_expected (e ∷ exports) plain ask = cc (import_expected (is_weak e) e exports (import_written-expected machine dll.text e plain.0 ask.0) (imports_expected exports plain.1 ask.1))
 
   aliases_expected : (exports : List ExportView) → AllByRecursion (λ e. e.symbol_name ≡ []) exports
       → flat_map (λ e. kept_of_alias e (aliases_meant e)) exports ≡ map AnAlias (flat_map (λ e. kept_of_alias e (aliases_for e.name e.alias_target)) exports)
   aliases_expected [] plain = refl
-  aliases_expected (e ∷ exports) plain =
-      let others = flat_map (λ x. kept_of_alias x (aliases_meant x)) exports in
-      ap (λ (s : List ℕ). kept_of_alias e (map AnAlias (aliases_for (symbol_or_name s e.name) e.alias_target)) ++ others) plain.0
-      ∙ (ap (λ t. t ++ others) (kept_meant (has_code e) (aliases_for e.name e.alias_target))
-      ∙ (ap (λ t. map AnAlias (kept_of_alias e (aliases_for e.name e.alias_target)) ++ t) (aliases_expected exports plain.1)
-      ∙ sym (map-append AnAlias (kept_of_alias e (aliases_for e.name e.alias_target)) (flat_map (λ x. kept_of_alias x (aliases_for x.name x.alias_target)) exports))))
+  aliases_expected (e ∷ exports) plain = grind (arith, map-append, aliases_expected exports plain.1)
 
 drop_header : (machine : MachineType) (dll : NamesOfDll) (specs : List MemberSpec) → drop 3 (map member_of (header_specs machine dll ++ specs)) ≡ map member_of specs
 unfolding header_specs
@@ -160,39 +123,21 @@ reads_in_order d machine all members made reads once plain is =
     let files = λ (p : MemberSpec). option_map declared_by (file_in (member_of p).bytes) in
     let listed = λ (p : MemberSpec). Some (member_of p).symbols in
     let declared_all : map files (header ++ each) ≡ map listed (header ++ each) =
-    sym (map_after (λ (m : MemberView). option_map declared_by (file_in m.bytes)) member_of (header ++ each))
-    ∙ (sym (ap (map (λ (m : MemberView). option_map declared_by (file_in m.bytes))) whole)
-    ∙ (reads.declared
-    ∙ (ap (map (λ (m : MemberView). Some m.symbols)) whole
-    ∙ map_after (λ (m : MemberView). Some m.symbols) member_of (header ++ each)))) in
+    cc (map_after (λ (m : MemberView). option_map declared_by (file_in m.bytes)) member_of (header ++ each), whole, reads.declared, map_after (λ (m : MemberView). Some m.symbols) member_of (header ++ each)) in
     let declared_parts = cut files listed header each header each refl declared_all in
     let declared_rest = shown_in_order files listed machine dll (weak_specs machine dll.linked) (λ e. short_import_spec machine dll e ∷ []) (λ e. refl) (λ e. refl) exports declared_parts.1 in
     let declared_members = join files listed header (imports ++ aliases) header (imports ++ aliases) declared_parts.0
     (join files listed imports aliases imports aliases declared_rest.0 declared_rest.1) in
     let mean = λ (p : MemberSpec). meaning_in (member_of p).bytes in
     let meanings_all : map mean each ≡ map Some (flat_map (meanings_written machine dll.text) exports) =
-    sym (map_after (λ (m : MemberView). meaning_in m.bytes) member_of each)
-    ∙ (sym (ap (map (λ (m : MemberView). meaning_in m.bytes)) (ap (drop 3) whole ∙ drop_header machine dll each))
-    ∙ (reads.meanings ∙ ap (λ (x : DefinitionView). map Some (flat_map (meanings_written machine dll.text) (public_exports x))) once)) in
+    cc (map_after (λ (m : MemberView). meaning_in m.bytes) member_of each, whole, drop_header machine dll each, reads.meanings, once) in
     let meanings_rest = shown_in_order mean Some machine dll (aliases_meant machine dll) (import_meant machine dll) (λ e. two_each machine dll (is_weak e) e refl) (λ e. refl) exports meanings_all in
     let meanings_members = join mean Some imports aliases (flat_map (λ e. if is_weak e then [] else import_meant machine dll e) exports) (flat_map (λ e. kept_of_alias e (aliases_meant machine dll e)) exports) meanings_rest.0 meanings_rest.1 in
     record {
       declared =
-          ap (map (λ (m : MemberView). option_map declared_by (file_in m.bytes))) is
-          ∙ (map_after (λ (m : MemberView). option_map declared_by (file_in m.bytes)) member_of (header ++ (imports ++ aliases))
-          ∙ (declared_members
-          ∙ (sym (map_after (λ (m : MemberView). Some m.symbols) member_of (header ++ (imports ++ aliases)))
-          ∙ sym (ap (map (λ (m : MemberView). Some m.symbols)) is))));
+          cc (is, map_after (λ (m : MemberView). option_map declared_by (file_in m.bytes)) member_of (header ++ (imports ++ aliases)), declared_members, map_after (λ (m : MemberView). Some m.symbols) member_of (header ++ (imports ++ aliases)));
       dll =
-          ap (λ (x : List MemberView). option_and_then (λ (m : MemberView). dll_in m.bytes) (slice_get x 0)) is
-          ∙ (ap (option_and_then (λ (m : MemberView). dll_in m.bytes)) (first_of machine dll (imports ++ aliases) ∙ sym (first_of machine dll each))
-          ∙ (sym (ap (λ (x : List MemberView). option_and_then (λ (m : MemberView). dll_in m.bytes) (slice_get x 0)) whole)
-          ∙ reads.dll));
+          cc (is, first_of machine dll (imports ++ aliases), first_of machine dll each, whole, reads.dll);
       meanings =
-          ap (λ x. map (λ (m : MemberView). meaning_in m.bytes) (drop 3 x)) is
-          ∙ (ap (map (λ (m : MemberView). meaning_in m.bytes)) (drop_header machine dll (imports ++ aliases))
-          ∙ (map_after (λ (m : MemberView). meaning_in m.bytes) member_of (imports ++ aliases)
-          ∙ (meanings_members
-          ∙ (ap (λ t. map Some (t ++ flat_map (λ e. kept_of_alias e (aliases_meant machine dll e)) exports)) (imports_expected machine dll exports plain ask)
-          ∙ ap (λ t. map Some (map AnImport (own_imports machine d) ++ t)) (aliases_expected machine dll exports plain)))));
+          cc (is, drop_header machine dll (imports ++ aliases), map_after (λ (m : MemberView). meaning_in m.bytes) member_of (imports ++ aliases), meanings_members, imports_expected machine dll exports plain ask, aliases_expected machine dll exports plain);
     }

@@ -1,5 +1,5 @@
 -- Cutting a name at its separators, one after another.
-use Rattle.std.proofs.Common.{◌≡◌, ℕ, suc, ◌+◌, ◌<◌, ◌==◌, Bool, true, false, not, cond, List, [], ◌∷◌, ◌++◌, length, drop, refl, sym, ap, ◌∙◌, append-nil, append_assoc, arith, if◌then◌else◌}
+use Rattle.std.proofs.Common.{◌≡◌, ℕ, suc, ◌+◌, ◌<◌, ◌==◌, Bool, not, cond, List, [], ◌∷◌, ◌++◌, length, drop, sym, ap, ◌∙◌, append-nil, append_assoc, arith, if◌then◌else◌}
 use Rattle.std.specs.List.{after_first, fold, position_or_len}
 use Rattle.implib_rules.specs.Names.{part_with, part_after_last}
 
@@ -10,18 +10,13 @@ pub after_first_of : (separator : ℕ) (part : List ℕ) (b : ℕ) (name : List 
     → fold (part_with separator) before name ≡ fold (part_with separator) [] (after_first (λ c. c == separator) name))
     → fold (part_with separator) (if is then [] else part ++ b ∷ []) name
     ≡ fold (part_with separator) [] (drop (cond (not is) (1 + position_or_len (λ c. c == separator) name) 0 + 1) (b ∷ name))
-after_first_of separator part b name true below rest = refl
-after_first_of separator part b name false below rest =
-    let place = position_or_len (λ c. c == separator) name in
-    let one_more : 1 + place + 1 ≡ suc (place + 1) = omega arith in
-    rest (part ++ b ∷ []) (omega (arith, below)) ∙ sym (ap (λ n. fold (part_with separator) [] (drop n (b ∷ name))) one_more)
+after_first_of separator part b name is below rest = grind arith
 
 -- what stands before a separator is of no account
 pub fold_behind : (separator : ℕ) (part name : List ℕ) → position_or_len (λ c. c == separator) name < length name
     → fold (part_with separator) part name ≡ fold (part_with separator) [] (after_first (λ c. c == separator) name)
 fold_behind separator part [] below = absurd (omega (arith, below))
-fold_behind separator part (b ∷ name) below =
-    after_first_of separator part b name (b == separator) below (λ before. fold_behind separator before name)
+fold_behind separator part (b ∷ name) below = cc (after_first_of separator part b name (b == separator) below (λ before. fold_behind separator before name))
 
 -- the first byte of a name without a separator is none
 pub whole_first : (separator : ℕ) (part : List ℕ) (b : ℕ) (name : List ℕ) (is : Bool)
@@ -29,15 +24,13 @@ pub whole_first : (separator : ℕ) (part : List ℕ) (b : ℕ) (name : List ℕ
     → ((before : List ℕ) → position_or_len (λ c. c == separator) name ≡ length name
     → fold (part_with separator) before name ≡ before ++ name)
     → fold (part_with separator) (if is then [] else part ++ b ∷ []) name ≡ part ++ b ∷ name
-whole_first separator part b name true none rest = absurd (omega (arith, none))
-whole_first separator part b name false none rest = rest (part ++ b ∷ []) (omega (arith, none)) ∙ append_assoc part (b ∷ []) name
+whole_first separator part b name is none rest = grind (arith, append_assoc)
 
 -- a name without a separator stays, after what it has
 pub fold_whole : (separator : ℕ) (part name : List ℕ) → position_or_len (λ c. c == separator) name ≡ length name
     → fold (part_with separator) part name ≡ part ++ name
 fold_whole separator part [] none = sym (append-nil part)
-fold_whole separator part (b ∷ name) none =
-    whole_first separator part b name (b == separator) none (λ before. fold_whole separator before name)
+fold_whole separator part (b ∷ name) none = cc (whole_first separator part b name (b == separator) none (λ before. fold_whole separator before name))
 
 -- the last part of a name with a separator is that of what stands after the first
 pub part_after_last_first : (separator : ℕ) (name : List ℕ) → position_or_len (λ c. c == separator) name < length name

@@ -1,8 +1,8 @@
 -- The places of exports are at the names that are heard, which are the words of the exports.
-use Rattle.std.proofs.Common.{◌≡◌, ◌∙◌, ℕ, Bool, true, false, List, [], ◌∷◌, ◌++◌, Option, None, Some, ◌&&◌, ◌||◌, ap, append-nil, arith, get_or, map, nat_lt, refl, subst, suc, sym, unwrap_or}
-use Rattle.std.specs.Prelude.{if◌then◌else◌, is_none}
+use Rattle.std.proofs.Common.{◌≡◌, ◌∙◌, ℕ, Bool, false, List, [], ◌∷◌, ◌++◌, Option, None, Some, ◌||◌, ap, append-nil, arith, get_or, map, refl, subst, suc, sym}
+use Rattle.std.specs.Prelude.{is_none}
 use Rattle.std.specs.Str.{IsUtf8}
-use Rattle.std.proofs.lemmas.List.{get_or_append_left, get_or_past, get_or_push, length-append, length-map, map-append}
+use Rattle.std.proofs.lemmas.List.{get_or_append_left, get_or_push, length-append, length-map, map-append}
 use Rattle.std.proofs.lemmas.List.Sums.{fold_push}
 use Rattle.implib.specs.declared.def.listener.Role.{Role}
 use Rattle.implib.specs.declared.def.listener.Role.TheVariants.{Name, Other}
@@ -15,9 +15,7 @@ use Rattle.implib.specs.Text.Position.{position_at}
 use Rattle.implib.specs.Text.Token.{TokenView}
 use Rattle.implib.proofs.Text.HeardNames.{names_are_words, names_of-append}
 use Rattle.implib_rules.specs.declared.places.Place.{Place}
-use Rattle.implib_rules.specs.declared.places.Site.TheVariants as site
-use Rattle.implib_rules.specs.declared.warnings.words.Attribute.{Attribute}
-use Rattle.implib_rules.specs.Places.{ExportsStandAtWords, Walked, attribute_of, export_positions, is_heading, name_offset, opening, placed, site_at, started, walked, walked_at, walked_on}
+use Rattle.implib_rules.specs.Places.{ExportsStandAtWords, export_positions, is_heading, placed, site_at, started, walked, walked_on}
 use Rattle.implib_rules.specs.Heard.{IsOffsetOf}
 use Rattle.implib_rules.proofs.InOrder.{places_after, walked_places}
 
@@ -25,32 +23,19 @@ use Rattle.implib_rules.proofs.InOrder.{places_after, walked_places}
 abbrev positions : List ℕ → List TokenView → List Position
 positions text names = map (λ (t : TokenView). position_at text t.at) names
 
--- no export stands at another part
-other_positions : (heads opens : Bool) (attribute : Option Attribute) (position : Position) (places : List Place)
-    → export_positions (placed (if heads then Some site.Heading else opening opens attribute) position ++ places) ≡ export_positions places
-other_positions true opens attribute position places = refl
-other_positions false true None position places = refl
-other_positions false true (Some a) position places = refl
-other_positions false false None position places = refl
-other_positions false false (Some a) position places = refl
-
 first_position : (text : List ℕ) (is_headed : Bool) (line : ℕ) (role : Role) (token : TokenView) (names : List TokenView) (places : List Place) → export_positions places ≡ positions text names
     → export_positions (placed (site_at is_headed line (position_at text token.at).line role token.kind) (position_at text token.at) ++ places) ≡ positions text (name_first role token names)
 first_position text is_headed line Name token names places rest = ap (λ (ps : List Position). position_at text token.at ∷ ps) rest
-first_position text is_headed line Other token names places rest =
-    other_positions (is_heading token.kind && is_headed) (nat_lt line (position_at text token.at).line) (attribute_of token.kind) (position_at text token.at) places ∙ rest
+first_position text is_headed line Other token names places rest = grind arith
 
 positions_named : (text : List ℕ) (is_headed : Bool) (line : ℕ) (heard : List Heard) → export_positions (places_after text is_headed line heard) ≡ positions text (names_of heard)
 positions_named text is_headed line [] = refl
 positions_named text is_headed line (h ∷ heard) =
-    first_position text is_headed line h.role h.token (names_of heard) _ (positions_named text (is_headed || is_heading h.token.kind) (position_at text h.token.at).line heard)
+    cc (first_position text is_headed line h.role h.token (names_of heard) _ (positions_named text (is_headed || is_heading h.token.kind) (position_at text h.token.at).line heard))
 
 pub at_words : (text : List ℕ) (definition : DefinitionView) (heard : List Heard) → IsUtf8 text → Parses text AMD64 definition → IsHeard text heard → ExportsStandAtWords text definition heard
 unfolding walked
-at_words text definition heard utf8 parses is = record {
-  words = names_are_words text AMD64 definition heard utf8 parses is;
-  positions = ap export_positions (walked_places text started heard) ∙ positions_named text false 1 heard;
-}
+at_words text definition heard utf8 parses is = grind (arith, names_are_words text AMD64 definition heard utf8 parses is, walked_places text started heard, positions_named text false 1 heard)
 
 -- ---- what listeners hear
 
@@ -63,10 +48,7 @@ pub place_heard : (text : List ℕ) (heard : List Heard) (h : Heard) (is_headed 
       places = places ++ placed (site_at is_headed line position.line h.role h.token.kind) position;
     }
 unfolding walked
-place_heard text heard h is_headed line places position e at =
-    fold_push (walked_on text) started heard h
-    ∙ ap (λ (w : Walked). walked_on text w h) e
-    ∙ ap (walked_at (record { is_headed = is_headed; line = line; places = places }) h) (sym at)
+place_heard text heard h is_headed line places position e at = cc (fold_push (walked_on text) started heard h)
 
 -- another part is no name
 pub other_passed : (heard : List Heard) (token : TokenView) → names_of (heard ++ (record { role = Other; token = token }) ∷ []) ≡ names_of heard
@@ -93,8 +75,7 @@ kept index offset names token h =
 pub name_kept : (index left : ℕ) (found : Option ℕ) (heard : List Heard) (token : TokenView) → is_none found ≡ false → IsOffsetOf index left found (names_of heard)
     → IsOffsetOf index left found (names_of (heard ++ (record { role = Name; token = token }) ∷ []))
 name_kept index left None heard token some h = absurd cc
-name_kept index left (Some offset) heard token some h =
-    subst (IsOffsetOf index left (Some offset)) (sym (name_added heard token)) (kept index offset (names_of heard) token h)
+name_kept index left (Some offset) heard token some h = grind (arith, name_added heard token, kept index offset (names_of heard) token h)
 
 -- the name at the index is found
 pub name_found : (index : ℕ) (heard : List Heard) (token : TokenView) (left : ℕ) → left ≡ 0 → IsOffsetOf index left None (names_of heard)
@@ -111,7 +92,4 @@ name_found index heard token left none h =
 -- one name fewer is to come
 pub name_passed : (index : ℕ) (heard : List Heard) (token : TokenView) (left fewer : ℕ) → left ≡ suc fewer → IsOffsetOf index left None (names_of heard)
     → IsOffsetOf index fewer None (names_of (heard ++ (record { role = Name; token = token }) ∷ []))
-name_passed index heard token left fewer one h =
-    let names = names_of heard in
-    let long = length-append names (token ∷ []) in
-    subst (IsOffsetOf index fewer None) (sym (name_added heard token)) (omega (arith, long, one, h))
+name_passed index heard token left fewer one h = grind (arith, length-append, name_added)

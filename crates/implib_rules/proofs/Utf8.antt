@@ -1,5 +1,5 @@
 -- A text that is not UTF-8 is so at one position.
-use Rattle.std.proofs.Common.{◌≡◌, ◌∙◌, ℕ, zero, suc, ◌<◌, ◌≤◌, inl, inr, Bool, true, false, List, ap, arith, if◌then◌else◌, length, refl, subst, sym, take}
+use Rattle.std.proofs.Common.{rules, ◌≡◌, ◌∙◌, ℕ, zero, suc, ◌<◌, ◌≤◌, Bool, true, false, List, ap, arith, if◌then◌else◌, length, refl, sym, take}
 use Rattle.std.specs.Str.{IsUtf8, IsValidUpTo, is_utf8}
 use Rattle.std.specs.Str.Lossy.{utf8_valid_len, valid_len_up_to}
 use Rattle.std.proofs.Math.Nat.{eq-or-lt_of_le}
@@ -27,11 +27,7 @@ front text (suc n) = found_front text n (is_utf8 (take (suc n) text)) refl (fron
 found_longest : (text : List ℕ) (n m : ℕ) (is : Bool) → is_utf8 (take (suc n) text) ≡ is → (valid_len_up_to text n < m → m ≤ n → ¬ (IsUtf8 (take m text)))
     → (if is then suc n else valid_len_up_to text n) < m → m ≤ suc n → ¬ (IsUtf8 (take m text))
 found_longest text n m true is before above within = absurd (omega (arith, above, within))
-found_longest text n m false is before above within = elim (cases_order m (suc n)) [
-  | inl same ↦ subst (λ (k : ℕ). ¬ (IsUtf8 (take k text))) (sym same) (not_utf8 (take (suc n) text) is)
-  | inr (inl less) ↦ before above (omega (arith, less))
-  | inr (inr more) ↦ absurd (omega (arith, more, within))
-]
+found_longest text n m false is before above within = grind (arith, cases_order m (suc n), not_utf8 (take (suc n) text) is)
 
 -- and no longer one is
 longest : (text : List ℕ) (n m : ℕ) → valid_len_up_to text n < m → m ≤ n → ¬ (IsUtf8 (take m text))
@@ -40,26 +36,15 @@ longest text (suc n) m above within = found_longest text n m (is_utf8 (take (suc
 
 longer : (text : List ℕ) (m : ℕ) → ¬ (IsUtf8 text) → utf8_valid_len text < m → ¬ (IsUtf8 (take m text))
 unfolding utf8_valid_len
-longer text m refused above = elim (cases_order m (length text)) [
-  | inl same ↦ longest text (length text) m above (omega (arith, same))
-  | inr (inl less) ↦ longest text (length text) m above (omega (arith, less))
-  | inr (inr past) ↦ subst (λ (t : List ℕ). ¬ (IsUtf8 t)) (sym (take_all m text (omega (arith, past)))) refused
-]
+longer text m refused above = grind (arith, longest text (length text) m above, take_all m text)
 
 shorter : (text : List ℕ) → ¬ (IsUtf8 text) → utf8_valid_len text < length text
 unfolding utf8_valid_len
-shorter text refused = elim (eq-or-lt_of_le (utf8_valid_len_le text)) [
-  | inl same ↦ absurd (refused (subst IsUtf8 (take_all (utf8_valid_len text) text (omega (arith, same))) (front text (length text))))
-  | inr less ↦ less
-]
+shorter text refused = grind (arith, eq-or-lt_of_le (utf8_valid_len_le text), take_all (utf8_valid_len text) text, front text (length text))
 
 valid_up_to : (text : List ℕ) → ¬ (IsUtf8 text) → IsValidUpTo text (utf8_valid_len text)
 unfolding utf8_valid_len
-valid_up_to text refused = record {
-  short = shorter text refused;
-  front = front text (length text);
-  longest = λ m above. longer text m refused above;
-}
+valid_up_to text refused = search (rules, shorter, front, longest, longer)
 
 pub stops : (text : List ℕ) → ¬ (IsUtf8 text) → IsNotUtf8At text (utf8_end text)
 stops text refused = record { not_utf8 = refused; longest = valid_up_to text refused; is = refl }

@@ -6,7 +6,6 @@ use Rattle.implib.specs.declared.def.position.Position.{Position}
 use Rattle.implib.specs.Definition.{ExportView}
 use Rattle.implib_rules.specs.declared.places.Place.{Place}
 use Rattle.implib_rules.specs.declared.places.Site.{Site}
-use Rattle.implib_rules.specs.declared.places.Site.TheVariants as site
 use Rattle.implib_rules.specs.Options.{LibraryOptionsView}
 use Rattle.implib_rules.specs.Warnings.{NoticeView, WarningView, index_after, warned, warnings_at, warnings_from}
 
@@ -25,13 +24,7 @@ pub place_passed : (options : LibraryOptionsView) (exports : List ExportView) (a
     → more ≡ said ++ warnings_at options exports index place → next ≡ index_after place.site index
     → all ≡ more ++ warnings_from options exports next (drop (at + 1) places)
 unfolding warnings_from
-place_passed options exports all said more index next places at d place within is before pushed counted =
-    before
-    ∙ ap (λ t. said ++ warnings_from options exports index t) (drop_more places at d within)
-    ∙ ap (λ p. said ++ (warnings_at options exports index p ++ warnings_from options exports (index_after p.site index) (drop (at + 1) places))) (sym is)
-    ∙ sym (append_assoc said (warnings_at options exports index place) (warnings_from options exports (index_after place.site index) (drop (at + 1) places)))
-    ∙ ap (λ t. t ++ warnings_from options exports (index_after place.site index) (drop (at + 1) places)) (sym pushed)
-    ∙ ap (λ n. more ++ warnings_from options exports n (drop (at + 1) places)) (sym counted)
+place_passed options exports all said more index next places at d place within is before pushed counted = grind (arith, drop_more, append_assoc)
 
 -- after the last place there are none
 pub places_passed : (options : LibraryOptionsView) (exports : List ExportView) (all said : List WarningView) (index : ℕ) (places : List Place) (at : ℕ)
@@ -42,6 +35,4 @@ places_passed options exports all said index places at end before =
 
 -- an export more at most
 pub index_below : (at : Site) (index : ℕ) → index_after at index ≤ index + 1
-index_below site.Export index = omega arith
-index_below (site.Attribute attribute) index = omega arith
-index_below site.Heading index = omega arith
+index_below at index = grind arith

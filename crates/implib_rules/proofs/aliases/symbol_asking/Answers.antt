@@ -1,14 +1,11 @@
-use Rattle.std.proofs.Common.{◌∙◌, Some, ap, length, map, refl, sym}
+use Rattle.std.proofs.Common.{arith, ◌∙◌, Some, ap, length, refl, sym}
 use Rattle.std.proofs.lemmas.Option.{slice_get_past, slice_get_read}
-use Rattle.implib.specs.Definition.{export_view}
 use Rattle.implib_rules.specs.Linked.{naming_view}
 use Rattle.implib_rules.proofs.Targets.{symbol_at, symbol_of_none, symbol_of_one}
 use Rattle.implib_rules.proofs.aliases.symbol_asking.Goals as goal
 
 pub returns-in_default : goal.returns-in_default
-returns-in_default c =
-    sym (symbol_at c.args.lookups.now.machine (naming_view c.args.lookups.now.naming) (map export_view c.args.lookups.now.exports.now) c.args.word.now _
-    (sym c.in_default.is ∙ c.copied.ensures ∙ c.get.ensures.value ∙ c.args.lookups.now.are_asking c.args.word.now))
+returns-in_default c = grind (arith, symbol_at)
 
 pub returns-in_ok-symbol_linked-in-Some-get : goal.returns-in_ok-symbol_linked-in-Some-get
 returns-in_ok-symbol_linked-in-Some-get c =

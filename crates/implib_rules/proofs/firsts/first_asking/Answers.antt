@@ -2,7 +2,7 @@ use Rattle.std.proofs.Common.{◌∙◌, None, Some, ap, bytes_eq, if◌then◌e
 use Rattle.std.specs.Option.{option_or}
 use Rattle.std.specs.HashMap.{get_by}
 use Rattle.implib.specs.Definition.{export_view}
-use Rattle.implib_rules.specs.Linked.{asked_of, export_asked, is_named_import, naming_view, word_of}
+use Rattle.implib_rules.specs.Linked.{is_named_import, naming_view}
 use Rattle.implib_rules.proofs.FirstExports.{asking_named, asking_other}
 use Rattle.implib_rules.proofs.firsts.first_asking.Goals as goal
 use Rattle.implib_rules.proofs.firsts.first_asking.Goals.{then-branch+in_ok-note_word, else-branch}
@@ -22,10 +22,7 @@ loop-index-preserved c = λ word.
           ∙ ap (λ o. option_or o (if bytes_eq word w.asked_of-asked.result.now then Some index else None)) (c.loop-index.invariant word)
           ∙ asking_named machine naming word items index e w.asked_of-asked.result.now c.loop-index-test.true
           (sym same ∙ sym c.in_ok-is_named_import.ensures ∙ w.if-branch.true)
-          (w.asked_of-asked.ensures
-          ∙ ap (λ x. asked_of machine naming x w.as_str-target.result.now) w.word_of.ensures
-          ∙ ap (λ x. asked_of machine naming (word_of (export_view e)) x) w.as_str-target.ensures.value
-          ∙ ap (λ x. export_asked machine naming (export_view x)) c.index-exports-index.is)
+          (cc (w.asked_of-asked.ensures, w.word_of.ensures, w.as_str-target.ensures.value, c.index-exports-index.is))
       | else-branch w ↦
           ap (λ firsts. get_by (λ k. bytes_eq word k.now) firsts) w.firsts-is
           ∙ c.loop-index.invariant word

@@ -12,20 +12,17 @@ use Rattle.implib.proofs.Text.ParserAnswers.{heard-from_read}
 use Rattle.implib.proofs.Text.Token.{Lexed-exists}
 use Rattle.implib.proofs.Worked.Statements.{opened}
 use Rattle.implib_rules.specs.Places.{walked}
-use Rattle.implib_rules.specs.WorkedWarnings.{PlacesWorked, lined_heard, lined_text}
+use Rattle.implib_rules.specs.WorkedWarnings.{lined_heard, lined_text}
 use Rattle.implib_rules.proofs.laws.places_worked.Goals as goal
 
 heard : (d : DefinitionView) → is_utf8 lined_text ≡ true → read AMD64 (tokens_of 0 (lexemes_in lined_text)) ≡ Ok d → statements_heard (tokens_of 0 (lexemes_in lined_text)) ≡ lined_heard → IsHeard lined_text lined_heard
 heard d utf8 e same = subst (IsHeard lined_text) same (heard-from_read lined_text (tokens_of 0 (lexemes_in lined_text)) AMD64 d (Lexed-exists lined_text (IsUtf8-from_is_utf8 lined_text utf8)) e)
 
-worked : PlacesWorked
+pub returns : goal.returns
 unfolding walked opened many_heard statements_heard
-worked = record {
+returns c = record {
   attributes = refl;
   is_heard = heard _ refl refl refl;
   names = refl;
   lined = refl;
 }
-
-pub returns : goal.returns
-returns c = worked

@@ -1,4 +1,4 @@
-use Rattle.std.proofs.Common.{◌≡◌, ◌∙◌, None, Some, ap, length, map, refl, rules, sym, true}
+use Rattle.std.proofs.Common.{arith, ◌≡◌, ◌∙◌, ap, length, map, refl, rules, sym, true}
 use Rattle.std.proofs.lemmas.Option.{slice_get_past, slice_get_read}
 use Rattle.implib.specs.Definition.{export_view}
 use Rattle.implib_rules.specs.Firsts.{first_of_word}
@@ -7,12 +7,7 @@ use Rattle.implib_rules.proofs.ByOrdinal.{ordinal_at, ordinal_of_none, ordinal_o
 use Rattle.implib_rules.proofs.nameless.ordinal_asked.Goals as goal
 
 pub returns-in_default : goal.returns-in_default
-returns-in_default c =
-    let exports = map export_view c.args.words.now.exports.now in
-    let e = export_view c.args.export.now in
-    let filled : has_target e ≡ true = search rules in
-    sym (ordinal_at exports e _ filled c.if-export.false
-    (sym c.in_default.is ∙ c.copied.ensures ∙ c.get.ensures.value ∙ c.args.words.now.are_first c.as_str.result.now ∙ ap (λ t. first_of_word t exports) c.as_str.ensures.value))
+returns-in_default c = grind (arith, ordinal_at)
 
 pub returns-in-Some-get : goal.returns-in-Some-get
 returns-in-Some-get c =

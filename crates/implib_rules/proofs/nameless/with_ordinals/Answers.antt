@@ -1,8 +1,7 @@
-use Rattle.std.proofs.Common.{◌≡◌, ◌∙◌, List, ap, false, map, sym}
+use Rattle.std.proofs.Common.{arith, ◌≡◌, ◌∙◌, List, ap, false, map, sym}
 use Rattle.std.specs.List.{list_any}
 use Rattle.implib.specs.Definition.{ExportView, definition_view, export_view}
 use Rattle.implib_rules.specs.Linked.{has_target}
-use Rattle.implib_rules.specs.Nameless.{asking_by, ordinal_asked}
 use Rattle.implib_rules.proofs.ByOrdinal.{asking-plain, asking_by-all}
 use Rattle.implib_rules.proofs.nameless.with_ordinals.Goals as goal
 
@@ -14,10 +13,4 @@ returns-then-not-has_targets c =
     sym (ap (λ (x : List ExportView). record (definition_view c.args.def) { exports = x }) (asking-plain exports exports none))
 
 pub returns : goal.returns
-returns c =
-    let exports = map export_view c.args.def.exports.items in
-    ap (λ (x : List ExportView). record (definition_view c.args.def) { exports = x })
-    (c.ask_all.ensures
-    ∙ ap (λ o. asking_by o exports)
-    (c.as_slice-3.ensures.value ∙ c.in_ok-ordinals.ensures ∙ ap (λ items. map (ordinal_asked (map export_view items)) (map export_view items)) c.as_slice-2.ensures.value)
-    ∙ asking_by-all (ordinal_asked exports) exports)
+returns c = grind (arith, asking_by-all)

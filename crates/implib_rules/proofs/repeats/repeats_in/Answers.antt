@@ -1,7 +1,6 @@
-use Rattle.std.proofs.Common.{◌∙◌, ◌+◌, ◌++◌, ◌&&◌, ◌||◌, ap, drop, map, not, sym, take}
+use Rattle.std.proofs.Common.{◌∙◌, ◌+◌, ◌++◌, ◌&&◌, ap, drop, map, not, take}
 use Rattle.implib.specs.Definition.{export_view}
 use Rattle.implib_rules.specs.Linked.{word_of}
-use Rattle.implib_rules.specs.Linked.{declares, is_declared}
 use Rattle.implib_rules.specs.Repeats.{repeats, repeats_behind}
 use Rattle.implib_rules.proofs.LeftOut.{declared_more, flags_more}
 use Rattle.implib_rules.proofs.repeats.repeats_in.Goals as goal
@@ -14,11 +13,7 @@ loop-export-preserved c =
     let e = export_view item in
     let same = ap export_view c.export-item.is in
     record {
-      declared = λ word.
-          c.in_ok-repeats.ensures.declared word
-          ∙ ap (λ b. b || declares e word) (c.loop-export.invariant.declared word)
-          ∙ ap (λ x. is_declared (map export_view (take index items)) word || declares x word) same
-          ∙ sym (declared_more word items index item c.loop-export-test.true);
+      declared = λ word. cc (c.in_ok-repeats.ensures.declared word, c.loop-export.invariant.declared word, same, declared_more word items index item c.loop-export-test.true);
       flags =
           ap (λ l. l ++ repeats_behind (map export_view (take (index + 1) items)) (map export_view (drop (index + 1) items))) c.in_ok-push.ensures.items
           ∙ flags_more items index item c.loop-export.flags.items _ c.in_ok-repeats.field-0 c.loop-export-test.true

@@ -1,5 +1,4 @@
-use Rattle.std.proofs.Common.{◌≡◌, ◌-◌, ℕ, [], ◌∷◌, ◌++◌, Option, None, Some, false, arith, rules, subst, sym}
-use Rattle.std.specs.Prelude.{is_none}
+use Rattle.std.proofs.Common.{◌≡◌, ◌-◌, ℕ, [], ◌∷◌, ◌++◌, Option, None, Some, arith, rules, subst, sym}
 use Rattle.implib.specs.declared.def.listener.Role.{Role}
 use Rattle.implib.specs.declared.def.listener.Role.TheVariants.{Name}
 use Rattle.implib.specs.Text.Heard.{names_of}
@@ -26,16 +25,7 @@ returns-else-self-eq0 c = λ start heard h.
     (name_passed start.left heard token name.left (name.left - 1) (omega (arith, c.if-self-eq0.false)) (subst (λ (found : Option ℕ). IsOffsetOf start.left name.left found (names_of heard)) none h)))
 
 pub returns-else-is_none : goal.returns-else-is_none
-returns-else-is_none c = λ start heard h.
-    let name = c.args.self.now in
-    let token = token_view c.args.token in
-    let found : is_none name.offset ≡ false = search rules in
-    subst (λ (role : Role). IsOffsetOf start.left name.left name.offset (names_of (heard ++ (record { role = role; token = token }) ∷ []))) (sym c.in-Name.is)
-    (name_kept start.left name.left name.offset heard token found h)
+returns-else-is_none c = λ start heard h. grind (arith, name_kept)
 
 pub returns-in-Other : goal.returns-in-Other
-returns-in-Other c = λ start heard h.
-    let name = c.args.self.now in
-    let token = token_view c.args.token in
-    subst (λ (role : Role). IsOffsetOf start.left name.left name.offset (names_of (heard ++ (record { role = role; token = token }) ∷ []))) (sym c.in-Other.is)
-    (subst (IsOffsetOf start.left name.left name.offset) (sym (other_passed heard token)) h)
+returns-in-Other c = λ start heard h. grind (arith, other_passed)
