@@ -1,7 +1,7 @@
 -- What is refused of a definition that its grammar takes: a quoted name that its line does not
 -- close, and in the line of an export an ordinal that is none, or a second one (this project's
 -- choice; docs/DLLTOOL.md, "What a definition may hold"). Each would make a name that nobody means.
-use Rattle.std.specs.Prelude.{◌≡◌, ℕ, ◌+◌, ◌-◌, ◌==◌, Bool, true, false, not, ◌&&◌, ◌||◌, List, []}
+use Rattle.std.specs.Prelude.{◌≡◌, ℕ, ◌+◌, ◌==◌, Bool, true, false, not, ◌&&◌, ◌||◌, List, []}
 use Rattle.std.specs.Prelude.{◌∷◌, Option, None, Some, drop, if◌then◌else◌, is_some, take}
 use Rattle.std.specs.List.{fold, list_any}
 use Rattle.implib.specs.declared.def.lexer.TokenKind.{TokenKind}

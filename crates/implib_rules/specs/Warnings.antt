@@ -179,6 +179,7 @@ serves_gnu I386 = true
 serves_gnu AMD64 = true
 serves_gnu _ = false
 
+-- the notice of a symbol that is weak in a flavour: for GNU's linker there is an object in its place
 abbrev pub weak_in : Flavor → ExportView → Option NoticeView
 weak_in Gnu e = None
 weak_in Msvc e = Some (IsWeak (word_of e))
