@@ -9,105 +9,105 @@ use crate::export::ExportFault;
 use crate::outcome::NoDelay;
 use implib::Fault;
 
-/// How a call ended.
+/// How a call ended, with the number that C gets.
 #[derive(Clone, Copy, Debug)]
 pub enum Status {
     /// Done.
-    Success,
+    Success = 0,
     /// The encoding is longer than the buffer.
-    BufferTooSmall,
+    BufferTooSmall = 1,
     /// An allocation failed.
-    OutOfMemory,
+    OutOfMemory = 2,
     /// The text is not UTF-8.
-    NotUtf8,
+    NotUtf8 = 3,
     /// No machine has this number.
-    UnknownMachine,
+    UnknownMachine = 4,
     /// No flavour has this number.
-    UnknownFlavor,
+    UnknownFlavor = 5,
     /// [`Fault::UnknownDirective`], and each further one by its name.
-    UnknownDirective,
+    UnknownDirective = 16,
     /// [`Fault::ExpectedIdentifier`].
-    ExpectedIdentifier,
+    ExpectedIdentifier = 17,
     /// [`Fault::ExpectedEqual`].
-    ExpectedEqual,
+    ExpectedEqual = 18,
     /// [`Fault::ExpectedInteger`].
-    ExpectedInteger,
+    ExpectedInteger = 19,
     /// [`Fault::InvalidOrdinal`].
-    InvalidOrdinal,
+    InvalidOrdinal = 20,
     /// [`Fault::LoneAt`].
-    LoneAt,
+    LoneAt = 21,
     /// [`Fault::EmptyImportName`].
-    EmptyImportName,
+    EmptyImportName = 22,
     /// [`Fault::NulInImportName`].
-    NulInImportName,
+    NulInImportName = 23,
     /// [`Fault::EmptyName`].
-    EmptyName,
+    EmptyName = 24,
     /// [`Fault::NulInExport`].
-    NulInExport,
+    NulInExport = 25,
     /// [`Fault::EmptyAskedName`].
-    EmptyAskedName,
+    EmptyAskedName = 26,
     /// [`Fault::MemberTooLong`], of the library and of an archive.
-    MemberTooLong,
+    MemberTooLong = 27,
     /// [`Fault::NoNameType`].
-    NoNameType,
+    NoNameType = 28,
     /// [`implib_archive::Fault::EmptyName`].
-    EmptyMemberName,
+    EmptyMemberName = 29,
     /// [`implib_archive::Fault::NulInName`].
-    NulInMemberName,
+    NulInMemberName = 30,
     /// [`implib_archive::Fault::LineEndInName`].
-    LineEndInMemberName,
+    LineEndInMemberName = 31,
     /// [`implib_archive::Fault::EmptySymbol`], and each further one by its name.
-    EmptySymbol,
+    EmptySymbol = 32,
     /// [`implib_archive::Fault::NulInSymbol`].
-    NulInSymbol,
+    NulInSymbol = 33,
     /// [`implib_archive::Fault::TooManyMembers`].
-    TooManyMembers,
+    TooManyMembers = 34,
     /// [`implib_archive::Fault::ArchiveTooLong`].
-    ArchiveTooLong,
+    ArchiveTooLong = 35,
     /// [`Fault::EmptyLibraryName`].
-    EmptyLibraryName,
+    EmptyLibraryName = 36,
     /// [`Fault::NulInLibraryName`].
-    NulInLibraryName,
+    NulInLibraryName = 37,
     /// [`Fault::LineEndInLibraryName`].
-    LineEndInLibraryName,
+    LineEndInLibraryName = 38,
     /// By the rules of the program, no name of the DLL is given.
-    NoDllName,
+    NoDllName = 39,
     /// The size of the options is that of none that the header knows.
-    UnknownOptions,
+    UnknownOptions = 40,
     /// No options have these flags.
-    UnknownFlags,
+    UnknownFlags = 41,
     /// The name of the DLL that is given is not UTF-8.
-    DllNotUtf8,
+    DllNotUtf8 = 42,
     /// An export has an unknown flag.
-    UnknownExportFlags,
+    UnknownExportFlags = 43,
     /// A name of an export is not UTF-8.
-    ExportNotUtf8,
+    ExportNotUtf8 = 44,
     /// A pointer of an export is null. The header alone gives it.
-    NullInExport,
+    NullInExport = 45,
     /// The bytes are no archive, or a thin one.
-    NotALibrary,
+    NotALibrary = 46,
     /// The bytes are no image: [`implib_dll::Fault`].
-    NotAnImage,
+    NotAnImage = 48,
     /// The image has no export directory.
-    NoExportDirectory,
+    NoExportDirectory = 49,
     /// A function of the header's caller did not take a piece of a library.
-    WriteFailed,
+    WriteFailed = 47,
     /// Delayed imports for Microsoft's linkers, and each further one: [`NoDelay`].
-    DelayFlavor,
+    DelayFlavor = 50,
     /// The machine has no code for delayed imports.
-    DelayMachine,
+    DelayMachine = 51,
     /// An export that is data is not delayed.
-    DelayData,
+    DelayData = 52,
     /// An export that is a weak name for another is not delayed.
-    DelayAlias,
+    DelayAlias = 53,
     /// The DLL is for another machine than the options.
-    OtherMachine,
+    OtherMachine = 54,
     /// The position of a DLL's name, or an ordinal without a name, is above 65,535.
-    ExportOutOfRange,
+    ExportOutOfRange = 55,
     /// A function's name has no reading as one of C++, by which ARM64EC marks it.
-    UnreadableName,
+    UnreadableName = 56,
     /// The native definition is refused.
-    NativeRefused,
+    NativeRefused = 57,
 }
 
 impl Status {
@@ -115,56 +115,7 @@ impl Status {
     pub fn number(self) -> u32
         ensures { result ≡ status_number self }
     {
-        match self {
-            Status::Success => 0,
-            Status::BufferTooSmall => 1,
-            Status::OutOfMemory => 2,
-            Status::NotUtf8 => 3,
-            Status::UnknownMachine => 4,
-            Status::UnknownFlavor => 5,
-            Status::UnknownDirective => 16,
-            Status::ExpectedIdentifier => 17,
-            Status::ExpectedEqual => 18,
-            Status::ExpectedInteger => 19,
-            Status::InvalidOrdinal => 20,
-            Status::LoneAt => 21,
-            Status::EmptyImportName => 22,
-            Status::NulInImportName => 23,
-            Status::EmptyName => 24,
-            Status::NulInExport => 25,
-            Status::EmptyAskedName => 26,
-            Status::MemberTooLong => 27,
-            Status::NoNameType => 28,
-            Status::EmptyMemberName => 29,
-            Status::NulInMemberName => 30,
-            Status::LineEndInMemberName => 31,
-            Status::EmptySymbol => 32,
-            Status::NulInSymbol => 33,
-            Status::TooManyMembers => 34,
-            Status::ArchiveTooLong => 35,
-            Status::EmptyLibraryName => 36,
-            Status::NulInLibraryName => 37,
-            Status::LineEndInLibraryName => 38,
-            Status::NoDllName => 39,
-            Status::UnknownOptions => 40,
-            Status::UnknownFlags => 41,
-            Status::DllNotUtf8 => 42,
-            Status::UnknownExportFlags => 43,
-            Status::ExportNotUtf8 => 44,
-            Status::NullInExport => 45,
-            Status::NotALibrary => 46,
-            Status::WriteFailed => 47,
-            Status::NotAnImage => 48,
-            Status::NoExportDirectory => 49,
-            Status::DelayFlavor => 50,
-            Status::DelayMachine => 51,
-            Status::DelayData => 52,
-            Status::DelayAlias => 53,
-            Status::OtherMachine => 54,
-            Status::ExportOutOfRange => 55,
-            Status::UnreadableName => 56,
-            Status::NativeRefused => 57,
-        }
+        self as u32
     }
 
     /// The status of a fault of the input.
