@@ -40,34 +40,20 @@ byte_before text before rest whole begins h = grind (arith, common_steps)
 -- where the front ends as a line does, its separating lines are the text's
 separates_more : (document more before line after : List ℕ) → LineBeginsAfter document → Separates document before line after → Separates (document ++ more) before line (after ++ more)
 separates_more document more before line after begins s =
-    grind (
-      arith,
-      append_assoc,
-      length_text document before line after s,
-      separator_length line s.separator,
-      byte_before document document [] (sym (append-nil document)) begins,
-      byte_in_line document before line after s (length line - 1),
-    )
+    let within = byte_in_line document before line after s (length line - 1) in
+    grind (arith, within, append_assoc, length_text document before line after s, separator_length line s.separator, byte_before document document [] (sym (append-nil document)) begins)
 
 -- a separating line that begins in the front is in it, where the front ends as a line does
 separates_front : (document more before line after : List ℕ) → LineBeginsAfter document → Separates (document ++ more) before line after → length before < length document
     → Separates document before line (drop (length before + length line) document)
 separates_front document more before line after begins s inside =
     let n : ℕ = length before + length line in
-    grind (
-      arith,
-      byte_before (document ++ more) document more refl begins,
-      byte_in_line (document ++ more) before line after s (length document - 1 - length before),
-      append_assoc before line after,
-      append_assoc before line (drop n document),
-      take-append-le n document more,
-      take_at (before ++ line) after n (length-append before line),
-      take-append-drop n document,
-      get_or_append_left document more 0 n,
-      byte_after_line (document ++ more) before line after s,
-      length-append document more,
-      drop_more document n 0,
-    )
+    let last = byte_before (document ++ more) document more refl begins in
+    let within = byte_in_line (document ++ more) before line after s (length document - 1 - length before) in
+    let ended = byte_after_line (document ++ more) before line after s in
+    let front = take_at (before ++ line) after n (length-append before line) in
+    let whole = append_assoc before line (drop n document) in
+    grind (arith, last, within, ended, front, whole, append_assoc before line after, take-append-le n document more, take-append-drop n document, get_or_append_left document more 0 n, length-append document more, drop_more document n 0)
 
 -- a text's first separating line is where it divides
 divides_first : (text document rest before line after : List ℕ) → Divides text document rest → Separates text before line after → length document ≤ length before
@@ -78,13 +64,9 @@ divides_first text document rest before line after d s =
 
 same_document : (text document rest document' rest' : List ℕ) → Divides text document rest → Divides text document' rest' → document ≡ document'
 same_document text document rest document' rest' d d' =
-    grind (
-      arith,
-      divides_first text document rest document' d'.line d'.after d d'.separates,
-      divides_first text document' rest' document d.line d.after d' d.separates,
-      take_at document (d.line ++ d.after) (length document) refl,
-      take_at document' (d'.line ++ d'.after) (length document') refl,
-    )
+    let low = divides_first text document rest document' d'.line d'.after d d'.separates in
+    let high = divides_first text document' rest' document d.line d.after d' d.separates in
+    grind (arith, low, high, take_at document (d.line ++ d.after) (length document) refl, take_at document' (d'.line ++ d'.after) (length document') refl)
 
 same_divided : (text document rest document' rest' : List ℕ) → Divides text document rest → Divides text document' rest' → rest ≡ rest'
 same_divided text document rest document' rest' d d' = grind (arith, same_document text document rest document' rest' d d', append_cancel_left document (d.line ++ d.after) (d'.line ++ d'.after))
@@ -110,30 +92,16 @@ start_first text = search (rules, arith)
 
 line_here : (text before line after : List ℕ) (start end next : ℕ) → Separates text before line after → IsLineAt text start end next → length before ≡ start → take (end - start) (drop start text) ≡ line
 line_here text before line after start end next s at here =
-    grind (
-      arith,
-      drop_at before (line ++ after) start here,
-      take_at line after (end - start),
-      length_text text before line after s,
-      byte_in_line text before line after s (end - length before),
-      at.line (length before + length line),
-      byte_after_line text before line after s,
-    )
+    let within = byte_in_line text before line after s (end - length before) in
+    let ended = byte_after_line text before line after s in
+    grind (arith, within, ended, drop_at before (line ++ after) start here, take_at line after (end - start), length_text text before line after s, at.line (length before + length line))
 
 -- past a line that does not separate
 passed_next : (text : List ℕ) (start end next : ℕ) → LineStart text start → IsLineAt text start end next → ¬ (IsSeparator (take (end - start) (drop start text))) → (before line after : List ℕ) → Separates text before line after → next ≤ length before
 passed_next text start end next l at plain before line after s =
-    grind (
-      arith,
-      l.passed before line after s,
-      length_text text before line after s,
-      separator_length line s.separator,
-      line_here text before line after start end next s at,
-      plain,
-      at.ends,
-      at.line (length before - 1),
-      byte_before text before (line ++ after) s.whole s.begins,
-    )
+    let ended = byte_before text before (line ++ after) s.whole s.begins in
+    let here = line_here text before line after start end next s at in
+    grind (arith, ended, here, l.passed before line after s, length_text text before line after s, separator_length line s.separator, plain, at.ends, at.line (length before - 1))
 
 pub next_boundary : (text : List ℕ) (start end next : ℕ) → IsUtf8 text → IsLineAt text start end next → IsCharBoundary text next
 next_boundary text start end next utf8 at = grind (arith, IsCharBoundary-end, IsCharBoundary-after_ascii)
@@ -154,15 +122,9 @@ divides_here text start end next l room at separator = record {
   };
   follows = grind (arith, at.ends, drop_all end text, drop_all next text, drop_more text end 0);
   undivided = λ before line after s.
-      grind (
-        arith,
-        separates_more (take start text) (drop start text) before line after (l.begins room) s,
-        take-append-drop start text,
-        length_text (take start text) before line after s,
-        l.passed before line (after ++ drop start text),
-        length-take start text,
-        separator_length line s.separator,
-      );
+      let more = separates_more (take start text) (drop start text) before line after (l.begins room) s in
+      let whole = take-append-drop start text in
+      grind (arith, more, whole, length_text (take start text) before line after s, l.passed before line (after ++ drop start text), length-take start text, separator_length line s.separator);
 }
 
 -- no line separates where each position was passed

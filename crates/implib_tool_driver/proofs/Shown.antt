@@ -93,15 +93,9 @@ pub line_ended : (count start n last : ℕ) (front line : List ℕ) → start % 
 line_ended count start n last front line first long few more end room shown =
     let shown_front = flat_map spaced_byte (enumerate_from start front) in
     let cut : take (3 * n + 2) line ≡ shown_front ++ hex_byte last =
-    grind (
-      arith,
-      length-spaced start front,
-      one_added spaced_byte start n last front long,
-      take-append-le (3 * n + 2) (take (3 * n + 3) line) (drop (3 * n + 3) line),
-      take-append-drop (3 * n + 3) line,
-      length-take-le (3 * n + 3) line room,
-      take-append-add shown_front (hex_byte last ++ 32 ∷ []) 2,
-    ) in
+    let two = take-append-le (3 * n + 2) (take (3 * n + 3) line) (drop (3 * n + 3) line) in
+    let more = take-append-add shown_front (hex_byte last ++ 32 ∷ []) 2 in
+    grind (arith, two, more, length-spaced start front, one_added spaced_byte start n last front long, take-append-drop (3 * n + 3) line, length-take-le (3 * n + 3) line room) in
     grind (arith, take_more_set line (3 * n + 2) 10, append_assoc shown_front (hex_byte last) (10 ∷ []), front_shown count start front, one_added (byte_listing count) start n last front long)
 
 -- the line of the bytes from start to end
@@ -110,10 +104,5 @@ pub line_shown : (bytes line : List ℕ) (start end : ℕ) → start < end → e
     → take (3 * (end - start)) (set line (3 * (end - start) - 1) 10) ≡ flat_map (byte_listing (length bytes)) (enumerate_from start (slice_range bytes start end))
 line_shown bytes line start end some whole first room shown =
     let n = end - start - 1 in
-    grind (
-      arith,
-      length-drop start bytes,
-      take_more (drop start bytes) n 0,
-      length-take-le n (drop start bytes),
-      line_ended (length bytes) start n (get_or (drop start bytes) n 0) (take n (drop start bytes)) line first,
-    )
+    let ended = line_ended (length bytes) start n (get_or (drop start bytes) n 0) (take n (drop start bytes)) line first in
+    grind (arith, ended, length-drop start bytes, take_more (drop start bytes) n 0, length-take-le n (drop start bytes))

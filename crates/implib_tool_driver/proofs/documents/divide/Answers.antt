@@ -12,24 +12,12 @@ range_from-requires c = grind (arith, next_boundary c.args.text.now c.loop-start
 
 pub returns-then-is_separator : goal.returns-then-is_separator
 returns-then-is_separator c =
-    grind (
-      arith,
-      c.as_bytes-bytes.ensures.value,
-      c.line_at-end.ensures,
-      c.is_separator.ensures,
-      c.range.ensures.value,
-      c.range_from.ensures.value,
-      between_from_start c.args.text.now c.loop-start.start,
-      divides_here c.args.text.now c.loop-start.start c.line_at-end.result.0 c.line_at-end.result.1 c.loop-start.invariant.place,
-    )
+    let here = divides_here c.args.text.now c.loop-start.start c.line_at-end.result.0 c.line_at-end.result.1 c.loop-start.invariant.place in
+    let front = between_from_start c.args.text.now c.loop-start.start in
+    grind (arith, here, front, c.as_bytes-bytes.ensures.value, c.line_at-end.ensures, c.is_separator.ensures, c.range.ensures.value, c.range_from.ensures.value)
 
 pub loop-start-preserved : goal.loop-start-preserved
 loop-start-preserved c =
-    grind (
-      arith,
-      c.as_bytes-bytes.ensures.value,
-      c.line_at-end.ensures,
-      c.is_separator.ensures,
-      start_next c.args.text.now c.loop-start.start c.line_at-end.result.0 c.line_at-end.result.1 c.loop-start.invariant.place,
-      next_boundary c.args.text.now c.loop-start.start c.line_at-end.result.0 c.line_at-end.result.1 c.utf8.text,
-    )
+    let place = start_next c.args.text.now c.loop-start.start c.line_at-end.result.0 c.line_at-end.result.1 c.loop-start.invariant.place in
+    let boundary = next_boundary c.args.text.now c.loop-start.start c.line_at-end.result.0 c.line_at-end.result.1 c.utf8.text in
+    grind (arith, place, boundary, c.as_bytes-bytes.ensures.value, c.line_at-end.ensures, c.is_separator.ensures)
