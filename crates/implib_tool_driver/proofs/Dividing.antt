@@ -53,7 +53,8 @@ separates_front document more before line after begins s inside =
     let ended = byte_after_line (document ++ more) before line after s in
     let front = take_at (before ++ line) after n (length-append before line) in
     let whole = append_assoc before line (drop n document) in
-    grind (arith, last, within, ended, front, whole, append_assoc before line after, take-append-le n document more, take-append-drop n document, get_or_append_left document more 0 n, length-append document more, drop_more document n 0)
+    let here = get_or_append_left document more 0 n in
+    grind (arith, last, within, ended, front, whole, here, append_assoc before line after, take-append-le n document more, take-append-drop n document, length-append document more, drop_more document n 0)
 
 -- a text's first separating line is where it divides
 divides_first : (text document rest before line after : List ℕ) → Divides text document rest → Separates text before line after → length document ≤ length before

@@ -13,4 +13,5 @@ returns-then-has_failed g c =
 
 pub loop-member-preserved : goal.loop-member-preserved
 loop-member-preserved g c =
-    rw (← mapped_more member_listing member_view c.args.members.now c.loop-member.member-index c.member-item.result c.loop-member-test.true c.member-item.is) (passes_more _ _ _ _ _ c.loop-member.invariant c.list_member.ensures)
+    rw (← mapped_more member_listing member_view c.args.members.now c.loop-member.member-index c.member-item.result c.loop-member-test.true c.member-item.is)
+    (passes_more _ _ _ _ _ c.loop-member.invariant c.list_member.ensures)
