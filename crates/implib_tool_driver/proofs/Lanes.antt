@@ -1,5 +1,7 @@
 -- Lemmas on lines of hexadecimal digits, made many at a time.
-use Rattle.std.proofs.Common.{◌≡◌, ℕ, zero, suc, ◌+◌, ◌*◌, ◌/◌, ◌%◌, ◌<◌, ◌≤◌, List, [], ◌∷◌, ◌++◌, length, map, get_or, refl, arith, cond, leb, w8, Fits}
+use Rattle.std.proofs.lemmas.Bool.{agree_below_at, eqb-true}
+use Rattle.std.proofs.lemmas.List.FromFn.{fill_by_all}
+use Rattle.std.proofs.Common.{eqb, true, ◌≡◌, ℕ, suc, ◌+◌, ◌*◌, ◌/◌, ◌%◌, ◌<◌, ◌≤◌, List, [], ◌∷◌, ◌++◌, length, map, get_or, refl, arith, cond, leb, w8, Fits}
 use Rattle.std.specs.Simd.Lanes.{Each1}
 use Rattle.std.proofs.lemmas.Simd.{swz_l}
 use Rattle.std.proofs.lemmas.Bool.Decides.{nat_tests}
@@ -11,23 +13,7 @@ hex_digits = 48 ∷ 49 ∷ 50 ∷ 51 ∷ 52 ∷ 53 ∷ 54 ∷ 55 ∷ 56 ∷ 57 �
 
 -- the digit at a position
 digit_at : (n : ℕ) → n < 16 → get_or hex_digits n 0 ≡ hex_digit n
-digit_at zero below = refl
-digit_at (suc zero) below = refl
-digit_at (suc (suc zero)) below = refl
-digit_at (suc (suc (suc zero))) below = refl
-digit_at (suc (suc (suc (suc zero)))) below = refl
-digit_at (suc (suc (suc (suc (suc zero))))) below = refl
-digit_at (suc (suc (suc (suc (suc (suc zero)))))) below = refl
-digit_at (suc (suc (suc (suc (suc (suc (suc zero))))))) below = refl
-digit_at (suc (suc (suc (suc (suc (suc (suc (suc zero)))))))) below = refl
-digit_at (suc (suc (suc (suc (suc (suc (suc (suc (suc zero))))))))) below = refl
-digit_at (suc (suc (suc (suc (suc (suc (suc (suc (suc (suc zero)))))))))) below = refl
-digit_at (suc (suc (suc (suc (suc (suc (suc (suc (suc (suc (suc zero))))))))))) below = refl
-digit_at (suc (suc (suc (suc (suc (suc (suc (suc (suc (suc (suc (suc zero)))))))))))) below = refl
-digit_at (suc (suc (suc (suc (suc (suc (suc (suc (suc (suc (suc (suc (suc zero))))))))))))) below = refl
-digit_at (suc (suc (suc (suc (suc (suc (suc (suc (suc (suc (suc (suc (suc (suc zero)))))))))))))) below = refl
-digit_at (suc (suc (suc (suc (suc (suc (suc (suc (suc (suc (suc (suc (suc (suc (suc zero))))))))))))))) below = refl
-digit_at (suc (suc (suc (suc (suc (suc (suc (suc (suc (suc (suc (suc (suc (suc (suc (suc n)))))))))))))))) below = absurd (omega (arith, below))
+digit_at n below = eqb-true _ _ (agree_below_at (λ k. eqb (get_or hex_digits k 0) (hex_digit k)) (λ k. true) 16 n refl below)
 
 -- no lane is made 0
 not_zeroed : (n a : ℕ) → n < 16 → cond (leb 128 n) 0 a ≡ a
@@ -49,21 +35,4 @@ line_of_digits digits = get_or digits 0 0 ∷ get_or digits 16 0 ∷ 32 ∷ get_
 
 -- it is the listing of these bytes
 pub line_text : (bytes : List ℕ) → length bytes ≡ 16 → line_of_digits (map hex_digit (map (λ b. b / 16) bytes) ++ map hex_digit (map (λ b. b % 16) bytes)) ≡ bytes_listing bytes
-line_text [] size = absurd (omega (arith, size))
-line_text (a0 ∷ []) size = absurd (omega (arith, size))
-line_text (a0 ∷ a1 ∷ []) size = absurd (omega (arith, size))
-line_text (a0 ∷ a1 ∷ a2 ∷ []) size = absurd (omega (arith, size))
-line_text (a0 ∷ a1 ∷ a2 ∷ a3 ∷ []) size = absurd (omega (arith, size))
-line_text (a0 ∷ a1 ∷ a2 ∷ a3 ∷ a4 ∷ []) size = absurd (omega (arith, size))
-line_text (a0 ∷ a1 ∷ a2 ∷ a3 ∷ a4 ∷ a5 ∷ []) size = absurd (omega (arith, size))
-line_text (a0 ∷ a1 ∷ a2 ∷ a3 ∷ a4 ∷ a5 ∷ a6 ∷ []) size = absurd (omega (arith, size))
-line_text (a0 ∷ a1 ∷ a2 ∷ a3 ∷ a4 ∷ a5 ∷ a6 ∷ a7 ∷ []) size = absurd (omega (arith, size))
-line_text (a0 ∷ a1 ∷ a2 ∷ a3 ∷ a4 ∷ a5 ∷ a6 ∷ a7 ∷ a8 ∷ []) size = absurd (omega (arith, size))
-line_text (a0 ∷ a1 ∷ a2 ∷ a3 ∷ a4 ∷ a5 ∷ a6 ∷ a7 ∷ a8 ∷ a9 ∷ []) size = absurd (omega (arith, size))
-line_text (a0 ∷ a1 ∷ a2 ∷ a3 ∷ a4 ∷ a5 ∷ a6 ∷ a7 ∷ a8 ∷ a9 ∷ a10 ∷ []) size = absurd (omega (arith, size))
-line_text (a0 ∷ a1 ∷ a2 ∷ a3 ∷ a4 ∷ a5 ∷ a6 ∷ a7 ∷ a8 ∷ a9 ∷ a10 ∷ a11 ∷ []) size = absurd (omega (arith, size))
-line_text (a0 ∷ a1 ∷ a2 ∷ a3 ∷ a4 ∷ a5 ∷ a6 ∷ a7 ∷ a8 ∷ a9 ∷ a10 ∷ a11 ∷ a12 ∷ []) size = absurd (omega (arith, size))
-line_text (a0 ∷ a1 ∷ a2 ∷ a3 ∷ a4 ∷ a5 ∷ a6 ∷ a7 ∷ a8 ∷ a9 ∷ a10 ∷ a11 ∷ a12 ∷ a13 ∷ []) size = absurd (omega (arith, size))
-line_text (a0 ∷ a1 ∷ a2 ∷ a3 ∷ a4 ∷ a5 ∷ a6 ∷ a7 ∷ a8 ∷ a9 ∷ a10 ∷ a11 ∷ a12 ∷ a13 ∷ a14 ∷ []) size = absurd (omega (arith, size))
-line_text (a0 ∷ a1 ∷ a2 ∷ a3 ∷ a4 ∷ a5 ∷ a6 ∷ a7 ∷ a8 ∷ a9 ∷ a10 ∷ a11 ∷ a12 ∷ a13 ∷ a14 ∷ a15 ∷ []) size = refl
-line_text (a0 ∷ a1 ∷ a2 ∷ a3 ∷ a4 ∷ a5 ∷ a6 ∷ a7 ∷ a8 ∷ a9 ∷ a10 ∷ a11 ∷ a12 ∷ a13 ∷ a14 ∷ a15 ∷ b ∷ bytes) size = absurd (omega (arith, size))
+line_text bytes size = rw (fill_by_all (λ k. get_or bytes k 0) bytes 16 0 size (λ k h. refl)) refl

@@ -1,7 +1,6 @@
 -- The members of a text are read as the imports and the aliases that it means.
-use Rattle.std.proofs.Common.{arith, ◌≡◌, ℕ, List, subst}
+use Rattle.std.proofs.Common.{arith, ◌≡◌, ℕ, List}
 use Rattle.implib.specs.declared.flavor.Flavor.{Flavor}
-use Rattle.implib.specs.declared.flavor.Flavor.TheVariants.{Msvc, Gnu}
 use Rattle.implib.specs.declared.machine.MachineType.{MachineType}
 use Rattle.implib.specs.Definition.{DefinitionView}
 use Rattle.implib.specs.Library.{LibraryOf, LibraryView}
@@ -17,14 +16,12 @@ use Rattle.implib_tool_driver.specs.Run.{MembersOfDocument, ReadAsParsed}
 -- in each flavour, where the definition has no symbol names and renaming it twice is renaming it once
 read_in : (parsed : DefinitionView) (machine : MachineType) (flavor : Flavor) (members : List MemberView) → LacksSymbolNames parsed → renamed (renamed parsed) ≡ renamed parsed
     → ReadBack (renamed parsed) machine flavor members → ReadAsParsed parsed machine flavor members
-read_in parsed machine Msvc members lacks once reads = grind arith
-read_in parsed machine Gnu members lacks once reads = grind arith
+read_in parsed machine flavor members lacks once reads = grind arith
 
 -- what a library of a text gives are the members of that text
 pub members_of : (text : List ℕ) (machine : MachineType) (flavor : Flavor) (library : LibraryView) (members : List MemberView) → LibraryOf text machine flavor library
     → AreMembersOf library.definition library.machine library.flavor members → ReadBack library.definition library.machine library.flavor members → MembersOfDocument text machine flavor members
-members_of text machine flavor library members of made reads =
-    let read : ReadBack (renamed of.parsed) machine flavor members = subst (λ (l : LibraryView). ReadBack l.definition l.machine l.flavor members) of.held reads in record {
-      members_of = grind arith;
-      read_as_parsed = read_in of.parsed machine flavor members (parsed_lacks text machine of.parsed of.parses) (renamed_twice of.parsed) read;
-    }
+members_of text machine flavor library members of made reads = record {
+  members_of = grind arith;
+  read_as_parsed = grind (arith, read_in of.parsed, parsed_lacks text machine of.parsed of.parses, renamed_twice of.parsed);
+}

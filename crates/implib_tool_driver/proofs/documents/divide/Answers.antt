@@ -1,7 +1,6 @@
-use Rattle.std.proofs.Common.{arith, rules, take, subst, sym, ◌∙◌}
+use Rattle.std.proofs.Common.{arith}
 use Rattle.std.proofs.lemmas.Slice.{between_from_start}
 use Rattle.std.proofs.lemmas.Str.{IsCharBoundary-start}
-use Rattle.implib_tool_driver.specs.Documents.{Divides}
 use Rattle.implib_tool_driver.proofs.Dividing.{start_first, start_next, divides_here, next_boundary}
 use Rattle.implib_tool_driver.proofs.documents.divide.Goals as goal
 
@@ -13,19 +12,12 @@ range_from-requires c = grind (arith, next_boundary c.args.text.now c.loop-start
 
 pub returns-then-is_separator : goal.returns-then-is_separator
 returns-then-is_separator c =
-    let at = rw c.as_bytes-bytes.ensures.value at c.line_at-end.ensures in
-    let separates = rw c.as_bytes-bytes.ensures.value at c.is_separator.ensures in
-    let document_is = c.range.ensures.value ∙ between_from_start c.args.text.now c.loop-start.start in
-    let here = divides_here c.args.text.now c.loop-start.start c.line_at-end.result.0 c.line_at-end.result.1
-    c.loop-start.invariant.place (search rules) at (separates.0 (search rules)) in
-    subst (λ document. Divides c.args.text.now document c.range_from.result.now) (sym document_is)
-    (subst (λ rest. Divides c.args.text.now (take c.loop-start.start c.args.text.now) rest) (sym c.range_from.ensures.value) here)
+    let here = divides_here c.args.text.now c.loop-start.start c.line_at-end.result.0 c.line_at-end.result.1 c.loop-start.invariant.place in
+    let front = between_from_start c.args.text.now c.loop-start.start in
+    grind (arith, here, front, c.as_bytes-bytes.ensures.value, c.line_at-end.ensures, c.is_separator.ensures, c.range.ensures.value, c.range_from.ensures.value)
 
 pub loop-start-preserved : goal.loop-start-preserved
 loop-start-preserved c =
-    let at = rw c.as_bytes-bytes.ensures.value at c.line_at-end.ensures in
-    let separates = rw c.as_bytes-bytes.ensures.value at c.is_separator.ensures in
-    record {
-      place = grind (arith, start_next c.args.text.now c.loop-start.start c.line_at-end.result.0 c.line_at-end.result.1 c.loop-start.invariant.place, c.loop-start.invariant.place);
-      boundary = next_boundary c.args.text.now c.loop-start.start c.line_at-end.result.0 c.line_at-end.result.1 c.utf8.text at;
-    }
+    let place = start_next c.args.text.now c.loop-start.start c.line_at-end.result.0 c.line_at-end.result.1 c.loop-start.invariant.place in
+    let boundary = next_boundary c.args.text.now c.loop-start.start c.line_at-end.result.0 c.line_at-end.result.1 c.utf8.text in
+    grind (arith, place, boundary, c.as_bytes-bytes.ensures.value, c.line_at-end.ensures, c.is_separator.ensures)
