@@ -4,7 +4,6 @@ use Rattle.std.proofs.lemmas.Grind.{common_steps}
 use Rattle.std.specs.Prelude.{slice_get, option_map}
 use Rattle.std.specs.List.{AllByRecursion, Contains}
 use Rattle.implib.specs.declared.machine.MachineType.{MachineType}
-use Rattle.implib.specs.declared.machine.MachineType.TheVariants.{I386, ARMNT, AMD64, ARM64}
 use Rattle.implib.specs.Import.{Ask, imp_symbol}
 use Rattle.implib.specs.Link.Image.{Range, range_end, image_of}
 use Rattle.implib.specs.Link.Load.{NumberAt, BytesAt}
@@ -103,10 +102,7 @@ pub eights : (a n : ℕ) → a % 8 ≡ 0 → (a + 8 * n) % 8 ≡ 0
 eights a n even = omega arith
 
 pub reads_further : (machine : MachineType) (image_base addresses n : ℕ) → CanReadFrom machine image_base addresses → CanReadFrom machine image_base (addresses + thunk_width machine * n)
-reads_further I386 image_base addresses n can = can
-reads_further ARMNT image_base addresses n can = can
-reads_further AMD64 image_base addresses n can = can
-reads_further ARM64 image_base addresses n can = (can.0, eights addresses n can.1)
+reads_further machine image_base addresses n can = grind (arith, eights)
 
 -- the tables of as many blocks
 pub packed_count : (width : ℕ) (blocks : List Block) (address : ℕ) → length (packed_tables width address blocks) ≡ length blocks
@@ -397,10 +393,7 @@ pub program_count : (machine : MachineType) (bases : Bases) (inputs : List Flavo
 program_count machine bases inputs objects = packed_count (thunk_width machine) (map (block_of_flavor machine) inputs) bases.addresses ∙ length-map inputs (block_of_flavor machine)
 
 jumps_read : (machine : MachineType) (image_base : ℕ) (bases : Bases) → CanJump machine image_base bases → CanReadFrom machine image_base bases.addresses
-jumps_read I386 image_base bases can = can
-jumps_read ARMNT image_base bases can = can
-jumps_read AMD64 image_base bases can = can
-jumps_read ARM64 image_base bases can = can
+jumps_read machine image_base bases can = grind arith
 
 pub can_read : (machine : MachineType) (image_base : ℕ) (bases : Bases) (n : ℕ) → CanJump machine image_base bases → CanReadFrom machine image_base (bases.addresses + thunk_width machine * n)
 can_read machine image_base bases n can = reads_further machine image_base bases.addresses n (jumps_read machine image_base bases can)
@@ -417,10 +410,7 @@ weak_is_weak machine weak target section_addresses linked = rw (same_text weak) 
 
 -- a machine that can read a table from its address on can read each entry
 pub entry_reached : (machine : MachineType) (image_base address j : ℕ) → CanReadFrom machine image_base address → CanReach machine image_base (address + thunk_width machine * j)
-entry_reached I386 image_base address j can = can
-entry_reached ARMNT image_base address j can = can
-entry_reached AMD64 image_base address j can = can
-entry_reached ARM64 image_base address j can = (can.0, eights address j can.1)
+entry_reached machine image_base address j can = grind (arith, eights)
 
 -- What is known of one entry of loaded tables.
 pub record EntryIn (machine : MachineType) (t : Tables) (written memory : List Range) (name given : List ℕ) (entry : ℕ) : Type 0 where
@@ -446,8 +436,7 @@ module _ (machine : MachineType) (image_base : ℕ) (t : Tables) (codes : List L
 
   pub tables_end_in_memory : (written : List Range) × ReadsAndWrites memory (thunk_width machine) gives (length t.tables) t.directory written
   tables_end_in_memory =
-      subst (λ n. (written : List Range) × ReadsAndWrites memory (thunk_width machine) gives n t.directory written) (length-map t.tables imported_by_table)
-      (memory_can_be_read t.image memory resting.image_kept (thunk_width machine) gives t.directory (map imported_by_table t.tables) tables.directory)
+      grind (arith, length-map t.tables imported_by_table, memory_can_be_read t.image memory resting.image_kept (thunk_width machine) gives t.directory (map imported_by_table t.tables) tables.directory)
 
   -- a loader that is handed the imports writes what one does that reads them in memory
   pub written_read : (written : List Range) → Writes t.image (thunk_width machine) gives t.directory (map imported_by_table t.tables) written →
@@ -482,11 +471,7 @@ module _ (machine : MachineType) (image_base : ℕ) (t : Tables) (codes : List L
         (entry_reached machine image_base x.address j can) own.located
 
     pub entry_known : (name dll : List ℕ) (ask : Ask) (address j : ℕ) → HasEntry t name dll ask address j → EntryIn machine t written memory name (gives dll ask) (address + thunk_width machine * j)
-    entry_known name dll ask address j own =
-        subst (λ a. EntryIn machine t written memory name (gives dll ask) (a + thunk_width machine * j)) own.at
-        (subst (λ d. EntryIn machine t written memory name (gives d ask) (own.table.address + thunk_width machine * j)) own.of_dll
-        (subst (λ a. EntryIn machine t written memory name (gives own.table.dll a) (own.table.address + thunk_width machine * j)) own.of_ask
-        (entry_in own.i j own.table own.entry name own.is own.asked own.symbol)))
+    entry_known name dll ask address j own = grind (arith, entry_in own.i j own.table own.entry name own.is own.asked own.symbol)
 
     pub entry_leads : (name dll : List ℕ) (ask : Ask) (address j : ℕ) → HasEntry t name dll ask address j → CanReadFrom machine image_base address →
         AllLead machine image_base t.linked codes (written ++ memory) name (gives dll ask)

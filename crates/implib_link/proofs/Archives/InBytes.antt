@@ -313,8 +313,7 @@ pub takes_just : (kind : Kind) (linker : LinkerMember) (members : List MemberVie
     → ((found : List MemberView) → TakesIntoAs reads members own found → P found) → TakesJust kind linker members reads own P
 takes_just kind linker members reads own P ready says taken takes =
     let r = is_ready kind linker members ready in
-    let back = search_back kind linker (archive_of kind members) r.headers members r.rising r.find r.many r.read own reads taken takes in
-    record { headers = r.headers; located = r.located; found = back.found; at = back.paired; read = back.read; holds = says back.found back.takes }
+    grind (arith, search_back kind linker (archive_of kind members) r.headers members r.rising r.find r.many r.read own reads taken takes)
 
 pub leads_to_first : (kind : Kind) (linker : LinkerMember) (members : List MemberView) → HaveArchive kind linker members → (name : List ℕ) → LeadsToFirst kind linker members name
 leads_to_first kind linker members ready name =

@@ -24,7 +24,7 @@ use Rattle.implib.specs.declared.flavor.Flavor.TheVariants.{Gnu, Msvc}
 use Rattle.std.proofs.lemmas.Option.{slice_get-map}
 use Rattle.implib.specs.declared.flavor.Flavor.{Flavor}
 use Rattle.implib.specs.Link.Image.{Range, contributions, filled, image_of, IsAdmissible}
-use Rattle.implib.specs.Import.{Ask, Name, Ordinal, imp_symbol}
+use Rattle.implib.specs.Import.{Ask, imp_symbol}
 use Rattle.implib.specs.Members.ImportTables.{thunk_width, zeros}
 use Rattle.implib.specs.Formats.Layout.{entries_of, name_text, object_of}
 use Rattle.implib.specs.Link.Linked.{AllFind, IsDefinedAt, undefined_names}
@@ -166,8 +166,7 @@ members_are_objects machine inputs made distinct = search (rules, gnu_inputs_obj
 
 asking_ends : (machine : MachineType) (dll : NamesOfDll) (symbol : List ℕ) (ask : Ask) → (e : ExportView) → EndsNothing (import_object machine dll.text symbol ask (use_for e))
 unfolding import_object
-asking_ends machine dll symbol (Ordinal n) e = (refl, (refl, (refl, tt)))
-asking_ends machine dll symbol (Name text hint) e = (refl, (refl, (refl, (refl, tt))))
+asking_ends machine dll symbol ask e = grind arith
 
 askings_end : (machine : MachineType) (dll : NamesOfDll) (es : List ExportView) (rest : List Object) → AllByRecursion EndsNothing rest → AllByRecursion EndsNothing (behind_descriptor machine dll es rest)
 unfolding with_section_symbols object_of null_thunk entries_of name_text
@@ -307,16 +306,7 @@ pub record Stand (machine : MachineType) (ending : Ending) (b : Bases) (inputs :
 pub stand : (machine : MachineType) (ending : Ending) (b : Bases) (inputs : List FlavorInput) (objects : List Object) → AllByRecursion (IsMadeFor machine) inputs →
     IsProgramOf machine ending b inputs objects → Stand machine ending b inputs objects
 unfolding IsDistinct
-stand machine OfLinker b inputs objects made program =
-    let kept : filter has_tables objects ≡ all_objects machine (map block_in inputs) (null_descriptor ∷ []) = linker_kept machine inputs objects made program.held.ended in
-    let placed : with_tables (placed_from b objects) ≡ placed_from b (all_objects machine (map block_in inputs) (null_descriptor ∷ [])) = placed_kept b objects ∙ ap (placed_from b) kept in
-    record {
-      contributed = λ group other. contributions_kept machine (placed_from b objects) group b objects ∙ ap (λ os. contributions machine (placed_from b objects) group (placed_from b os)) kept;
-      defined = λ name m. grind (arith, definitions_kept, all_claim);
-      among = λ q m. subst (Among q) (sym placed) m;
-      finds = λ all. subst (AllByRecursion (AllFind (placed_from b objects))) (sym placed) all;
-      undefined = ap undefined_names placed;
-    }
+stand machine OfLinker b inputs objects made program = grind (arith, linker_kept, placed_kept, contributions_kept, definitions_kept, all_claim)
 stand machine OfMember b inputs objects made program =
     let ended = program.held.ended in
     let xs : List Object = objects_taken machine ended.before in
@@ -331,9 +321,7 @@ stand machine OfMember b inputs objects made program =
       contributed = λ group other. grind (arith, contributions_kept, group_same, even);
       defined = λ name m. grind (arith, among_later name null_descriptor_symbol names m, definitions_kept, all_claim, others_same, even, not_same_turned, all_among);
       among = λ q m. subst (Among q) (sym placed) (among_same machine b xs ys free even q (subst (λ os. Among q (placed_from b os)) (sym parts) m));
-      finds = λ all.
-          subst (AllByRecursion (AllFind (placed_from b objects))) (sym placed)
-          (finds_same machine b xs ys free even (placed_from b objects) (subst (λ os. AllByRecursion (AllFind (placed_from b objects)) (placed_from b os)) (sym parts) all));
+      finds = λ all. grind (arith, finds_same machine b xs ys free even (placed_from b objects) (subst (λ os. AllByRecursion (AllFind (placed_from b objects)) (placed_from b os)) (sym parts) all));
       undefined = ap undefined_names placed ∙ undefined_same machine b xs ys free even ∙ ap (λ os. undefined_names (placed_from b os)) parts;
     }
 
@@ -362,15 +350,15 @@ module _ (machine : MachineType) (ending : Ending) (b : Bases) (inputs : List Fl
   group_from group other located = subst (λ cs. BytesAt image (base_of group b) (filled (base_of group b) cs)) (stands.contributed group other) located
 
   located : LocatedFrom machine linked image b (all_objects machine dlls (rest_of ending))
-  located =
-      let all = each_located machine b objects program.admissible in
-      record {
-        descriptors = group_from Descriptors refl all.descriptors;
-        lookups = group_from Lookups refl all.lookups;
-        addresses = group_from Addresses refl all.addresses;
-        hint_names = group_from HintNames refl all.hint_names;
-        dll_names = group_from DllNames refl all.dll_names;
-      }
+  located = grind (
+    arith,
+    each_located machine b objects program.admissible,
+    group_from Descriptors refl (each_located machine b objects program.admissible).descriptors,
+    group_from Lookups refl (each_located machine b objects program.admissible).lookups,
+    group_from Addresses refl (each_located machine b objects program.admissible).addresses,
+    group_from HintNames refl (each_located machine b objects program.admissible).hint_names,
+    group_from DllNames refl (each_located machine b objects program.admissible).dll_names,
+  )
 
   abbrev defined : List SymbolDefinition
   defined = definitions_all machine b dlls
@@ -414,13 +402,15 @@ module _ (machine : MachineType) (b : Bases) (inputs : List FlavorInput) (object
   -- in any memory that has the group's contributions at its base, zeros are where the descriptors end
   member_null : (ranges : List Range) → BytesAt ranges b.directory_ends (filled b.directory_ends (contributions machine (placed_from b objects) DirectoryEnds (placed_from b objects))) →
       BytesAt ranges (ends_all machine b (map block_in inputs)).descriptors (zeros 20)
-  member_null ranges there =
-      subst (λ n. BytesAt ranges n (zeros 20))
-      (follows ∙ ap (λ n. b.descriptors + 20 * n) (sym (length-map inputs block_in)) ∙ sym (descriptors_all machine b (map block_in inputs)))
-      (subst (BytesAt ranges b.directory_ends)
-      (ap (filled b.directory_ends) (contributions_kept machine (placed_from b objects) DirectoryEnds b objects
-      ∙ ap (λ os. contributions machine (placed_from b objects) DirectoryEnds (placed_from b os)) (kept_are machine inputs objects made program.held.ended))
-      ∙ null_filled machine b xs ys (none machine inputs objects made program.held.ended) program.admissible.directory_ends.1 (placed_from b objects)) there)
+  member_null ranges there = grind (
+    arith,
+    follows,
+    length-map inputs block_in,
+    descriptors_all machine b (map block_in inputs),
+    contributions_kept machine (placed_from b objects) DirectoryEnds b objects,
+    kept_are machine inputs objects made program.held.ended,
+    null_filled machine b xs ys (none machine inputs objects made program.held.ended) program.admissible.directory_ends.1 (placed_from b objects),
+  )
 
 -- The linker's null descriptor is where the descriptors end.
 linker_null : (machine : MachineType) (linked : List Placed) (ranges : List Range) (b : Bases) → AreAligned b →
@@ -447,13 +437,11 @@ null_known machine OfMember b inputs objects made program = (b.directory_ends, n
 null_address : (machine : MachineType) (ending : Ending) (b : Bases) (inputs : List FlavorInput) (objects : List Object) → AllByRecursion (IsMadeFor machine) inputs →
     IsProgramOf machine ending b inputs objects →
     WhereMember ending (definitions_of null_descriptor_symbol (placed_from b objects) ≡ record { name = null_descriptor_symbol; address = Some b.directory_ends } ∷ [])
-null_address machine OfLinker b inputs objects made program = tt
-null_address machine OfMember b inputs objects made program = null_only machine b inputs objects made program
+null_address machine ending b inputs objects made program = grind (arith, null_only)
 
 null_ends : (machine : MachineType) (ending : Ending) (b : Bases) (inputs : List FlavorInput) (objects : List Object) → AllByRecursion (IsMadeFor machine) inputs →
     IsProgramOf machine ending b inputs objects → WhereMember ending (b.directory_ends ≡ b.descriptors + 20 * length inputs)
-null_ends machine OfLinker b inputs objects made program = tt
-null_ends machine OfMember b inputs objects made program = follows machine b inputs objects made program
+null_ends machine ending b inputs objects made program = grind (arith, follows)
 
 claimed_are : (machine : MachineType) (ending : Ending) (b : Bases) (inputs : List FlavorInput) (objects : List Object) → AllByRecursion (IsMadeFor machine) inputs →
     IsProgramOf machine ending b inputs objects → AreClaimed ending (names_claimed_in (with_tables (placed_from b objects))) (own_names ending machine inputs)
@@ -563,16 +551,15 @@ first_even first = omega arith
 pub packed_objects : (machine : MachineType) (ending : Ending) (first : ℕ) (inputs : List FlavorInput) (objects : List Object) → AllByRecursion (IsMadeFor machine) inputs →
     AreProgramObjects machine ending inputs objects → 0 < first → packed_end first objects < 2 ^ 31 → IsProgramOf machine ending (packed first objects) inputs objects
 packed_objects machine OfLinker first inputs objects made held above below = grind (arith, admissible machine first objects (kept_sized machine OfLinker inputs objects made held.ended) above below)
-packed_objects machine OfMember first inputs objects made held above below =
-    let base : ℕ = packed_descriptors first in
-    let ends_at : group_end Descriptors base objects ≡ base + 20 * length inputs = directory_end machine inputs objects made held.ended base (first_even first) in
-    record {
-      held = held;
-      admissible = admissible machine first objects (kept_sized machine OfMember inputs objects made held.ended) above below;
-      lookups = of_eight machine (packed first objects).lookups (lookups_eights first objects);
-      addresses = of_eight machine (packed first objects).addresses (packed_eights first objects);
-      follows = aligned (group_end Descriptors base objects) (ap (λ n. n % 4) ends_at ∙ (omega (arith, first_even first)));
-    }
+packed_objects machine OfMember first inputs objects made held above below = grind (
+  arith,
+  directory_end machine inputs objects made held.ended (packed_descriptors first) (first_even first),
+  admissible machine first objects (kept_sized machine OfMember inputs objects made held.ended) above below,
+  of_eight machine (packed first objects).lookups (lookups_eights first objects),
+  of_eight machine (packed first objects).addresses (packed_eights first objects),
+  follows,
+  aligned,
+)
 
 pub packed_admissible : (machine : MachineType) (ending : Ending) (first : ℕ) (inputs : List FlavorInput) (objects : List Object) → AllByRecursion (IsMadeFor machine) inputs →
     AreEnded ending machine inputs objects → 0 < first → packed_end first objects < 2 ^ 31 → IsAdmissible machine (packed first objects) objects

@@ -101,13 +101,9 @@ abbrev pub Chosen : MachineType → List ℕ → List ExportView → List ℕ �
 Chosen machine dll exports chosen p =
     (n : ℕ) × (e : ExportView) × Among n chosen × (slice_get exports n ≡ Some e) × (p ≡ export_spec machine dll n e)
 
-mapped_some : {X Y : Type 0} (f : X → Y) (o : Option X) (y : Y) → option_map f o ≡ Some y → (x : X) × (o ≡ Some x) × (y ≡ f x)
-mapped_some f None y is = cc
-mapped_some f (Some x) y is = (x, refl, sym (same_Some (f x) y is))
-
 pub chosen_member_spec : (machine : MachineType) (dll : List ℕ) (exports : List ExportView) (chosen : List ℕ) (p : MemberSpec) →
     Among p (filter_map (numbered_spec machine dll exports) chosen) → Chosen machine dll exports chosen p
-chosen_member_spec machine dll exports chosen p held = grind (arith, kept_from, mapped_some)
+chosen_member_spec machine dll exports chosen p held = grind (arith, kept_from)
 
 -- What the members leave to others, claim, and are listed for.
 
@@ -304,10 +300,6 @@ pub alias_symbols : (e : ExportView) → is_alias e.alias_target e.name ≡ true
 unfolding Among
 alias_symbols e alias = elim (cases_Bool e.is_data) [ inl is ↦ rw (is, alias) (inl refl) | inr is ↦ rw is (inl refl) ]
 
-code_listed : (e : ExportView) → e.is_data ≡ false → Among e.name (archive_symbols e)
-unfolding Among
-code_listed e is = rw is (inl refl)
-
 data_not_listed : (e : ExportView) → e.is_data ≡ true → Among e.name (archive_symbols e) → ⊥
 data_not_listed e is held = grind (arith, no_address, only_one)
 
@@ -361,6 +353,7 @@ module _ (machine : MachineType) where
   finds_own l n e name m found listed = FindsOwn (same_Some m (export_of machine l n e) (sym found ∙ own_first l n e name listed)) listed
 
   pub in_export : (l : Library) (n : ℕ) (e : ExportView) (name : List ℕ) (m : MemberView) → first_listed (export_group machine l n e).members name ≡ Some m → InExport l n e name m
+  unfolding Among
   in_export l n e name m found =
       let there = listed_is (export_group machine l n e).members name m found in
       by (member_is l n e m there.0) there.1
@@ -375,7 +368,7 @@ module _ (machine : MachineType) where
           let same : name ≡ e.name = only_one name e.name (subst (λ (y : MemberView). Among name y.symbols) is listed) in
           elim (cases_Bool e.is_data) [
             | inl is_data ↦ FindsWeak alias is_data same is
-            | inr is_code ↦ finds_own l n e name m found (subst (λ n. Among n (archive_symbols e)) (sym same) (code_listed e is_code))
+            | inr is_code ↦ finds_own l n e name m found (subst (λ n. Among n (archive_symbols e)) (sym same) (rw is_code (inl refl)))
           ]
 
   -- Each group's members are listed for no other symbols.

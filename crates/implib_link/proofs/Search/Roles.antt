@@ -192,12 +192,9 @@ weak_as machine flavor l (Weak n e b) = weak_is_weak machine (weak_symbol flavor
 
 -- What members for GNU's linker are read as: as objects, and so are they taken.
 module _ (machine : MachineType) (l : Library) (made : IsLibrary machine l) where
-  weak_plain : (weak target : List ℕ) → taken_weak machine weak target ≡ object_of (weak_object machine weak target)
-  unfolding with_section_symbols weak_object object_of entries_of name_text
-  weak_plain weak target = refl
-
   pub plain_as : (libraries : List FlavorLibrary) (r : Role) → IsRole libraries (in_flavor Gnu l) r → object_in (member machine Gnu l r).bytes ≡ Some (object machine Gnu l r)
-  plain_as libraries r is = grind (arith, head_object_is, tail_object_is, export_object_is, weak_object_is, weak_plain)
+  unfolding with_section_symbols weak_object object_of entries_of name_text
+  plain_as libraries r is = grind (arith, head_object_is, tail_object_is, export_object_is, weak_object_is)
 
   gnu_taken : (libraries : List FlavorLibrary) (r : Role) → IsRole libraries (in_flavor Gnu l) r → expanded_in machine (member machine Gnu l r).bytes ≡ Some (object machine Gnu l r)
   gnu_taken libraries Top is = head_taken l.definition machine l.members made

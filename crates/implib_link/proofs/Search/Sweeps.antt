@@ -32,9 +32,6 @@ none_first name (x ∷ some) m none held listed = grind (arith, none_first name 
 abbrev pub IsOnce : List MemberView → List ℕ → Type 0
 IsOnce archive name = (n k : ℕ) (m x : MemberView) → slice_get archive n ≡ Some m → Among name m.symbols → slice_get archive k ≡ Some x → Among name x.symbols → n ≡ k
 
-same_less : (n k : ℕ) → n ≡ k → n ≤ k
-same_less n k is = omega (arith, is)
-
 pub once_by : (archive : List MemberView) (name : List ℕ) → IsDistinct bytes_eq (all_listed archive) → IsOnce archive name
 once_by archive name distinct n k m x at listed other again = one_number archive name n k m x distinct at other listed again
 
@@ -202,7 +199,8 @@ module _ (reads : List ℕ → Option Object) (archive : List MemberView) (own :
     unfolding AreTakenIntoAs
     sweeps_take count numbers takes = record {
       in_turn = subst (λ ns. AreTakenIntoAs reads archive own (members_at archive ns)) takes.taken
-          (sweeps_in_turn own (λ n. Unit {0}) (λ ns kept name left n held k m x at listed other again. same_less n k (once_by archive name distinct n k m x at listed other again)) (index_of archive) (λ e held. (all_entries archive e held, λ ns pulls. pulls)) count [] (λ n held. tt) tt);
+          (sweeps_in_turn own (λ n. Unit {0}) (λ ns kept name left n held k m x at listed other again.
+          (omega (arith, (once_by archive name distinct n k m x at listed other again)))) (index_of archive) (λ e held. (all_entries archive e held, λ ns pulls. pulls)) count [] (λ n held. tt) tt);
       ended = λ name m pulls.
           let from = listed_is archive name m pulls.listed in
           let at = at_index m archive from.0 in
