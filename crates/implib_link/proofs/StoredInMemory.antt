@@ -2,7 +2,7 @@
 use Rattle.std.proofs.Common.{◌≡◌, ℕ, ◌+◌, ◌*◌, ◌^◌, ◌<◌, ◌≤◌, List, ◌++◌, [], ◌∷◌, length, Some, refl, sym, subst, arith}
 use Rattle.std.specs.List.{AllByRecursion, Contains}
 use Rattle.implib.specs.declared.machine.MachineType.{MachineType}
-use Rattle.implib.specs.declared.machine.MachineType.TheVariants.{I386, ARMNT, AMD64, ARM64}
+use Rattle.implib.specs.declared.machine.MachineType.TheVariants.{ARM64}
 use Rattle.implib.specs.Formats.Constants.{arm64_pagebase_rel21}
 use Rattle.implib.specs.Formats.Object.{ASymbol, ObjectSymbol}
 use Rattle.implib.specs.Link.Image.{Range}
@@ -92,11 +92,9 @@ sums_hold : (machine : MachineType) (image_base : ℕ) (image : List Range) (lin
     ((c : LinkedCode) (symbol : ℕ) → Contains codes c → Names c.from symbol name → Settles machine image_base image linked codes targets memory stored.rests c symbol target) → (c d : LinkedCode) (first second : ℕ) → machine ≡ ARM64 →
     Contains codes c → Contains codes d → HasPageField c first name → HasAddField d second name →
     SumArrives image_base (written ++ memory) (c.position + first) (d.position + second) (field_at c.code.bytes first 4) (field_at d.code.bytes second 4) target
-sums_hold I386 image_base image linked codes targets memory stored written covers_it name target small settled c d first second is c_held d_held page_field add_field = cc
-sums_hold ARMNT image_base image linked codes targets memory stored written covers_it name target small settled c d first second is c_held d_held page_field add_field = cc
-sums_hold AMD64 image_base image linked codes targets memory stored written covers_it name target small settled c d first second is c_held d_held page_field add_field = cc
 sums_hold ARM64 image_base image linked codes targets memory stored written covers_it name target small settled c d first second is c_held d_held page_field add_field =
     sum_holds image_base image linked codes targets memory stored written covers_it name target small settled c d first second c_held d_held page_field add_field
+sums_hold machine image_base image linked codes targets memory stored written covers_it name target small settled c d first second is c_held d_held page_field add_field = cc
 
 pub holds_address : (machine : MachineType) (image_base : ℕ) (image : List Range) (linked : List Placed) (codes : List LinkedCode) (targets : LinkedCode → ℕ → ℕ) (memory : List Range)
     (stored : StoredRests machine image_base image linked codes targets memory) (written : List Range) → AllByRecursion (Covers image) written → (name : List ℕ) (target : ℕ) → target < 2 ^ 31 →

@@ -93,9 +93,8 @@ are_packed machine image linked directory addresses blocks starts ends is_direct
 
 pub packed_get : (width : ℕ) (blocks : List Block) (address i : ℕ) (b : Block) → slice_get blocks i ≡ Some b →
     slice_get (packed_tables width address blocks) i ≡ Some (record { dll = b.dll; address = address + width * entries_until i blocks; entries = b.entries })
-packed_get width [] address i b is = cc
-packed_get width (c ∷ blocks) address zero b is = grind arith
 packed_get width (c ∷ blocks) address (suc i) b is = grind (arith, packed_get width blocks (address + width * (length c.entries + 1)) i b is)
+packed_get width blocks address i b is = grind arith
 
 -- a machine that can read from an address on can read each packed table
 pub eights : (a n : ℕ) → a % 8 ≡ 0 → (a + 8 * n) % 8 ≡ 0
@@ -243,9 +242,8 @@ tables_can_be_written machine t gives tables =
 pub nth_symbol : (linked : List Placed) (width a : ℕ) (names : List (List ℕ)) (j : ℕ) (name : List ℕ) → SymbolsAt linked width a names → slice_get names j ≡ Some name →
     definitions_of name linked ≡ record { name = name; address = Some (a + width * j) } ∷ []
 unfolding SymbolsAt
-nth_symbol linked width a [] j name entries is = cc
-nth_symbol linked width a (x ∷ names) zero name entries is = grind arith
 nth_symbol linked width a (x ∷ names) (suc j) name entries is = grind (arith, nth_symbol linked width (a + width) names j name entries.1 is)
+nth_symbol linked width a names j name entries is = grind arith
 
 -- the entry of the j-th chosen export
 pub entry_of : (machine : MachineType) (ending : Ending) (bases : Bases) (inputs : List FlavorInput) (objects : List Object) (i j : ℕ) (p : FlavorInput) (e : ExportView) → ProgramLinks machine ending bases inputs objects →
@@ -266,9 +264,8 @@ inputs_blocks machine [] = refl
 inputs_blocks machine (p ∷ inputs) = simp (inputs_blocks machine inputs, asks_again)
 
 pub inputs_until : (machine : MachineType) (i : ℕ) (inputs : List FlavorInput) → entries_until i (map (block_of_flavor machine) inputs) ≡ thunks_of i inputs
-inputs_until machine zero inputs = refl
-inputs_until machine (suc i) [] = refl
 inputs_until machine (suc i) (p ∷ inputs) = grind (arith, length-map, inputs_until machine i inputs)
+inputs_until machine i inputs = cc
 
 pub program_tables : (machine : MachineType) (ending : Ending) (bases : Bases) (inputs : List FlavorInput) (objects : List Object) → AllByRecursion (IsMadeFor machine) inputs → IsProgramOf machine ending bases inputs objects →
     AreTables machine (tables_at machine bases objects (map (block_of_flavor machine) inputs))
@@ -310,9 +307,8 @@ program_entry machine bases inputs objects i j p e input chosen =
 
 packed_until : (width : ℕ) (blocks : List Block) (address i : ℕ) (x : Table) → slice_get (packed_tables width address blocks) i ≡ Some x →
     address + width * thunks_until i (map imported_by_table (packed_tables width address blocks)) ≡ x.address
-packed_until width [] address i x is = cc
-packed_until width (b ∷ blocks) address zero x is = grind arith
 packed_until width (b ∷ blocks) address (suc i) x is = grind (arith, packed_until width blocks (address + width * (length b.entries + 1)) i x is, i, length-map, table_sum, is)
+packed_until width blocks address i x is = grind arith
 
 pub pieces_tables : (machine : MachineType) (image : List Range) (linked : List Placed) (descriptors lookups addresses hints names : ℕ) (blocks : List Block) →
     AllByRecursion (λ r. 0 < r.start) image → AllByRecursion (λ r. range_end r < 2 ^ 31) image → AllByRecursion IsImportable (map imported_by_table (packed_tables (thunk_width machine) addresses blocks)) →
@@ -344,9 +340,8 @@ groups_blocks (group ∷ groups) =
     ∙ ap (λ is. imported_by group ∷ is) (groups_blocks groups)
 
 pub groups_until : (i : ℕ) (groups : List (List ShortImport)) → entries_until i (map block_of_group groups) ≡ thunks_until i (map imported_by groups)
-groups_until zero groups = refl
-groups_until (suc i) [] = refl
 groups_until (suc i) (group ∷ groups) = grind (arith, groups_until i groups, i, length-map)
+groups_until i groups = cc
 
 module _ (machine : MachineType) (descriptors addresses : ℕ) (taken : List ShortImport) (image : List Range) (linked : List Placed)
     (program : IsLldProgram machine descriptors addresses taken image linked) where

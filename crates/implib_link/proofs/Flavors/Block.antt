@@ -513,9 +513,8 @@ pub nth_in : (machine : MachineType) (linked : List Placed) (image : List Range)
     (c : Bases) × ((c.descriptors ≡ b.descriptors + 20 * i) × ((c.addresses ≡ b.addresses + thunk_width machine * thunks_in i blocks)
     × ((behind : List Object) × OneLinks machine linked image k.flavor k.dll k.exports c behind)))
 unfolding BlocksIn
-nth_in machine linked image rest [] b links i k is = cc
-nth_in machine linked image rest (q ∷ blocks) b links zero k is = grind arith
 nth_in machine linked image rest (q ∷ blocks) b links (suc i) k is = grind (arith, descriptors_one, plus_sum, addresses_one, table_sum, nth_in machine linked image rest blocks)
+nth_in machine linked image rest blocks b links by k is = grind arith
 
 -- what a block imports
 abbrev pub imported_of : MachineType → FlavorBlock → Imported

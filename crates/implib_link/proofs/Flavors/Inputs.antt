@@ -17,12 +17,12 @@ use Rattle.implib.proofs.Link.LinkedMembers.{among_contains, among_map, exports_
 use Rattle.implib.proofs.Link.Placement.{export, tail, head}
 use Rattle.implib.proofs.Link.Ranges.{Among, among_back, among_front, all_among, among_first, among_flat, among_later}
 use Rattle.implib_link.specs.Flavors.Expansion.{Code, Constant, Data, import_object, expanded_as, expanded_in, use_of, with_section_symbols}
-use Rattle.implib_link.specs.Flavors.Program.{Ending, OfLinker, OfMember, claimed_names, HaveSame, FlavorInput, IsFoundByName, IsMadeFor, IsTaken, all_members, exports_chosen, members_linked, null_member, objects_taken, specs_in, symbols_listed, dll_names_in}
+use Rattle.implib_link.specs.Flavors.Program.{Ending, claimed_names, HaveSame, FlavorInput, IsFoundByName, IsMadeFor, IsTaken, all_members, exports_chosen, members_linked, null_member, objects_taken, specs_in, symbols_listed, dll_names_in}
 use Rattle.implib_link.proofs.Flavors.Block.{claimed_after, claimed_head, behind_descriptor, objects_of, symbols_of, FitsIn, asking, FlavorBlock, all_objects, rest_of, AllSuit, CanLink}
 use Rattle.implib_link.proofs.Search.Lists.{among_either, contains_among, all_from}
 use Rattle.implib_link.proofs.Flavors.Expanded.{taken_descriptor, taken_null, taken_null_thunk, AskFits}
 use Rattle.implib.specs.LibraryName.{NamesOfDll, linked_dll, names_for, linked_name}
-use Rattle.std.specs.Prelude.{◌==◌, slice_get, suc, take, zero}
+use Rattle.std.specs.Prelude.{◌==◌, slice_get, suc, take}
 use Rattle.std.specs.Option.{option_and_then}
 use Rattle.std.proofs.lemmas.Bool.{cases_Bool, le-leb, ltb-true}
 use Rattle.std.proofs.lemmas.List.Elements.{filter_map-append}
@@ -36,7 +36,7 @@ use Rattle.implib.specs.Members.Members.{AreMembersOf, member_specs}
 use Rattle.implib.specs.Members.MsvcMembers.{descriptor_spec, export_specs, header_specs, null_descriptor_spec, null_thunk_spec, short_import_spec}
 use Rattle.implib.specs.Members.ReadBack.{file_of}
 use Rattle.implib.specs.Renaming.{renamed}
-use Rattle.implib.specs.Formats.ShortImport.{import_code, import_const, import_data, without_prefix}
+use Rattle.implib.specs.Formats.ShortImport.{import_code, import_const, import_data}
 use Rattle.implib.proofs.Members.GnuReadings.{member_specs_read}
 use Rattle.implib.proofs.Members.Import.{name_type_is_ordinal, name_type_of_fits, symbol_without_nul}
 use Rattle.implib.proofs.Members.MemberReadings.{ReadsBack, map_after, member_specs_read_back}
@@ -70,8 +70,6 @@ askings_claim machine dll (e ∷ es) rest = grind (arith, askings_claim machine 
 
 pub all_claim_listed : (machine : MachineType) (ending : Ending) (blocks : List FlavorBlock) →
     flat_map claimed_names (all_objects machine blocks (rest_of ending)) ≡ flat_map (λ (k : FlavorBlock). symbols_of machine k.flavor k.dll k.exports) blocks
-all_claim_listed machine OfLinker [] = refl
-all_claim_listed machine OfMember [] = refl
 all_claim_listed machine ending (k ∷ blocks) = grind (
   arith,
   all_claim_listed machine ending blocks,
@@ -86,6 +84,7 @@ all_claim_listed machine ending (k ∷ blocks) = grind (
   claimed_head,
   claimed_after,
 )
+all_claim_listed machine ending blocks = grind arith
 
 -- with the null descriptor put in, its name comes in, too
 moved : (name one : List ℕ) (xs ys : List (List ℕ)) → Among name (xs ++ one ∷ ys) → Among name (one ∷ (xs ++ ys))
@@ -126,17 +125,13 @@ use_is is_data constant = grind arith
 if_free : (test : Bool) (one other : List ℕ) → holds 0 one ≡ false → holds 0 other ≡ false → holds 0 (if test then one else other) ≡ false
 if_free test one other first second = grind arith
 
-prefix_free : (text : List ℕ) → holds 0 text ≡ false → holds 0 (without_prefix text) ≡ false
-prefix_free text free = grind arith
-
 cut_free : (n : ℕ) (text : List ℕ) → holds 0 text ≡ false → holds 0 (take n text) ≡ false
-cut_free zero text free = refl
-cut_free (suc n) [] free = refl
 cut_free (suc n) (b ∷ rest) free = grind (arith, cut_free n rest)
+cut_free n text free = cc
 
 pub export_fits : (machine : MachineType) (e : ExportView) → Sound e → FitsIn Msvc machine e
 unfolding FitsIn AskFits
-export_fits machine e good = grind (arith, ltb-true, prefix_free, if_free, cut_free, symbol_without_nul)
+export_fits machine e good = grind (arith, ltb-true, if_free, cut_free, symbol_without_nul)
 
 -- a file that reads as another is taken as that
 taken_by : (machine : MachineType) (bytes : List ℕ) (file : File) → file_in bytes ≡ Some file → expanded_in machine bytes ≡ expanded_as machine file

@@ -379,9 +379,8 @@ all_names_of width address (group ∷ groups) = grind (arith, map-append, group_
 group_defines : (width address : ℕ) (group : List ShortImport) (j : ℕ) (r : ShortImport) → slice_get group j ≡ Some r →
     Among (record { name = imp_symbol r.symbol; address = Some (address + width * j) }) (group_definitions width address group)
 unfolding group_definitions Among
-group_defines width address [] j r is = cc
-group_defines width address (s ∷ group) zero r is = grind arith
 group_defines width address (s ∷ group) (suc j) r is = grind (arith, group_defines width (address + width) group j r is)
+group_defines width address group j r is = grind arith
 
 pub all_define : (width address : ℕ) (groups : List (List ShortImport)) (i j : ℕ) (group : List ShortImport) (r : ShortImport) → slice_get groups i ≡ Some group → slice_get group j ≡ Some r →
     Among (record { name = imp_symbol r.symbol; address = Some (address + width * thunks_until i (map imported_by groups) + width * j) }) (all_definitions width address groups)

@@ -131,7 +131,6 @@ module _ (machine : MachineType) (b : Bases) (xs ys : List Object) (none : AllBy
   -- a group that the null descriptor is not in
   pub group_same : (linked : List Placed) (group : Group) → same_group group DirectoryEnds ≡ false →
       contributions machine linked group (placed_from b (xs ++ taken_null machine ∷ ys)) ≡ contributions machine linked group (placed_from b (xs ++ ys))
-  unfolding with_section_symbols object_of null_descriptor entries_of name_text
   group_same linked group is = grind (arith, with_null, flat_none, without)
 
   -- the null descriptor alone is in `.idata$3`

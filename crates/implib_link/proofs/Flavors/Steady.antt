@@ -1,5 +1,5 @@
 -- The import tables of both flavours without the address tables: what a loader reads that writes there.
-use Rattle.std.proofs.Common.{◌≡◌, ℕ, suc, ◌+◌, ◌*◌, ◌<◌, ◌^◌, List, [], ◌∷◌, ◌++◌, length, map, refl, ap, sym, ◌∙◌, subst, arith, ◌⊎◌, false, None, inr, zero, Some, codes, ◌-◌, ◌%◌}
+use Rattle.std.proofs.Common.{◌≡◌, ℕ, suc, ◌+◌, ◌*◌, ◌<◌, ◌^◌, List, [], ◌∷◌, ◌++◌, length, map, refl, ap, sym, ◌∙◌, subst, arith, ◌⊎◌, false, None, inr, Some, codes, ◌-◌, ◌%◌}
 use Rattle.std.specs.List.{AllByRecursion, filter}
 use Rattle.std.proofs.lemmas.List.{length-map, append-nil, append_cancel_left, append_assoc}
 use Rattle.implib.specs.declared.machine.MachineType.{MachineType}
@@ -190,14 +190,14 @@ pub exports_steady : (machine : MachineType) (dll : NamesOfDll) (es : List Expor
     AllByRecursion (AllSteady machine) (map (export machine dll) es ++ rest)
 unfolding export_object relocations_of_thunk
 exports_steady machine dll [] rest all = all
-exports_steady machine dll (e ∷ es) rest all = ((grind (arith, relative_steady)), exports_steady machine dll es rest all)
+exports_steady machine dll (e ∷ es) rest all = (grind (arith, relative_steady), exports_steady machine dll es rest all)
 
 -- The import tables of both flavours have no base relocations.
 
 askings_steady : (machine : MachineType) (dll : NamesOfDll) (es : List ExportView) (rest : List Object) → AllByRecursion (AllSteady machine) rest → AllByRecursion (AllSteady machine) (behind_descriptor machine dll es rest)
 unfolding with_section_symbols object_of null_thunk entries_of name_text import_object
 askings_steady machine dll [] rest all = ((inr tt, (inr tt, tt)), all)
-askings_steady machine dll (e ∷ es) rest all = ((grind (arith, relative_steady)), askings_steady machine dll es rest all)
+askings_steady machine dll (e ∷ es) rest all = (grind (arith, relative_steady), askings_steady machine dll es rest all)
 
 blocks_steady : (machine : MachineType) (ending : Ending) (blocks : List FlavorBlock) → AllByRecursion (AllSteady machine) (all_objects machine blocks (rest_of ending))
 unfolding with_section_symbols object_of descriptor entries_of name_text tail_object
@@ -258,9 +258,8 @@ module _ (machine : MachineType) (b : Bases) (objects : List Object) (admissible
 -- A loader that writes as it goes loads a program, as one that reads first.
 
 thunks_same : (machine : MachineType) (i : ℕ) (inputs : List FlavorInput) → thunks_asked i (map (imported_in machine) inputs) ≡ thunks_of i inputs
-thunks_same machine zero inputs = refl
-thunks_same machine (suc i) [] = refl
 thunks_same machine (suc i) (p ∷ inputs) = grind (arith, thunks_same machine i inputs, thunks_asked, length-map)
+thunks_same machine i inputs = cc
 
 module _ (machine : MachineType) (ending : Ending) (b : Bases) (inputs : List FlavorInput) (objects : List Object) (made : AllByRecursion (IsMadeFor machine) inputs) (program : IsProgramOf machine ending b inputs objects) where
   abbrev linked : List Placed

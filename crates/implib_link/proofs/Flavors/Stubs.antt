@@ -79,8 +79,7 @@ behind_askings machine dll (e ∷ es) b rest q even m = grind (arith, behind_ask
 
 behind_one : (machine : MachineType) (ending : Ending) (flavor : Flavor) (dll : NamesOfDll) (es : List ExportView) (b : Bases) (rest : List Object) (q : Placed) → Suits ending flavor → AreEven ending machine b →
     Among q (placed_from (ends_in machine flavor dll b es) rest) → Among q (placed_from b (objects_of machine flavor dll es rest))
-behind_one machine ending Msvc dll es b rest q suits even m = grind (arith, even_wide, even, placed-descriptor, behind_descriptor, among_later, behind_askings, ends_of_descriptor, wide_descriptor)
-behind_one machine ending Gnu dll es b rest q suits even m = grind (arith, even_aligned, even, placed-head, after_head, among_later, behind_exports, ends_of_head, aligned_head)
+behind_one machine ending flavor dll es b rest q suits even m = grind (arith, even_aligned, even, placed-head, after_head, among_later, behind_exports, ends_of_head, aligned_head, even_wide, placed-descriptor, behind_descriptor, behind_askings, ends_of_descriptor, wide_descriptor)
 
 pub all_placed : (machine : MachineType) (ending : Ending) (rest : List Object) (blocks : List FlavorBlock) (b : Bases) → AllSuit ending blocks → AreEven ending machine b → (i j : ℕ) (k : FlavorBlock) (e : ExportView) → slice_get blocks i ≡ Some k → slice_get k.exports j ≡ Some e →
     (c : Bases) × (Among (placed_in machine k.flavor k.dll c e) (placed_from b (all_objects machine blocks rest))

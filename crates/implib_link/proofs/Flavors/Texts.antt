@@ -36,9 +36,8 @@ AsksInFlavor flavor machine s = ask_in flavor machine s.export ≡ ask_stated s
 each_asks : (flavor : Flavor) (machine : MachineType) (exports : List ExportView) (statements : List Export) → EachAsksForItsWord machine exports statements →
     AllByRecursion (AsksInFlavor flavor machine) (stated exports statements)
 unfolding AsksInFlavor
-each_asks flavor machine [] statements each = grind arith
-each_asks flavor machine (e ∷ exports) [] each = absurd each
 each_asks flavor machine (e ∷ exports) (s ∷ statements) each = grind (arith, each_asks flavor machine exports statements each.1)
+each_asks flavor machine exports statements each = cc
 
 same_asks : (flavor : Flavor) (machine : MachineType) (xs : List Stated) → AllByRecursion (AsksInFlavor flavor machine) xs →
     map (ask_in flavor machine) (map (λ (s : Stated). s.export) xs) ≡ map ask_stated xs
@@ -71,7 +70,7 @@ names_are Gnu exports all = refl
 
 sources_made : (machine : MachineType) (sources : List FlavorSource) → AllByRecursion (IsFlavorSource machine) sources → AllByRecursion (IsMadeFor machine) (map input_of sources)
 sources_made machine [] are = tt
-sources_made machine (s ∷ sources) are = ((grind (arith, are.0)), sources_made machine sources are.1)
+sources_made machine (s ∷ sources) are = (grind (arith, are.0), sources_made machine sources are.1)
 
 -- an input's imports, by its exports and its DLL's name
 record ImportsOf (machine : MachineType) (image : List Range) (linked : List Placed) (descriptor table : ℕ) (flavor : Flavor) (dll : NamesOfDll) (es : List ExportView) : Type 0 where

@@ -35,12 +35,8 @@ pub record Four (bytes : List ℕ) : Type 0 where
   pub is : bytes ≡ a ∷ b ∷ c ∷ d ∷ []
 
 pub four_of : (bytes : List ℕ) → length bytes ≡ 4 → Four bytes
-four_of [] four = absurd (omega arith)
-four_of (a ∷ []) four = absurd (omega arith)
-four_of (a ∷ b ∷ []) four = absurd (omega arith)
-four_of (a ∷ b ∷ c ∷ []) four = absurd (omega arith)
 four_of (a ∷ b ∷ c ∷ d ∷ []) four = record { a = a; b = b; c = c; d = d; is = refl }
-four_of (a ∷ b ∷ c ∷ d ∷ e ∷ rest) four = absurd (omega arith)
+four_of bytes four = cc
 
 pub jump_field : (address : ℕ) (field : List ℕ) → length field ≡ 4 → jump_reads I386 address (0xFF ∷ 0x25 ∷ (field ++ 0x90 ∷ 0x90 ∷ [])) ≡ Some (number_in field)
 jump_field address field four = let f = four_of field four in subst (λ xs. jump_reads I386 address (0xFF ∷ 0x25 ∷ (xs ++ 0x90 ∷ 0x90 ∷ [])) ≡ Some (number_in xs)) (sym f.is) refl
@@ -77,9 +73,8 @@ located_from memory (x ∷ bytes) a each =
 
 pub located_each : (memory : List Range) (bytes : List ℕ) (a i b : ℕ) → BytesAt memory a bytes → slice_get bytes i ≡ Some b → byte_at memory (a + i) ≡ Some b
 unfolding BytesAt
-located_each memory [] a i b located is = cc
-located_each memory (x ∷ bytes) a zero b located is = grind arith
 located_each memory (x ∷ bytes) a (suc i) b located is = grind (arith, located_each memory bytes (a + 1) i b located.1 is)
+located_each memory bytes a i b located is = grind arith
 
 -- Which relocations meet bytes.
 

@@ -18,7 +18,7 @@ use Rattle.implib.specs.Members.ImportTables.{thunk_width}
 use Rattle.implib.proofs.Link.LinkedMembers.{among_contains}
 use Rattle.implib.proofs.Link.Ranges.{Among, all_among}
 use Rattle.implib_link.specs.Gnu.Fields.{CanBranch, field_width, DefinesIn, FieldHolds, LinkedCode, MeetsAlone, field_at, meets, AllLead, AllLeadTo, BranchArrives, HasBranch, HasInstruction, HasOffsetField, HasOperand, HasPageField, HasPointer, InstructionArrives, IsBranch, IsOperand, IsPointer, Names, OperandArrives, PairArrives, PointerArrives, operand_leads, BranchStays, StubAt, placed_code, DirectCallArrives, HasDirectCall, HasInstructions, arm64_branch26, direct_bytes, direct_leads, direct_relocations, i386_rel32, absolute_width, StubArrives}
-use Rattle.implib_link.specs.Stub.{adrp_immediate, bits_of, ldr_immediate, page, plus_signed, with_bits, jump_reads, with_adrp, word_at}
+use Rattle.implib_link.specs.Stub.{adrp_immediate, bits_of, ldr_immediate, page, plus_signed, with_bits, jump_reads, with_adrp}
 use Rattle.implib_link.proofs.Gnu.CallReads.{CanReach}
 use Rattle.implib_link.proofs.Gnu.Fields.{alone_same, alone_within, get_drop, get_front, meeting, meets_bounds, meets_from, page_and_offset, sum_of_eights, ReadsPair, pair_read, one_met, own_any, own_code, own_met, own_names, read_word, joined, four_of, jump_field, own_inside}
 use Rattle.implib_link.proofs.Gnu.FieldsInMemory.{Rests, Settles, bytes_there, field_there, own_end, settled_in_tables, steady_there, part_there}
@@ -248,13 +248,11 @@ pairs_arrive : (machine : MachineType) (image_base : ℕ) (image : List Range) (
     ((c : LinkedCode) (symbol : ℕ) → Contains codes c → Names c.from symbol called → Settles machine image_base image linked codes targets memory at c symbol entry) → (c d : LinkedCode) (first second : ℕ) → machine ≡ ARM64 →
     Contains codes c → Contains codes d → HasPageField c first called → HasOffsetField d second called →
     PairArrives image_base linked (written ++ memory) (c.position + first) (d.position + second) (field_at c.code.bytes first 4) (field_at d.code.bytes second 4) name bytes
-pairs_arrive I386 image_base image linked codes targets memory at written covers_it name bytes entry once small can located called settled c d first second is c_held d_held page_field offset_field = cc
-pairs_arrive ARMNT image_base image linked codes targets memory at written covers_it name bytes entry once small can located called settled c d first second is c_held d_held page_field offset_field = absurd can
-pairs_arrive AMD64 image_base image linked codes targets memory at written covers_it name bytes entry once small can located called settled c d first second is c_held d_held page_field offset_field = cc
 pairs_arrive ARM64 image_base image linked codes targets memory at written covers_it name bytes entry once small can located called settled c d first second is c_held d_held page_field offset_field =
     pair_at image_base image linked codes targets memory at written covers_it name bytes entry once small can located c d first second page_field.field.symbol offset_field.field.symbol c_held d_held
     page_field.field.alone page_field.field.inside offset_field.field.alone offset_field.field.inside page_field.empty offset_field.eight offset_field.empty
     (settled c page_field.field.symbol c_held page_field.field.names) (settled d offset_field.field.symbol d_held offset_field.field.names)
+pairs_arrive machine image_base image linked codes targets memory at written covers_it name bytes entry once small can located called settled c d first second is c_held d_held page_field offset_field = cc
 
 -- fields against a name whose symbols have the entry's address, be it the entry's own name or another
 pub all_lead_to : (machine : MachineType) (image_base : ℕ) (image : List Range) (linked : List Placed) (codes : List LinkedCode) (targets : LinkedCode → ℕ → ℕ) (memory : List Range)
@@ -373,11 +371,6 @@ module _ (machine : MachineType) (c : LinkedCode) (offset type : ℕ) (name : Li
 
 rel32_call : (address : ℕ) (field : List ℕ) → length field ≡ 4 → direct_leads AMD64 address (0xE8 ∷ field) ≡ Some (plus_signed 32 1 (number_in field) (address + 5))
 rel32_call address field four = grind (arith, four_of field four)
-
--- ARM64's.
-
-arm64_leads : (address : ℕ) (xs : List ℕ) (n : ℕ) → word_at xs 0 ≡ n → bits_of 26 6 n ≡ 0x25 → direct_leads ARM64 address xs ≡ Some (plus_signed 26 4 (bits_of 0 26 n) address)
-arm64_leads address xs n is branch = rw (is, branch) refl
 
 x86_by_name : (machine : MachineType) (image_base : ℕ) (memory : List Range) (position offset stub : ℕ) (bytes : List ℕ) → length (direct_bytes machine) ≡ 5 →
     ((address : ℕ) (field : List ℕ) → length field ≡ 4 → direct_leads machine address (0xE8 ∷ field) ≡ Some (plus_signed 32 1 (number_in field) (address + 5))) →

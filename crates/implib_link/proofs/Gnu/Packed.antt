@@ -62,7 +62,7 @@ tail_sized machine dll = (tt, (tt, (tt, (tt, (tt, (tt, tt))))))
 
 pub export_sized : (machine : MachineType) (dll : NamesOfDll) (e : ExportView) → IsSized (export machine dll e)
 unfolding export_object relocations_of_stub stub
-export_sized machine dll e = ((grind (arith, cases_Bool)), (tt, (tt, ((omega arith, tt), (thunk_within machine e, (thunk_within machine e, (tt, tt)))))))
+export_sized machine dll e = (grind (arith, cases_Bool), (tt, (tt, ((omega arith, tt), (thunk_within machine e, (thunk_within machine e, (tt, tt)))))))
 
 pub exports_sized : (machine : MachineType) (dll : NamesOfDll) (es : List ExportView) (rest : List Object) → AllByRecursion IsSized rest → AllByRecursion IsSized (map (export machine dll) es ++ rest)
 exports_sized machine dll [] rest all = all

@@ -70,10 +70,9 @@ module _ (machine : MachineType) (linked : List Placed) (image : List Range) (st
   -- what the last of objects defines with a text
   texts_named : (name bytes : List ℕ) (objects later : List Object) (b : Bases) → AllByRecursion IsSized objects → LocatedFrom machine linked image b (objects ++ later) → named_bytes name objects ≡ Some bytes →
       (a : ℕ) × (Among (record { name = name; address = Some a }) (definitions (placed_from b (objects ++ later))) × BytesAt image a bytes)
-  texts_named name bytes [] later b sized located is = cc
-  texts_named name bytes (o ∷ []) later b sized located is = grind (arith, named_located, among_front)
   texts_named name bytes (o ∷ q ∷ objects) later b sized located is =
       grind (arith, texts_named name bytes (q ∷ objects) later (ends_after b o.sections) sized.1 (located_next o b (q ∷ objects ++ later) sized.0 located) is, located_next, among_back)
+  texts_named name bytes objects later b sized located is = grind (arith, named_located, among_front)
 
   -- an object with an entry, placed among others that are placed from bases on
   pub record IsEntryPlaced (b : Bases) (all : List Object) (o : Object) (address : ℕ) : Type 0 where

@@ -77,9 +77,8 @@ unfolding head_object
 head_lookups machine dll = refl
 
 last_named : (machine : MachineType) (dll : NamesOfDll) (more : ExportView → List AddedSymbol) (name : List ℕ) (es : List ExportView) → named_bytes name (after_by machine dll more es) ≡ named_bytes name (tail machine dll ∷ [])
-last_named machine dll more name [] = refl
-last_named machine dll more name (e ∷ []) = refl
 last_named machine dll more name (e ∷ f ∷ es) = last_named machine dll more name (f ∷ es)
+last_named machine dll more name es = cc
 
 -- An export.
 
@@ -212,11 +211,10 @@ held_reads h fits short = grind (arith, object_in-encoded, object_of-layout_of)
 -- the specification of each export is among those of the definition
 numbered_among : (machine : MachineType) (dll : List ℕ) (exports : List ExportView) (start n : ℕ) (e : ExportView) → slice_get exports n ≡ Some e →
     Among (older_spec machine dll (start + n) e) (numbered_older_specs machine dll start exports)
-numbered_among machine dll [] start n e is = cc
-numbered_among machine dll (x ∷ exports) start zero e is = grind (arith, among_front, among_back, among_first)
 numbered_among machine dll (x ∷ exports) start (suc n) e is =
     among_back _ (older_specs_of machine dll start x) (numbered_older_specs machine dll (start + 1) exports)
     (subst (λ n. Among (older_spec machine dll n e) (numbered_older_specs machine dll (start + 1) exports)) (omega arith) (numbered_among machine dll exports (start + 1) n e is))
+numbered_among machine dll exports start n e is = grind (arith, among_front, among_back, among_first)
 
 -- the further symbol of each export
 abbrev pub further : ExportView → List AddedSymbol

@@ -81,25 +81,22 @@ among_append (x ∷ xs) (y ∷ ys) zs ws (inr first) second = inr (among_append 
 
 among_all : (P : List ℕ → Type 0) (xs ys : List (List ℕ)) → IsAmong xs ys → AllByRecursion P ys → AllByRecursion P xs
 unfolding IsAmong
-among_all P [] ys is all = tt
-among_all P (x ∷ xs) [] is all = absurd is
 among_all P (x ∷ xs) (y ∷ ys) (inl (e, is)) all = (subst P (sym e) all.0, among_all P xs ys is all.1)
 among_all P (x ∷ xs) (y ∷ ys) (inr is) all = among_all P (x ∷ xs) ys is all.1
+among_all P xs ys is all = grind arith
 
 among_distinct : (xs ys : List (List ℕ)) → IsAmong xs ys → IsDistinct bytes_eq ys → IsDistinct bytes_eq xs
 unfolding IsAmong IsDistinct
-among_distinct [] ys is distinct = tt
-among_distinct (x ∷ xs) [] is distinct = absurd is
 among_distinct (x ∷ xs) (y ∷ ys) (inl (e, is)) distinct = grind (arith, among_distinct xs ys is distinct.1, among_all)
 among_distinct (x ∷ xs) (y ∷ ys) (inr is) distinct = among_distinct (x ∷ xs) ys is distinct.1
+among_distinct xs ys is distinct = grind arith
 
 among_held : (name : List ℕ) (xs ys : List (List ℕ)) → IsAmong xs ys → Among name xs → Among name ys
 unfolding IsAmong Among
-among_held name [] ys is held = absurd held
-among_held name (x ∷ xs) [] is held = absurd is
 among_held name (x ∷ xs) (y ∷ ys) (inl (e, is)) (inl same) = inl (same ∙ e)
 among_held name (x ∷ xs) (y ∷ ys) (inl (e, is)) (inr held) = inr (among_held name xs ys is held)
 among_held name (x ∷ xs) (y ∷ ys) (inr is) held = inr (among_held name (x ∷ xs) ys is held)
+among_held name xs ys is held = grind arith
 
 entries_claim : (addresses : List SectionAddress) (entries : List Entry) → IsAmong (map (λ (d : SymbolDefinition). d.name) (filter_map (defined_by_entry addresses) entries)) (filter_map claimed_name entries)
 unfolding IsAmong

@@ -219,13 +219,12 @@ module _ (machine : MachineType) (linked : List Placed) (image : List Range) (st
   in_numbered number value bytes is = grind (arith, in_section)
 
   own_located : (found : Option Entry) (bytes : List ℕ) → own_bytes o found ≡ Some bytes → (a : ℕ) × ((option_and_then (symbol_address linked p) found ≡ Some a) × BytesAt image a bytes)
-  own_located None bytes is = cc
-  own_located (Some (Auxiliary other)) bytes is = cc
   own_located (Some (ASymbol s)) bytes is =
       elim (cases_Bool (is_undefined_external s)) [
         | inl left ↦ let none : None ≡ Some bytes = rw left at is in cc
         | inr own ↦ grind (arith, in_numbered s.section s.value bytes (rw own at is))
       ]
+  own_located found bytes is = cc
 
   -- those at a symbol that it defines for others
   pub named_located : (name : List ℕ) (entries : List Entry) (bytes : List ℕ) → named_bytes_in o name entries ≡ Some bytes →

@@ -1,5 +1,5 @@
 -- What a linker takes of the members for GNU's linker.
-use Rattle.std.proofs.Common.{◌≡◌, ℕ, zero, suc, ◌+◌, Bool, length, true, List, [], ◌∷◌, ◌++◌, Option, Some, None, refl, ap, sym, ◌∙◌, subst, inl, inr, ◌⊎◌, arith, map, ◌≤◌, false, if◌then◌else◌}
+use Rattle.std.proofs.Common.{◌≡◌, ℕ, suc, ◌+◌, Bool, length, true, List, [], ◌∷◌, ◌++◌, Option, Some, None, refl, ap, sym, ◌∙◌, subst, inl, inr, ◌⊎◌, arith, map, ◌≤◌, false, if◌then◌else◌}
 use Rattle.std.specs.Prelude.{bytes_eq, slice_get, reverse, IsPermutation}
 use Rattle.std.specs.List.{filter, filter_map, list_any, AllByRecursion, IsDistinct, flat_map, sum_by}
 use Rattle.std.proofs.lemmas.Bool.{cases_Bool, false_from_ne_true}
@@ -38,20 +38,18 @@ use Rattle.implib.proofs.Link.LinkedBlocks.{linked_symbols}
 -- one export's specifications are among those of all
 pub numbered_in : (machine : MachineType) (dll : List ℕ) (exports : List ExportView) (start n : ℕ) (e : ExportView) (p : MemberSpec) → slice_get exports n ≡ Some e →
     Among p (numbered_specs_of machine dll (start + n) e) → Among p (numbered_specs machine dll start exports)
-numbered_in machine dll [] start n e p is held = cc
-numbered_in machine dll (x ∷ exports) start zero e p is held = grind (arith, among_front)
 numbered_in machine dll (x ∷ exports) start (suc n) e p is held =
     among_back p (numbered_specs_of machine dll start x) (numbered_specs machine dll (start + 1) exports)
     (numbered_in machine dll exports (start + 1) n e p is (subst (λ n. Among p (numbered_specs_of machine dll n e)) (omega arith) held))
+numbered_in machine dll exports start n e p is held = grind (arith, among_front)
 
 -- The numbers of wanted exports.
 
 pub number_wanted : (wanted : List (List ℕ)) (exports : List ExportView) (start n : ℕ) (e : ExportView) → slice_get exports n ≡ Some e → is_wanted wanted e ≡ true →
     Among (start + n) (numbers_passing (is_wanted wanted) start exports)
 unfolding Among
-number_wanted wanted [] start n e is want = cc
-number_wanted wanted (x ∷ exports) start zero e is want = grind arith
 number_wanted wanted (x ∷ exports) start (suc n) e is want = grind (arith, number_wanted wanted exports (start + 1))
+number_wanted wanted exports start n e is want = grind arith
 
 pub wanted_number : (wanted : List (List ℕ)) (exports : List ExportView) (start k : ℕ) → Among k (numbers_passing (is_wanted wanted) start exports) →
     (n : ℕ) × (e : ExportView) × (k ≡ start + n) × (slice_get exports n ≡ Some e) × (is_wanted wanted e ≡ true)
@@ -275,9 +273,8 @@ module _ (machine : MachineType) where
 
   pub group_is_export : (l : Library) (exports : List ExportView) (start n : ℕ) (e : ExportView) → slice_get exports n ≡ Some e → Among (export_group l (start + n) e) (export_groups l start exports)
   unfolding Among export_groups
-  group_is_export l [] start n e is = cc
-  group_is_export l (x ∷ exports) start zero e is = grind (arith, among_back)
   group_is_export l (x ∷ exports) start (suc n) e is = grind (arith, group_is_export l exports (start + 1) n e is, among_front)
+  group_is_export l exports start n e is = grind (arith, among_back)
 
 -- The members of a library for GNU's linker: which of an export's a name finds, and what they are read as.
 

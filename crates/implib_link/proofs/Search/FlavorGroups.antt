@@ -253,13 +253,7 @@ module _ (machine : MachineType) where
       OfExport own.0 own.1 own.2 (own.3 ∙ ap (λ n. export_group machine l n own.1) (omega arith))
 
   role_there : (flavor : Flavor) (l : Library) (r : Role) → IsEnd r → Among (role_group flavor l r) (groups_in flavor l)
-  role_there Msvc l Top end = among_first _ _
-  role_there Msvc l Last end = among_later _ _ _ (among_first _ _)
-  role_there Gnu l Last end = among_first _ _
-  role_there Gnu l Top end = among_later _ _ _ (among_first _ _)
-  role_there flavor l Null end = absurd end
-  role_there flavor l (Own n e) end = absurd end
-  role_there flavor l (Weak n e b) end = absurd end
+  role_there flavor l r end = grind (arith, among_first, among_later)
 
   export_there : (flavor : Flavor) (l : Library) (n : ℕ) (e : ExportView) → slice_get (exports_of l) n ≡ Some e → Among (group_of flavor l n e) (groups_in flavor l)
   export_there Msvc l n e is = among_later _ _ _ (among_later _ _ _ (among_map (short_group machine l) e (exports_of l) (among_at e (exports_of l) n is)))
@@ -510,14 +504,13 @@ module _ (machine : MachineType) (libraries : List FlavorLibrary) (archive : IsF
       Among name (symbols machine flavor l r) → first_listed (archive_of_both libraries) name ≡ Some (member machine flavor l r)
   finds flavor l Top name held is listed = role_finds machine libraries archive flavor l Top name held tt listed
   finds flavor l Last name held is listed = role_finds machine libraries archive flavor l Last name held tt listed
-  finds flavor l Null name held is listed = grind (arith, null_finds, only_one)
   finds Gnu l (Own n e) name held is listed = export_finds machine libraries archive Gnu l n e name _ held is.0 (own_symbols e name listed) (own_first machine l n e name listed)
   finds Msvc l (Own n e) name held is listed = export_finds machine libraries archive Msvc l n e name _ held is.0 (short_symbol e name is.1 listed) (short_first machine l e name is.1 listed)
-  finds Gnu l (Weak n e true) name held is listed = absurd is.1
   finds Gnu l (Weak n e false) name held is listed = search (rules, false, held, is, listed, as_one, export_finds, alias_symbols, weak_first)
   finds Msvc l (Weak n e b) name held is listed =
       as_one name (weak_symbol Msvc e b) _ listed (export_finds machine libraries archive Msvc l n e (weak_symbol Msvc e b) _ held is.0
       (pair_symbol e (weak_symbol Msvc e b) (weak_target e b) is.1 (pair e b)) (pair_first machine l e (weak_symbol Msvc e b) (weak_target e b) is.1 (pair e b)))
+  finds flavor l r name held is listed = grind (arith, null_finds, only_one)
 
   -- A way to read members that takes each of these for its object, and the members that are weak externals by it.
   pub record IsReader (reads : List ℕ → Option Object) (weak : MemberView → Bool) : Type 0 where

@@ -276,7 +276,6 @@ null_or_member machine libraries m (x ∷ members) held =
     ]
 
 pub member_with : (machine : MachineType) (libraries : List Library) (m : MemberView) (members : List MemberView) → Among m members → Among m (with_first_null machine libraries members)
-unfolding Among
 member_with machine libraries m members held = grind (arith, among_back)
 
 pub null_with : (machine : MachineType) (libraries : List Library) (m x : MemberView) (members : List MemberView) → Among m (first_null machine libraries) → Among x members →

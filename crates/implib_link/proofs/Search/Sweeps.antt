@@ -17,11 +17,10 @@ use Rattle.std.proofs.lemmas.Option.{same_Some, slice_get_within}
 -- a symbol has one number, where all symbols differ
 pub one_number : (archive : List MemberView) (name : List ℕ) (n k : ℕ) (m x : MemberView) → IsDistinct bytes_eq (all_listed archive) → slice_get archive n ≡ Some m → slice_get archive k ≡ Some x →
     Among name m.symbols → Among name x.symbols → n ≡ k
-one_number [] name n k m x distinct at other listed again = cc
-one_number (y ∷ archive) name zero zero m x distinct at other listed again = refl
 one_number (y ∷ archive) name zero (suc k) m x distinct at other listed again = grind (arith, all_listed archive, among_listed name x archive (among_at x archive k other) again, among_at x archive k other, distinct_apart)
 one_number (y ∷ archive) name (suc n) zero m x distinct at other listed again = grind (arith, all_listed archive, among_listed name m archive (among_at m archive n at) listed, among_at m archive n, distinct_apart)
 one_number (y ∷ archive) name (suc n) (suc k) m x distinct at other listed again = grind (arith, one_number archive name n k m x (distinct_later y.symbols (all_listed archive) distinct))
+one_number archive name n k m x distinct at other listed again = cc
 
 pub none_first : (name : List ℕ) (some : List MemberView) (m : MemberView) → first_listed some name ≡ None → Among m some → Among name m.symbols → ⊥
 unfolding Among

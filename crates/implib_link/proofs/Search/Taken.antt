@@ -419,10 +419,9 @@ module _ (machine : MachineType) (libraries : List FlavorLibrary) (archive : IsF
     left_kept Gnu l Top name held is named = kept_as name _ (last_kept Gnu l held) named
     left_kept Msvc l Top name held is (inl named) = kept_as name _ (null_kept l held) (inl named)
     left_kept Msvc l Top name held is (inr named) = kept_as name _ (last_kept Msvc l held) named
-    left_kept flavor l Last name held is named = absurd named
-    left_kept flavor l Null name held is named = absurd named
     left_kept flavor l (Own n e) name held is named = kept_as name _ (top_kept flavor l held) named
     left_kept flavor l (Weak n e b) name held is named = kept_as name _ (target_kept _ (target_in flavor l n e b held is)) named
+    left_kept flavor l r name held is named = grind arith
 
     left_of : (name : List ℕ) → Among name (flat_map undefined_in (objects_as reads taken)) → Among name kept
     left_of name named =

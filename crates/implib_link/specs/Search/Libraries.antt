@@ -2,10 +2,10 @@
 -- lists symbols for each member; what a member leaves to others is read in what a linker takes it
 -- for.
 use Rattle.implib_link.specs.Flavors.Expansion.{expanded_in, descriptor_symbol_by_name}
-use Rattle.std.specs.Prelude.{◌≡◌, ℕ, Bool, false, List, bytes_eq, ◌+◌}
+use Rattle.std.specs.Prelude.{◌≡◌, ℕ, Bool, false, List, bytes_eq, ◌+◌, ◌≤◌, length, unwrap_or}
 use Rattle.std.specs.Prelude.{◌&&◌, map, [], ◌∷◌, ◌++◌, not, true, Option, Some, None, ◌⊎◌}
 use Rattle.std.specs.Prelude.{if◌then◌else◌, ◌*◌, ◌%◌, IsPermutation, slice_get}
-use Rattle.std.specs.List.{list_any, AllByRecursion, filter, flat_map, Contains, IsDistinct}
+use Rattle.std.specs.List.{list_any, AllByRecursion, sum_by, filter, flat_map, Contains, IsDistinct}
 use Rattle.std.specs.List.{filter_map}
 use Rattle.implib.specs.declared.machine.MachineType.{MachineType}
 use Rattle.implib.specs.Definition.{ExportView}
@@ -18,7 +18,7 @@ use Rattle.implib_link.specs.Search.Search.{IsWeakData, NamesNoHeadOrTailOf, arc
 use Rattle.implib_link.specs.Search.Search.{input_if_any, inputs_wanted, symbols_of_library}
 use Rattle.implib_link.specs.Search.Search.{is_wanted, numbers_passing, exports_wanted, TakesIntoAs}
 use Rattle.implib_link.specs.Search.Search.{unresolved, listed_in}
-use Rattle.implib.specs.Link.Image.{IsAdmissible}
+use Rattle.implib.specs.Link.Image.{Range, range_end, IsAdmissible}
 use Rattle.implib.specs.Import.{is_alias, imp_symbol}
 use Rattle.implib.specs.Members.Gnu.{archive_symbols, head_symbol, iname_symbol}
 use Rattle.implib.specs.LibraryName.{linked_name, linked_dll}
@@ -27,8 +27,8 @@ use Rattle.implib.specs.Members.Members.{AreMembersOf}
 use Rattle.implib_link.specs.Flavors.Program.{FlavorInput, all_members, null_member, AreEnded}
 use Rattle.implib_link.specs.Flavors.Program.{Ending, IsProgramOf, ProgramLinks, WhereMember}
 use Rattle.implib_link.specs.Flavors.Program.{exports_chosen, gnu_input, objects_taken, symbol_in}
-use Rattle.implib_link.specs.Flavors.Program.{thunks_of, ClaimsNone, has_tables, HaveSame}
-use Rattle.implib_link.specs.Flavors.Program.{group_end}
+use Rattle.implib_link.specs.Flavors.Program.{thunks_of, ClaimsNone, has_tables, HaveSame, OfLinker}
+use Rattle.implib_link.specs.Flavors.Program.{OfMember, null_descriptor, group_end, packed}
 use Rattle.implib.specs.Formats.Object.{Object}
 use Rattle.std.specs.Option.{option_map}
 use Rattle.implib.specs.declared.flavor.Flavor.{Flavor}
